@@ -1,0 +1,6 @@
+pub mod Numerals
+pub mod MaskNames
+pub mod MaskSteps
+pub mod NameTexts
+pub mod NameInserts
+pub mod ReadSteps

@@ -1,0 +1,29 @@
+//! Names of nodes, sets of names, quorums, refusals, and the bytes of keys and values.
+//!
+//! - `Name` and `Members`: the 64 nodes, and sets of them.
+//! - `Quorums` and `Majority`: configurations, by their two laws.
+//! - `Refusal`: why a step is refused.
+//! - `read_num`, `read_set`, `write_set`: numbers and sets in texts.
+//! - `Bytes`: a key or a value, shared by its clones.
+#![tactic(auto)]
+
+mod bytes;
+mod majority;
+mod members;
+mod name;
+mod quorums;
+mod refusal;
+mod set_sign;
+mod signs;
+
+pub use bytes::Bytes;
+pub use majority::Majority;
+pub use members::Members;
+pub use name::Name;
+pub use quorums::Quorums;
+pub use refusal::Refusal;
+pub use set_sign::read_set;
+pub use signs::{read_num, write_set};
+
+#[cfg(test)]
+mod tests;
