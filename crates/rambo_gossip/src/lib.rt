@@ -1,0 +1,6 @@
+//! Letters.
+#![tactic(auto)]
+
+mod letter;
+
+pub use letter::{Gossip, Kind, Letter};

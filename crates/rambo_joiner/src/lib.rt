@@ -1,0 +1,6 @@
+//! How a node comes and goes.
+#![tactic(auto)]
+
+mod status;
+
+pub use status::Status;

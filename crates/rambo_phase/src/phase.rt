@@ -1,0 +1,167 @@
+//! Phases.
+ghost use Rattle.std.specs.Prelude.{◌≡◌, ◌≤◌, ◌+◌, ◌-◌, ◌^◌, min, length, IsTrue, ◌↔◌, IsOk, IfErr, IfOk, OnOk, OnErr};
+ghost use Rattle.rambo_phase.specs.Phases.{started, after_letter, heard_as, above, needed, is_met};
+
+use crate::heard::Heard;
+use rambo_config_map::{ConfigMap, Places};
+use rambo_names::{Members, Name, Quorums, Refusal};
+use std::marker::Model;
+
+/// A phase of a read or a write: its number, the configurations of the places from `lo` on, and who replied
+/// (Attiya, Bar-Noy and Dolev, "Sharing Memory Robustly in Message-Passing Systems", JACM 1995; Lynch and
+/// Shvartsman, "RAMBO", DISC 2002).
+///
+/// A phase of up to eight configurations lies in the value itself, and takes no memory.
+#[derive(Drop)]
+pub struct Phase<Q: Quorums> {
+    number: u64,
+    lo: u64,
+    places: Places<Q>,
+    repliers: Members,
+}
+
+impl<Q: Quorums> Model for Phase<Q> {
+    ghost use Rattle.std.specs.Prelude.{◌≡◌, ◌≤◌, ◌+◌, ◌^◌, length};
+    ghost use Rattle.std.specs.Coded.{codes};
+    ghost use Rattle.rambo_names.specs.Names.{names_code};
+    ghost use Rattle.rambo_phase.specs.Phases.{KeptPhase};
+
+    ghost Value = { KeptPhase Q };
+
+    ghost coded = { Prim.hlevel (codes, names_code, Q.code) };
+
+    ghost view = { λ p. record { state = record { number = p.number; lo = p.lo; configs = p.places.configs; repliers = p.repliers }; capacity = p.places.capacity } };
+
+    ghost invariant = { λ p. p.lo + length p.places.configs ≤ 2 ^ 64 };
+}
+
+impl<Q: Quorums> Phase<Q> {
+    /// A phase of node `me` begins with the configurations of its map, and the node replies to itself.
+    pub fn start(number: u64, map: &ConfigMap<Q>, me: Name) -> Self
+        ensures state { result.state ≡ started number map.now me }
+        ensures room { 8 ≤ result.capacity }
+    {
+        Phase {
+            number,
+            lo: map.floor(),
+            places: map.places().copy_inline(),
+            repliers: Members::empty().with(me),
+        }
+    }
+
+    /// Its number, which a sender has heard of before it replies.
+    pub fn number(&self) -> u64
+        ensures { result ≡ self.now.state.number }
+    {
+        self.number
+    }
+
+    /// What a letter is to the phase, whose sender had heard of the number `heard` and had this map.
+    pub fn would_hear(&self, heard: u64, map: &ConfigMap<Q>) -> Heard
+        ensures { result ≡ heard_as self.now.state heard map.now }
+    {
+        if heard < self.number {
+            return Heard::Old;
+        }
+        if map.floor() <= self.lo.saturating_add(self.places.len() as u64) {
+            Heard::Counted
+        } else {
+            Heard::Restart
+        }
+    }
+
+    /// Makes room for the configurations that a map has above the phase, so that hearing that map can't fail.
+    ///
+    /// Refused with `OutOfMemory` where there is no memory for them. The phase then stays as it was.
+    pub fn reserve(&mut self, map: &ConfigMap<Q>) -> Result<(), Refusal>
+        ensures state { self.new.state ≡ self.old.state }
+        ensures ok { OnOk result (needed self.old.state map.now ≤ self.new.capacity) }
+        ensures err { OnErr result (self.new ≡ self.old) }
+        ensures refused { IfErr result (λ r. r ≡ Refusal.OutOfMemory) }
+        ensures succeeds { needed self.old.state map.now ≤ self.old.capacity → IsOk result }
+        ensures capacity { self.old.capacity ≤ self.new.capacity }
+    {
+        let more = map.places().len().saturating_sub(self.known(map));
+        self.places.reserve(more)
+    }
+
+    /// Hears a letter from a node: a reply adds what the map has above the phase, and the node to those that replied.
+    /// Otherwise nothing changes.
+    ///
+    /// Refused with `OutOfMemory` where there is no memory for the configurations of a reply. The phase then stays as
+    /// it was.
+    pub fn hear(&mut self, from: Name, heard: u64, map: &ConfigMap<Q>) -> Result<Heard, Refusal>
+        ensures ok { OnOk result (self.new.state ≡ after_letter self.old.state heard map.now from) }
+        ensures answer { IfOk result (λ answer. answer ≡ heard_as self.old.state heard map.now) }
+        ensures no_reply { (heard_as self.old.state heard map.now ≡ Heard.Counted → ⊥)
+            → IsOk result × (self.new ≡ self.old) }
+
+        // It fails only for want of memory, and then nothing changes.
+        ensures err { OnErr result (self.new ≡ self.old) }
+        ensures refused { IfErr result (λ r. r ≡ Refusal.OutOfMemory) }
+        ensures succeeds { needed self.old.state map.now ≤ self.old.capacity → IsOk result }
+        ensures capacity { self.old.capacity ≤ self.new.capacity }
+    {
+        let answer = self.would_hear(heard, map);
+        if answer == Heard::Counted {
+            let known = self.known(map);
+            self.places.extend(map.places(), known)?;
+            self.repliers = self.repliers.with(from);
+        }
+        Ok(answer)
+    }
+
+    /// Whether the nodes that replied hold a quorum of every configuration in the phase.
+    pub fn met(&self) -> bool
+        ensures { result ≡ is_met Q.system self.now.state }
+    {
+        self.places.have_quorums(self.repliers)
+    }
+
+    /// Whether another phase has the same number, configurations and repliers.
+    pub fn same(&self, other: &Phase<Q>) -> bool
+        ensures { IsTrue result ↔ (self.now.state ≡ other.now.state) }
+    {
+        self.number == other.number
+            && self.lo == other.lo
+            && are_same(self.repliers, other.repliers)
+            && self.places.same(&other.places)
+    }
+
+    /// A copy, which takes memory only for more than eight configurations.
+    ///
+    /// Refused with `OutOfMemory` where there is none.
+    pub fn copy(&self) -> Result<Self, Refusal>
+        ensures ok { IfOk result (λ copy. copy.state ≡ self.now.state) }
+        ensures refused { IfErr result (λ r. r ≡ Refusal.OutOfMemory) }
+        ensures succeeds { length self.now.state.configs ≤ 8 → IsOk result }
+        ensures room { IfOk result (λ copy. 8 ≤ copy.capacity) }
+    {
+        Ok(Phase {
+            number: self.number,
+            lo: self.lo,
+            places: self.places.copy()?,
+            repliers: self.repliers,
+        })
+    }
+
+    // How many configurations of a map, from its floor on, lie at places below the end of the phase. It stops at the
+    // greatest number, which is past the end of every map.
+    fn known(&self, map: &ConfigMap<Q>) -> usize
+        ensures { result ≡ min (above self.now.state - map.now.floor) (2 ^ 64 - 1) }
+    {
+        let floor = map.floor();
+        let before = self.lo.saturating_sub(floor) as usize;
+        let after = floor.saturating_sub(self.lo) as usize;
+        before
+            .saturating_add(self.places.len())
+            .saturating_sub(after)
+    }
+}
+
+// Whether two sets have the same names.
+fn are_same(names: Members, others: Members) -> bool
+    ensures { IsTrue result ↔ (names ≡ others) }
+{
+    names == others
+}

@@ -1,0 +1,9 @@
+pub mod TagOrder
+pub mod CopyOrder
+pub mod Keys
+pub mod Joins
+pub mod ChangeLists
+pub mod MergeSteps
+pub mod Places
+pub mod Tables
+pub mod Packing

@@ -1,0 +1,5 @@
+pub mod Tags
+pub mod Copies
+pub mod Changes
+pub mod Merging
+pub mod Places

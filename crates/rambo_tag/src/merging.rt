@@ -1,0 +1,12 @@
+//! The laws of merging.
+ghost use Rattle.rambo_tag.specs.Copies.{joined};
+ghost use Rattle.rambo_tag.specs.Merging.{IsIdempotent, IsCommutative, IsAssociative, NeverLowers};
+
+/// Copies may be merged in any order and any number of times: what a node holds is the same, and no copy
+/// is replaced by a lesser one.
+pub fn merging_laws()
+    ensures idempotent { IsIdempotent joined }
+    ensures commutative { IsCommutative joined }
+    ensures associative { IsAssociative joined }
+    ensures grows { NeverLowers joined }
+{}
