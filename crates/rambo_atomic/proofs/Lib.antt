@@ -1,0 +1,9 @@
+pub mod Decided
+pub mod KnownBytes
+pub mod LookUps
+pub mod Pieces
+pub mod Pushes
+pub mod RealTime
+pub mod Seen
+pub mod Splits
+pub mod Tallied

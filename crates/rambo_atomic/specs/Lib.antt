@@ -1,0 +1,12 @@
+pub mod Calls
+pub mod Faults
+pub mod Forms
+pub mod Histories
+pub mod Looks
+pub mod HistoryStates
+pub mod Places
+pub mod Proper
+pub mod Streams
+pub mod Tallies
+pub mod Tests
+pub mod Verdicts

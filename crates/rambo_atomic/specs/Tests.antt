@@ -1,0 +1,86 @@
+-- The rules of a proper order as tests, which the checkers compute
+use Rattle.std.specs.Prelude.{ℕ, List, [], ◌∷◌, Bool, true, false, not, ◌&&◌, ◌||◌, nat_lt, max, Option, None, Some, is_some, if◌then◌else◌}
+use Rattle.std.specs.List.{list_all, list_any}
+use Rattle.std.specs.Str.{bytes_eq}
+use Rattle.rambo_atomic.specs.declared.operation.Op.{Op}
+use Rattle.rambo_atomic.specs.declared.operation.Op.TheVariants as op
+use Rattle.rambo_atomic.specs.declared.operation.Answer.{Answer}
+use Rattle.rambo_atomic.specs.declared.operation.Answer.TheVariants as answer
+use Rattle.rambo_atomic.specs.declared.event.CallId.{CallId}
+use Rattle.rambo_atomic.specs.declared.event.Event.{Event}
+use Rattle.rambo_atomic.specs.declared.event.Event.TheVariants as event
+use Rattle.rambo_atomic.specs.Calls.{key_of, is_get, same_call}
+use Rattle.rambo_atomic.specs.Histories.{call_in, answer_in, called_at, answered_at}
+
+abbrev pub stands_in : List CallId → CallId → Bool
+stands_in order c = list_any (λ d. same_call d c) order
+
+-- whether this is where an answered call of the key was made
+abbrev pub is_due : List Event → List ℕ → Event → Bool
+is_due h key (event.Call c op) = bytes_eq (key_of op) key && is_some (answer_in h c)
+is_due h key (event.Answer c a) = false
+
+-- whether the call that was made there stands in the order
+abbrev pub has_entry : List CallId → Event → Bool
+has_entry order (event.Call c op) = stands_in order c
+has_entry order (event.Answer c a) = false
+
+-- whether each answered call of the key among these events stands in the order
+abbrev pub is_complete : List Event → List ℕ → List CallId → List Event → Bool
+is_complete h key order es = list_all (λ e. not (is_due h key e) || has_entry order e) es
+
+abbrev pub is_distinct : List CallId → Bool
+is_distinct [] = true
+is_distinct (c ∷ cs) = if stands_in cs c then false else is_distinct cs
+
+-- whether an operation is of the key, and was answered if it is a get
+abbrev pub is_own_op : List ℕ → Bool → Option Op → Bool
+is_own_op key answered None = false
+is_own_op key answered (Some op) = bytes_eq (key_of op) key && (not (is_get op) || answered)
+
+abbrev pub is_own : List Event → List ℕ → CallId → Bool
+is_own h key c = is_own_op key (is_some (answer_in h c)) (call_in h c)
+
+abbrev pub has_no_stranger : List Event → List ℕ → List CallId → Bool
+has_no_stranger h key order = list_all (is_own h key) order
+
+-- what the one key of some calls holds after one of them
+abbrev pub holding : Option Op → Option (List ℕ) → Option (List ℕ)
+holding None held = held
+holding (Some (op.Get key)) held = held
+holding (Some (op.Set key value)) held = Some value
+
+-- whether an answer tells what a key holds
+abbrev pub tells : Option (List ℕ) → Option Answer → Bool
+tells held None = false
+tells held (Some answer.Ok) = false
+tells None (Some answer.Nil) = true
+tells (Some v) (Some answer.Nil) = false
+tells None (Some (answer.Value w)) = false
+tells (Some v) (Some (answer.Value w)) = bytes_eq v w
+
+abbrev pub is_right : Option (List ℕ) → Option Op → Option Answer → Bool
+is_right held None a = true
+is_right held (Some (op.Get key)) a = tells held a
+is_right held (Some (op.Set key value)) a = true
+
+-- whether each get of these calls of one key, which holds this before them, is right
+abbrev pub answers_latest : List Event → Option (List ℕ) → List CallId → Bool
+answers_latest h held [] = true
+answers_latest h held (c ∷ cs) =
+    if is_right held (call_in h c) (answer_in h c) then answers_latest h (holding (call_in h c) held) cs else false
+
+-- whether an answer stands before place n
+abbrev pub is_before : ℕ → Option ℕ → Bool
+is_before n None = false
+is_before n (Some m) = nat_lt m n
+
+-- the later of a place and a call's
+abbrev pub later : ℕ → Option ℕ → ℕ
+later n None = n
+later n (Some m) = max n m
+
+-- whether no call of these was answered before place n, nor before one that stands before it was made
+abbrev pub keeps_real_time : List Event → ℕ → List CallId → Bool
+keeps_real_time h n [] = true
+keeps_real_time h n (c ∷ cs) = if is_before n (answered_at h c) then false else keeps_real_time h (later n (called_at h c)) cs

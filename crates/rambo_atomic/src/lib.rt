@@ -1,0 +1,31 @@
+//! Calls, answers, histories, and which orders explain them.
+#![tactic(auto)]
+
+mod checker;
+mod checking;
+mod event;
+mod fault;
+mod history;
+mod operation;
+mod places;
+mod rules;
+mod stream;
+mod tape;
+mod verdict;
+mod whole;
+mod wrapped;
+
+pub use checker::Checker;
+pub use checking::check;
+pub use event::{CallId, Event};
+pub use fault::HistoryFault;
+pub use history::History;
+pub use operation::{Answer, Op};
+pub use stream::{Failed, READ_LIMIT, Sink, Source};
+pub use tape::Tape;
+pub use verdict::{Rule, Verdict};
+pub use whole::{StreamFault, read_all, write_all};
+pub use wrapped::Wrapped;
+
+#[cfg(test)]
+mod tests;

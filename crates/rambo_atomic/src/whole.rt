@@ -1,0 +1,73 @@
+//! Whole inputs and whole outputs.
+ghost use Rattle.std.specs.Prelude.{◌≡◌, ◌⊎◌, IfOk, IfErr, IfSome, OnOk, OnErr};
+ghost use Rattle.std.specs.Io.KnownBytes.{Appends, IsAtEnd};
+ghost use Rattle.rambo_atomic.specs.Streams.{counted, Begins};
+ghost use Rattle.rambo_atomic.specs.declared.whole.StreamFault.TheVariants as fault;
+
+use crate::stream::{Sink, Source};
+use std::alloc::{AllocError, Global};
+
+/// Why an input wasn't read to its end, or an output wasn't written.
+#[derive(Clone, Copy, PartialEq, Eq, Debug)]
+pub enum StreamFault {
+    /// The source failed.
+    Read,
+    /// The sink failed.
+    Write,
+    /// There is no room for the bytes.
+    Memory,
+}
+
+impl From<AllocError> for StreamFault {
+    ghost use Rattle.rambo_atomic.specs.declared.whole.StreamFault.TheVariants.{Memory};
+
+    ghost from_gives = { λ _ r. r ≡ Memory };
+
+    fn from(_e: AllocError) -> StreamFault {
+        StreamFault::Memory
+    }
+}
+
+/// How many bytes are asked for at once.
+const PIECE: usize = 64 * 1024;
+
+/// All that a source has left.
+///
+/// `Read` where the source fails, and `Memory` where there is no room for the bytes.
+pub fn read_all<R: Source>(alloc: Global, reader: &mut R) -> Result<Vec<u8>, StreamFault>
+    ensures bytes { IfOk result (λ all. IfSome (R.left reader.old) (λ bytes. all.items ≡ bytes)) }
+    ensures end { OnOk result (IsAtEnd (R.left reader.new)) }
+    ensures fine { OnOk result (R.failures reader.new ≡ R.failures reader.old) }
+    ensures fault { IfErr result (λ f. ((f ≡ fault.Read) × (R.failures reader.new ≡ counted (R.failures reader.old)))
+        ⊎ ((f ≡ fault.Memory) × (R.failures reader.new ≡ R.failures reader.old))) }
+{
+    let mut piece = Vec::new(alloc);
+    piece.resize(PIECE, 0u8)?;
+    let mut all = Vec::new(alloc);
+    loop {
+        match reader.read(piece.as_mut_slice()) {
+            Ok(0) => return Ok(all),
+            Ok(count) => all.extend_from_slice(&piece[..count])?,
+            Err(_) => return Err(StreamFault::Read),
+        }
+    }
+}
+
+/// Writes all of some bytes.
+///
+/// `Write` where the sink fails; then a front of the bytes was written.
+pub fn write_all<W: Sink>(writer: &mut W, bytes: &[u8]) -> Result<(), StreamFault>
+    ensures ok { OnOk result (Appends (W.taken writer.old) (W.taken writer.new) bytes.now) }
+    ensures err { OnErr result (Begins (W.taken writer.old) (W.taken writer.new) bytes.now) }
+    ensures fine { OnOk result (W.failures writer.new ≡ W.failures writer.old) }
+    ensures fault { IfErr result (λ f. (f ≡ fault.Write) × (W.failures writer.new ≡ counted (W.failures writer.old))) }
+{
+    let mut written = 0;
+    while written < bytes.len() {
+        match writer.write(&bytes[written..]) {
+            Ok(count) => written += count,
+            Err(_) => return Err(StreamFault::Write),
+        }
+    }
+    Ok(())
+}
