@@ -1,0 +1,29 @@
+-- Faults of texts: their numbers and how they are told
+use Rattle.std.specs.Prelude.{ℕ, List, ◌++◌, codes, decimal}
+use Rattle.rambo_atomic.specs.declared.whole.StreamFault.{StreamFault}
+use Rattle.rambo_atomic.specs.declared.whole.StreamFault.TheVariants as stream
+use Rattle.rambo_text.specs.declared.fault.Fault.{Fault}
+use Rattle.rambo_text.specs.declared.fault.Fault.TheVariants.{NoFounders, UnknownWord, WrongCount, BadNumber, BadHex, LineTooLong, OutOfMemory, BadHistory}
+use Rattle.rambo_text.specs.declared.fault.ScriptFault.{ScriptFault}
+use Rattle.rambo_text.specs.declared.fault.ReplayFault.{ReplayFault}
+use Rattle.rambo_text.specs.declared.fault.ReplayFault.TheVariants as replay
+
+abbrev pub number_of : Fault → ℕ
+number_of NoFounders = 1
+number_of UnknownWord = 2
+number_of WrongCount = 3
+number_of BadNumber = 4
+number_of BadHex = 5
+number_of LineTooLong = 6
+number_of OutOfMemory = 7
+number_of BadHistory = 8
+
+-- how a fault of a line is told
+abbrev pub told : ScriptFault → List ℕ
+told f = codes "script fault S" ++ decimal (number_of f.fault) ++ codes " at line " ++ decimal f.line
+
+-- the same fault of a stream, in the words of a replay
+abbrev pub of_stream : StreamFault → ReplayFault
+of_stream stream.Read = replay.Read
+of_stream stream.Write = replay.Write
+of_stream stream.Memory = replay.Memory

@@ -1,0 +1,34 @@
+-- How calls and bytes are spelt
+use Rattle.std.specs.Prelude.{◌≡◌, ℕ, ◌+◌, ◌<◌, ◌≤◌, ◌^◌, if◌then◌else◌, nat_lt, List, [], ◌∷◌, ◌++◌, decimal, ◌/◌, ◌%◌, All}
+use Rattle.rambo_names.specs.Names.{IsName}
+use Rattle.rambo_atomic.specs.declared.event.CallId.{CallId}
+
+-- the digit of a number below 16
+abbrev pub digit_of : ℕ → ℕ
+digit_of d = if nat_lt d 10 then 48 + d else 87 + d
+
+-- two digits for each byte
+abbrev pub pairs_text : List ℕ → List ℕ
+pairs_text [] = []
+pairs_text (b ∷ bs) = digit_of (b / 16) ∷ digit_of (b % 16) ∷ pairs_text bs
+
+-- the one spelling of bytes: a dash for none
+abbrev pub hex_text : List ℕ → List ℕ
+hex_text [] = 45 ∷ []
+hex_text (b ∷ bs) = pairs_text (b ∷ bs)
+
+-- the one spelling of a call
+abbrev pub call_text : CallId → List ℕ
+call_text c = decimal c.name ++ 46 ∷ decimal c.number
+
+-- a call has a node's name, and a number from 1
+abbrev pub IsCall : CallId → Type 0
+IsCall c = IsName c.name × (1 ≤ c.number) × (c.number < 2 ^ 64)
+
+-- a text of bytes
+abbrev pub AreBytes : List ℕ → Type 0
+AreBytes bs = All (λ b. b < 256) bs
+
+-- a text with some more behind it
+abbrev pub Grows : List ℕ → List ℕ → Type 0
+Grows old new = (more : List ℕ) × (new ≡ old ++ more)

@@ -1,0 +1,128 @@
+//! Reading signs.
+ghost use Rattle.std.specs.Prelude.{◌≡◌, ◌≢◌, ◌⊎◌, ℕ, List, ◌∷◌, ◌++◌, length, ◌<◌, ◌/◌, ◌%◌, decimal, IfSome, IfNone, IfOk, IfErr};
+ghost use Rattle.rambo_names.specs.Names.{IsName};
+ghost use Rattle.rambo_atomic.specs.declared.event.CallId.{CallId};
+ghost use Rattle.rambo_text.specs.Words.{Lacks};
+ghost use Rattle.rambo_text.specs.Signs.{digit_of, pairs_text, hex_text, call_text, IsCall, AreBytes};
+
+use crate::fault::Fault;
+use memchr::memchr;
+use rambo_atomic::CallId;
+use rambo_names::{Bytes, Name, read_num};
+use std::alloc::Global;
+
+/// The name that a word spells: a number from 1 to 64 in plain decimal.
+///
+/// None where it spells no name.
+pub fn read_name(word: &[u8]) -> Option<Name>
+    ensures found { IfSome result (λ n. IsName n × (word.now ≡ decimal n)) }
+    ensures none { IfNone result ((n : ℕ) → IsName n → word.now ≢ decimal n) }
+{
+    let number = read_num(word)?;
+    Name::new(number).ok()
+}
+
+/// The call that a word spells: a name, a dot, and a number from 1, both in plain decimal.
+///
+/// None where it spells no call.
+pub fn read_call(word: &[u8]) -> Option<CallId>
+    ensures found { IfSome result (λ c. IsCall c × (word.now ≡ call_text c)) }
+    ensures none { IfNone result ((c : CallId) → IsCall c → word.now ≢ call_text c) }
+{
+    let (front, back) = around_dot(word)?;
+    let name = read_name(front)?;
+    let number = read_num(back)?;
+    if number == 0 {
+        return None;
+    }
+    Some(CallId { name, number })
+}
+
+// What stands before and behind the first dot.
+fn around_dot(word: &[u8]) -> Option<(&[u8], &[u8])>
+    ensures found { IfSome result (λ parts. Lacks 46 parts.0.now × (word.now ≡ parts.0.now ++ 46 ∷ parts.1.now)) }
+    ensures none { IfNone result (Lacks 46 word.now) }
+{
+    let dot = memchr(b'.', word)?;
+    Some((&word[..dot], &word[dot + 1..]))
+}
+
+/// The bytes that a word spells: pairs of digits, `0` to `9` and `a` to `f`, or a dash for no bytes.
+///
+/// `BadHex` where it spells no bytes, and `OutOfMemory` where there is no room for them.
+pub fn read_hex(alloc: Global, word: &[u8]) -> Result<Bytes, Fault>
+    ensures found { IfOk result (λ bs. AreBytes bs × (word.now ≡ hex_text bs)) }
+    ensures fault { IfErr result (λ f. (f ≡ Fault.OutOfMemory)
+        ⊎ ((f ≡ Fault.BadHex) × ((bs : List ℕ) → AreBytes bs → word.now ≢ hex_text bs))) }
+{
+    if word == b"-".as_slice() {
+        return shared(Vec::new(alloc));
+    }
+    if word.is_empty() {
+        return Err(Fault::BadHex);
+    }
+    shared(read_pairs(alloc, word)?)
+}
+
+// The bytes of a buffer.
+fn shared(items: Vec<u8>) -> Result<Bytes, Fault>
+    ensures bytes { IfOk result (λ bs. bs ≡ items.items) }
+    ensures fault { IfErr result (λ f. f ≡ Fault.OutOfMemory) }
+{
+    Bytes::from_vec(items).map_err(|_| Fault::OutOfMemory)
+}
+
+// The bytes that pairs of digits spell.
+fn read_pairs(alloc: Global, word: &[u8]) -> Result<Vec<u8>, Fault>
+    ensures found { IfOk result (λ bs. AreBytes bs.items × (word.now ≡ pairs_text bs.items)) }
+    ensures fault { IfErr result (λ f. (f ≡ Fault.OutOfMemory)
+        ⊎ ((f ≡ Fault.BadHex) × ((bs : List ℕ) → AreBytes bs → word.now ≢ pairs_text bs))) }
+{
+    let mut bytes = Vec::with_capacity(alloc, word.len() / 2)?;
+    let mut rest = word;
+    while let Some((high, low, others)) = first_pair(rest) {
+        let Some(byte) = byte_of(high, low) else {
+            return Err(Fault::BadHex);
+        };
+        bytes.push(byte)?;
+        rest = others;
+    }
+    if rest.is_empty() {
+        Ok(bytes)
+    } else {
+        Err(Fault::BadHex)
+    }
+}
+
+// The first two digits, and those behind them.
+fn first_pair(digits: &[u8]) -> Option<(u8, u8, &[u8])>
+    ensures found { IfSome result (λ r. digits.now ≡ r.0 ∷ r.1 ∷ r.2.now) }
+    ensures none { IfNone result (length digits.now < 2) }
+{
+    match digits {
+        [high, low, others @ ..] => Some((*high, *low, others)),
+        _ => None,
+    }
+}
+
+// The byte of two digits.
+fn byte_of(high: u8, low: u8) -> Option<u8>
+    ensures found { IfSome result (λ b. (b < 256) × (high ≡ digit_of (b / 16)) × (low ≡ digit_of (b % 16))) }
+    ensures none { IfNone result ((b : ℕ) → b < 256 → high ≡ digit_of (b / 16) → low ≢ digit_of (b % 16)) }
+{
+    let high = number_of(high)?;
+    let low = number_of(low)?;
+    Some(high * 16 + low)
+}
+
+// The number below 16 of a digit.
+fn number_of(digit: u8) -> Option<u8>
+    ensures found { IfSome result (λ n. (n < 16) × (digit ≡ digit_of n)) }
+    ensures none { IfNone result ((n : ℕ) → n < 16 → digit ≢ digit_of n) }
+{
+    match digit {
+        b'0'..=b'9' => Some(digit - b'0'),
+        b'a'..=b'f' => Some(digit - b'a' + 10),
+        _ => None,
+    }
+}

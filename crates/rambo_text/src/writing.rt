@@ -1,0 +1,70 @@
+//! Writing signs.
+ghost use Rattle.std.specs.Prelude.{◌≡◌, ◌++◌, ◌<◌, decimal, OnOk, OnErr};
+ghost use Rattle.rambo_text.specs.Signs.{digit_of, hex_text, call_text, Grows};
+
+use itoa::Buffer;
+use rambo_atomic::CallId;
+use rambo_names::Name;
+use std::alloc::AllocError;
+
+/// Appends a number in plain decimal.
+///
+/// `AllocError` where the text can't grow; it is then as before.
+pub fn write_num(number: u64, out: &mut Vec<u8>) -> Result<(), AllocError>
+    ensures ok { OnOk result (out.new.items ≡ out.old.items ++ decimal number) }
+    ensures err { OnErr result (out.new.items ≡ out.old.items) }
+{
+    let mut buffer = Buffer::new();
+    out.extend_from_slice(buffer.format(number).as_bytes())
+}
+
+/// Appends the number of a name in plain decimal.
+///
+/// `AllocError` where the text can't grow; it is then as before.
+pub fn write_name(name: Name, out: &mut Vec<u8>) -> Result<(), AllocError>
+    ensures ok { OnOk result (out.new.items ≡ out.old.items ++ decimal name) }
+    ensures err { OnErr result (out.new.items ≡ out.old.items) }
+{
+    write_num(name.number(), out)
+}
+
+/// Appends a call: the name of its node, a dot, and its number there.
+///
+/// `AllocError` where the text can't grow; it then has a front of the call at most behind what it had.
+pub fn write_call(id: &CallId, out: &mut Vec<u8>) -> Result<(), AllocError>
+    ensures ok { OnOk result (out.new.items ≡ out.old.items ++ call_text id.now) }
+    ensures err { OnErr result (Grows out.old.items out.new.items) }
+{
+    write_name(id.name, out)?;
+    out.push(b'.')?;
+    write_num(id.number, out)
+}
+
+/// Appends bytes as pairs of digits, `0` to `9` and `a` to `f`, or a dash where there is none.
+///
+/// `AllocError` where the text can't grow; it then has a front of the digits at most behind what it had.
+pub fn write_hex(bytes: &[u8], out: &mut Vec<u8>) -> Result<(), AllocError>
+    ensures ok { OnOk result (out.new.items ≡ out.old.items ++ hex_text bytes.now) }
+    ensures err { OnErr result (Grows out.old.items out.new.items) }
+{
+    if bytes.is_empty() {
+        out.push(b'-')?;
+        return Ok(());
+    }
+    for byte in bytes {
+        out.extend_from_slice(&[digit(byte / 16), digit(byte % 16)])?;
+    }
+    Ok(())
+}
+
+// The digit of a number below 16.
+fn digit(number: u8) -> u8
+    requires { number < 16 }
+    ensures { result ≡ digit_of number }
+{
+    if number < 10 {
+        b'0' + number
+    } else {
+        b'a' - 10 + number
+    }
+}
