@@ -1,0 +1,59 @@
+-- Texts that a loop writes, item by item
+use Rattle.std.proofs.Common.{◌≡◌, ℕ, ◌+◌, ◌<◌, ◌≤◌, List, [], ◌∷◌, ◌++◌, length, get_or, drop, Option, None, Some, refl, sym, ap, ◌∙◌, append_assoc, append-nil, Result, map, arith}
+use Rattle.std.specs.List.{slice_get}
+use Rattle.std.proofs.lemmas.Option.{slice_get-get_or}
+use Rattle.std.proofs.lemmas.List.{drop_all, drop_more}
+use Rattle.rambo_names.specs.declared.refusal.Refusal.{Refusal}
+use Rattle.rambo_names.specs.Names.{NameSet}
+use Rattle.rambo_atomic.specs.declared.event.Event.{Event}
+use Rattle.rambo_node.specs.declared.effect.Effect.{Effect}
+use Rattle.rambo_run.specs.Runs.{OutcomeState}
+use Rattle.rambo_outcome.specs.Lines.{Item, Ordered, item_line, items_text}
+use Rattle.rambo_outcome.specs.Outcomes.{step_items, steps_items, map_item, outcome_lines}
+
+-- what is still to be written after one item more
+pub one_on : {X : Type 0} (F : List X → List ℕ) (G : X → List ℕ) → ((x : X) (xs : List X) → F (x ∷ xs) ≡ G x ++ F xs)
+    → (xs : List X) (i : ℕ) (x : X) (out new whole : List ℕ) → i < length xs → x ≡ get_or xs i x → new ≡ out ++ G x
+    → out ++ F (drop i xs) ≡ whole → new ++ F (drop (i + 1) xs) ≡ whole
+one_on F G step xs i x out new whole h item now before =
+    let split = drop_more xs i x h ∙ ap (λ y. y ∷ drop (i + 1) xs) (sym item) in
+    ap (λ t. t ++ F (drop (i + 1) xs)) now ∙ append_assoc out (G x) (F (drop (i + 1) xs)) ∙ ap (λ t. out ++ t) (sym (step x (drop (i + 1) xs)))
+    ∙ ap (λ t. out ++ F t) (sym split) ∙ before
+
+-- nothing is left
+pub all_done : {X : Type 0} (F : List X → List ℕ) → F [] ≡ [] → (xs : List X) (i : ℕ) (out whole : List ℕ) → length xs ≤ i
+    → out ++ F (drop i xs) ≡ whole → out ≡ whole
+all_done F none xs i out whole h before = sym (ap (λ t. out ++ F t) (drop_all i xs h) ∙ ap (λ t. out ++ t) none ∙ append-nil out) ∙ before
+
+pub items-append : (is js : List Item) → items_text (is ++ js) ≡ items_text is ++ items_text js
+items-append [] js = refl
+items-append (i ∷ is) js = ap (λ t. item_line i ++ t) (items-append is js) ∙ sym (append_assoc (item_line i) (items_text is) (items_text js))
+
+-- a step more
+pub step_on : (h : List Event) (rs : List (Result Effect Refusal)) (i : ℕ) (r : Result Effect Refusal) (out new whole : List ℕ) → i < length rs
+    → r ≡ get_or rs i r → new ≡ out ++ items_text (step_items h (i + 1) r)
+    → out ++ items_text (steps_items h (i + 1) (drop i rs)) ≡ whole → new ++ items_text (steps_items h (i + 1 + 1) (drop (i + 1) rs)) ≡ whole
+step_on h rs i r out new whole lt item now before =
+    let left = steps_items h (i + 1 + 1) (drop (i + 1) rs) in
+    let split = drop_more rs i r lt ∙ ap (λ y. y ∷ drop (i + 1) rs) (sym item) in
+    ap (λ t. t ++ items_text left) now ∙ append_assoc out (items_text (step_items h (i + 1) r)) (items_text left)
+    ∙ ap (λ t. out ++ t) (sym (items-append (step_items h (i + 1) r) left))
+    ∙ ap (λ t. out ++ items_text (steps_items h (i + 1) t)) (sym split) ∙ before
+
+-- the steps, then the sequences, then the maps
+pub whole_text : (o : OutcomeState NameSet) (start a b c : List ℕ) → start ≡ [] → a ≡ start ++ items_text (steps_items o.history 1 o.effects)
+    → b ≡ a ++ items_text (map Ordered o.sequences) → c ≡ b ++ items_text (map map_item o.maps) → c ≡ outcome_lines o
+whole_text o start a b c none steps sequences maps =
+    let first : a ≡ items_text (steps_items o.history 1 o.effects) = steps ∙ ap (λ t. t ++ items_text (steps_items o.history 1 o.effects)) none in
+    maps
+    ∙ ap (λ t. t ++ items_text (map map_item o.maps))
+    (sequences ∙ ap (λ t. t ++ items_text (map Ordered o.sequences)) first ∙ sym (items-append (steps_items o.history 1 o.effects) (map Ordered o.sequences)))
+    ∙ sym (items-append (steps_items o.history 1 o.effects ++ map Ordered o.sequences) (map map_item o.maps))
+
+apart : {X : Type 0} (o : Option X) (x : X) → o ≡ None → o ≡ Some x → ⊥
+apart o x e f = let clash : None ≡ Some x = sym e ∙ f in cc
+
+-- within its length a list has an item
+pub not_none : {X : Type 0} (xs : List X) (i : ℕ) → i < length xs → slice_get xs i ≡ None → ⊥
+not_none [] i h e = omega arith
+not_none (x ∷ xs) i h e = apart (slice_get (x ∷ xs) i) (get_or (x ∷ xs) i x) e (slice_get-get_or (x ∷ xs) i x h)

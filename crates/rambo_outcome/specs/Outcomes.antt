@@ -1,0 +1,45 @@
+-- What an outcome says, line by line
+use Rattle.std.specs.Prelude.{ℕ, ◌+◌, List, [], ◌∷◌, ◌++◌, map, Option, None, Some, Result, Ok, Err}
+use Rattle.rambo_names.specs.declared.refusal.Refusal.{Refusal}
+use Rattle.rambo_names.specs.Names.{NameSet}
+use Rattle.rambo_names.specs.Refusals.{number_of}
+use Rattle.rambo_atomic.specs.declared.operation.Op.{Op}
+use Rattle.rambo_atomic.specs.declared.event.CallId.{CallId}
+use Rattle.rambo_atomic.specs.declared.event.Event.{Event}
+use Rattle.rambo_atomic.specs.declared.event.Event.TheVariants as event
+use Rattle.rambo_atomic.specs.Histories.{call_in}
+use Rattle.rambo_node.specs.declared.effect.Effect.{Effect}
+use Rattle.rambo_node.specs.declared.effect.Effect.TheVariants as effect
+use Rattle.rambo_run.specs.declared.outcome.NodeMap.{NodeMap}
+use Rattle.rambo_run.specs.Runs.{OutcomeState}
+use Rattle.rambo_outcome.specs.Lines.{Item, Happened, Refused, Ordered, Mapped, items_text}
+
+-- a call that was made, with what the history says that it asked
+abbrev pub call_items : CallId → Option Op → List Item
+call_items c None = []
+call_items c (Some o) = Happened (event.Call c o) ∷ []
+
+-- what is told of a step: a call, an answer or a refusal
+abbrev pub step_items : List Event → ℕ → Result Effect Refusal → List Item
+step_items h n (Ok effect.Done) = []
+step_items h n (Ok (effect.Called c)) = call_items c (call_in h c)
+step_items h n (Ok (effect.Sent l)) = []
+step_items h n (Ok effect.Moved) = []
+step_items h n (Ok (effect.Answered c a)) = Happened (event.Answer c a) ∷ []
+step_items h n (Err r) = Refused n (number_of r) ∷ []
+
+-- step by step, from a number on
+abbrev pub steps_items : List Event → ℕ → List (Result Effect Refusal) → List Item
+steps_items h n [] = []
+steps_items h n (r ∷ rs) = step_items h n r ++ steps_items h (n + 1) rs
+
+abbrev pub map_item : NodeMap NameSet → Item
+map_item m = Mapped m.name m.map.floor m.map.configs
+
+-- the steps, then the sequences, then the maps
+abbrev pub outcome_items : OutcomeState NameSet → List Item
+outcome_items o = steps_items o.history 1 o.effects ++ map Ordered o.sequences ++ map map_item o.maps
+
+-- the text of an outcome
+abbrev pub outcome_lines : OutcomeState NameSet → List ℕ
+outcome_lines o = items_text (outcome_items o)

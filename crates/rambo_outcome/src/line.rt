@@ -1,0 +1,137 @@
+//! Writing lines.
+ghost use Rattle.std.specs.Prelude.{◌≡◌, ◌++◌, map, OnOk, IfErr};
+ghost use Rattle.rambo_atomic.specs.declared.event.Event.TheVariants as event;
+ghost use Rattle.rambo_text.specs.Words.{more_words};
+ghost use Rattle.rambo_text.specs.Signs.{call_text};
+ghost use Rattle.rambo_names.specs.Signs.{set_text};
+ghost use Rattle.rambo_names.specs.Refusals.{number_of};
+ghost use Rattle.rambo_outcome.specs.Lines.{Happened, Refused, Ordered, op_words, answer_words, item_line};
+ghost use Rattle.rambo_outcome.specs.Outcomes.{map_item};
+
+use rambo_atomic::{Answer, CallId, Op};
+use rambo_config_map::Places;
+use rambo_names::{Majority, Members, Quorums, Refusal, write_set};
+use rambo_run::NodeMap;
+use rambo_sequence::KeySequence;
+use rambo_text::{write_call, write_hex, write_name, write_num};
+
+/// Appends the line of a call.
+pub(crate) fn write_called(id: &CallId, op: &Op, out: &mut Vec<u8>) -> Result<(), Refusal>
+    ensures ok { OnOk result (out.new.items ≡ out.old.items ++ item_line (Happened (event.Call id.now op.now))) }
+    ensures refused { IfErr result (λ r. r ≡ Refusal.OutOfMemory) }
+{
+    out.extend_from_slice(b"call ")?;
+    write_call(id, out)?;
+    write_op(op, out)?;
+    out.push(b'\n')?;
+    Ok(())
+}
+
+fn write_op(op: &Op, out: &mut Vec<u8>) -> Result<(), Refusal>
+    ensures ok { OnOk result (out.new.items ≡ out.old.items ++ more_words (op_words op.now)) }
+    ensures refused { IfErr result (λ r. r ≡ Refusal.OutOfMemory) }
+{
+    match op {
+        Op::Get(key) => {
+            out.extend_from_slice(b" get ")?;
+            write_hex(key.as_slice(), out)?;
+        }
+        Op::Set(key, value) => {
+            out.extend_from_slice(b" set ")?;
+            write_hex(key.as_slice(), out)?;
+            out.push(b' ')?;
+            write_hex(value.as_slice(), out)?;
+        }
+    }
+    Ok(())
+}
+
+/// Appends the line of an answer.
+pub(crate) fn write_answered(id: &CallId, answer: &Answer, out: &mut Vec<u8>) -> Result<(), Refusal>
+    ensures ok { OnOk result (out.new.items ≡ out.old.items ++ item_line (Happened (event.Answer id.now answer.now))) }
+    ensures refused { IfErr result (λ r. r ≡ Refusal.OutOfMemory) }
+{
+    out.extend_from_slice(b"answer ")?;
+    write_call(id, out)?;
+    write_answer(answer, out)?;
+    out.push(b'\n')?;
+    Ok(())
+}
+
+fn write_answer(answer: &Answer, out: &mut Vec<u8>) -> Result<(), Refusal>
+    ensures ok { OnOk result (out.new.items ≡ out.old.items ++ more_words (answer_words answer.now)) }
+    ensures refused { IfErr result (λ r. r ≡ Refusal.OutOfMemory) }
+{
+    match answer {
+        Answer::Ok => out.extend_from_slice(b" ok")?,
+        Answer::Nil => out.extend_from_slice(b" nil")?,
+        Answer::Value(value) => {
+            out.extend_from_slice(b" value ")?;
+            write_hex(value.as_slice(), out)?;
+        }
+    }
+    Ok(())
+}
+
+/// Appends the line of a refused step.
+pub(crate) fn write_refused(step: u64, refusal: Refusal, out: &mut Vec<u8>) -> Result<(), Refusal>
+    ensures ok { OnOk result (out.new.items ≡ out.old.items ++ item_line (Refused step (number_of refusal))) }
+    ensures refused { IfErr result (λ r. r ≡ Refusal.OutOfMemory) }
+{
+    out.extend_from_slice(b"refused ")?;
+    write_num(step, out)?;
+    out.push(b' ')?;
+    write_num(refusal.number(), out)?;
+    out.push(b'\n')?;
+    Ok(())
+}
+
+/// Appends the line of a key's sequence.
+pub(crate) fn write_sequence(sequence: &KeySequence, out: &mut Vec<u8>) -> Result<(), Refusal>
+    ensures ok { OnOk result (out.new.items ≡ out.old.items ++ item_line (Ordered sequence.now)) }
+    ensures refused { IfErr result (λ r. r ≡ Refusal.OutOfMemory) }
+{
+    out.extend_from_slice(b"sequence ")?;
+    write_hex(sequence.key.as_slice(), out)?;
+    write_calls(sequence.calls.as_slice(), out)?;
+    out.push(b'\n')?;
+    Ok(())
+}
+
+fn write_calls(calls: &[CallId], out: &mut Vec<u8>) -> Result<(), Refusal>
+    ensures ok { OnOk result (out.new.items ≡ out.old.items ++ more_words (map call_text calls.now)) }
+    ensures refused { IfErr result (λ r. r ≡ Refusal.OutOfMemory) }
+{
+    for id in calls {
+        out.push(b' ')?;
+        write_call(id, out)?;
+    }
+    Ok(())
+}
+
+/// Appends the line of a node's map.
+pub(crate) fn write_map(node: &NodeMap<Majority>, out: &mut Vec<u8>) -> Result<(), Refusal>
+    ensures ok { OnOk result (out.new.items ≡ out.old.items ++ item_line (map_item node.now)) }
+    ensures refused { IfErr result (λ r. r ≡ Refusal.OutOfMemory) }
+{
+    out.extend_from_slice(b"map ")?;
+    write_name(node.name, out)?;
+    out.push(b' ')?;
+    write_num(node.map.floor(), out)?;
+    write_configs(node.map.places(), out)?;
+    out.push(b'\n')?;
+    Ok(())
+}
+
+fn write_configs(places: &Places<Majority>, out: &mut Vec<u8>) -> Result<(), Refusal>
+    ensures ok { OnOk result (out.new.items ≡ out.old.items ++ more_words (map set_text places.now.configs)) }
+    ensures refused { IfErr result (λ r. r ≡ Refusal.OutOfMemory) }
+{
+    for place in 0..places.len() {
+        if let Some(config) = places.get(place) {
+            out.push(b' ')?;
+            write_set(&config.members(), out)?;
+        }
+    }
+    Ok(())
+}

@@ -1,0 +1,82 @@
+//! The text of an outcome.
+ghost use Rattle.std.specs.Prelude.{◌≡◌, ◌++◌, ℕ, OnOk, IfOk, IfErr, map};
+ghost use Rattle.rambo_outcome.specs.Lines.{Ordered, items_text};
+ghost use Rattle.rambo_outcome.specs.Outcomes.{step_items, steps_items, map_item, outcome_lines};
+
+use crate::line::{write_answered, write_called, write_map, write_refused, write_sequence};
+use rambo_atomic::History;
+use rambo_names::{Majority, Refusal};
+use rambo_node::Effect;
+use rambo_run::{NodeMap, Outcome};
+use rambo_sequence::KeySequence;
+use std::alloc::Global;
+
+/// The text of an outcome: a line for each call, answer and refusal in the order of the steps, then one for each
+/// sequence, then one for each map.
+///
+/// `OutOfMemory` where there is no room for it.
+pub fn outcome_text(alloc: Global, outcome: &Outcome<Majority>) -> Result<Vec<u8>, Refusal>
+    ensures text { IfOk result (λ text. text.items ≡ outcome_lines outcome.now) }
+    ensures refused { IfErr result (λ r. r ≡ Refusal.OutOfMemory) }
+{
+    let mut out = Vec::new(alloc);
+    write_steps(outcome.effects.as_slice(), &outcome.history, &mut out)?;
+    write_sequences(outcome.sequences.as_slice(), &mut out)?;
+    write_maps(outcome.maps.as_slice(), &mut out)?;
+    Ok(out)
+}
+
+fn write_steps(
+    results: &[Result<Effect, Refusal>],
+    history: &History,
+    out: &mut Vec<u8>,
+) -> Result<(), Refusal>
+    ensures ok { OnOk result (out.new.items ≡ out.old.items ++ items_text (steps_items history.now.events 1 results.now)) }
+    ensures refused { IfErr result (λ r. r ≡ Refusal.OutOfMemory) }
+{
+    for (place, told) in results.iter().enumerate() {
+        write_step(place as u64 + 1, told, history, out)?;
+    }
+    Ok(())
+}
+
+// What is told of a step, by its number.
+fn write_step(
+    step: u64,
+    told: &Result<Effect, Refusal>,
+    history: &History,
+    out: &mut Vec<u8>,
+) -> Result<(), Refusal>
+    ensures ok { OnOk result (out.new.items ≡ out.old.items ++ items_text (step_items history.now.events step told.now)) }
+    ensures refused { IfErr result (λ r. r ≡ Refusal.OutOfMemory) }
+{
+    match told {
+        Ok(Effect::Called(id)) => match history.call(id) {
+            Some(op) => write_called(id, op, out),
+            None => Ok(()),
+        },
+        Ok(Effect::Answered(id, answer)) => write_answered(id, answer, out),
+        Ok(Effect::Done | Effect::Sent(_) | Effect::Moved) => Ok(()),
+        Err(refusal) => write_refused(step, *refusal, out),
+    }
+}
+
+fn write_sequences(sequences: &[KeySequence], out: &mut Vec<u8>) -> Result<(), Refusal>
+    ensures ok { OnOk result (out.new.items ≡ out.old.items ++ items_text (map Ordered sequences.now)) }
+    ensures refused { IfErr result (λ r. r ≡ Refusal.OutOfMemory) }
+{
+    for sequence in sequences {
+        write_sequence(sequence, out)?;
+    }
+    Ok(())
+}
+
+fn write_maps(maps: &[NodeMap<Majority>], out: &mut Vec<u8>) -> Result<(), Refusal>
+    ensures ok { OnOk result (out.new.items ≡ out.old.items ++ items_text (map map_item maps.now)) }
+    ensures refused { IfErr result (λ r. r ≡ Refusal.OutOfMemory) }
+{
+    for node in maps {
+        write_map(node, out)?;
+    }
+    Ok(())
+}
