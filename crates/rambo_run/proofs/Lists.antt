@@ -1,0 +1,150 @@
+-- Members of lists, and the list of a node's open calls
+use Rattle.std.proofs.Common.{◌≡◌, ℕ, zero, suc, ◌⊎◌, Bool, true, false, if◌then◌else◌, nat_eq, List, [], ◌∷◌, ◌++◌, map, Option, Some, None, slice_get, slice_set, refl, sym, ap, ◌∙◌, subst, inl, inr, ⊎_elim, eqb-true, true≢false}
+use Rattle.std.proofs.lemmas.Bool.{eqb-false}
+use Rattle.std.specs.List.{remove}
+use Rattle.rambo_atomic.specs.Proper.{Stands}
+use Rattle.rambo_node.specs.Calls.{CallState, place_of, find_call}
+
+-- which branch was taken, with the test
+pub pick : {A : Type 0} (b : Bool) (x y : A) → ((b ≡ true) × ((if b then x else y) ≡ x)) ⊎ ((b ≡ false) × ((if b then x else y) ≡ y))
+pick true x y = inl (refl, refl)
+pick false x y = inr (refl, refl)
+
+abbrev some_or : {A : Type 0} → A → Option A → A
+some_or a None = a
+some_or a (Some b) = b
+
+pub some_inj : {A : Type 0} (a b : A) → Some a ≡ Some b → a ≡ b
+some_inj a b e = ap (some_or a) e
+
+abbrev is_there : {A : Type 0} → Option A → Bool
+is_there None = false
+is_there (Some a) = true
+
+pub none-some : {A : Type 0} (a : A) → None ≡ Some a → ⊥
+none-some a e = true≢false (sym (ap is_there e))
+
+abbrev pub Member : {A : Type 0} → A → List A → Type 0
+Member a [] = ⊥
+Member a (b ∷ bs) = (b ≡ a) ⊎ Member a bs
+
+pub member_middle : {A : Type 0} (a : A) (front back : List A) → Member a (front ++ a ∷ back)
+member_middle a [] back = inl refl
+member_middle a (x ∷ front) back = inr (member_middle a front back)
+
+pub member_stands : {A : Type 0} (a : A) (xs : List A) → Stands xs a → Member a xs
+member_stands a xs s = subst (Member a) (sym s.2) (member_middle a s.0 s.1)
+
+pub stands_member : {A : Type 0} (a : A) (xs : List A) → Member a xs → Stands xs a
+stands_member a [] h = absurd h
+stands_member a (x ∷ xs) h = elim h [
+  | inl e ↦ ([], xs, λ i. e i ∷ xs)
+  | inr m ↦ (let r = stands_member a xs m in (x ∷ r.0, r.1, λ i. x ∷ r.2 i))
+]
+
+pub member_more : {A : Type 0} (d c : A) (xs : List A) → Member d (xs ++ c ∷ []) → Member d xs ⊎ (c ≡ d)
+member_more d c [] h = elim h [ inl e ↦ inr e | inr b ↦ absurd b ]
+member_more d c (x ∷ xs) h = elim h [ inl e ↦ inl (inl e) | inr m ↦ ⊎_elim (λ a. inl (inr a)) inr (member_more d c xs m) ]
+
+pub member_map : {A B : Type 0} (f : A → B) (d : B) (xs : List A) → Member d (map f xs) → (c : A) × Member c xs × (f c ≡ d)
+member_map f d [] h = absurd h
+member_map f d (x ∷ xs) h = elim h [ inl e ↦ (x, inl refl, e) | inr m ↦ (let r = member_map f d xs m in (r.0, inr r.1, r.2)) ]
+
+pub map_member : {A B : Type 0} (f : A → B) (c : A) (xs : List A) → Member c xs → Member (f c) (map f xs)
+map_member f c [] h = absurd h
+map_member f c (x ∷ xs) h = elim h [ inl e ↦ inl (ap f e) | inr m ↦ inr (map_member f c xs m) ]
+
+pub member_left : {A : Type 0} (d : A) (xs ys : List A) → Member d xs → Member d (xs ++ ys)
+member_left d [] ys h = absurd h
+member_left d (x ∷ xs) ys h = elim h [ inl e ↦ inl e | inr m ↦ inr (member_left d xs ys m) ]
+
+pub member_right : {A : Type 0} (d : A) (xs ys : List A) → Member d ys → Member d (xs ++ ys)
+member_right d [] ys h = h
+member_right d (x ∷ xs) ys h = inr (member_right d xs ys h)
+
+pub member_last : {A : Type 0} (d : A) (xs : List A) → Member d (xs ++ d ∷ [])
+member_last d [] = inl refl
+member_last d (x ∷ xs) = inr (member_last d xs)
+
+pub member_cases : {A : Type 0} (d : A) (xs ys : List A) → Member d (xs ++ ys) → Member d xs ⊎ Member d ys
+member_cases d [] ys h = inr h
+member_cases d (x ∷ xs) ys h = elim h [ inl e ↦ inl (inl e) | inr m ↦ ⊎_elim (λ a. inl (inr a)) inr (member_cases d xs ys m) ]
+
+pub member_at : {A : Type 0} (xs : List A) (i : ℕ) (a : A) → slice_get xs i ≡ Some a → Member a xs
+member_at [] i a e = absurd (none-some a e)
+member_at (x ∷ xs) zero a e = inl (some_inj x a e)
+member_at (x ∷ xs) (suc i) a e = inr (member_at xs i a e)
+
+-- a list with one item in another's place
+pub set_here : {A : Type 0} (xs : List A) (i : ℕ) (a b : A) → slice_get xs i ≡ Some a → slice_get (slice_set xs i b) i ≡ Some b
+set_here [] i a b e = absurd (none-some a e)
+set_here (x ∷ xs) zero a b e = refl
+set_here (x ∷ xs) (suc i) a b e = set_here xs i a b e
+
+pub set_there : {A : Type 0} (xs : List A) (i j : ℕ) (b : A) → (j ≡ i → ⊥) → slice_get (slice_set xs i b) j ≡ slice_get xs j
+set_there [] i j b n = refl
+set_there (x ∷ xs) zero zero b n = absurd (n refl)
+set_there (x ∷ xs) zero (suc j) b n = refl
+set_there (x ∷ xs) (suc i) zero b n = refl
+set_there (x ∷ xs) (suc i) (suc j) b n = set_there xs i j b (λ e. n (ap suc e))
+
+-- no two open calls have one number
+abbrev pub Single : {Q : Type 0} → List (CallState Q) → Type 0
+Single [] = Unit {0}
+Single {Q} (c ∷ cs) = ((d : CallState Q) → Member d cs → d.number ≡ c.number → ⊥) × Single cs
+
+pub member_find : {Q : Type 0} (number : ℕ) (cs : List (CallState Q)) (c : CallState Q) → find_call number cs ≡ Some c → Member c cs × (c.number ≡ number)
+member_find number [] c e = absurd (none-some c e)
+member_find number (d ∷ cs) c e = elim (pick (nat_eq d.number number) zero (suc (place_of number cs))) [
+  | inl p ↦ (let k = some_inj d c (sym (ap (slice_get (d ∷ cs)) p.1) ∙ e) in (inl k, ap (λ c. c.number) (sym k) ∙ eqb-true d.number number p.0))
+  | inr p ↦ (let r = member_find number cs c (sym (ap (slice_get (d ∷ cs)) p.1) ∙ e) in (inr r.0, r.1))
+]
+
+-- an old call of another number, or the one that was put there
+pub member_put : {Q : Type 0} (number : ℕ) (new d : CallState Q) (xs : List (CallState Q)) → Single xs → Member d (slice_set xs (place_of number xs) new)
+    → (Member d xs × (d.number ≡ number → ⊥)) ⊎ (new ≡ d)
+member_put number new d [] s h = absurd h
+member_put number new d (x ∷ xs) s h = elim (pick (nat_eq x.number number) zero (suc (place_of number xs))) [
+  | inl p ↦ elim (subst (λ i. Member d (slice_set (x ∷ xs) i new)) p.1 h) [
+    | inl e ↦ inr e
+    | inr m ↦ inl (inr m, λ q. s.0 d m (q ∙ sym (eqb-true x.number number p.0)))
+  ]
+  | inr p ↦ elim (subst (λ i. Member d (slice_set (x ∷ xs) i new)) p.1 h) [
+    | inl e ↦ inl (inl e, λ q. eqb-false x.number number p.0 (ap (λ c. c.number) e ∙ q))
+    | inr m ↦ ⊎_elim (λ r. inl (inr r.0, r.1)) inr (member_put number new d xs s.1 m)
+  ]
+]
+
+pub single_put : {Q : Type 0} (number : ℕ) (new : CallState Q) (xs : List (CallState Q)) → new.number ≡ number → Single xs → Single (slice_set xs (place_of number xs) new)
+single_put number new [] n s = tt
+single_put number new (x ∷ xs) n s = elim (pick (nat_eq x.number number) zero (suc (place_of number xs))) [
+  | inl p ↦ subst (λ i. Single (slice_set (x ∷ xs) i new)) (sym p.1) (λ d m q. s.0 d m (q ∙ n ∙ sym (eqb-true x.number number p.0)), s.1)
+  | inr p ↦ subst (λ i. Single (slice_set (x ∷ xs) i new)) (sym p.1)
+      (λ d m q. ⊎_elim (λ r. s.0 d r.0 q) (λ e. eqb-false x.number number p.0 (sym q ∙ ap (λ c. c.number) (sym e) ∙ n)) (member_put number new d xs s.1 m), single_put number new xs n s.1)
+]
+
+-- a call that is left when one is taken out
+pub member_out : {Q : Type 0} (number : ℕ) (d : CallState Q) (xs : List (CallState Q)) → Single xs → Member d (remove xs (place_of number xs)) → Member d xs × (d.number ≡ number → ⊥)
+member_out number d [] s h = absurd h
+member_out number d (x ∷ xs) s h = elim (pick (nat_eq x.number number) zero (suc (place_of number xs))) [
+  | inl p ↦ (let m : Member d xs = subst (λ i. Member d (remove (x ∷ xs) i)) p.1 h in (inr m, λ q. s.0 d m (q ∙ sym (eqb-true x.number number p.0))))
+  | inr p ↦ elim (subst (λ i. Member d (remove (x ∷ xs) i)) p.1 h) [
+    | inl e ↦ (inl e, λ q. eqb-false x.number number p.0 (ap (λ c. c.number) e ∙ q))
+    | inr m ↦ (let r = member_out number d xs s.1 m in (inr r.0, r.1))
+  ]
+]
+
+pub single_out : {Q : Type 0} (number : ℕ) (xs : List (CallState Q)) → Single xs → Single (remove xs (place_of number xs))
+single_out number [] s = tt
+single_out number (x ∷ xs) s = elim (pick (nat_eq x.number number) zero (suc (place_of number xs))) [
+  | inl p ↦ subst (λ i. Single (remove (x ∷ xs) i)) (sym p.1) s.1
+  | inr p ↦ subst (λ i. Single (remove (x ∷ xs) i)) (sym p.1) (λ d m q. s.0 d (member_out number d xs s.1 m).0 q, single_out number xs s.1)
+]
+
+pub single_map : {Q : Type 0} (f : CallState Q → CallState Q) → ((c : CallState Q) → (f c).number ≡ c.number) → (xs : List (CallState Q)) → Single xs → Single (map f xs)
+single_map f h [] s = tt
+single_map f h (x ∷ xs) s = (λ d m q. let r = member_map f d xs m in s.0 r.0 r.1 (sym (h r.0) ∙ ap (λ c. c.number) r.2 ∙ q ∙ h x), single_map f h xs s.1)
+
+pub single_more : {Q : Type 0} (c : CallState Q) (xs : List (CallState Q)) → Single xs → ((d : CallState Q) → Member d xs → d.number ≡ c.number → ⊥) → Single (xs ++ c ∷ [])
+single_more c [] s h = (λ d m. absurd m, tt)
+single_more c (x ∷ xs) s h = (λ d m q. ⊎_elim (λ o. s.0 d o q) (λ e. h x (inl refl) (sym q ∙ ap (λ c. c.number) (sym e))) (member_more d c xs m), single_more c xs s.1 (λ d m. h d (inr m)))

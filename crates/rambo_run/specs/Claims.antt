@@ -1,0 +1,65 @@
+-- What holds of every run
+use Rattle.std.specs.Prelude.{◌≡◌, ◌⊎◌, ℕ, ◌<◌, ◌≤◌, List, ◌++◌, take, length, Some}
+use Rattle.std.specs.FinSet as set
+use Rattle.std.specs.FinMap as map
+use Rattle.std.specs.Prelude.{true, false}
+use Rattle.rambo_names.specs.Quorums.{QuorumSystem}
+use Rattle.rambo_tag.specs.Tags.{tag_lt, tag_of}
+use Rattle.rambo_atomic.specs.Proper.{IsProper, Stands}
+use Rattle.rambo_config_map.specs.Maps.{active_at, end_of}
+use Rattle.rambo_node.specs.Calls.{CallState}
+use Rattle.rambo_node.specs.Nodes.{NodeState, heard_from}
+use Rattle.rambo_run.specs.declared.step.Step.{Step}
+use Rattle.rambo_sequence.specs.Sequences.{sequence_of}
+use Rattle.rambo_run.specs.Worlds.{WorldState, node_at}
+use Rattle.rambo_run.specs.Runs.{run}
+
+-- for each key the given sequence is proper for the history
+abbrev pub IsAtomic : {Q : Type 0} → WorldState Q → Type 0
+IsAtomic w = (key : List ℕ) → IsProper w.history key (sequence_of w.history w.marks key)
+
+-- a node holds this configuration at this place, after these steps
+abbrev pub Holds : {Q : Type 0} → QuorumSystem Q → Q → List Step → ℕ → ℕ → Q → Type 0
+Holds {Q} s founders steps n p c = (x : NodeState Q) × (node_at (run s founders steps) n ≡ Some x) × (active_at x.map p ≡ Some c)
+
+-- two nodes, at one moment of the run or at two, hold the same configuration at one place
+abbrev pub Agrees : {Q : Type 0} → QuorumSystem Q → Q → List Step → Type 0
+Agrees {Q} s founders steps =
+    (early late rest : List Step) (n k p : ℕ) (c d : Q) → steps ≡ early ++ late ++ rest
+    → Holds s founders early n p c → Holds s founders (early ++ late) k p d → c ≡ d
+
+-- y holds at least what x holds: of each key a tag that is no less, and a map that is no less at either end
+pub record AtLeast {Q : Type 0} (x y : NodeState Q) : Type 0 where
+  pub tags : (key : List ℕ) → tag_lt (tag_of (map.get y.registers key)) (tag_of (map.get x.registers key)) ≡ false
+  pub floor : x.map.floor ≤ y.map.floor
+  pub top : end_of x.map ≤ end_of y.map
+
+-- j replied to a phase of n: the phase began after `began` steps, when the node took its number, and j told after
+-- `told` steps, when it had heard that number of n (or is n itself) and held all that n held when the phase began
+pub record IsFreshReply {Q : Type 0} (s : QuorumSystem Q) (founders : Q) (steps : List Step) (n : ℕ) (c : CallState Q) (j : ℕ) : Type 0 where
+  pub began : ℕ
+  pub told : ℕ
+  pub order : began ≤ told
+  pub now : told ≤ length steps
+  pub opener : NodeState Q
+  pub opener_is : node_at (run s founders (take began steps)) n ≡ Some opener
+  pub number : opener.number ≡ c.phase.number
+  pub first : (m : ℕ) (x : NodeState Q) → m < began → node_at (run s founders (take m steps)) n ≡ Some x → x.number < c.phase.number
+  pub replier : NodeState Q
+  pub replier_is : node_at (run s founders (take told steps)) j ≡ Some replier
+  pub heard : (j ≡ n) ⊎ (c.phase.number ≤ heard_from replier.heard n)
+  pub holds : AtLeast opener replier
+
+-- each counted reply was told after its sender had heard a letter that was sent since the phase began
+abbrev pub RepliesAreFresh : {Q : Type 0} → QuorumSystem Q → Type 0
+RepliesAreFresh {Q} s =
+    (founders : Q) (steps : List Step) (n : ℕ) (x : NodeState Q) → node_at (run s founders steps) n ≡ Some x
+    → (c : CallState Q) → Stands x.calls c → (j : ℕ) → set.contains c.phase.repliers j ≡ true → IsFreshReply s founders steps n c j
+
+-- of every run, of any founders and steps, the given sequences are proper
+abbrev pub EveryRunIsAtomic : {Q : Type 0} → QuorumSystem Q → Type 0
+EveryRunIsAtomic {Q} s = (founders : Q) (steps : List Step) → IsAtomic (run s founders steps)
+
+-- and nodes hold the same configurations
+abbrev pub EveryRunAgrees : {Q : Type 0} → QuorumSystem Q → Type 0
+EveryRunAgrees {Q} s = (founders : Q) (steps : List Step) → Agrees s founders steps

@@ -1,0 +1,57 @@
+-- Whole runs, and what they give
+use Rattle.std.specs.Prelude.{if◌then◌else◌, List, [], ◌∷◌, Option, None, Some, Result, Ok, Err}
+use Rattle.rambo_names.specs.declared.refusal.Refusal.{Refusal}
+use Rattle.rambo_names.specs.Quorums.{QuorumSystem}
+use Rattle.rambo_atomic.specs.declared.event.Event.{Event}
+use Rattle.rambo_joiner.specs.Statuses.{is_idle}
+use Rattle.rambo_node.specs.declared.effect.Effect.{Effect}
+use Rattle.rambo_node.specs.Nodes.{NodeState}
+use Rattle.rambo_run.specs.declared.outcome.NodeMap.{NodeMap}
+use Rattle.rambo_run.specs.declared.step.Step.{Step}
+use Rattle.rambo_sequence.specs.Sequences.{SequenceOf, sequences_of}
+use Rattle.rambo_run.specs.Worlds.{WorldState, first_world}
+use Rattle.rambo_run.specs.Steps.{refusal, turn}
+
+-- a refused step changes nothing
+abbrev pub unless_refused : {Q : Type 0} → Option Refusal → WorldState Q → WorldState Q → WorldState Q
+unless_refused None w next = next
+unless_refused (Some r) w next = w
+
+unfoldable pub after : {Q : Type 0} → QuorumSystem Q → WorldState Q → Step → WorldState Q
+after s w st = unless_refused (refusal s w st) w (turn w st).world
+
+unfoldable pub run_from : {Q : Type 0} → QuorumSystem Q → WorldState Q → List Step → WorldState Q
+run_from s w [] = w
+run_from s w (st ∷ sts) = run_from s (after s w st) sts
+
+-- the world after all steps of a list
+unfoldable pub run : {Q : Type 0} → QuorumSystem Q → Q → List Step → WorldState Q
+run s founders sts = run_from s (first_world s founders) sts
+
+-- what a step did, or why it was refused
+abbrev pub result_of : {Q : Type 0} → Option Refusal → WorldState Q → Step → Result Effect Refusal
+result_of None w st = Ok (turn w st).effect
+result_of (Some r) w st = Err r
+
+unfoldable pub results_from : {Q : Type 0} → QuorumSystem Q → WorldState Q → List Step → List (Result Effect Refusal)
+results_from s w [] = []
+results_from s w (st ∷ sts) = result_of (refusal s w st) w st ∷ results_from s (after s w st) sts
+
+-- the maps of the nodes that aren't idle
+abbrev pub maps_of : {Q : Type 0} → List (NodeState Q) → List (NodeMap Q)
+maps_of [] = []
+maps_of (x ∷ xs) = if is_idle x.status then maps_of xs else record { name = x.name; map = x.map } ∷ maps_of xs
+
+-- what a run gives: the effect or refusal of each step, the history, the sequence of each key that has one, and the
+-- map of each node that isn't idle
+pub record OutcomeState (Q : Type 0) : Type 0 where
+  pub effects : List (Result Effect Refusal)
+  pub history : List Event
+  pub sequences : List SequenceOf
+  pub maps : List (NodeMap Q)
+
+abbrev pub outcome_at : {Q : Type 0} → List (Result Effect Refusal) → WorldState Q → OutcomeState Q
+outcome_at effects w = record { effects = effects; history = w.history; sequences = sequences_of w.history w.marks; maps = maps_of w.nodes }
+
+unfoldable pub outcome_of : {Q : Type 0} → QuorumSystem Q → Q → List Step → OutcomeState Q
+outcome_of s founders sts = outcome_at (results_from s (first_world s founders) sts) (run s founders sts)

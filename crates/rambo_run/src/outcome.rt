@@ -1,0 +1,37 @@
+//! What a run gives.
+
+use crate::step::Step;
+use rambo_atomic::History;
+use rambo_config_map::ConfigMap;
+use rambo_names::{Name, Quorums, Refusal};
+use rambo_node::Effect;
+use rambo_sequence::KeySequence;
+use std::marker::Model;
+
+/// The configuration map of a node.
+#[derive(Drop)]
+pub struct NodeMap<Q: Quorums> {
+    pub name: Name,
+    pub map: ConfigMap<Q>,
+}
+
+/// What a run gives: the effect or refusal of each step, the history, the sequence of each key that has one, keys in
+/// byte order, and the map of each node that isn't idle, names rising.
+#[derive(Drop)]
+pub struct Outcome<Q: Quorums> {
+    pub effects: Vec<Result<Effect, Refusal>>,
+    pub history: History,
+    pub sequences: Vec<KeySequence>,
+    pub maps: Vec<NodeMap<Q>>,
+}
+
+impl<Q: Quorums> Model for Outcome<Q> {
+    ghost use Rattle.std.specs.Coded.{codes};
+    ghost use Rattle.rambo_run.specs.Runs.{OutcomeState};
+
+    ghost Value = { OutcomeState Q };
+
+    ghost coded = { Prim.hlevel (codes, Q.code) };
+
+    ghost view = { λ o. record { effects = o.effects.items; history = o.history.events; sequences = o.sequences.items; maps = o.maps.items } };
+}

@@ -1,0 +1,45 @@
+//! The steps of a run.
+ghost use Rattle.std.specs.Prelude.{◌≡◌, IfOk, IfErr};
+
+use rambo_atomic::{CallId, Op};
+use rambo_names::{Members, Name, Refusal};
+
+/// One event of a run.
+#[derive(Drop, Debug)]
+pub enum Step {
+    /// An idle node begins to join, with these contacts.
+    Join(Name, Members),
+    /// A client asks a node for an operation.
+    Call(Name, Op),
+    /// The first node sends a letter to the second.
+    Send(Name, Name),
+    /// The letter of this number, from 1, comes to its addressee: letters come late, again, in any order, or
+    /// never.
+    Deliver(u64),
+    /// A call whose phase is met goes on.
+    Advance(CallId),
+    /// The present phase of a call begins anew.
+    Again(CallId),
+    /// A node stops for ever.
+    Stop(Name),
+}
+
+impl Step {
+    /// The same step, which shares its bytes.
+    ///
+    /// `OutOfMemory` where a count of owners is full.
+    pub fn clone(&self) -> Result<Step, Refusal>
+        ensures same { IfOk result (λ step. step ≡ self.now) }
+        ensures refused { IfErr result (λ r. r ≡ Refusal.OutOfMemory) }
+    {
+        Ok(match self {
+            Step::Join(name, contacts) => Step::Join(*name, *contacts),
+            Step::Call(name, op) => Step::Call(*name, op.clone()?),
+            Step::Send(from, to) => Step::Send(*from, *to),
+            Step::Deliver(letter) => Step::Deliver(*letter),
+            Step::Advance(id) => Step::Advance(*id),
+            Step::Again(id) => Step::Again(*id),
+            Step::Stop(name) => Step::Stop(*name),
+        })
+    }
+}
