@@ -79,6 +79,14 @@ impl Tape {
     {
         self.failures
     }
+
+    // Counts a failed call.
+    fn fail(&mut self) -> Failed
+        ensures { self.new ≡ record self.old { failures = counted self.old.failures } }
+    {
+        self.failures = self.failures.saturating_add(1);
+        Failed
+    }
 }
 
 impl Source for Tape {
@@ -116,8 +124,7 @@ impl Source for Tape {
                 return Ok(count);
             }
         }
-        self.failures = self.failures.saturating_add(1);
-        Err(Failed)
+        Err(self.fail())
     }
 
     ghost use Rattle.std.proofs.Common.{rules};
@@ -150,7 +157,6 @@ impl Sink for Tape {
         if !due && self.bytes.extend_from_slice(&bytes[..count]).is_ok() {
             return Ok(count);
         }
-        self.failures = self.failures.saturating_add(1);
-        Err(Failed)
+        Err(self.fail())
     }
 }
