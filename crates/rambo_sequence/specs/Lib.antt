@@ -1,0 +1,4 @@
+pub mod Groups
+pub mod Orders
+pub mod RankedCalls
+pub mod Sequences

@@ -1,0 +1,12 @@
+//! What stands in the sequences of a run.
+
+use rambo_atomic::{CallId, Op};
+use rambo_tag::Version;
+
+/// A set that took a tag, or a get that was answered, with the copy that it sent round.
+#[derive(Drop, Debug)]
+pub struct Mark {
+    pub id: CallId,
+    pub op: Op,
+    pub kept: Option<Version>,
+}
