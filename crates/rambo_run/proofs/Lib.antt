@@ -17,3 +17,4 @@ pub mod Moments
 pub mod NodeLists
 pub mod EveryRun
 pub mod Fitting
+mod Rows

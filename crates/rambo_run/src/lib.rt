@@ -8,3 +8,6 @@ mod step;
 pub use laws::{given_sequences_are_proper, nodes_agree, replies_are_fresh};
 pub use outcome::{NodeMap, Outcome};
 pub use step::Step;
+
+#[cfg(test)]
+mod tests;
