@@ -29,8 +29,8 @@ is_atomic s law founders ss key =
     subst (λ w. IsProper w.history key (sequence_of w.history w.marks key)) (last_moment s founders ss) (proper s law founders (moment s founders ss) (worlds s founders ss) (length ss) key)
 
 -- while no configuration is learnt, what a node holds are the founders
-held_first : {Q : Type 0} (s : QuorumSystem Q) (founders : Q) (ss : List Step) (n : ℕ) (x : NodeState Q) → node_at (run s founders ss) n ≡ Some x → x.map ≡ first_map founders
-held_first s founders ss n x e =
+pub map_is_first : {Q : Type 0} (s : QuorumSystem Q) (founders : Q) (ss : List Step) (n : ℕ) (x : NodeState Q) → node_at (run s founders ss) n ≡ Some x → x.map ≡ first_map founders
+map_is_first s founders ss n x e =
     let all = worlds s founders ss in
     let world = moment s founders ss in
     let m : ℕ = length ss in
@@ -40,8 +40,8 @@ held_first s founders ss n x e =
 -- two nodes hold one configuration at one place
 pub agrees : {Q : Type 0} (s : QuorumSystem Q) (founders : Q) (ss : List Step) → Agrees s founders ss
 agrees s founders ss early late rest n k p c d e x y =
-    let a = held_first s founders early n x.0 x.1 in
-    let b = held_first s founders (early ++ late) k y.0 y.1 in
+    let a = map_is_first s founders early n x.0 x.1 in
+    let b = map_is_first s founders (early ++ late) k y.0 y.1 in
     some_inj c d (sym x.2 ∙ ap (λ m. active_at m p) (a ∙ sym b) ∙ y.2)
 
 at_least : {Q : Type 0} (x y : NodeState Q) → HoldsAll x y → AtLeast x y
