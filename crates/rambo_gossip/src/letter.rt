@@ -1,5 +1,5 @@
 //! Letters.
-ghost use Rattle.std.specs.Prelude.{◌≡◌, IfOk, IfErr};
+ghost use Rattle.std.specs.Prelude.{◌≡◌, IsOk, IfOk, IfErr};
 
 use rambo_config_map::ConfigMap;
 use rambo_names::{Members, Name, Quorums, Refusal};
@@ -43,9 +43,10 @@ pub struct Gossip<Q: Quorums> {
 impl<Q: Quorums> Letter<Q> {
     /// The same letter, which shares the bytes of its keys and values.
     ///
-    /// `OutOfMemory` where there is no room for the list of its copies.
+    /// `OutOfMemory` where there is no room for the list of its copies. A wish to join has none.
     pub fn clone(&self) -> Result<Letter<Q>, Refusal>
         ensures same { IfOk result (λ letter. letter ≡ self.now) }
+        ensures join { self.now.kind ≡ Kind.Join → IsOk result }
         ensures refused { IfErr result (λ r. r ≡ Refusal.OutOfMemory) }
     {
         let kind = match &self.kind {

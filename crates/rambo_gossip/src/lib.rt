@@ -2,5 +2,7 @@
 #![tactic(auto)]
 
 mod letter;
+#[cfg(test)]
+mod tests;
 
 pub use letter::{Gossip, Kind, Letter};

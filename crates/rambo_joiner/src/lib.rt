@@ -2,5 +2,7 @@
 #![tactic(auto)]
 
 mod status;
+#[cfg(test)]
+mod tests;
 
 pub use status::Status;

@@ -1,0 +1,141 @@
+use crate::{Gossip, Kind, Letter};
+use rambo_config_map::ConfigMap;
+use rambo_names::{Bytes, Majority, Members, Name, Refusal};
+use rambo_tag::{Change, Pack, Tag, Version};
+use std::alloc::Global;
+use std::process::Abort;
+use std::test::Fail;
+
+// The value of a call, which is made once more where it is refused.
+macro_rules! again {
+    ($call:expr) => {
+        match $call {
+            Ok(value) => value,
+            Err(_) => $call?,
+        }
+    };
+}
+
+fn bytes(alloc: Global, items: &[u8]) -> Result<Bytes, Refusal> {
+    Ok(again!(Bytes::from_slice(alloc, items)))
+}
+
+fn names(numbers: &[u64]) -> Result<Members, Refusal> {
+    let mut members = Members::empty();
+    for number in numbers {
+        members = members.with(Name::new(*number)?);
+    }
+    Ok(members)
+}
+
+// Keys, the sequence numbers of their tags, and their values.
+const ROWS: [(&[u8], u64, Option<&[u8]>); 2] = [(b"k", 3, Some(b"v")), (b"", 4, None)];
+
+fn copies(alloc: Global) -> Result<Pack, Fail> {
+    let mut changes = again!(Vec::with_capacity(alloc, ROWS.len()));
+    for (key, sequence, value) in ROWS {
+        let value = match value {
+            Some(items) => Some(bytes(alloc, items)?),
+            None => None,
+        };
+        let name = Name::new(2)?;
+        let version = Version {
+            tag: Tag { sequence, name },
+            value,
+        };
+        changes.push(Change {
+            key: bytes(alloc, key)?,
+            version,
+        })?;
+    }
+    Ok(Pack::new(changes))
+}
+
+fn holds(copies: &Pack) -> bool {
+    let changes = copies.changes();
+    for (change, (key, sequence, value)) in changes.iter().zip(ROWS) {
+        let same_value = match (&change.version.value, value) {
+            (Some(bytes), Some(items)) => bytes.as_slice() == items,
+            (None, None) => true,
+            _ => false,
+        };
+        if change.key.as_slice() != key || change.version.tag.sequence != sequence || !same_value {
+            return false;
+        }
+    }
+    changes.len() == ROWS.len()
+}
+
+// The sender, the addressee, and the gossip where the letter says some.
+fn opened(letter: Letter<Majority>) -> (Name, Name, Option<Gossip<Majority>>) {
+    let Letter {
+        sender,
+        addressee,
+        kind,
+    } = letter;
+    let gossip = match kind {
+        Kind::Gossip(gossip) => Some(gossip),
+        Kind::Join => None,
+    };
+    (sender, addressee, gossip)
+}
+
+fn is_told(rt: &impl Abort, alloc: Global, letter: Letter<Majority>) -> Result<(), Fail> {
+    let (sender, addressee, gossip) = opened(letter);
+    assert_eq!(rt; (sender.number(), addressee.number()), (2, 5));
+    assert!(rt; gossip.is_some());
+    if let Some(gossip) = gossip {
+        assert_eq!(rt; gossip.known, names(&[1, 2, 5])?);
+        assert!(rt; holds(&gossip.copies));
+        let map = ConfigMap::new(alloc, Majority::of(names(&[1, 2])?));
+        assert!(rt; gossip.map.same(&map));
+        assert_eq!(rt; (gossip.number, gossip.heard), (7, 6));
+    }
+    Ok(())
+}
+
+// A refused copy changes nothing, and is made again.
+#[test]
+fn copies_gossip(rt: HostRuntime) -> Result<(), Fail> {
+    let alloc = rt.alloc();
+    let (sender, addressee) = (Name::new(2)?, Name::new(5)?);
+    let gossip = Gossip {
+        known: names(&[1, 2, 5])?,
+        copies: copies(alloc)?,
+        map: ConfigMap::new(alloc, Majority::of(names(&[1, 2])?)),
+        number: 7,
+        heard: 6,
+    };
+    let letter = Letter {
+        sender,
+        addressee,
+        kind: Kind::Gossip(gossip),
+    };
+    let copy = match letter.clone() {
+        Ok(copy) => Ok(copy),
+        Err(refusal) => {
+            assert_eq!(rt; refusal, Refusal::OutOfMemory);
+            letter.clone()
+        }
+    };
+    is_told(&rt, alloc, letter)?;
+    is_told(&rt, alloc, copy?)
+}
+
+#[test]
+fn copies_a_wish_to_join(rt: HostRuntime) -> Result<(), Fail> {
+    let (sender, addressee) = (Name::new(3)?, Name::new(1)?);
+    let letter = Letter {
+        sender,
+        addressee,
+        kind: Kind::Join,
+    };
+    let copy = letter.clone();
+    let (sender, addressee, gossip) = opened(letter);
+    assert_eq!(rt; (sender.number(), addressee.number()), (3, 1));
+    assert!(rt; gossip.is_none());
+    let (sender, addressee, gossip) = opened(copy?);
+    assert_eq!(rt; (sender.number(), addressee.number()), (3, 1));
+    assert!(rt; gossip.is_none());
+    Ok(())
+}
