@@ -1,0 +1,25 @@
+-- What the words behind the first tell
+use Rattle.std.specs.Prelude.{◌≡◌, ◌⊎◌, ℕ, List, ◌∷◌, Option}
+use Rattle.rambo_run.specs.declared.step.Step.{Step}
+use Rattle.rambo_text.specs.declared.fault.Fault.{Fault}
+use Rattle.rambo_text.specs.declared.fault.Fault.TheVariants.{OutOfMemory}
+use Rattle.rambo_text.specs.Forms.{Form, IsSpelt, form_fault}
+use Rattle.rambo_text.specs.Words.{AreMore}
+use Rattle.rambo_script.specs.declared.kind.StepKind.{StepKind}
+use Rattle.rambo_script.specs.StepLines.{word_of, forms_of, step_words, IsStep}
+use Rattle.rambo_script.specs.Faults.{AreUnfit}
+
+-- a word isn't in this form
+abbrev pub IsUnspelt : Form → List ℕ → Fault → Type 0
+IsUnspelt m word f = ¬ (IsSpelt m word) × (f ≡ form_fault m)
+
+-- the words behind the first tell this step of a kind
+pub record TellStep (kind : StepKind) (more : Option (List ℕ)) (st : Step) : Type 0 where
+  pub others : List (List ℕ)
+  pub are : AreMore more others
+  pub words : step_words st ≡ word_of kind ∷ others
+  pub is_step : IsStep st
+
+-- they are unfit, or memory ran out
+abbrev pub TellFault : StepKind → Option (List ℕ) → Fault → Type 0
+TellFault kind more f = (f ≡ OutOfMemory) ⊎ ((others : List (List ℕ)) × AreMore more others × AreUnfit (forms_of kind) others f)

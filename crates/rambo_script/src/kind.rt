@@ -1,0 +1,56 @@
+//! Kinds of steps.
+ghost use Rattle.std.specs.Prelude.{◌≡◌, ◌≢◌, IfSome, IfNone};
+
+/// What a line of a script tells, by its first word.
+#[derive(Clone, Copy, PartialEq, Eq, Debug)]
+pub enum StepKind {
+    Join,
+    Get,
+    Set,
+    Send,
+    Deliver,
+    Advance,
+    Again,
+    Stop,
+}
+
+impl StepKind {
+    ghost use Rattle.rambo_script.specs.declared.kind.StepKind.{StepKind};
+    ghost use Rattle.rambo_script.specs.StepLines.{word_of};
+
+    /// The word that a step of this kind begins with.
+    pub fn word(self) -> &'static [u8]
+        ensures { result.now ≡ word_of self }
+    {
+        match self {
+            StepKind::Join => b"join",
+            StepKind::Get => b"get",
+            StepKind::Set => b"set",
+            StepKind::Send => b"send",
+            StepKind::Deliver => b"deliver",
+            StepKind::Advance => b"advance",
+            StepKind::Again => b"again",
+            StepKind::Stop => b"stop",
+        }
+    }
+
+    /// The kind of the steps that begin with a word.
+    ///
+    /// None where none do.
+    pub fn of(word: &[u8]) -> Option<StepKind>
+        ensures found { IfSome result (λ kind. word.now ≡ word_of kind) }
+        ensures none { IfNone result ((kind : StepKind) → word.now ≢ word_of kind) }
+    {
+        match word {
+            b"join" => Some(StepKind::Join),
+            b"get" => Some(StepKind::Get),
+            b"set" => Some(StepKind::Set),
+            b"send" => Some(StepKind::Send),
+            b"deliver" => Some(StepKind::Deliver),
+            b"advance" => Some(StepKind::Advance),
+            b"again" => Some(StepKind::Again),
+            b"stop" => Some(StepKind::Stop),
+            _ => None,
+        }
+    }
+}

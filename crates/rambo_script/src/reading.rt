@@ -1,0 +1,115 @@
+//! Reading the line of a step.
+ghost use Rattle.std.specs.Prelude.{◌≡◌, ◌⊎◌, IfOk, IfErr};
+ghost use Rattle.std.specs.Option.{option_copied};
+ghost use Rattle.rambo_script.specs.Faults.{IsLineFault, TellNoStep};
+ghost use Rattle.rambo_script.specs.Parts.{TellStep, TellFault};
+ghost use Rattle.rambo_script.specs.Scripts.{HasLine};
+ghost use Rattle.rambo_script.specs.StepLines.{step_line};
+
+use crate::kind::StepKind;
+use crate::parts::{call_of, name_of, number_of, one, set_of, three, two};
+use crate::script::LINE_LIMIT;
+use rambo_atomic::Op;
+use rambo_run::Step;
+use rambo_text::{Fault, next_word, read_hex};
+use std::alloc::Global;
+
+/// The step that a line tells.
+///
+/// `OutOfMemory` where there is no room for its bytes; else the first fault of the line.
+pub fn read_step(alloc: Global, line: &[u8]) -> Result<Step, Fault>
+    ensures found { IfOk result (λ st. HasLine st × (line.now ≡ step_line st)) }
+    ensures fault { IfErr result (λ f. (f ≡ Fault.OutOfMemory) ⊎ IsLineFault TellNoStep line.now f) }
+{
+    if line.len() > LINE_LIMIT {
+        return Err(Fault::LineTooLong);
+    }
+    let (word, more) = next_word(line);
+    match StepKind::of(word) {
+        Some(kind) => read_parts(alloc, kind, more),
+        None => Err(Fault::UnknownWord),
+    }
+}
+
+// The step of a kind that the words behind the first tell.
+fn read_parts(alloc: Global, kind: StepKind, more: Option<&[u8]>) -> Result<Step, Fault>
+    ensures found { IfOk result (λ st. TellStep kind (option_copied more.entry) st) }
+    ensures fault { IfErr result (λ f. TellFault kind (option_copied more.entry) f) }
+{
+    match kind {
+        StepKind::Join => read_join(more),
+        StepKind::Get => read_get(alloc, more),
+        StepKind::Set => read_put(alloc, more),
+        StepKind::Send => read_send(more),
+        StepKind::Deliver => read_deliver(more),
+        StepKind::Advance => read_advance(more),
+        StepKind::Again => read_again(more),
+        StepKind::Stop => read_stop(more),
+    }
+}
+
+fn read_join(more: Option<&[u8]>) -> Result<Step, Fault>
+    ensures found { IfOk result (λ st. TellStep StepKind.Join (option_copied more.entry) st) }
+    ensures fault { IfErr result (λ f. TellFault StepKind.Join (option_copied more.entry) f) }
+{
+    let (name, contacts) = two(more)?;
+    Ok(Step::Join(name_of(name)?, set_of(contacts)?))
+}
+
+fn read_get(alloc: Global, more: Option<&[u8]>) -> Result<Step, Fault>
+    ensures found { IfOk result (λ st. TellStep StepKind.Get (option_copied more.entry) st) }
+    ensures fault { IfErr result (λ f. TellFault StepKind.Get (option_copied more.entry) f) }
+{
+    let (name, key) = two(more)?;
+    Ok(Step::Call(name_of(name)?, Op::Get(read_hex(alloc, key)?)))
+}
+
+fn read_put(alloc: Global, more: Option<&[u8]>) -> Result<Step, Fault>
+    ensures found { IfOk result (λ st. TellStep StepKind.Set (option_copied more.entry) st) }
+    ensures fault { IfErr result (λ f. TellFault StepKind.Set (option_copied more.entry) f) }
+{
+    let (name, key, value) = three(more)?;
+    let name = name_of(name)?;
+    let key = read_hex(alloc, key)?;
+    Ok(Step::Call(name, Op::Set(key, read_hex(alloc, value)?)))
+}
+
+fn read_send(more: Option<&[u8]>) -> Result<Step, Fault>
+    ensures found { IfOk result (λ st. TellStep StepKind.Send (option_copied more.entry) st) }
+    ensures fault { IfErr result (λ f. TellFault StepKind.Send (option_copied more.entry) f) }
+{
+    let (from, to) = two(more)?;
+    Ok(Step::Send(name_of(from)?, name_of(to)?))
+}
+
+fn read_deliver(more: Option<&[u8]>) -> Result<Step, Fault>
+    ensures found { IfOk result (λ st. TellStep StepKind.Deliver (option_copied more.entry) st) }
+    ensures fault { IfErr result (λ f. TellFault StepKind.Deliver (option_copied more.entry) f) }
+{
+    let letter = one(more)?;
+    Ok(Step::Deliver(number_of(letter)?))
+}
+
+fn read_advance(more: Option<&[u8]>) -> Result<Step, Fault>
+    ensures found { IfOk result (λ st. TellStep StepKind.Advance (option_copied more.entry) st) }
+    ensures fault { IfErr result (λ f. TellFault StepKind.Advance (option_copied more.entry) f) }
+{
+    let call = one(more)?;
+    Ok(Step::Advance(call_of(call)?))
+}
+
+fn read_again(more: Option<&[u8]>) -> Result<Step, Fault>
+    ensures found { IfOk result (λ st. TellStep StepKind.Again (option_copied more.entry) st) }
+    ensures fault { IfErr result (λ f. TellFault StepKind.Again (option_copied more.entry) f) }
+{
+    let call = one(more)?;
+    Ok(Step::Again(call_of(call)?))
+}
+
+fn read_stop(more: Option<&[u8]>) -> Result<Step, Fault>
+    ensures found { IfOk result (λ st. TellStep StepKind.Stop (option_copied more.entry) st) }
+    ensures fault { IfErr result (λ f. TellFault StepKind.Stop (option_copied more.entry) f) }
+{
+    let name = one(more)?;
+    Ok(Step::Stop(name_of(name)?))
+}
