@@ -1,9 +1,20 @@
 //! The text of what a run gives, and the checker of such texts.
 //!
 //! - `outcome_text`: what a run gave, in lines of words.
+//! - `check_text`: for each key of such a text, whether its sequence explains its calls and answers.
 #![tactic(auto)]
 
+mod checking;
+mod evidence;
+mod item;
+mod judging;
+mod kept;
 mod line;
+mod operands;
+mod order;
 mod outcome;
+mod text;
+mod verdict_text;
 
+pub use checking::check_text;
 pub use outcome::outcome_text;

@@ -1,0 +1,72 @@
+-- Which words a line may have, and the fault of other words
+use Rattle.std.specs.Prelude.{◌≡◌, ◌≢◌, ◌⊎◌, ℕ, if◌then◌else◌, List, [], ◌∷◌, Option, map, drop, length, codes}
+use Rattle.std.specs.Str.{bytes_eq}
+use Rattle.rambo_text.specs.declared.fault.Fault.{Fault}
+use Rattle.rambo_text.specs.declared.fault.Fault.TheVariants.{UnknownWord, WrongCount, OutOfMemory}
+use Rattle.rambo_text.specs.Forms.{Form, Num, Name, Set, Call, Hex, IsBadWord}
+use Rattle.rambo_text.specs.Words.{AreWords, AreMore}
+
+-- a word that says what the line is has no meaning, or is missing, or else these words have these forms, each its own
+pub data Plan : Type 0 where
+  Unknown : Plan
+  Missing : Plan
+  Forms : List Form → List (List ℕ) → Plan
+
+-- one form for each of some words
+abbrev pub each : Form → List (List ℕ) → List Form
+each m words = map (λ _. m) words
+
+-- behind `call`
+abbrev pub call_plan : List (List ℕ) → Plan
+call_plan [] = Missing
+call_plan (c ∷ []) = Missing
+call_plan (c ∷ w ∷ ws) =
+    if bytes_eq w (codes "get") then Forms (Call ∷ Hex ∷ []) (c ∷ ws)
+    else if bytes_eq w (codes "set") then Forms (Call ∷ Hex ∷ Hex ∷ []) (c ∷ ws)
+    else Unknown
+
+-- behind `answer`
+abbrev pub answer_plan : List (List ℕ) → Plan
+answer_plan [] = Missing
+answer_plan (c ∷ []) = Missing
+answer_plan (c ∷ w ∷ ws) =
+    if bytes_eq w (codes "ok") then Forms (Call ∷ []) (c ∷ ws)
+    else if bytes_eq w (codes "nil") then Forms (Call ∷ []) (c ∷ ws)
+    else if bytes_eq w (codes "value") then Forms (Call ∷ Hex ∷ []) (c ∷ ws)
+    else Unknown
+
+-- behind `refused`, `sequence` and `map`
+abbrev pub refused_plan : List (List ℕ) → Plan
+refused_plan ws = Forms (Num ∷ Num ∷ []) ws
+
+abbrev pub sequence_plan : List (List ℕ) → Plan
+sequence_plan ws = Forms (Hex ∷ each Call (drop 1 ws)) ws
+
+abbrev pub map_plan : List (List ℕ) → Plan
+map_plan ws = Forms (Name ∷ Num ∷ Set ∷ each Set (drop 3 ws)) ws
+
+-- by the first word
+abbrev pub plan : List (List ℕ) → Plan
+plan [] = Unknown
+plan (w ∷ ws) =
+    if bytes_eq w (codes "call") then call_plan ws
+    else if bytes_eq w (codes "answer") then answer_plan ws
+    else if bytes_eq w (codes "refused") then refused_plan ws
+    else if bytes_eq w (codes "sequence") then sequence_plan ws
+    else if bytes_eq w (codes "map") then map_plan ws
+    else Unknown
+
+-- an unknown word; else another number of words; else the first word that isn't in its form
+abbrev pub IsPlanFault : Plan → Fault → Type 0
+IsPlanFault Unknown f = f ≡ UnknownWord
+IsPlanFault Missing f = f ≡ WrongCount
+IsPlanFault (Forms ms ws) f =
+    ((length ms ≢ length ws) × (f ≡ WrongCount)) ⊎ ((length ms ≡ length ws) × IsBadWord ms ws f)
+
+-- the words of a line have this fault
+abbrev pub IsLineFault : List ℕ → Fault → Type 0
+IsLineFault line f = (words : List (List ℕ)) × AreWords line words × IsPlanFault (plan words) f
+
+-- the words behind the first have this fault, or memory ran out
+abbrev pub IsFaulty : (List (List ℕ) → Plan) → Option (List ℕ) → Fault → Type 0
+IsFaulty plan more f = (f ≡ OutOfMemory) ⊎ ((words : List (List ℕ)) × AreMore more words × IsPlanFault (plan words) f)

@@ -1,0 +1,19 @@
+//! Orders of calls.
+
+use rambo_atomic::CallId;
+use std::marker::Model;
+
+/// An order of calls.
+#[derive(Drop, Debug)]
+pub(crate) struct Order {
+    pub(crate) calls: Vec<CallId>,
+}
+
+impl Model for Order {
+    ghost use Rattle.std.specs.Prelude.{List};
+    ghost use Rattle.rambo_atomic.specs.declared.event.CallId.{CallId};
+
+    ghost Value = { List CallId };
+
+    ghost view = { λ o. o.calls.items };
+}
