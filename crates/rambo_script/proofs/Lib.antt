@@ -4,3 +4,4 @@ pub mod Plain
 pub mod Alike
 pub mod StepShapes
 pub mod Texts
+pub mod FaultOnce

@@ -23,7 +23,7 @@ use Rattle.rambo_script.proofs.StepShapes.{kind_of, parts_of, words_are, spelt, 
 founders_are_words : (s : NameSet) → AreWords (founders_line s) (founders_words s)
 founders_are_words s = record { some = λ e. cc; no_space = (lacks-tested 32 (codes "founders") (lit< tt) refl, (lacks-set 32 s (lit< tt), tt)); whole = refl }
 
-founders_lack : (s : NameSet) → Lacks 10 (founders_line s)
+pub founders_lack : (s : NameSet) → Lacks 10 (founders_line s)
 founders_lack s = lacks-words 10 (founders_words s) (λ e. cc) (lacks-tested 10 (codes "founders") (lit< tt) refl, (lacks-set 10 s (lit< tt), tt))
 
 no_nothing : (l t : List ℕ) → [] ≡ l ++ 10 ∷ t → ⊥
@@ -93,7 +93,7 @@ one_reading_is bytes s t n m a b = elim a.whole [
 ]
 
 -- the first line is the front up to the first line feed
-head_line : (front t bytes line rest : List ℕ) → Lacks 10 front → IsTextOf bytes (front ++ 10 ∷ t) → IsFirstLine bytes line rest → line ≡ front
+pub head_line : (front t bytes line rest : List ℕ) → Lacks 10 front → IsTextOf bytes (front ++ 10 ∷ t) → IsFirstLine bytes line rest → line ≡ front
 head_line front t bytes line rest lacks text first = elim text [
   | inl whole ↦ elim first.whole [
     | inl feed ↦ (cut 10 line front rest t first.no_feed lacks (sym feed ∙ whole)).0
@@ -159,7 +159,7 @@ founders_told s f words are same (inr (inr none)) =
     let some = are.some in
     let zero_of : count_of s ≡ 0 = no_names s (let both = sym same ∙ none.0 in cc) in omega arith
 
-good_founders : (s : NameSet) (f : Fault) → AreFounders s → IsLineFault TellNoFounders (founders_line s) f → ⊥
+pub good_founders : (s : NameSet) (f : Fault) → AreFounders s → IsLineFault TellNoFounders (founders_line s) f → ⊥
 good_founders s f are (inl long) = let some = long.0 in let short = are.short in omega arith
 good_founders s f are (inr fault) =
     founders_told s f fault.1.0 are (same_words (founders_line s) fault.1.0 (founders_words s) fault.1.1 (founders_are_words s)) fault.1.2
@@ -177,7 +177,7 @@ step_told st f words is same (inr unfit) =
     let both = sym unfit.2 ∙ same ∙ words_are st in
     step_fit st f unfit.0 unfit.1 is (same_kind unfit.0 (kind_of st) (cc)) (cc) unfit.3
 
-good_step : (st : Step) (f : Fault) → HasLine st → IsLineFault TellNoStep (step_line st) f → ⊥
+pub good_step : (st : Step) (f : Fault) → HasLine st → IsLineFault TellNoStep (step_line st) f → ⊥
 good_step st f has (inl long) = let some = long.0 in let short = has.short in omega arith
 good_step st f has (inr fault) = step_told st f fault.1.0 has.is_step (same_words (step_line st) fault.1.0 (step_words st) fault.1.1 (step_are_words st has.is_step)) fault.1.2
 

@@ -5,7 +5,6 @@ use Rattle.rambo_text.specs.declared.fault.Fault.TheVariants.{NoFounders, Unknow
 use Rattle.rambo_text.specs.declared.fault.ScriptFault.{ScriptFault}
 use Rattle.rambo_text.specs.Forms.{Form, Set, IsBadWord}
 use Rattle.rambo_text.specs.Words.{AreWords, IsFirstLine}
-use Rattle.rambo_script.specs.declared.script.TheConstants.{LINE_LIMIT}
 use Rattle.rambo_script.specs.declared.kind.StepKind.{StepKind}
 use Rattle.rambo_script.specs.StepLines.{word_of, forms_of}
 use Rattle.rambo_script.specs.Scripts.{ScriptState, script_text, IsShort, HasLines}
@@ -30,7 +29,7 @@ TellNoFounders words f =
 -- a line is too long, or its words have a fault
 abbrev pub IsLineFault : (List (List ℕ) → Fault → Type 0) → List ℕ → Fault → Type 0
 IsLineFault TellNone line f =
-    ((LINE_LIMIT < length line) × (f ≡ LineTooLong)) ⊎ (IsShort line × ((words : List (List ℕ)) × AreWords line words × TellNone words f))
+    ((16384 < length line) × (f ≡ LineTooLong)) ⊎ (IsShort line × ((words : List (List ℕ)) × AreWords line words × TellNone words f))
 
 -- the first line has a fault
 pub record IsFirstFault (bytes : List ℕ) (f : ScriptFault) : Type 0 where

@@ -29,3 +29,7 @@ OneReading = (bytes : List ℕ) (s t : ScriptState) → HaveNames s → HaveName
 -- what is a script has no fault
 abbrev pub NoScriptIsFaulty : Type 0
 NoScriptIsFaulty = (bytes : List ℕ) (s : ScriptState) (f : ScriptFault) → IsScript bytes s → ¬ (IsScriptFault bytes f)
+
+-- bytes have one fault at most
+abbrev pub OneFault : Type 0
+OneFault = (bytes : List ℕ) (f g : ScriptFault) → IsScriptFault bytes f → IsScriptFault bytes g → f ≡ g

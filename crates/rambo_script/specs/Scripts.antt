@@ -5,7 +5,6 @@ use Rattle.rambo_names.specs.Names.{NameSet, count_of}
 use Rattle.rambo_names.specs.Signs.{set_text}
 use Rattle.rambo_run.specs.declared.step.Step.{Step}
 use Rattle.rambo_text.specs.Words.{words_text}
-use Rattle.rambo_script.specs.declared.script.TheConstants.{LINE_LIMIT}
 use Rattle.rambo_script.specs.StepLines.{step_line, IsStep}
 
 -- a script without where it lies in memory
@@ -32,7 +31,7 @@ script_text s = founders_line s.founders ++ 10 ∷ steps_text s.steps
 
 -- a line has a length that it may have
 abbrev pub IsShort : List ℕ → Type 0
-IsShort line = length line ≤ LINE_LIMIT
+IsShort line = length line ≤ 16384
 
 -- some founders, on a line that isn't too long
 pub record AreFounders (founders : NameSet) : Type 0 where

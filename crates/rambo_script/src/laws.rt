@@ -1,5 +1,5 @@
 //! What is true of every text.
-ghost use Rattle.rambo_script.specs.Laws.{OneReading, NoScriptIsFaulty};
+ghost use Rattle.rambo_script.specs.Laws.{OneReading, NoScriptIsFaulty, OneFault};
 
 /// Bytes are the text of one script at most.
 pub fn one_reading()
@@ -9,4 +9,9 @@ pub fn one_reading()
 /// The text of a script has no fault.
 pub fn no_script_is_faulty()
     ensures { NoScriptIsFaulty }
+{}
+
+/// Bytes that are no script have one first fault.
+pub fn one_fault()
+    ensures { OneFault }
 {}

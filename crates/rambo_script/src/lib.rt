@@ -2,6 +2,7 @@
 //!
 //! - `Script`: the founders and steps that a text tells, by `read_script`.
 //! - `step_text`: the line of a step.
+//! - `one_reading`, `no_script_is_faulty` and `one_fault`: a text is one script at most, or has one first fault.
 #![tactic(auto)]
 
 mod kind;
@@ -11,7 +12,8 @@ mod reading;
 mod script;
 mod writing;
 
-pub use laws::{no_script_is_faulty, one_reading};
+pub use laws::{no_script_is_faulty, one_fault, one_reading};
+pub use rambo_text::{Fault, ReplayFault, ScriptFault};
 pub use script::{LINE_LIMIT, Script, read_script};
 pub use writing::step_text;
 
