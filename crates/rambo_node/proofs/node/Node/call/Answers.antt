@@ -1,0 +1,13 @@
+use Rattle.std.proofs.Common.{◌≡◌, ◌∙◌, sym, ap, rules}
+use Rattle.rambo_node.specs.Refusals.{is_last}
+use Rattle.rambo_node.proofs.Judged.{call_next, has_next}
+use Rattle.rambo_node.proofs.node.Node.call.Goals as goal
+
+pub overflow_add-number : goal.overflow_add-number
+overflow_add-number g c = has_next c.self.inside.made (search rules) (ap (λ x. is_last x.state.made) c.self.view_is ∙ (call_next c.args.self.now.state c.args.op c.in_ok-may_call.ensures.ok).1)
+
+pub overflow_add-self-inside : goal.overflow_add-self-inside
+overflow_add-self-inside g c = has_next c.self.inside.number (search rules) (ap (λ x. is_last x.state.number) c.self.view_is ∙ (call_next c.args.self.now.state c.args.op c.in_ok-may_call.ensures.ok).0)
+
+pub overflow_add-self : goal.overflow_add-self
+overflow_add-self g c = has_next c.self.inside.number (search rules) (ap (λ x. is_last x.state.number) c.self.view_is ∙ (call_next c.args.self.now.state c.args.op c.in_ok-may_call.ensures.ok).0)

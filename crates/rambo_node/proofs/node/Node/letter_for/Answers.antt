@@ -1,0 +1,11 @@
+use Rattle.std.proofs.Common.{◌≡◌, sym, ap, ◌∙◌}
+use Rattle.rambo_gossip.specs.Letters.{letter_with}
+use Rattle.rambo_node.specs.Letters.{letter_for}
+use Rattle.rambo_node.proofs.Telling.{with_own}
+use Rattle.rambo_node.proofs.node.Node.letter_for.Goals as goal
+
+pub returns-clause-ok : goal.returns-clause-ok
+returns-clause-ok g c =
+    c.letter_with.ensures
+    ∙ ap (letter_with (letter_for c.args.self.now.state c.args.to)) (c.in_ok-pack.ensures.all ∙ ap (λ n. n.state.registers) c.self.view_is)
+    ∙ with_own c.args.self.now.state c.args.to

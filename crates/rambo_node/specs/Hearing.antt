@@ -1,0 +1,60 @@
+-- What a node makes of a letter (Lynch and Shvartsman, "RAMBO", DISC 2002)
+use Rattle.std.specs.Prelude.{ℕ, suc, Bool, true, false, not, if◌then◌else◌, nat_le, List, [], ◌∷◌, map}
+use Rattle.std.specs.FinSet as set
+use Rattle.rambo_names.specs.Names.{NameSet}
+use Rattle.rambo_tag.specs.Copies.{Copies, joined}
+use Rattle.rambo_config_map.specs.Maps.{MapState, merged_map}
+use Rattle.rambo_phase.specs.Phases.{PhaseState, fits, counted, started}
+use Rattle.rambo_joiner.specs.Statuses.{woken}
+use Rattle.rambo_gossip.specs.declared.letter.Letter.{Letter}
+use Rattle.rambo_gossip.specs.declared.letter.Gossip.{Gossip}
+use Rattle.rambo_gossip.specs.declared.letter.Kind.{Kind}
+use Rattle.rambo_gossip.specs.declared.letter.Kind.TheVariants as kind
+use Rattle.rambo_node.specs.Calls.{CallState}
+use Rattle.rambo_node.specs.Nodes.{NodeState, raised}
+
+-- a phase that a letter with this heard number and map restarts: a reply that leaves a gap
+abbrev pub has_gap : {Q : Type 0} → ℕ → MapState Q → CallState Q → Bool
+has_gap heard m c = if nat_le c.phase.number heard then not (fits c.phase m) else false
+
+abbrev pub any_gap : {Q : Type 0} → ℕ → MapState Q → List (CallState Q) → Bool
+any_gap heard m [] = false
+any_gap heard m (c ∷ cs) = if has_gap heard m c then true else any_gap heard m cs
+
+-- the call with its phase begun anew
+abbrev pub restarted : {Q : Type 0} → ℕ → MapState Q → ℕ → CallState Q → CallState Q
+restarted number m me c = record { number = c.number; op = c.op; stage = c.stage; phase = started number m me }
+
+-- the phase after a letter from j: a reply counts, or restarts the phase under a new number with the merged map
+abbrev pub heard_phase : {Q : Type 0} → ℕ → ℕ → MapState Q → ℕ → MapState Q → ℕ → PhaseState Q → PhaseState Q
+heard_phase heard j m number merged me p = if nat_le p.number heard then (if fits p m then counted p m j else started number merged me) else p
+
+abbrev pub heard_call : {Q : Type 0} → ℕ → ℕ → MapState Q → ℕ → MapState Q → ℕ → CallState Q → CallState Q
+heard_call heard j m number merged me c = record { number = c.number; op = c.op; stage = c.stage; phase = heard_phase heard j m number merged me c.phase }
+
+-- the phase number after a letter: one more where some phase restarts
+abbrev pub number_after : {Q : Type 0} → NodeState Q → Gossip Q → ℕ
+number_after x g = if any_gap g.heard g.map x.calls then suc x.number else x.number
+
+-- the node after gossip from j: everything is merged, and open calls count it or restart
+unfoldable pub heard_gossip : {Q : Type 0} → NodeState Q → ℕ → Gossip Q → NodeState Q
+heard_gossip x j g = record x {
+  status = woken x.status;
+  known = set.union x.known g.known;
+  registers = joined x.registers g.copies;
+  map = merged_map x.map g.map;
+  number = number_after x g;
+  heard = raised x.heard j g.number;
+  calls = map (heard_call g.heard j g.map (number_after x g) (merged_map x.map g.map) x.name) x.calls;
+}
+
+-- a letter of a joining node makes its sender known
+unfoldable pub heard_join : {Q : Type 0} → NodeState Q → ℕ → NodeState Q
+heard_join x j = record x { known = set.insert x.known j }
+
+abbrev pub heard_kind : {Q : Type 0} → NodeState Q → ℕ → Kind Q → NodeState Q
+heard_kind x j kind.Join = heard_join x j
+heard_kind x j (kind.Gossip g) = heard_gossip x j g
+
+abbrev pub heard_letter : {Q : Type 0} → NodeState Q → Letter Q → NodeState Q
+heard_letter x l = heard_kind x l.sender l.kind

@@ -1,0 +1,53 @@
+-- How open calls are kept
+use Rattle.std.specs.Prelude.{ℕ, ◌+◌, ◌≤◌, List, [], ◌∷◌, map, Option, None, Some, slice_set}
+use Rattle.rambo_config_map.specs.Maps.{MapState}
+use Rattle.rambo_phase.specs.Phases.{PhaseState, started, needed}
+use Rattle.rambo_tag.specs.declared.version.Version.{Version}
+use Rattle.rambo_atomic.specs.declared.operation.Op.{Op}
+use Rattle.rambo_node.specs.declared.open_call.OpenCall.{OpenCall}
+use Rattle.rambo_node.specs.declared.progress.Progress.{Progress}
+use Rattle.rambo_node.specs.declared.progress.Progress.TheVariants as progress
+use Rattle.rambo_node.specs.declared.stage.Stage.{Stage}
+use Rattle.rambo_node.specs.declared.stage.Stage.TheVariants.{Query, Propagation}
+use Rattle.rambo_node.specs.Calls.{CallState, place_of, find_call}
+use Rattle.rambo_node.specs.Nodes.{NodeState}
+
+abbrev pub call_of : {Q : Type 0} → OpenCall Q → CallState Q
+call_of c = record { number = c.number; op = c.op; stage = c.stage; phase = c.phase.state }
+
+abbrev pub calls_of : {Q : Type 0} → List (OpenCall Q) → List (CallState Q)
+calls_of cs = map call_of cs
+
+abbrev pub call_found : {Q : Type 0} → Option (OpenCall Q) → Option (CallState Q)
+call_found None = None
+call_found (Some c) = Some (call_of c)
+
+-- the call at a place, put in another way
+abbrev pub with_call : {Q : Type 0} → ℕ → Option (CallState Q) → (CallState Q → CallState Q) → List (CallState Q) → List (CallState Q)
+with_call place None f cs = cs
+with_call place (Some c) f cs = slice_set cs place (f c)
+
+-- a call that sends a copy round, in a phase
+abbrev pub propagating : {Q : Type 0} → Option Version → PhaseState Q → CallState Q → CallState Q
+propagating kept phase c = record { number = c.number; op = c.op; stage = Propagation kept; phase = phase }
+
+-- the propagation of a call begins, under a new phase number
+abbrev pub propagation_begun : {Q : Type 0} → NodeState Q → ℕ → Option Version → NodeState Q
+propagation_begun x number kept = record x {
+  number = x.number + 1;
+  calls = with_call (place_of number x.calls) (find_call number x.calls) (propagating kept (started (x.number + 1) x.map x.name)) x.calls;
+}
+
+-- a call that is taken out of the list
+abbrev pub closed_in : Op → Stage → Option Progress
+closed_in o Query = None
+closed_in o (Propagation kept) = Some (progress.Closed o kept)
+
+abbrev pub closed_from : {Q : Type 0} → Option (CallState Q) → Option Progress
+closed_from None = None
+closed_from (Some c) = closed_in c.op c.stage
+
+-- to hear a letter with this map takes no memory
+abbrev pub IsRoomy : {Q : Type 0} → MapState Q → List (OpenCall Q) → Type 0
+IsRoomy m [] = Unit {0}
+IsRoomy m (c ∷ cs) = (needed c.phase.state m ≤ c.phase.capacity) × IsRoomy m cs

@@ -1,0 +1,59 @@
+-- What a node holds, and what a new one holds
+use Rattle.std.specs.Prelude.{ℕ, ◌-◌, max, Bool, if◌then◌else◌, List, [], replicate, slice_index, slice_set}
+use Rattle.std.specs.FinSet as set
+use Rattle.std.specs.FinMap as map
+use Rattle.rambo_names.specs.Names.{NameSet}
+use Rattle.rambo_names.specs.Quorums.{QuorumSystem}
+use Rattle.rambo_tag.specs.declared.change.Change.{Change}
+use Rattle.rambo_tag.specs.Copies.{Copies}
+use Rattle.rambo_config_map.specs.Maps.{MapState, first_map}
+use Rattle.rambo_joiner.specs.declared.status.Status.{Status}
+use Rattle.rambo_joiner.specs.declared.status.Status.TheVariants.{Idle, Active}
+use Rattle.rambo_node.specs.Calls.{CallState}
+
+-- status and names: who takes part, as far as the node knows; registers: its copies; map: its configurations;
+-- number: its phase number; made: the number of its last call; heard: of the names 1, 2, .. the greatest phase number
+-- that it heard; calls: its open calls, the oldest first
+pub record NodeState (Q : Type 0) : Type 0 where
+  pub name : ℕ
+  pub status : Status
+  pub known : NameSet
+  pub registers : Copies
+  pub map : MapState Q
+  pub number : ℕ
+  pub made : ℕ
+  pub heard : List ℕ
+  pub calls : List (CallState Q)
+
+-- a node as it is kept, with the changes that made its registers
+pub record KeptNode (Q : Type 0) : Type 0 where
+  pub state : NodeState Q
+  pub changes : List Change
+
+-- the greatest phase number of a name that was heard
+abbrev pub heard_from : List ℕ → ℕ → ℕ
+heard_from heard name = slice_index heard (name - 1)
+
+abbrev pub raised : List ℕ → ℕ → ℕ → List ℕ
+raised heard name number = slice_set heard (name - 1) (max (heard_from heard name) number)
+
+-- founders are active from the start and know each other
+abbrev pub first_status : NameSet → ℕ → Status
+first_status founders name = if set.contains founders name then Active else Idle
+
+abbrev pub first_known : NameSet → ℕ → NameSet
+first_known founders name = if set.contains founders name then founders else set.empty
+
+-- every map starts with the founders at place 0
+unfoldable pub first_node : {Q : Type 0} → QuorumSystem Q → Q → ℕ → NodeState Q
+first_node s founders name = record {
+  name = name;
+  status = first_status (s.members founders) name;
+  known = first_known (s.members founders) name;
+  registers = map.empty;
+  map = first_map founders;
+  number = 0;
+  made = 0;
+  heard = replicate 64 0;
+  calls = [];
+}

@@ -1,0 +1,84 @@
+-- Why a node refuses a step: of the causes that hold, the least number is answered
+use Rattle.std.specs.Prelude.{ℕ, ◌^◌, ◌-◌, Bool, true, false, not, ◌&&◌, ◌||◌, nat_eq, nat_le, nat_lt, List, [], ◌∷◌, length, Option, None, Some}
+use Rattle.std.specs.FinSet as set
+use Rattle.std.specs.FinMap as map
+use Rattle.rambo_names.specs.declared.refusal.Refusal.TheVariants.{NameUsed, NotActive, Stopped, NotKnown, NoSuchCall, NotYet, Busy, EmptyMembers, KeyTooLong, ValueTooLong, NumbersSpent}
+use Rattle.rambo_names.specs.Names.{NameSet, count_of}
+use Rattle.rambo_names.specs.Quorums.{QuorumSystem}
+use Rattle.rambo_names.specs.Refusals.{Cause, cause}
+use Rattle.rambo_tag.specs.Tags.{tag_of}
+use Rattle.rambo_atomic.specs.declared.operation.Op.{Op}
+use Rattle.rambo_atomic.specs.declared.operation.Op.TheVariants as op
+use Rattle.rambo_atomic.specs.Calls.{key_of}
+use Rattle.rambo_phase.specs.Phases.{is_met}
+use Rattle.rambo_joiner.specs.Statuses.{is_idle, is_early, is_stopped}
+use Rattle.rambo_gossip.specs.declared.letter.Kind.{Kind}
+use Rattle.rambo_gossip.specs.declared.letter.Kind.TheVariants as kind
+use Rattle.rambo_node.specs.Calls.{CallState, find_call}
+use Rattle.rambo_node.specs.Hearing.{any_gap}
+use Rattle.rambo_node.specs.Nodes.{NodeState}
+use Rattle.rambo_node.specs.Operations.{query_in}
+
+-- whether a counter can't rise
+abbrev pub is_last : ℕ → Bool
+is_last n = nat_eq n (2 ^ 64 - 1)
+
+abbrev pub value_is_long : Op → Bool
+value_is_long (op.Get key) = false
+value_is_long (op.Set key value) = nat_lt 4096 (length value)
+
+abbrev pub join_causes : {Q : Type 0} → NodeState Q → NameSet → List Cause
+join_causes x contacts = cause NameUsed (not (is_idle x.status)) ∷ cause EmptyMembers (nat_eq (count_of contacts) 0) ∷ []
+
+abbrev pub call_causes : {Q : Type 0} → NodeState Q → Op → List Cause
+call_causes x o =
+    cause NotActive (is_early x.status) ∷ cause Stopped (is_stopped x.status) ∷ cause Busy (nat_le 64 (length x.calls))
+    ∷ cause KeyTooLong (nat_lt 256 (length (key_of o))) ∷ cause ValueTooLong (value_is_long o)
+    ∷ cause NumbersSpent (is_last x.number) ∷ cause NumbersSpent (is_last x.made) ∷ []
+
+abbrev pub send_causes : {Q : Type 0} → NodeState Q → ℕ → List Cause
+send_causes x to =
+    cause NotActive (is_idle x.status) ∷ cause Stopped (is_stopped x.status)
+    ∷ cause NotKnown (nat_eq to x.name || not (set.contains x.known to)) ∷ []
+
+-- whether a letter would restart a phase
+abbrev pub restarts : {Q : Type 0} → NodeState Q → Kind Q → Bool
+restarts x kind.Join = false
+restarts x (kind.Gossip g) = any_gap g.heard g.map x.calls
+
+abbrev pub hear_causes : {Q : Type 0} → NodeState Q → Kind Q → List Cause
+hear_causes x k =
+    cause NotActive (is_idle x.status) ∷ cause Stopped (is_stopped x.status)
+    ∷ cause NumbersSpent (restarts x k && is_last x.number) ∷ []
+
+abbrev pub is_unmet : {Q : Type 0} → QuorumSystem Q → Option (CallState Q) → Bool
+is_unmet s None = false
+is_unmet s (Some c) = not (is_met s c.phase)
+
+-- whether a set can take no further tag
+abbrev pub tags_spent : {Q : Type 0} → NodeState Q → Op → Bool
+tags_spent x (op.Get key) = false
+tags_spent x (op.Set key value) = is_last (tag_of (map.get x.registers key)).sequence
+
+-- whether what is asked for in a query can't go on
+abbrev pub query_spent : {Q : Type 0} → NodeState Q → Option Op → Bool
+query_spent x None = false
+query_spent x (Some o) = is_last x.number || tags_spent x o
+
+abbrev pub is_missing : {Q : Type 0} → Option (CallState Q) → Bool
+is_missing None = true
+is_missing (Some c) = false
+
+abbrev pub advance_causes : {Q : Type 0} → QuorumSystem Q → NodeState Q → ℕ → List Cause
+advance_causes s x number =
+    let found = find_call number x.calls in
+    cause NotActive (is_early x.status) ∷ cause Stopped (is_stopped x.status) ∷ cause NoSuchCall (is_missing found)
+    ∷ cause NotYet (is_unmet s found) ∷ cause NumbersSpent (query_spent x (query_in found)) ∷ []
+
+abbrev pub again_causes : {Q : Type 0} → NodeState Q → ℕ → List Cause
+again_causes x number =
+    cause NotActive (is_early x.status) ∷ cause Stopped (is_stopped x.status) ∷ cause NoSuchCall (is_missing (find_call number x.calls))
+    ∷ cause NumbersSpent (is_last x.number) ∷ []
+
+abbrev pub stop_causes : {Q : Type 0} → NodeState Q → List Cause
+stop_causes x = cause NotActive (is_idle x.status) ∷ cause Stopped (is_stopped x.status) ∷ []

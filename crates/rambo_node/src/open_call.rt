@@ -1,0 +1,109 @@
+//! Open calls.
+ghost use Rattle.std.specs.Prelude.{◌≡◌, ◌≤◌, IfOk, IfErr};
+ghost use Rattle.rambo_phase.specs.Phases.{needed, started};
+ghost use Rattle.rambo_node.specs.Hearing.{heard_call, restarted};
+ghost use Rattle.rambo_node.specs.Operations.{answer_in, answer_of};
+ghost use Rattle.rambo_node.specs.Kept.{call_of, closed_in, propagating};
+
+use crate::progress::Progress;
+use crate::stage::Stage;
+use rambo_atomic::{Answer, Op};
+use rambo_config_map::ConfigMap;
+use rambo_names::{Name, Quorums, Refusal};
+use rambo_phase::{Heard, Phase};
+use rambo_tag::Version;
+
+/// A call that isn't answered yet, by its number within the node.
+#[derive(Drop)]
+pub(crate) struct OpenCall<Q: Quorums> {
+    pub(crate) number: u64,
+    pub(crate) op: Op,
+    pub(crate) stage: Stage,
+    pub(crate) phase: Phase<Q>,
+}
+
+impl<Q: Quorums> OpenCall<Q> {
+    // Sends a copy round, in a phase that begins under this number with this map.
+    pub(crate) fn propagate(
+        &mut self,
+        kept: Option<Version>,
+        number: u64,
+        map: &ConfigMap<Q>,
+        me: Name,
+    )
+        ensures { call_of self.new ≡ propagating kept (started number map.now me) (call_of self.old) }
+    {
+        self.stage = Stage::Propagation(kept);
+        self.phase = Phase::start(number, map, me);
+    }
+
+    // Begins its present phase anew, under this number with this map.
+    pub(crate) fn restart(&mut self, number: u64, map: &ConfigMap<Q>, me: Name)
+        ensures { call_of self.new ≡ restarted number map.now me (call_of self.old) }
+    {
+        self.phase = Phase::start(number, map, me);
+    }
+
+    // The answer that it gets when its propagation is over, if it is in it.
+    pub(crate) fn answer_ahead(&self) -> Result<Option<Answer>, Refusal>
+        ensures ok { IfOk result (λ answer. answer ≡ answer_in self.now.op self.now.stage) }
+        ensures refused { IfErr result (λ r. r ≡ Refusal.OutOfMemory) }
+    {
+        match &self.stage {
+            Stage::Query => Ok(None),
+            Stage::Propagation(kept) => Ok(Some(answer_of(&self.op, kept)?)),
+        }
+    }
+
+    // What it came to, where it sent a copy round.
+    pub(crate) fn into_progress(self) -> Option<Progress>
+        ensures { result ≡ closed_in self.op self.stage }
+    {
+        let OpenCall { op, stage, .. } = self;
+        match stage {
+            Stage::Query => None,
+            Stage::Propagation(kept) => Some(Progress::Closed(op, kept)),
+        }
+    }
+
+    // Hears a letter that has this heard number and map, for which there is room, and begins anew where it has
+    // to: under this number, with this merged map.
+    pub(crate) fn hear(
+        &mut self,
+        from: Name,
+        heard: u64,
+        map: &ConfigMap<Q>,
+        number: u64,
+        merged: &ConfigMap<Q>,
+        me: Name,
+    )
+        ensures { needed self.old.phase.state map.now ≤ self.old.phase.capacity
+            → call_of self.new ≡ heard_call heard from map.now number merged.now me (call_of self.old) }
+    {
+        match self.phase.hear(from, heard, map) {
+            Ok(Heard::Restart) => self.phase = Phase::start(number, merged, me),
+            Ok(Heard::Counted) => {}
+            Ok(Heard::Old) => {}
+            Err(_) => {}
+        }
+    }
+}
+
+// The answer to an operation that sent a copy round.
+fn answer_of(op: &Op, kept: &Option<Version>) -> Result<Answer, Refusal>
+    ensures ok { IfOk result (λ answer. answer ≡ answer_of op.now kept.now) }
+    ensures refused { IfErr result (λ r. r ≡ Refusal.OutOfMemory) }
+{
+    match op {
+        Op::Set(_, _) => Ok(Answer::Ok),
+        Op::Get(_) => match kept {
+            Some(
+                Version {
+                    value: Some(value),
+                    ..
+                },
+            ) => Ok(Answer::Value(value.clone()?)),
+            _ => Ok(Answer::Nil),
+        },
+    }
+}
