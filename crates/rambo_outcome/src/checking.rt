@@ -42,9 +42,9 @@ pub fn check_text<R: Source, W: Sink>(
     ensures unwritten { IfErr result (λ f. f ≢ fault.Write → writer.new ≡ writer.old) }
 {
     let text = read_all(alloc, reader)?;
-    let (lines, yes) = check_lines(alloc, text.as_slice())?;
+    let (lines, all) = check_lines(alloc, text.as_slice())?;
     write_all(writer, lines.as_slice())?;
-    Ok(yes)
+    Ok(all)
 }
 
 // The lines for a text, and whether each is yes.

@@ -18,3 +18,6 @@ mod verdict_text;
 
 pub use checking::check_text;
 pub use outcome::outcome_text;
+
+#[cfg(test)]
+mod tests;
