@@ -1,13 +1,12 @@
 -- How a call goes on that is found by its number
-use Rattle.std.proofs.Common.{◌≡◌, ℕ, zero, suc, ◌+◌, Bool, true, false, if◌then◌else◌, nat_eq, List, [], ◌∷◌, Option, None, Some, IsSome, slice_get, slice_set, refl, sym, ap, ◌∙◌, subst}
-use Rattle.std.proofs.lemmas.Bool.{eqb-true, cond-true, cond-false, true≢false, false≢true}
+use Rattle.std.proofs.Common.{◌≡◌, ℕ, zero, suc, ◌+◌, true, false, if◌then◌else◌, nat_eq, List, [], ◌∷◌, Option, None, Some, IsSome, slice_get, slice_set, refl, sym, ap, ◌∙◌, subst}
+use Rattle.std.proofs.lemmas.Bool.{eqb-true, true≢false, false≢true}
 use Rattle.std.proofs.lemmas.Option.{none-some, same_Some}
 use Rattle.std.specs.List.{remove}
 use Rattle.std.specs.Option.{unwrap_or}
 use Rattle.rambo_tag.specs.declared.version.Version.{Version}
 use Rattle.rambo_atomic.specs.declared.operation.Op.{Op}
 use Rattle.rambo_phase.specs.Phases.{started}
-use Rattle.rambo_node.specs.declared.progress.Progress.{Progress}
 use Rattle.rambo_node.specs.declared.stage.Stage.{Stage}
 use Rattle.rambo_node.specs.declared.stage.Stage.TheVariants.{Query, Propagation}
 use Rattle.rambo_node.specs.Calls.{CallState, place_of, find_call}

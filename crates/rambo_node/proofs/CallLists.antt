@@ -1,5 +1,5 @@
 -- Lists of open calls
-use Rattle.std.proofs.Common.{◌≡◌, ℕ, zero, suc, ◌+◌, ◌≤◌, ◌<◌, Bool, true, false, if◌then◌else◌, nat_le, List, [], ◌∷◌, ◌++◌, map, take, drop, length, Option, None, Some, slice_get, slice_set, get_or, refl, sym, ap, ◌∙◌, subst, arith}
+use Rattle.std.proofs.Common.{◌≡◌, ℕ, zero, suc, ◌+◌, ◌≤◌, ◌<◌, Bool, true, false, if◌then◌else◌, nat_le, List, [], ◌∷◌, ◌++◌, map, take, drop, length, None, Some, slice_get, slice_set, get_or, refl, sym, ap, ◌∙◌, subst, arith}
 use Rattle.std.proofs.lemmas.Bool.{true≢false, false≢true}
 use Rattle.std.proofs.lemmas.Option.{slice_get-map, slice_get-get_or, slice_get_past}
 use Rattle.std.specs.List.{remove}
@@ -13,7 +13,7 @@ use Rattle.rambo_phase.specs.declared.heard.Heard.TheVariants as heard
 use Rattle.rambo_node.specs.declared.open_call.OpenCall.{OpenCall}
 use Rattle.rambo_node.specs.Calls.{CallState, place_of, find_call}
 use Rattle.rambo_node.specs.Hearing.{heard_phase}
-use Rattle.rambo_node.specs.Kept.{call_of, calls_of, call_found, with_call, IsRoomy}
+use Rattle.rambo_node.specs.Kept.{call_of, calls_of, with_call, IsRoomy}
 
 -- the three kinds of letters, by whether it is a reply and whether its map fits
 abbrev kind_of : Bool → Bool → Heard

@@ -1,11 +1,11 @@
 -- The copy that a set makes is newer than what its key holds
-use Rattle.std.proofs.Common.{◌≡◌, ℕ, ◌+◌, ◌<◌, Bool, true, false, if◌then◌else◌, nat_lt, nat_eq, List, [], ◌∷◌, ◌++◌, Option, None, Some, refl, sym, ap, ◌∙◌, subst, arith}
+use Rattle.std.proofs.Common.{◌≡◌, ℕ, ◌<◌, true, nat_lt, List, [], ◌∷◌, ◌++◌, Option, None, Some, refl, subst, arith}
 use Rattle.std.proofs.lemmas.Bool.{cond-true, lt-ltb}
 use Rattle.std.specs.FinMap as map
 use Rattle.rambo_tag.specs.declared.change.Change.{Change}
 use Rattle.rambo_tag.specs.declared.version.Version.{Version}
 use Rattle.rambo_tag.specs.Changes.{latest_of, IsRising}
-use Rattle.rambo_tag.specs.Tags.{tag_of, tag_lt, version_lt, is_newer}
+use Rattle.rambo_tag.specs.Tags.{tag_of, tag_lt, is_newer}
 use Rattle.rambo_tag.proofs.ChangeLists.{IsRising-push}
 use Rattle.rambo_node.specs.Nodes.{NodeState}
 use Rattle.rambo_node.specs.Operations.{new_copy}

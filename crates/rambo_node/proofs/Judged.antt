@@ -1,5 +1,5 @@
 -- What follows where a judge found no cause of refusal
-use Rattle.std.proofs.Common.{◌≡◌, ℕ, zero, suc, ◌^◌, ◌-◌, ◌+◌, ◌<◌, ◌≢◌, min, Bool, true, false, ◌&&◌, ◌||◌, if◌then◌else◌, List, [], ◌∷◌, Option, None, Some, Fits, w64, refl, sym, ap, ◌∙◌, arith}
+use Rattle.std.proofs.Common.{◌≡◌, ℕ, zero, suc, ◌^◌, ◌-◌, ◌+◌, ◌≢◌, min, Bool, true, false, ◌&&◌, ◌||◌, if◌then◌else◌, List, [], ◌∷◌, Option, None, Some, Fits, w64, refl, sym, ap, ◌∙◌, arith}
 use Rattle.std.proofs.lemmas.Bool.{eq-eqb, true≢false}
 use Rattle.std.proofs.lemmas.Option.{none-some}
 use Rattle.rambo_names.specs.declared.refusal.Refusal.{Refusal}
@@ -7,7 +7,7 @@ use Rattle.rambo_names.specs.Quorums.{QuorumSystem}
 use Rattle.rambo_names.specs.Refusals.{Cause, least}
 use Rattle.rambo_atomic.specs.declared.operation.Op.{Op}
 use Rattle.rambo_gossip.specs.declared.letter.Kind.{Kind}
-use Rattle.rambo_node.specs.Calls.{CallState, find_call}
+use Rattle.rambo_node.specs.Calls.{find_call}
 use Rattle.rambo_node.specs.Nodes.{NodeState}
 use Rattle.rambo_node.specs.Operations.{query_in}
 use Rattle.rambo_node.specs.Refusals.{is_last, is_missing, call_causes, hear_causes, advance_causes, again_causes, query_spent, tags_spent, restarts}

@@ -2,8 +2,6 @@
 use Rattle.std.proofs.Common.{◌≡◌, ℕ, Bool, true, false, if◌then◌else◌, [], refl, ap}
 use Rattle.std.specs.FinMap as map
 use Rattle.rambo_tag.specs.Changes.{greatest_of}
-use Rattle.rambo_tag.specs.Copies.{Copies}
-use Rattle.rambo_gossip.specs.declared.letter.Kind.{Kind}
 use Rattle.rambo_gossip.specs.declared.letter.Kind.TheVariants as kind
 use Rattle.rambo_gossip.specs.declared.letter.Gossip.{Gossip}
 use Rattle.rambo_gossip.specs.Letters.{letter_with, kind_with}

@@ -1,8 +1,7 @@
 -- What a node makes of a letter (Lynch and Shvartsman, "RAMBO", DISC 2002)
 use Rattle.std.specs.Prelude.{ℕ, suc, Bool, true, false, not, if◌then◌else◌, nat_le, List, [], ◌∷◌, map}
 use Rattle.std.specs.FinSet as set
-use Rattle.rambo_names.specs.Names.{NameSet}
-use Rattle.rambo_tag.specs.Copies.{Copies, joined}
+use Rattle.rambo_tag.specs.Copies.{joined}
 use Rattle.rambo_config_map.specs.Maps.{MapState, merged_map}
 use Rattle.rambo_phase.specs.Phases.{PhaseState, fits, counted, started}
 use Rattle.rambo_joiner.specs.Statuses.{woken}

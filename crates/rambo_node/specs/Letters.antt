@@ -2,7 +2,6 @@
 use Rattle.std.specs.Prelude.{ℕ, if◌then◌else◌}
 use Rattle.rambo_gossip.specs.declared.letter.Letter.{Letter}
 use Rattle.rambo_gossip.specs.declared.letter.Gossip.{Gossip}
-use Rattle.rambo_gossip.specs.declared.letter.Kind.{Kind}
 use Rattle.rambo_gossip.specs.declared.letter.Kind.TheVariants as kind
 use Rattle.rambo_joiner.specs.Statuses.{is_active}
 use Rattle.rambo_node.specs.Nodes.{NodeState, heard_from}

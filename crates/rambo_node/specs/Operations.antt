@@ -1,6 +1,6 @@
 -- What the calls of a node do (Attiya, Bar-Noy and Dolev, "Sharing Memory Robustly in Message-Passing Systems", JACM
 -- 1995: both gets and sets ask a quorum and then tell a quorum)
-use Rattle.std.specs.Prelude.{ℕ, suc, ◌+◌, Bool, true, false, if◌then◌else◌, List, [], ◌∷◌, ◌++◌, Option, None, Some, slice_set, remove}
+use Rattle.std.specs.Prelude.{ℕ, ◌+◌, List, [], ◌∷◌, ◌++◌, Option, None, Some, slice_set, remove}
 use Rattle.std.specs.FinSet as set
 use Rattle.std.specs.FinMap as map
 use Rattle.rambo_names.specs.Names.{NameSet}
@@ -18,7 +18,7 @@ use Rattle.rambo_node.specs.declared.progress.Progress.{Progress}
 use Rattle.rambo_node.specs.declared.progress.Progress.TheVariants as progress
 use Rattle.rambo_node.specs.declared.stage.Stage.{Stage}
 use Rattle.rambo_node.specs.declared.stage.Stage.TheVariants.{Query, Propagation}
-use Rattle.rambo_node.specs.Calls.{CallState, kept_in, place_of}
+use Rattle.rambo_node.specs.Calls.{CallState, place_of}
 use Rattle.rambo_node.specs.Hearing.{restarted}
 use Rattle.rambo_node.specs.Nodes.{NodeState}
 

@@ -5,3 +5,4 @@ pub mod Alike
 pub mod StepShapes
 pub mod Texts
 pub mod FaultOnce
+mod AfterRun

@@ -4,3 +4,4 @@ pub mod Faults
 pub mod Parts
 pub mod Pushes
 pub mod Laws
+pub mod Replays

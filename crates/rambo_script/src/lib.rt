@@ -2,6 +2,7 @@
 //!
 //! - `Script`: the founders and steps that a text tells, by `read_script`.
 //! - `step_text`: the line of a step.
+//! - `replay`: from a script to the text of what its run gives.
 //! - `one_reading`, `no_script_is_faulty` and `one_fault`: a text is one script at most, or has one first fault.
 #![tactic(auto)]
 
@@ -9,13 +10,17 @@ mod kind;
 mod laws;
 mod parts;
 mod reading;
+mod replaying;
 mod script;
 mod writing;
 
 pub use laws::{no_script_is_faulty, one_fault, one_reading};
 pub use rambo_text::{Fault, ReplayFault, ScriptFault};
+pub use replaying::replay;
 pub use script::{LINE_LIMIT, Script, read_script};
 pub use writing::step_text;
 
+#[cfg(test)]
+mod replay_tests;
 #[cfg(test)]
 mod tests;

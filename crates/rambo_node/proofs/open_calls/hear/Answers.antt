@@ -1,4 +1,4 @@
-use Rattle.std.proofs.Common.{◌≡◌, ◌<◌, length, ◌∙◌, arith}
+use Rattle.std.proofs.Common.{◌<◌, length, ◌∙◌, arith}
 use Rattle.rambo_node.specs.Hearing.{heard_call}
 use Rattle.rambo_node.proofs.CallLists.{roomy_at, roomy_rest, heard_more}
 use Rattle.rambo_node.proofs.open_calls.hear.Goals as goal

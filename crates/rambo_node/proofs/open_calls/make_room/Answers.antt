@@ -1,4 +1,4 @@
-use Rattle.std.proofs.Common.{◌≡◌, ◌≤◌, ◌<◌, length, get_or, sym, ap, ◌∙◌, subst, arith}
+use Rattle.std.proofs.Common.{◌≤◌, ◌<◌, length, get_or, sym, ap, ◌∙◌, subst, arith}
 use Rattle.std.proofs.Math.Seq.{map-set_same}
 use Rattle.rambo_phase.specs.Phases.{PhaseState, needed}
 use Rattle.rambo_node.specs.declared.open_call.OpenCall.{OpenCall}

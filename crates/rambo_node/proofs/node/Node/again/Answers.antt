@@ -1,9 +1,8 @@
-use Rattle.std.proofs.Common.{◌≡◌, ◌+◌, None, sym, ap, ◌∙◌, rules}
-use Rattle.rambo_names.specs.Refusals.{least}
+use Rattle.std.proofs.Common.{◌+◌, sym, ap, ◌∙◌, rules}
 use Rattle.rambo_node.specs.Calls.{place_of, find_call}
 use Rattle.rambo_node.specs.Hearing.{restarted}
 use Rattle.rambo_node.specs.Kept.{calls_of, with_call}
-use Rattle.rambo_node.specs.Refusals.{is_last, again_causes}
+use Rattle.rambo_node.specs.Refusals.{is_last}
 use Rattle.rambo_node.proofs.Advances.{begins_again}
 use Rattle.rambo_node.proofs.Judged.{again_next, has_next}
 use Rattle.rambo_node.proofs.node.Node.again.Goals as goal

@@ -1,8 +1,7 @@
-use Rattle.std.proofs.Common.{rules, ◌≡◌, Some, sym, ap, ◌∙◌, subst}
+use Rattle.std.proofs.Common.{rules, ◌≡◌, Some, sym, ap, ◌∙◌}
 use Rattle.std.proofs.lemmas.Result.{IfOk-weaker}
 use Rattle.rambo_node.specs.declared.progress.Progress.TheVariants as progress
-use Rattle.rambo_node.specs.Calls.{find_call}
-use Rattle.rambo_node.specs.Operations.{query_in, query_progress}
+use Rattle.rambo_node.specs.Operations.{query_progress}
 use Rattle.rambo_node.specs.Refusals.{query_spent}
 use Rattle.rambo_node.proofs.Judged.{neither}
 use Rattle.rambo_node.proofs.node.Node.answer_query.Goals as goal

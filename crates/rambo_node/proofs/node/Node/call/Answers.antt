@@ -1,4 +1,4 @@
-use Rattle.std.proofs.Common.{◌≡◌, ◌∙◌, sym, ap, rules}
+use Rattle.std.proofs.Common.{◌∙◌, ap, rules}
 use Rattle.rambo_node.specs.Refusals.{is_last}
 use Rattle.rambo_node.proofs.Judged.{call_next, has_next}
 use Rattle.rambo_node.proofs.node.Node.call.Goals as goal

@@ -1,4 +1,4 @@
-use Rattle.std.proofs.Common.{◌≡◌, Some, IsSome, sym, ap, ◌∙◌, subst}
+use Rattle.std.proofs.Common.{Some, IsSome, sym, ap, ◌∙◌, subst}
 use Rattle.std.specs.List.{remove}
 use Rattle.rambo_node.specs.Calls.{place_of, find_call}
 use Rattle.rambo_node.specs.Kept.{calls_of, closed_from}

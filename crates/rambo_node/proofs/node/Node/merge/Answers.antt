@@ -1,10 +1,10 @@
-use Rattle.std.proofs.Common.{◌≡◌, map, sym, ap, ◌∙◌, subst}
+use Rattle.std.proofs.Common.{map, sym, ap, ◌∙◌, subst}
 use Rattle.std.specs.FinSet as set
 use Rattle.rambo_tag.specs.Changes.{IsRising}
 use Rattle.rambo_tag.specs.Copies.{joined}
 use Rattle.rambo_config_map.specs.Maps.{merged_map}
 use Rattle.rambo_joiner.specs.Statuses.{woken}
-use Rattle.rambo_node.specs.Hearing.{heard_gossip, heard_call, number_after}
+use Rattle.rambo_node.specs.Hearing.{heard_gossip, heard_call}
 use Rattle.rambo_node.specs.Nodes.{raised}
 use Rattle.rambo_node.proofs.node.Node.merge.Goals as goal
 

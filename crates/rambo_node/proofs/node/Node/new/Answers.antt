@@ -1,7 +1,6 @@
-use Rattle.std.proofs.Common.{◌≡◌, [], refl, sym, ap, ◌∙◌}
+use Rattle.std.proofs.Common.{◌≡◌, [], refl, ap, ◌∙◌}
 use Rattle.std.specs.FinMap.{empty}
 use Rattle.rambo_tag.specs.Changes.{latest_of}
-use Rattle.rambo_tag.specs.Copies.{Copies}
 use Rattle.rambo_node.specs.Nodes.{first_node, first_status, first_known}
 use Rattle.rambo_node.specs.Kept.{calls_of}
 use Rattle.rambo_node.proofs.node.Node.new.Goals as goal

@@ -1,4 +1,4 @@
-use Rattle.std.proofs.Common.{◌≡◌, [], sym, ap, ◌∙◌}
+use Rattle.std.proofs.Common.{ap, ◌∙◌}
 use Rattle.rambo_gossip.specs.Letters.{letter_with}
 use Rattle.rambo_node.specs.Letters.{letter_for}
 use Rattle.rambo_node.proofs.Telling.{no_changes}

@@ -1,9 +1,8 @@
-use Rattle.std.proofs.Common.{◌≡◌, ◌++◌, ◌∷◌, [], Some, sym, ap, ◌∙◌, subst, append-nil}
+use Rattle.std.proofs.Common.{◌++◌, ◌∷◌, [], Some, sym, ap, ◌∙◌, subst, append-nil}
 use Rattle.std.specs.FinMap as map
-use Rattle.rambo_tag.specs.Changes.{IsRising, latest_of}
+use Rattle.rambo_tag.specs.Changes.{IsRising}
 use Rattle.rambo_atomic.specs.declared.operation.Op.TheVariants as op
 use Rattle.rambo_node.specs.Kept.{propagation_begun}
-use Rattle.rambo_node.specs.Operations.{new_copy}
 use Rattle.rambo_node.proofs.Advances.{query_goes_on}
 use Rattle.rambo_node.proofs.Copying.{set_rises}
 use Rattle.rambo_node.proofs.node.Node.tag.Goals as goal

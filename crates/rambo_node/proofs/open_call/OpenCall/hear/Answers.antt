@@ -1,4 +1,4 @@
-use Rattle.std.proofs.Common.{◌≡◌, sym, ap, ◌∙◌}
+use Rattle.std.proofs.Common.{sym, ap, ◌∙◌}
 use Rattle.rambo_phase.specs.Phases.{PhaseState}
 use Rattle.rambo_node.specs.Calls.{CallState}
 use Rattle.rambo_node.specs.declared.open_call.OpenCall.{OpenCall}

@@ -1,8 +1,6 @@
-use Rattle.std.proofs.Common.{◌≡◌, ◌<◌, sym, ap, ◌∙◌, subst, length, get_or, arith}
+use Rattle.std.proofs.Common.{◌≡◌, sym, ap, ◌∙◌, length, get_or, arith}
 use Rattle.std.specs.List.{remove}
-use Rattle.rambo_node.specs.Kept.{call_of, calls_of, closed_in, closed_from}
-use Rattle.rambo_node.specs.Calls.{find_call}
-use Rattle.rambo_node.specs.declared.open_call.OpenCall.{OpenCall}
+use Rattle.rambo_node.specs.Kept.{calls_of, closed_in, closed_from}
 use Rattle.rambo_node.proofs.CallLists.{closed_at, found_in}
 use Rattle.rambo_node.proofs.open_calls.OpenCalls.close.Goals as goal
 

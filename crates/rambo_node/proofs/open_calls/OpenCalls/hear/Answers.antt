@@ -1,4 +1,4 @@
-use Rattle.std.proofs.Common.{◌≡◌, map, length, arith, take, drop, ◌++◌, sym, ap, ◌∙◌, subst}
+use Rattle.std.proofs.Common.{map, length, arith, take, drop, ◌++◌, sym, ap, ◌∙◌, subst}
 use Rattle.std.proofs.Math.Seq.{take-append_seam}
 use Rattle.rambo_node.specs.Hearing.{heard_call}
 use Rattle.rambo_node.specs.Kept.{calls_of, IsRoomy}

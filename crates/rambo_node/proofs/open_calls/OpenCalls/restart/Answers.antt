@@ -1,4 +1,4 @@
-use Rattle.std.proofs.Common.{◌≡◌, ◌<◌, sym, ap, ◌∙◌, subst, length, slice_set, get_or, arith}
+use Rattle.std.proofs.Common.{◌≡◌, sym, ap, ◌∙◌, subst, length, slice_set, get_or, arith}
 use Rattle.rambo_node.specs.Hearing.{restarted}
 use Rattle.rambo_node.specs.Calls.{place_of, find_call}
 use Rattle.rambo_node.specs.Kept.{call_of, calls_of, with_call}

@@ -1,0 +1,90 @@
+//! The program's work over any streams.
+ghost use Rattle.std.specs.Prelude.{◌≡◌, ◌⊎◌, map};
+ghost use Rattle.rambo_main.specs.Lines.{Asks};
+ghost use Rattle.rambo_main.specs.Statuses.{AnswersTo, ChecksTo, MayHaveFailed, ReplaysTo};
+ghost use Rattle.rambo_main.specs.declared.line.Task.{Task as AnyTask};
+
+use crate::line::{Task, task_of};
+use crate::telling::{answer, tell};
+use rambo_atomic::{Sink, Source};
+use rambo_outcome::check_text;
+use rambo_script::replay;
+use std::alloc::Global;
+use std::convert::AsStr;
+
+/// The exit status of what was done.
+const DONE: u8 = 0;
+
+/// The exit status of a check that said no of some key.
+const SAID_NO: u8 = 3;
+
+/// Does what the words behind the program's name ask for, and answers the exit status.
+///
+/// - 0: done. Of words that ask for no task, help or the version was written.
+/// - 1: the reader or the writer failed or memory ran out.
+/// - 2: the words ask for nothing that there is, or the input is faulty.
+/// - 3: the check said no of some key.
+///
+/// After 1 and 2 the cause was told to `errors`, as far as these took it.
+pub fn command<S: AsStr, R: Source, W: Sink, E: Sink>(
+    alloc: Global,
+    words: &[S],
+    reader: &mut R,
+    writer: &mut W,
+    errors: &mut E,
+) -> u8
+    ensures replay { Asks (map S.text words.now) Task.Replay
+        → ReplaysTo result (R.left reader.old) (R.left reader.new) (W.taken writer.old) (W.taken writer.new) }
+    ensures check { Asks (map S.text words.now) Task.Check
+        → ChecksTo result (R.left reader.old) (R.left reader.new) (W.taken writer.old) (W.taken writer.new) }
+    ensures other { ((t : AnyTask) → ¬ (Asks (map S.text words.now) t))
+        → AnswersTo result (map S.text words.now) (W.taken writer.old) (W.taken writer.new) × (reader.new ≡ reader.old) }
+
+    // A failure of the reader or writer is never hidden, and it ends the command.
+    ensures reads { MayHaveFailed result (R.failures reader.old) (R.failures reader.new) }
+    ensures writes { MayHaveFailed result (W.failures writer.old) (W.failures writer.new) }
+    ensures quiet { (result ≡ 0) ⊎ (result ≡ 3) → errors.new ≡ errors.old }
+{
+    match task_of(alloc, words) {
+        Ok(Task::Replay) => replayed(alloc, reader, writer, errors),
+        Ok(Task::Check) => checked(alloc, reader, writer, errors),
+        Err(error) => answer(alloc, &error, writer, errors),
+    }
+}
+
+// From a script to the text of what its run gives.
+fn replayed<R: Source, W: Sink, E: Sink>(
+    alloc: Global,
+    reader: &mut R,
+    writer: &mut W,
+    errors: &mut E,
+) -> u8
+    ensures replay { ReplaysTo result (R.left reader.old) (R.left reader.new) (W.taken writer.old) (W.taken writer.new) }
+    ensures reads { MayHaveFailed result (R.failures reader.old) (R.failures reader.new) }
+    ensures writes { MayHaveFailed result (W.failures writer.old) (W.failures writer.new) }
+    ensures quiet { (result ≡ 0) ⊎ (result ≡ 3) → errors.new ≡ errors.old }
+{
+    match replay(alloc, reader, writer) {
+        Ok(()) => DONE,
+        Err(fault) => tell(fault, errors),
+    }
+}
+
+// From an outcome text to a verdict on each key.
+fn checked<R: Source, W: Sink, E: Sink>(
+    alloc: Global,
+    reader: &mut R,
+    writer: &mut W,
+    errors: &mut E,
+) -> u8
+    ensures check { ChecksTo result (R.left reader.old) (R.left reader.new) (W.taken writer.old) (W.taken writer.new) }
+    ensures reads { MayHaveFailed result (R.failures reader.old) (R.failures reader.new) }
+    ensures writes { MayHaveFailed result (W.failures writer.old) (W.failures writer.new) }
+    ensures quiet { (result ≡ 0) ⊎ (result ≡ 3) → errors.new ≡ errors.old }
+{
+    match check_text(alloc, reader, writer) {
+        Ok(true) => DONE,
+        Ok(false) => SAID_NO,
+        Err(fault) => tell(fault, errors),
+    }
+}

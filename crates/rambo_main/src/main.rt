@@ -1,0 +1,42 @@
+//! The program `rambo`: from scripts to outcome texts, and from outcome texts to verdicts.
+#![tactic(auto)]
+
+mod command;
+mod line;
+mod telling;
+
+use command::command;
+use rambo_atomic::Wrapped;
+use rambo_text::ReplayFault;
+use std::io;
+use std::io::ErrorKind;
+use std::process::ExitCode;
+use telling::{tell, tell_no_text};
+
+fn main(rt: HostRuntime) -> ExitCode {
+    let mut errors = Wrapped::new(rt.stderr());
+    let status = match words(&rt) {
+        Ok(words) => {
+            let mut reader = Wrapped::new(rt.stdin());
+            let mut writer = Wrapped::new(rt.stdout());
+            command(
+                rt.alloc(),
+                words.as_slice(),
+                &mut reader,
+                &mut writer,
+                &mut errors,
+            )
+        }
+        Err(fault) if fault.kind() == ErrorKind::InvalidData => tell_no_text(&mut errors),
+        Err(_) => tell(ReplayFault::Memory, &mut errors),
+    };
+    ExitCode::from(status)
+}
+
+// The words behind the program's name.
+fn words(rt: &HostRuntime) -> io::Result<Vec<String>> {
+    Ok(std::env::args(rt)?.skip(1).collect(rt.alloc())?)
+}
+
+#[cfg(test)]
+mod tests;

@@ -1,0 +1,156 @@
+-- What a letter that is delivered does to the world
+use Rattle.std.proofs.Common.{◌≡◌, ℕ, zero, suc, ◌+◌, ◌-◌, ◌*◌, ◌≤◌, ◌<◌, max, List, take, drop, length, None, Some, slice_get, slice_set, sym, ap, ◌∙◌, inl, inr, subst, arith}
+use Rattle.std.proofs.lemmas.Bool.{cases_eq, false≢true}
+use Rattle.std.proofs.lemmas.List.{length-set, get_or-set_same}
+use Rattle.std.proofs.lemmas.Option.{slice_get_cases, slice_get_within, slice_get_read, slice_get-map}
+use Rattle.std.proofs.Math.Nat.{max-le, max-eq_left}
+use Rattle.std.specs.Option.{option_map, is_some}
+use Rattle.rambo_names.specs.Names.{IsName}
+use Rattle.rambo_tag.specs.declared.change.Change.{Change}
+use Rattle.rambo_tag.specs.Copies.{Copies, joined}
+use Rattle.rambo_tag.specs.Changes.{IsRising, latest_of, greatest_of}
+use Rattle.rambo_tag.proofs.ChangeLists.{IsRising-nil}
+use Rattle.rambo_atomic.specs.declared.event.Event.{Event}
+use Rattle.rambo_gossip.specs.Letters.{letter_with}
+use Rattle.rambo_node.specs.Hearing.{heard_letter}
+use Rattle.rambo_node.specs.Nodes.{NodeState, KeptNode}
+use Rattle.rambo_node.specs.Refusals.{hear_causes}
+use Rattle.rambo_node.specs.declared.effect.Effect.TheVariants as effect
+use Rattle.rambo_sequence.specs.declared.mark.Mark.{Mark}
+use Rattle.rambo_run.specs.declared.step.Step.TheVariants as step
+use Rattle.rambo_run.specs.Worlds.{letter_at}
+use Rattle.rambo_run.specs.Steps.{causes_of, delivery_causes, turn}
+use Rattle.rambo_world.specs.Kept.{SentState, state_of, states_of, moved_in, kept_at, state_at, changes_in, changes_at, whole_letter, whole_letters, sent_at, moved, merged_at, merged_raised, AllGrow, IsSent, HasMerged, IsKept}
+use Rattle.rambo_world.proofs.Growth.{some_is}
+use Rattle.rambo_world.proofs.Delivering.{letter_at-sent, hear_causes-with, merge_told, merged_told, heard_alike, heard_registers, raised_same, raised_other, own_place, place_below}
+use Rattle.rambo_world.proofs.Stepping.{told_stays}
+use Rattle.rambo_world.proofs.Turns.{world_of, stepped, delivered_turn, none_turn}
+
+module _ {Q : Type 0} (ks : List (KeptNode Q)) (ss : List (SentState Q)) (h : List Event) (ms : List Mark) (number : ℕ) where
+  pub sent_letter : (s : SentState Q) → sent_at ss number ≡ Some s → letter_at (whole_letters ks ss) number ≡ Some (whole_letter ks s)
+  sent_letter s found = letter_at-sent ks ss number ∙ ap (option_map (whole_letter ks)) found
+
+  pub no_letter : sent_at ss number ≡ None → letter_at (whole_letters ks ss) number ≡ None
+  no_letter found = letter_at-sent ks ss number ∙ ap (option_map (whole_letter ks)) found
+
+  pub sent_causes : (s : SentState Q) → sent_at ss number ≡ Some s
+      → delivery_causes (world_of ks ss h ms) (letter_at (whole_letters ks ss) number) ≡ causes_of (state_at ks s.letter.addressee) (λ x. hear_causes x s.letter.kind)
+  sent_causes s found =
+      ap (delivery_causes (world_of ks ss h ms)) (sent_letter s found)
+      ∙ λ i. causes_of (state_at ks s.letter.addressee) (λ x. hear_causes-with x s.letter.kind (latest_of (take s.changes (changes_at ks s.letter.sender))) i)
+
+  pub no_causes : sent_at ss number ≡ None → delivery_causes (world_of ks ss h ms) (letter_at (whole_letters ks ss) number) ≡ delivery_causes (world_of ks ss h ms) None
+  no_causes found = ap (delivery_causes (world_of ks ss h ms)) (no_letter found)
+
+  pub no_delivery : sent_at ss number ≡ None → turn (world_of ks ss h ms) (step.Deliver number) ≡ record { world = world_of ks ss h ms; effect = effect.Done }
+  no_delivery found = none_turn (world_of ks ss h ms) number (no_letter found)
+
+-- the letter of a number stands one place before it
+pub sent_before : {Q : Type 0} (ss : List (SentState Q)) (number : ℕ) (s : SentState Q) → sent_at ss number ≡ Some s → slice_get ss (number - 1) ≡ Some s
+sent_before ss zero s found = absurd (false≢true (ap is_some found))
+sent_before ss (suc i) s found = let same : suc i - 1 ≡ i = omega arith in ap (slice_get ss) same ∙ found
+
+-- a node that was moved, as it is kept
+pub moved_state : {Q : Type 0} (ks new : List (KeptNode Q)) (n : ℕ) (f : NodeState Q → NodeState Q) (x : NodeState Q) (y : KeptNode Q)
+    → states_of new ≡ moved ks n f → state_at ks n ≡ Some x → kept_at new n ≡ Some y → y.state ≡ f x
+moved_state ks new zero f x y e there found = absurd (false≢true (ap is_some there))
+moved_state ks new (suc i) f x y e there found =
+    let place : suc i - 1 ≡ i = omega arith in
+    let set : states_of new ≡ slice_set (states_of ks) i (f x) = e ∙ ap (λ o. moved_in (suc i) o f (states_of ks)) there ∙ ap (λ j. slice_set (states_of ks) j (f x)) place in
+    let below = slice_get_within (states_of ks) i x there in
+    let here : slice_get (states_of new) i ≡ Some (f x) = ap (λ l. slice_get l i) set
+    ∙ slice_get_read (slice_set (states_of ks) i (f x)) (length (states_of ks)) i (f x) (sym (length-set (states_of ks) i (f x))) below (sym (get_or-set_same (states_of ks) i (f x) (f x) below)) in
+    some_is y.state (f x) (sym (slice_get-map state_of new i ∙ ap (option_map state_of) (ap (slice_get new) (sym place) ∙ found)) ∙ here)
+
+-- the changes of a kept node rise
+pub rising_at : {Q : Type 0} (ks : List (KeptNode Q)) (ss : List (SentState Q)) (ms : List ℕ) (n : ℕ) → IsKept ks ss ms → IsRising (changes_at ks n)
+rising_at ks ss ms n kept =
+    elim ((slice_get_cases ks (n - 1)).1) [
+      | inl h ↦ subst (λ o. IsRising (changes_in o)) (sym h.2) (kept.recorded (n - 1) h.0 h.2).rising
+      | inr h ↦ subst (λ o. IsRising (changes_in o)) (sym h.1) IsRising-nil
+    ]
+
+module _ {Q : Type 0} (ks new : List (KeptNode Q)) (ss : List (SentState Q)) (counts : List ℕ) (kept : IsKept ks ss counts) (grow : AllGrow ks new)
+    (s : SentState Q) (sent : IsSent ks s) (x : KeptNode Q) (pack : Copies) (to : IsName s.letter.addressee) (from : IsName s.letter.sender)
+    (there : kept_at ks s.letter.addressee ≡ Some x)
+    (packed : pack ≡ greatest_of (drop (merged_at counts s.letter.addressee s.letter.sender) (take (max (merged_at counts s.letter.addressee s.letter.sender) s.changes) (changes_at ks s.letter.sender)))) where
+  abbrev m : ℕ
+  m = merged_at counts s.letter.addressee s.letter.sender
+
+  abbrev cs : List Change
+  cs = changes_at ks s.letter.sender
+
+  has : HasMerged ks counts s.letter.addressee s.letter.sender x
+  has = kept.merged s.letter.addressee s.letter.sender x to from there
+
+  rises : IsRising cs
+  rises = rising_at ks ss counts s.letter.sender kept
+
+  -- the copies that are new do what all of them do
+  pub alike : joined x.state.registers pack ≡ joined x.state.registers (latest_of (take s.changes cs))
+  alike = ap (joined x.state.registers) packed ∙ merge_told x.state.registers m s.changes cs rises has.holds
+
+  holds_after : (y : KeptNode Q) → y.state ≡ heard_letter x.state (letter_with s.letter pack) → joined y.state.registers (latest_of (take (max m s.changes) cs)) ≡ y.state.registers
+  holds_after y e =
+      elim (heard_registers x.state s.letter.sender s.letter.kind pack) [
+        | inl h ↦ let same = ap (λ z. z.registers) e ∙ h.1 in
+            ap (λ r. joined r (latest_of (take (max m s.changes) cs))) same
+            ∙ ap (λ n. joined x.state.registers (latest_of (take n cs))) (ap (max m) (sent.join h.0) ∙ max-eq_left (omega arith))
+            ∙ has.holds ∙ sym same
+        | inr h ↦ let same = ap (λ z. z.registers) e ∙ h ∙ alike in
+            ap (λ r. joined r (latest_of (take (max m s.changes) cs))) same ∙ merged_told x.state.registers m s.changes cs rises has.holds ∙ sym same
+      ]
+
+  told_after : (max m s.changes ≤ length (changes_at new s.letter.sender)) × (take (max m s.changes) (changes_at new s.letter.sender) ≡ take (max m s.changes) cs)
+  told_after = told_stays ks new grow s.letter.sender (max m s.changes) (max-le has.within sent.within)
+
+  abbrev raised : List ℕ
+  raised = merged_raised counts s.letter.addressee s.letter.sender s.changes
+
+  below : (s.letter.addressee - 1) * 64 + (s.letter.sender - 1) < length counts
+  below = subst (λ n. (s.letter.addressee - 1) * 64 + (s.letter.sender - 1) < n) (sym kept.counts) (place_below s.letter.addressee s.letter.sender to from)
+
+  merged_here : (y : KeptNode Q) → y.state ≡ heard_letter x.state (letter_with s.letter pack) → HasMerged new raised s.letter.addressee s.letter.sender y
+  merged_here y e =
+      let count = raised_same counts s.letter.addressee s.letter.sender s.changes below in
+      record {
+        within = subst (λ n. n ≤ length (changes_at new s.letter.sender)) (sym count) told_after.0;
+        holds = ap (λ n. joined y.state.registers (latest_of (take n (changes_at new s.letter.sender)))) count
+            ∙ ap (λ l. joined y.state.registers (latest_of l)) told_after.1 ∙ holds_after y e;
+      }
+
+  -- and then they count as merged
+  pub kept_raised : IsKept new ss counts → ((y : KeptNode Q) → kept_at new s.letter.addressee ≡ Some y → y.state ≡ heard_letter x.state (letter_with s.letter pack)) → IsKept new ss raised
+  kept_raised after heard = record {
+    nodes = after.nodes;
+    counts = length-set counts _ _ ∙ after.counts;
+    names = after.names;
+    recorded = after.recorded;
+    sent = after.sent;
+    merged = λ t f y named_t named_f found.
+        elim (cases_eq ((t - 1) * 64 + (f - 1)) ((s.letter.addressee - 1) * 64 + (s.letter.sender - 1))) [
+          | inl same ↦ let own = own_place s.letter.addressee s.letter.sender t f to from named_t named_f same in
+              subst (λ t. HasMerged new raised t f y) (sym own.0) (subst (λ f. HasMerged new raised s.letter.addressee f y) (sym own.1)
+              (merged_here y (heard y (ap (kept_at new) (sym own.0) ∙ found))))
+          | inr other ↦ let has = after.merged t f y named_t named_f found in
+              let count = raised_other counts s.letter.addressee s.letter.sender s.changes t f other in
+              record {
+                within = subst (λ n. n ≤ length (changes_at new f)) (sym count) has.within;
+                holds = ap (λ n. joined y.state.registers (latest_of (take n (changes_at new f)))) count ∙ has.holds;
+              }
+        ];
+  }
+
+  pub deliver_world : (h : List Event) (ms : List Mark) (number : ℕ) → sent_at ss number ≡ Some s → state_at ks s.letter.addressee ≡ Some x.state
+      → states_of new ≡ moved ks s.letter.addressee (λ y. heard_letter y (letter_with s.letter pack)) → whole_letters new ss ≡ whole_letters ks ss
+      → turn (world_of ks ss h ms) (step.Deliver number) ≡ record { world = world_of new ss h ms; effect = effect.Done }
+  deliver_world h ms number found state e letters =
+      let whole = whole_letter ks s in
+      let same : heard_letter x.state whole ≡ heard_letter x.state (letter_with s.letter pack) =
+      sym (heard_alike x.state s.letter.sender s.letter.kind pack (latest_of (take s.changes cs)) alike) in
+      delivered_turn (world_of ks ss h ms) number whole x.state (sent_letter ks ss h ms number s found) state
+      ∙ λ i. record {
+        world = ((λ j. record { nodes = slice_set (states_of ks) (s.letter.addressee - 1) (same j); letters = whole_letters ks ss; history = h; marks = ms })
+            ∙ stepped ks new ss h ms s.letter.addressee (λ y. heard_letter y (letter_with s.letter pack)) x.state e letters state) i;
+        effect = effect.Done;
+      }

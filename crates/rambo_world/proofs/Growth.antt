@@ -1,0 +1,93 @@
+-- Nodes after a step
+use Rattle.std.proofs.Common.{◌≡◌, ◌≢◌, ℕ, zero, suc, ◌-◌, ◌≤◌, ◌<◌, List, length, Option, None, Some, Result, Ok, Err, slice_get, slice_set, get_or, refl, sym, ap, ◌∙◌, inl, inr, subst, arith, OnOk, OnErr}
+use Rattle.std.proofs.lemmas.Bool.{cases_eq}
+use Rattle.std.proofs.lemmas.Option.{slice_get-map, slice_get_within, slice_get_read, get_or_from_slice_get}
+use Rattle.std.proofs.lemmas.List.{map-set, set-get_or, length-set, get_or-set_same, get_or-set_other}
+use Rattle.std.specs.Option.{IsSomeAnd, option_map}
+use Rattle.rambo_tag.specs.Changes.{Extends, IsRising, latest_of}
+use Rattle.rambo_tag.proofs.ChangeLists.{Extends-refl}
+use Rattle.rambo_node.specs.Nodes.{NodeState, KeptNode}
+use Rattle.rambo_world.specs.Kept.{state_of, states_of, state_at, kept_at, moved, moved_in, IsRecorded, Grows, AllGrow}
+
+abbrev or_this : {X : Type 0} → X → Option X → X
+or_this x None = x
+or_this x (Some y) = y
+
+pub some_is : {X : Type 0} (x y : X) → Some x ≡ Some y → x ≡ y
+some_is x y e = ap (or_this x) e
+
+-- a node that stays as it is
+pub grows_same : {Q : Type 0} (x y : KeptNode Q) → y ≡ x → Grows x y
+grows_same x y e = record {
+  name = ap (λ k. k.state.name) e;
+  extends = subst (λ k. Extends x.changes k.changes) (sym e) (Extends-refl x.changes);
+  recorded = λ r. subst IsRecorded (sym e) r;
+}
+
+-- a step that leaves the copies alone
+pub grows_quietly : {Q : Type 0} (x y : KeptNode Q) → y.state.name ≡ x.state.name → y.state.registers ≡ x.state.registers → y.changes ≡ x.changes → Grows x y
+grows_quietly x y name registers changes = record {
+  name = name;
+  extends = subst (Extends x.changes) (sym changes) (Extends-refl x.changes);
+  recorded = λ r. record {
+    latest = registers ∙ r.latest ∙ sym (ap latest_of changes);
+    rising = subst IsRising (sym changes) r.rising;
+  };
+}
+
+-- a step that records what it does to the copies
+pub grows_recorded : {Q : Type 0} (x y : KeptNode Q) → y.state.name ≡ x.state.name → Extends x.changes y.changes → (IsRising x.changes → IsRising y.changes) → y.state.registers ≡ latest_of y.changes → Grows x y
+grows_recorded x y name extends rises latest = record {
+  name = name;
+  extends = extends;
+  recorded = λ r. record { latest = latest; rising = rises r.rising };
+}
+
+pub on_ok_both : {T E P R S : Type 0} (r : Result T E) → (P → R → S) → OnOk r P → OnOk r R → OnOk r S
+on_ok_both (Ok t) f p q = f p q
+on_ok_both (Err e) f p q = q
+
+-- whatever came of it
+pub grows_anyway : {Q T E : Type 0} (r : Result T E) (x y : KeptNode Q) → OnOk r (Grows x y) → OnErr r (y ≡ x) → Grows x y
+grows_anyway (Ok t) x y ok err = ok
+grows_anyway (Err e) x y ok err = grows_same x y err
+
+-- the state of a kept node
+pub state_at-kept : {Q : Type 0} (ks : List (KeptNode Q)) (name : ℕ) → 1 ≤ name → state_at ks name ≡ option_map state_of (kept_at ks name)
+state_at-kept ks zero named = absurd (omega (arith, named))
+state_at-kept ks (suc i) named = let same : suc i - 1 ≡ i = omega arith in slice_get-map state_of ks i ∙ ap (λ j. option_map state_of (slice_get ks j)) (sym same)
+
+module _ {Q : Type 0} (ks : List (KeptNode Q)) (place name : ℕ) (x y : KeptNode Q) (at : place ≡ name - 1) (named : 1 ≤ name) (below : place < length ks) (is : x ≡ get_or ks place x) where
+  here : slice_get ks place ≡ Some x
+  here = slice_get_read ks (length ks) place x refl below is
+
+  pub kept_here : kept_at ks name ≡ Some x
+  kept_here = ap (slice_get ks) (sym at) ∙ here
+
+  pub state_here : state_at ks name ≡ Some x.state
+  state_here = state_at-kept ks name named ∙ ap (option_map state_of) kept_here
+
+  pub put : (f : NodeState Q → NodeState Q) → y.state ≡ f x.state → states_of (slice_set ks place y) ≡ moved ks name f
+  put f e = map-set state_of ks place y ∙ (λ i. slice_set (states_of ks) (at i) (e i)) ∙ sym (ap (λ o. moved_in name o f (states_of ks)) state_here)
+
+  pub unchanged : y ≡ x → slice_set ks place y ≡ ks
+  unchanged e = ap (slice_set ks place) (e ∙ is) ∙ set-get_or ks place x
+
+  put_here : slice_get (slice_set ks place y) place ≡ Some y
+  put_here = slice_get_read (slice_set ks place y) (length ks) place y (sym (length-set ks place y)) below (sym (get_or-set_same ks place y y below))
+
+  put_other : (k : ℕ) (z : KeptNode Q) → k ≢ place → slice_get ks k ≡ Some z → slice_get (slice_set ks place y) k ≡ Some z
+  put_other k z other found =
+      slice_get_read (slice_set ks place y) (length ks) k z (sym (length-set ks place y)) (slice_get_within ks k z found)
+      (sym (get_or-set_other ks place k y z other ∙ get_or_from_slice_get ks k z z found))
+
+  grows_at : Grows x y → (k : ℕ) (z : KeptNode Q) → slice_get ks k ≡ Some z → IsSomeAnd (slice_get (slice_set ks place y) k) (Grows z)
+  grows_at grows k z found =
+      elim (cases_eq k place) [
+        | inl same ↦ subst (λ o. IsSomeAnd o (Grows z)) (sym (ap (slice_get (slice_set ks place y)) same ∙ put_here))
+            (subst (λ w. Grows w y) (some_is x z (sym here ∙ ap (slice_get ks) (sym same) ∙ found)) grows)
+        | inr other ↦ subst (λ o. IsSomeAnd o (Grows z)) (sym (put_other k z other found)) (grows_same z z refl)
+      ]
+
+  pub grow : Grows x y → AllGrow ks (slice_set ks place y)
+  grow grows = record { count = length-set ks place y; grow = grows_at grows }

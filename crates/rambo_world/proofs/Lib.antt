@@ -1,0 +1,12 @@
+mod Growth
+mod Moves
+mod Stepping
+mod Delivering
+mod Turns
+mod Sizes
+mod Clamps
+mod Callings
+mod Sendings
+mod Deliveries
+mod Longer
+mod Starting

@@ -1,0 +1,28 @@
+use Rattle.std.proofs.Common.{◌≡◌, ◌∙◌, ◌++◌, ◌∷◌, [], sym, ap, append-nil, take}
+use Rattle.std.proofs.lemmas.List.{take_all}
+use Rattle.rambo_joiner.specs.Statuses.{is_idle}
+use Rattle.rambo_world.specs.Kept.{states_of}
+use Rattle.rambo_run.specs.Runs.{maps_of}
+use Rattle.rambo_world.proofs.Starting.{maps_next, no_map, own_map}
+use Rattle.rambo_world.proofs.nodes.maps_of.Goals.{then-not-is_idle+in_ok-push, else-not-is_idle}
+use Rattle.rambo_world.proofs.nodes.maps_of.Goals as goal
+
+pub loop-node-preserved : goal.loop-node-preserved
+loop-node-preserved g c =
+    let k = c.node-item.result in
+    let idle : c.is_idle.result ≡ is_idle k.state.status = c.is_idle.ensures ∙ ap is_idle c.status.ensures in
+    let next = sym (maps_next c.args.nodes.now c.loop-node.node-index k c.loop-node-test.true c.node-item.is) in
+    elim c.if-not-is_idle.branch [
+      | then-not-is_idle+in_ok-push w ↦
+          ap (λ m. m.items) w.maps-is ∙ w.in_ok-push.ensures.items
+          ∙ (λ i. c.loop-node.invariant i ++ record { name = w.name.ensures i; map = (w.copy.ensures ∙ w.map.ensures) i } ∷ [])
+          ∙ ap (λ l. maps_of (states_of (take c.loop-node.node-index c.args.nodes.now)) ++ l) (sym (own_map k.state (sym idle ∙ w.if-not-is_idle.true)))
+          ∙ next
+      | else-not-is_idle w ↦
+          ap (λ m. m.items) w.maps-is ∙ c.loop-node.invariant ∙ sym (append-nil _)
+          ∙ ap (λ l. maps_of (states_of (take c.loop-node.node-index c.args.nodes.now)) ++ l) (sym (no_map k.state (sym idle ∙ w.if-not-is_idle.false)))
+          ∙ next
+    ]
+
+pub returns-clause-maps : goal.returns-clause-maps
+returns-clause-maps g c = c.loop-node.invariant ∙ ap (λ l. maps_of (states_of l)) (take_all c.loop-node.node-index c.args.nodes.now c.loop-node-test.false)

@@ -1,0 +1,16 @@
+use Rattle.std.proofs.Common.{sym, ap, ◌∙◌}
+use Rattle.rambo_run.specs.Steps.{Turn}
+use Rattle.rambo_world.proofs.Longer.{after-taken, after-refused}
+use Rattle.rambo_world.proofs.state.State.take.Goals as goal
+
+pub judge-requires : goal.judge-requires
+judge-requires g c = c.requires-raw.1.1.0
+
+pub act-requires : goal.act-requires
+act-requires g c = (c.requires-raw.1.1.0, (c.in_default.ensures.ok, c.requires.fits))
+
+pub returns-in-Err-clause-after : goal.returns-in-Err-clause-after
+returns-in-Err-clause-after g c = sym (after-refused g.Q.Quorums.system c.args.self.now c.args.step.now c.in-Err.refusal c.in-Err.ensures.refused)
+
+pub returns-clause-after : goal.returns-clause-after
+returns-clause-after g c = sym (after-taken g.Q.Quorums.system c.args.self.now c.args.step.now c.in_default.ensures.ok ∙ ap (λ (t : Turn _). t.world) c.in_ok-effect.ensures.ok)

@@ -1,0 +1,11 @@
+use Rattle.std.proofs.Common.{◌∙◌, sym, ap}
+use Rattle.rambo_run.specs.Runs.{run}
+use Rattle.rambo_world.proofs.Sizes.{up_fits, back_fits}
+use Rattle.rambo_world.proofs.Longer.{run_none}
+use Rattle.rambo_world.proofs.world.World.new.Goals as goal
+
+pub new-requires-2 : goal.new-requires-2
+new-requires-2 g c = back_fits _ _ _ (up_fits _ _ _ c.requires-raw.1.1)
+
+pub invariant_of-result : goal.invariant_of-result
+invariant_of-result g c = c.in_ok-new.ensures.first ∙ sym (run_none g.Q.Quorums.system c.args.founders) ∙ sym (ap (run g.Q.Quorums.system c.args.founders) c.new.ensures.items)

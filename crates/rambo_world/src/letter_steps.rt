@@ -1,0 +1,57 @@
+//! Letters are sent and delivered.
+ghost use Rattle.std.specs.Prelude.{◌≡◌, None, Some, OnOk, OnErr, IfOk, IfErr};
+ghost use Rattle.rambo_names.specs.Refusals.{least};
+ghost use Rattle.rambo_run.specs.Worlds.{letter_at};
+ghost use Rattle.rambo_run.specs.Steps.{delivery_causes, refusal, turn};
+ghost use Rattle.rambo_run.specs.declared.step.Step.TheVariants as step;
+
+use crate::state::State;
+use rambo_names::{Name, Quorums, Refusal};
+use rambo_node::Effect;
+use rambo_tag::Replica;
+
+impl<Q: Quorums, S: Replica> State<Q, S> {
+    // Whether the letter of a number may come to its addressee.
+    pub(crate) fn may_deliver(&self, number: u64) -> Result<(), Refusal>
+        ensures ok { OnOk result (least (delivery_causes self.now (letter_at self.now.letters number)) ≡ None) }
+        ensures refused { IfErr result (λ r. least (delivery_causes self.now (letter_at self.now.letters number)) ≡ Some r) }
+    {
+        match self.letters.get(number) {
+            Some(sent) => self.nodes.may_hear(sent.letter.addressee, &sent.letter),
+            None => Err(Refusal::NoSuchLetter),
+        }
+    }
+
+    // A node sends a letter to another.
+    pub(crate) fn send(&mut self, from: Name, to: Name) -> Result<Effect, Refusal>
+        requires accepted { refusal Q.system self.old (step.Send from to) ≡ None }
+        ensures ok { IfOk result (λ e. turn self.old (step.Send from to) ≡ record { world = self.new; effect = e }) }
+        ensures err { OnErr result (self.new ≡ self.old) }
+        ensures refused { IfErr result (λ r. r ≡ Refusal.OutOfMemory) }
+    {
+        let sent = self.nodes.outline(from, to)?;
+        self.letters.push(sent)?;
+        Ok(Effect::Sent(self.letters.len() as u64))
+    }
+
+    // The letter of a number comes to its addressee, which merges of its copies what it hasn't merged before.
+    pub(crate) fn deliver(&mut self, number: u64) -> Result<Effect, Refusal>
+        requires accepted { refusal Q.system self.old (step.Deliver number) ≡ None }
+        ensures ok { IfOk result (λ e. turn self.old (step.Deliver number) ≡ record { world = self.new; effect = e }) }
+        ensures err { OnErr result (self.new ≡ self.old) }
+        ensures refused { IfErr result (λ r. r ≡ Refusal.OutOfMemory) }
+    {
+        let sent = match self.letters.get(number) {
+            Some(sent) => sent,
+            None => return Ok(Effect::Done),
+        };
+        let (from, to, changes) = (sent.letter.sender, sent.letter.addressee, sent.changes);
+        let merged = self.merged.of(to, from);
+        let copies = self
+            .nodes
+            .changes_between(from, merged, merged.max(changes))?;
+        self.nodes.hear(to, &sent.letter, &copies)?;
+        self.merged.raise(to, from, changes);
+        Ok(Effect::Done)
+    }
+}

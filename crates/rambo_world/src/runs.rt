@@ -1,0 +1,46 @@
+//! Whole runs.
+ghost use Rattle.std.specs.Prelude.{◌≡◌, List, ℕ, None, IfOk, IfErr, OnOk};
+ghost use Rattle.rambo_names.specs.Refusals.{least, IsRefusal};
+ghost use Rattle.rambo_atomic.specs.Proper.{IsProper};
+ghost use Rattle.rambo_sequence.specs.Sequences.{sequence_in};
+ghost use Rattle.rambo_run.specs.Claims.{Agrees};
+ghost use Rattle.rambo_run.specs.Runs.{outcome_of};
+ghost use Rattle.rambo_world.specs.Worlds.{founding_causes, majorities};
+
+use crate::state::State;
+use crate::world::may_found;
+use rambo_names::{Majority, Refusal};
+use rambo_run::{Outcome, Step};
+use rambo_tag::Registers;
+use std::alloc::Global;
+use std::hash::{BuildHasherDefault, FoldHasher};
+
+/// What steps make of the world of these founders, with majority quorums. A step that is refused is noted with its refusal, and the run goes
+/// on.
+///
+/// The answered operations of each key, with some sets that weren't answered, stand in one sequence that the outcome
+/// gives: each get answers the latest set before it, or nil, and what was answered before another operation was called
+/// stands before it (Attiya, Bar-Noy and Dolev, "Sharing Memory Robustly in Message-Passing Systems", JACM 1995; Lynch
+/// and Shvartsman, "RAMBO", DISC 2002). No two nodes hold different configurations at one place.
+///
+/// Refused are 18 where there is no founder, 22 where memory runs out.
+pub fn run(alloc: Global, founders: Majority, steps: &[Step]) -> Result<Outcome<Majority>, Refusal>
+    ensures founded { OnOk result (least (founding_causes majorities founders) ≡ None) }
+    ensures outcome { IfOk result (λ o. o ≡ outcome_of majorities founders steps.now) }
+    ensures proper { IfOk result (λ o. (key : List ℕ) → IsProper o.history key (sequence_in o.sequences key)) }
+    ensures agreed { Agrees majorities founders steps.now }
+    ensures refused { IfErr result (IsRefusal (least (founding_causes majorities founders))) }
+{
+    may_found(founders)?;
+    let replica = Registers::new(alloc, BuildHasherDefault::<FoldHasher>::new());
+    let mut state = State::new(alloc, founders, &replica)?;
+    let effects = state.take_all(alloc, steps)?;
+    let sequences = state.sequences(alloc)?;
+    let maps = state.maps(alloc)?;
+    Ok(Outcome {
+        effects,
+        history: state.take_history(alloc),
+        sequences,
+        maps,
+    })
+}

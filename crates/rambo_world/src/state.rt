@@ -1,0 +1,175 @@
+//! What a run makes.
+ghost use Rattle.std.specs.Prelude.{◌≡◌, List, None, Some, OnOk, OnErr, IfOk, IfErr};
+ghost use Rattle.rambo_node.specs.Nodes.{NodeState};
+ghost use Rattle.rambo_run.specs.Runs.{after, result_of, results_from, run_from, maps_of};
+ghost use Rattle.rambo_run.specs.Steps.{refusal, turn};
+ghost use Rattle.rambo_run.specs.Worlds.{first_world, node_at};
+ghost use Rattle.rambo_sequence.specs.Sequences.{sequence_of, sequences_of};
+ghost use Rattle.rambo_world.specs.Worlds.{EventsFit};
+
+use crate::letters::Letters;
+use crate::merged_counts::MergedCounts;
+use crate::nodes::Nodes;
+use rambo_atomic::{CallId, History};
+use rambo_config_map::ConfigMap;
+use rambo_names::{Name, Quorums, Refusal};
+use rambo_node::Effect;
+use rambo_run::{NodeMap, Step};
+use rambo_sequence::{KeySequence, Mark};
+use rambo_tag::Replica;
+use std::alloc::Global;
+use std::marker::Model;
+use std::mem;
+
+/// The nodes, all letters that were sent, the history, and the marks from which the sequences come.
+#[derive(Drop)]
+pub(crate) struct State<Q: Quorums, S: Replica> {
+    pub(crate) nodes: Nodes<Q, S>,
+    pub(crate) letters: Letters<Q>,
+    pub(crate) merged: MergedCounts,
+    pub(crate) history: History,
+    pub(crate) marks: Vec<Mark>,
+}
+
+impl<Q: Quorums, S: Replica> Model for State<Q, S> {
+    ghost use Rattle.std.specs.Coded.{codes};
+    ghost use Rattle.rambo_names.specs.Names.{names_code};
+    ghost use Rattle.rambo_tag.specs.Copies.{copies_code};
+    ghost use Rattle.rambo_run.specs.Worlds.{WorldState};
+    ghost use Rattle.rambo_world.specs.Kept.{states_of, whole_letters, IsKept};
+
+    ghost Value = { WorldState Q };
+
+    ghost coded = { Prim.hlevel (codes, names_code, copies_code, Q.code) };
+
+    ghost view = { λ w. record { nodes = states_of w.nodes; letters = whole_letters w.nodes w.letters; history = w.history.events; marks = w.marks.items } };
+
+    ghost invariant = { λ w. IsKept w.nodes w.letters w.merged };
+}
+
+impl<Q: Quorums, S: Replica> State<Q, S> {
+    // Why a step is refused, if it is.
+    pub(crate) fn judge(&self, step: &Step) -> Result<(), Refusal>
+        ensures ok { OnOk result (refusal Q.system self.now step.now ≡ None) }
+        ensures refused { IfErr result (λ r. refusal Q.system self.now step.now ≡ Some r) }
+    {
+        match step {
+            Step::Join(name, contacts) => self.nodes.may_join(*name, *contacts),
+            Step::Call(name, op) => self.nodes.may_call(*name, op),
+            Step::Send(from, to) => self.nodes.may_send(*from, *to),
+            Step::Deliver(number) => self.may_deliver(*number),
+            Step::Advance(id) => self.nodes.may_advance(id.name, id.number),
+            Step::Again(id) => self.nodes.may_restart(id.name, id.number),
+            Step::Stop(name) => self.nodes.may_stop(*name),
+        }
+    }
+}
+
+impl<Q: Quorums, S: Replica> State<Q, S> {
+    // The state before any step.
+    pub(crate) fn new(alloc: Global, founders: Q, replica: &S) -> Result<Self, Refusal>
+        ensures first { IfOk result (λ w. w ≡ first_world Q.system founders) }
+        ensures refused { IfErr result (λ r. r ≡ Refusal.OutOfMemory) }
+    {
+        let merged = MergedCounts::new(alloc)?;
+        let nodes = Nodes::new(alloc, founders, replica)?;
+        Ok(State {
+            nodes,
+            letters: Letters::new(alloc),
+            merged,
+            history: History::new(alloc),
+            marks: Vec::new(alloc),
+        })
+    }
+
+    // Takes a step that isn't refused.
+    pub(crate) fn act(&mut self, step: &Step) -> Result<Effect, Refusal>
+        requires accepted { refusal Q.system self.old step.now ≡ None }
+        requires fits { EventsFit Q.system self.old }
+        ensures ok { IfOk result (λ e. turn self.old step.now ≡ record { world = self.new; effect = e }) }
+        ensures err { OnErr result (self.new ≡ self.old) }
+        ensures refused { IfErr result (λ r. r ≡ Refusal.OutOfMemory) }
+    {
+        match step {
+            Step::Join(name, contacts) => self.join(*name, *contacts),
+            Step::Call(name, op) => self.call(*name, op),
+            Step::Send(from, to) => self.send(*from, *to),
+            Step::Deliver(number) => self.deliver(*number),
+            Step::Advance(id) => self.advance(id.name, id.number),
+            Step::Again(id) => self.again(id.name, id.number),
+            Step::Stop(name) => self.stop(*name),
+        }
+    }
+
+    // Takes a step of a run: what it did, or why it was refused.
+    pub(crate) fn take(&mut self, step: &Step) -> Result<Result<Effect, Refusal>, Refusal>
+        requires fits { EventsFit Q.system self.old }
+        ensures told { IfOk result (λ r. r ≡ result_of (refusal Q.system self.old step.now) self.old step.now) }
+        ensures after { OnOk result (self.new ≡ after Q.system self.old step.now) }
+        ensures refused { IfErr result (λ r. r ≡ Refusal.OutOfMemory) }
+    {
+        if let Err(refusal) = self.judge(step) {
+            return Ok(Err(refusal));
+        }
+        let effect = self.act(step)?;
+        Ok(Ok(effect))
+    }
+
+    // Takes all steps of a run.
+    pub(crate) fn take_all(
+        &mut self,
+        alloc: Global,
+        steps: &[Step],
+    ) -> Result<Vec<Result<Effect, Refusal>>, Refusal>
+        requires fits { (done : List Step) → EventsFit Q.system (run_from Q.system self.old done) }
+        ensures told { IfOk result (λ rs. rs.items ≡ results_from Q.system self.old steps.now) }
+        ensures after { OnOk result (self.new ≡ run_from Q.system self.old steps.now) }
+        ensures refused { IfErr result (λ r. r ≡ Refusal.OutOfMemory) }
+    {
+        let mut results = Vec::new(alloc);
+        results.reserve(steps.len())?;
+        for step in steps {
+            let result = self.take(step)?;
+            results.push(result)?;
+        }
+        Ok(results)
+    }
+
+    // The given sequence of a key.
+    pub(crate) fn sequence(&self, alloc: Global, key: &[u8]) -> Result<Vec<CallId>, Refusal>
+        ensures calls { IfOk result (λ calls. calls.items ≡ sequence_of self.now.history self.now.marks key.now) }
+        ensures refused { IfErr result (λ r. r ≡ Refusal.OutOfMemory) }
+    {
+        rambo_sequence::sequence(alloc, &self.history, self.marks.as_slice(), key)
+    }
+
+    // The configuration map of a node.
+    pub(crate) fn map(&self, name: Name) -> &ConfigMap<Q>
+        ensures { (x : NodeState Q) → node_at self.now name ≡ Some x → result.now ≡ x.map }
+    {
+        self.nodes.map(name)
+    }
+
+    // The given sequences of all keys that have one.
+    pub(crate) fn sequences(&self, alloc: Global) -> Result<Vec<KeySequence>, Refusal>
+        ensures given { IfOk result (λ s. s.items ≡ sequences_of self.now.history self.now.marks) }
+        ensures refused { IfErr result (λ r. r ≡ Refusal.OutOfMemory) }
+    {
+        rambo_sequence::sequences(alloc, &self.history, self.marks.as_slice())
+    }
+
+    // The maps of the nodes that aren't idle.
+    pub(crate) fn maps(&self, alloc: Global) -> Result<Vec<NodeMap<Q>>, Refusal>
+        ensures maps { IfOk result (λ maps. maps.items ≡ maps_of self.now.nodes) }
+        ensures refused { IfErr result (λ r. r ≡ Refusal.OutOfMemory) }
+    {
+        self.nodes.maps(alloc)
+    }
+
+    // Takes the history out.
+    pub(crate) fn take_history(&mut self, alloc: Global) -> History
+        ensures { result.events ≡ self.old.history }
+    {
+        mem::replace(&mut self.history, History::new(alloc))
+    }
+}

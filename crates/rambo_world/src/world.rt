@@ -1,0 +1,125 @@
+//! Worlds.
+ghost use Rattle.std.specs.Prelude.{◌≡◌, ◌++◌, ◌∷◌, [], List, ℕ, Some, None, IfOk, IfErr, OnOk, OnErr};
+ghost use Rattle.rambo_names.specs.Refusals.{least, IsRefusal};
+ghost use Rattle.rambo_node.specs.Nodes.{NodeState};
+ghost use Rattle.rambo_run.specs.Steps.{refusal, turn};
+ghost use Rattle.rambo_run.specs.Worlds.{node_at};
+ghost use Rattle.rambo_sequence.specs.Sequences.{sequence_of};
+ghost use Rattle.rambo_world.specs.Worlds.{WorldOf, state, founding_causes};
+
+use crate::state::State;
+use rambo_atomic::{CallId, History};
+use rambo_config_map::ConfigMap;
+use rambo_names::{Name, Quorums, Refusal};
+use rambo_node::Effect;
+use rambo_run::Step;
+use rambo_tag::Replica;
+use std::alloc::Global;
+use std::marker::Model;
+
+/// The world that its founders and its accepted steps make: 64 nodes, all letters that were ever sent, and the history
+/// of the calls and answers.
+///
+/// A letter may be delivered late, again and again, in any order, or never. Each step that is refused leaves the world
+/// as it was. Of several causes of a refusal the one of the least number is told, and `OutOfMemory` only where there is
+/// no other.
+#[derive(Drop)]
+pub struct World<Q: Quorums, S: Replica> {
+    founders: Q,
+    steps: Vec<Step>,
+    state: State<Q, S>,
+}
+
+impl<Q: Quorums, S: Replica> Model for World<Q, S> {
+    ghost use Rattle.std.specs.Prelude.{◌≡◌};
+    ghost use Rattle.std.specs.Coded.{codes};
+    ghost use Rattle.rambo_names.specs.Names.{names_code};
+    ghost use Rattle.rambo_run.specs.Runs.{run};
+    ghost use Rattle.rambo_world.specs.Worlds.{WorldOf};
+
+    ghost Value = { WorldOf Q };
+
+    ghost coded = { Prim.hlevel (codes, names_code, Q.code) };
+
+    ghost view = { λ w. record { founders = w.founders; steps = w.steps.items } };
+
+    ghost invariant = { λ w. w.state ≡ run Q.system w.founders w.steps.items };
+}
+
+impl<Q: Quorums, S: Replica> World<Q, S> {
+    /// The world of these founders, before any step. The copies of each node are made by `fresh` of a replica.
+    ///
+    /// Refused are 18 where there is no founder, 22 where there is no room for it.
+    pub fn new(alloc: Global, founders: Q, replica: &S) -> Result<World<Q, S>, Refusal>
+        ensures founded { OnOk result (least (founding_causes Q.system founders) ≡ None) }
+        ensures made { IfOk result (λ w. w ≡ record { founders = founders; steps = [] }) }
+        ensures refused { IfErr result (IsRefusal (least (founding_causes Q.system founders))) }
+    {
+        may_found(founders)?;
+        Ok(World {
+            founders,
+            steps: Vec::new(alloc),
+            state: State::new(alloc, founders, replica)?,
+        })
+    }
+
+    /// Takes a step, and says what it did.
+    ///
+    /// Refused is what the rules of its kind say, and 22 where there is no room for it.
+    pub fn step(&mut self, step: Step) -> Result<Effect, Refusal>
+        ensures judged { OnOk result (refusal Q.system (state Q.system self.old) step ≡ None) }
+        ensures ok { OnOk result (self.new ≡ record self.old { steps = self.old.steps ++ step ∷ [] }) }
+        ensures effect { IfOk result (λ e. e ≡ (turn (state Q.system self.old) step).effect) }
+        ensures refused { IfErr result (IsRefusal (refusal Q.system (state Q.system self.old) step)) }
+        ensures err { OnErr result (self.new ≡ self.old) }
+    {
+        self.state.judge(&step)?;
+        self.steps.reserve(1)?;
+        let effect = self.state.act(&step)?;
+        self.steps.push_reserved(step);
+        Ok(effect)
+    }
+
+    /// The accepted steps, the first of them first.
+    pub fn steps(&self) -> &[Step]
+        ensures { result.now ≡ self.now.steps }
+    {
+        self.steps.as_slice()
+    }
+
+    /// The calls and answers, in order.
+    pub fn history(&self) -> &History
+        ensures { result.now.events ≡ (state Q.system self.now).history }
+    {
+        &self.state.history
+    }
+
+    /// The given sequence of a key: its answered calls and its sets that took a tag, by tag, a set before gets of its
+    /// tag, and gets of one tag by the places of their calls in the history.
+    ///
+    /// `OutOfMemory` where there is no room for it.
+    pub fn sequence(&self, alloc: Global, key: &[u8]) -> Result<Vec<CallId>, Refusal>
+        ensures calls { IfOk result (λ calls. calls.items ≡ sequence_of (state Q.system self.now).history (state Q.system self.now).marks key.now) }
+        ensures refused { IfErr result (λ r. r ≡ Refusal.OutOfMemory) }
+    {
+        self.state.sequence(alloc, key)
+    }
+
+    /// The configuration map of a node.
+    pub fn map(&self, name: Name) -> &ConfigMap<Q>
+        ensures { (x : NodeState Q) → node_at (state Q.system self.now) name ≡ Some x → result.now ≡ x.map }
+    {
+        self.state.map(name)
+    }
+}
+
+// Whether there is a founder.
+pub(crate) fn may_found<Q: Quorums>(founders: Q) -> Result<(), Refusal>
+    ensures ok { OnOk result (least (founding_causes Q.system founders) ≡ None) }
+    ensures refused { IfErr result (λ r. least (founding_causes Q.system founders) ≡ Some r) }
+{
+    if founders.members().count() == 0 {
+        return Err(Refusal::EmptyMembers);
+    }
+    Ok(())
+}
