@@ -92,6 +92,11 @@ one_reading_is bytes s t n m a b = elim a.whole [
   ]
 ]
 
+pub reads_back_is : (s : ScriptState) → HasLines s → HaveNames s → IsScript (script_text s) s × ((t : ScriptState) → HaveNames t → IsScript (script_text s) t → t ≡ s)
+reads_back_is s lines names =
+    let is : IsScript (script_text s) s = record { lines = lines; whole = inl refl } in
+    (is, λ t named other. one_reading_is (script_text s) t s named names other is)
+
 -- the first line is the front up to the first line feed
 pub head_line : (front t bytes line rest : List ℕ) → Lacks 10 front → IsTextOf bytes (front ++ 10 ∷ t) → IsFirstLine bytes line rest → line ≡ front
 head_line front t bytes line rest lacks text first = elim text [

@@ -6,7 +6,7 @@ use Rattle.rambo_names.specs.Names.{NameSet, IsName}
 use Rattle.rambo_run.specs.declared.step.Step.{Step}
 use Rattle.rambo_run.specs.declared.step.Step.TheVariants as step
 use Rattle.rambo_text.specs.declared.fault.ScriptFault.{ScriptFault}
-use Rattle.rambo_script.specs.Scripts.{ScriptState, IsScript}
+use Rattle.rambo_script.specs.Scripts.{ScriptState, HasLines, IsScript, script_text}
 use Rattle.rambo_script.specs.Faults.{IsScriptFault}
 
 -- a set has no number that is no name
@@ -25,6 +25,10 @@ pub record HaveNames (s : ScriptState) : Type 0 where
 -- bytes are the text of one script at most
 abbrev pub OneReading : Type 0
 OneReading = (bytes : List ℕ) (s t : ScriptState) → HaveNames s → HaveNames t → IsScript bytes s → IsScript bytes t → s ≡ t
+
+-- what is written of a script is read as that script, and as no other
+abbrev pub WrittenReadsBack : Type 0
+WrittenReadsBack = (s : ScriptState) → HasLines s → HaveNames s → IsScript (script_text s) s × ((t : ScriptState) → HaveNames t → IsScript (script_text s) t → t ≡ s)
 
 -- what is a script has no fault
 abbrev pub NoScriptIsFaulty : Type 0

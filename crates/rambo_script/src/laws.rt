@@ -1,9 +1,14 @@
 //! What is true of every text.
-ghost use Rattle.rambo_script.specs.Laws.{OneReading, NoScriptIsFaulty, OneFault};
+ghost use Rattle.rambo_script.specs.Laws.{OneReading, WrittenReadsBack, NoScriptIsFaulty, OneFault};
 
 /// Bytes are the text of one script at most.
 pub fn one_reading()
     ensures { OneReading }
+{}
+
+/// What is written of a script, line by line, is read as that script.
+pub fn written_reads_back()
+    ensures { WrittenReadsBack }
 {}
 
 /// The text of a script has no fault.

@@ -3,7 +3,8 @@
 //! - `Script`: the founders and steps that a text tells, by `read_script`.
 //! - `step_text`: the line of a step.
 //! - `replay`: from a script to the text of what its run gives.
-//! - `one_reading`, `no_script_is_faulty` and `one_fault`: a text is one script at most, or has one first fault.
+//! - `one_reading`, `written_reads_back`, `no_script_is_faulty` and `one_fault`: a text is one script at most, a
+//!   script that is written reads back as itself, and any other text has one first fault.
 #![tactic(auto)]
 
 mod kind;
@@ -14,7 +15,7 @@ mod replaying;
 mod script;
 mod writing;
 
-pub use laws::{no_script_is_faulty, one_fault, one_reading};
+pub use laws::{no_script_is_faulty, one_fault, one_reading, written_reads_back};
 pub use rambo_text::{Fault, ReplayFault, ScriptFault};
 pub use replaying::replay;
 pub use script::{LINE_LIMIT, Script, read_script};
