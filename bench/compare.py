@@ -2,11 +2,14 @@
 """Times `rambo` on long scripts, side by side with another program that takes the same words.
 
     bench/compare.py RAMBO [OTHER]
+    bench/compare.py --count RAMBO [OTHER]
 
 Prints for each script the best of three times, steps a second and peak memory of each program, the ratio of the two,
-and how the time grows where the steps double. It asserts nothing.
+and how the time grows where the steps double. With --count it prints instructions in place of times, on scripts of an
+eighth of the length, by valgrind: these are the same on a busy machine. It asserts nothing.
 """
 import os
+import re
 import subprocess
 import sys
 import tempfile
@@ -32,7 +35,42 @@ def measure(program, word, source, target):
     return best, peak
 
 
+def count(program, word, source, target):
+    """The instructions of one run."""
+    with open(source, "rb") as reader, open(target, "wb") as writer:
+        ran = subprocess.run(
+            ["valgrind", "--tool=callgrind", "--callgrind-out-file=/dev/null", program, word],
+            stdin=reader, stdout=writer, stderr=subprocess.PIPE, text=True)
+    return int(re.search(r"refs:\s*([\d,]+)", ran.stderr).group(1).replace(",", ""))
+
+
+def counted(programs):
+    """Instructions for each script and program, their ratio, and how they grow where the steps double."""
+    folder = tempfile.mkdtemp(prefix="rambo-count-")
+    for kind, sizes in (("calls", (25000, 50000)), ("letters", (62500, 125000))):
+        for keys in (16, 1000):
+            before = {}
+            for steps in sizes:
+                script = os.path.join(folder, "script")
+                with open(script, "wb") as writer:
+                    subprocess.run([sys.executable, os.path.join(HERE, "scripts.py"), kind, str(steps), str(keys)], stdout=writer, check=True)
+                for word in ("replay", "check"):
+                    source = script if word == "replay" else script + "-outcome"
+                    target = script + "-outcome" if word == "replay" else os.path.join(folder, "out")
+                    figures = [count(program, word, source, target) for program in programs]
+                    text = "; ".join("%.1f million" % (figure / 1e6) for figure in figures)
+                    if len(figures) == 2:
+                        text += "; x%.2f" % (figures[0] / figures[1])
+                    if word in before:
+                        text += "; x%.2f of half the steps" % (figures[0] / before[word])
+                    before[word] = figures[0]
+                    print("%-8s %-8s %8d %5d  %s" % (word, kind, steps, keys, text), flush=True)
+    return 0
+
+
 def main():
+    if sys.argv[1:2] == ["--count"] and len(sys.argv) in (3, 4):
+        return counted(sys.argv[2:])
     if len(sys.argv) not in (2, 3):
         sys.stderr.write(__doc__)
         return 2
