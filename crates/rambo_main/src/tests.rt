@@ -63,12 +63,18 @@ fn attempt(alloc: Global, call: Setup) -> Result<Told, AllocError> {
     })
 }
 
+// The call that failed, of a writer that takes 30 bytes a call.
+fn failed_call(writer: &Tape) -> u64 {
+    writer.bytes().len() as u64 / 30 + 1
+}
+
 // Whether memory was refused, to the command or to a tape.
 fn lacked_memory(call: Setup, told: &Told) -> bool {
     let errors = told.errors.bytes();
     errors == b"fault memory\n".as_slice()
         || errors.starts_with(b"script fault S7")
-        || (call.write == 0 && told.writer.failures() > 0)
+        || (told.status == 1 && call.read == 0 && call.write == 0)
+        || (told.writer.failures() > 0 && failed_call(&told.writer) != call.write)
         || (call.error == 0 && told.errors.failures() > 0)
 }
 
