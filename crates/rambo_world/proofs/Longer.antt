@@ -28,18 +28,9 @@ pub run_from-none : {Q : Type 0} (s : QuorumSystem Q) (w : WorldState Q) → run
 unfolding run_from
 run_from-none s w = refl
 
-pub run_from-next : {Q : Type 0} (s : QuorumSystem Q) (w : WorldState Q) (st : Step) (sts : List Step) → run_from s w (st ∷ sts) ≡ run_from s (after s w st) sts
-unfolding run_from
-run_from-next s w st sts = refl
-
 pub results_from-none : {Q : Type 0} (s : QuorumSystem Q) (w : WorldState Q) → results_from s w [] ≡ []
 unfolding results_from
 results_from-none s w = refl
-
-pub results_from-next : {Q : Type 0} (s : QuorumSystem Q) (w : WorldState Q) (st : Step) (sts : List Step)
-    → results_from s w (st ∷ sts) ≡ result_of (refusal s w st) w st ∷ results_from s (after s w st) sts
-unfolding results_from
-results_from-next s w st sts = refl
 
 pub run_is : {Q : Type 0} (s : QuorumSystem Q) (founders : Q) (sts : List Step) → run s founders sts ≡ run_from s (first_world s founders) sts
 unfolding run
@@ -63,12 +54,6 @@ pub run-more : {Q : Type 0} (s : QuorumSystem Q) (founders : Q) (sts : List Step
 run-more s founders sts st e =
     run_is s founders (sts ++ st ∷ []) ∙ run_from-more s (first_world s founders) sts st
     ∙ ap (λ w. after s w st) (sym (run_is s founders sts)) ∙ after-taken s (run s founders sts) st e
-
-pub told-refused : {Q : Type 0} (o : Option Refusal) (w : WorldState Q) (st : Step) (r : Refusal) → o ≡ Some r → Err r ≡ result_of o w st
-told-refused o w st r e = λ i. result_of (sym e i) w st
-
-pub told-done : {Q : Type 0} (o : Option Refusal) (w : WorldState Q) (st : Step) (new : WorldState Q) (e : Effect) → o ≡ None → turn w st ≡ record { world = new; effect = e } → Ok e ≡ result_of o w st
-told-done o w st new e n k = ap (λ (t : Turn _). Ok t.effect) (sym k) ∙ (λ i. result_of (sym n i) w st)
 
 -- a step of a world that steps made
 pub kept_run : {Q : Type 0} (s : QuorumSystem Q) (founders : Q) (old : List Step) (st : Step) (w new : WorldState Q) (e : Effect) (steps : List Step)
