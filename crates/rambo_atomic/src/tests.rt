@@ -30,114 +30,24 @@ fn vec(alloc: Global, items: &[u8]) -> Result<Vec<u8>, Fail> {
     Ok(again!(Vec::from_slice(alloc, items)))
 }
 
-fn get(alloc: Global, key: &[u8]) -> Result<Op, Refusal> {
-    Ok(Op::Get(bytes(alloc, key)?))
+// What an event of a test says, of the key k or l.
+#[derive(Clone, Copy)]
+enum Said {
+    Get,
+    GetOther,
+    Set(u8),
+    SetOther,
+    Ok,
+    Nil,
+    Value(u8),
 }
 
-fn set(alloc: Global, key: &[u8], value: &[u8]) -> Result<Op, Refusal> {
-    Ok(Op::Set(bytes(alloc, key)?, bytes(alloc, value)?))
-}
-
-// Pushes a call. A push for which there is no memory changes nothing, and is made again.
-fn call(history: &mut History, id: &CallId, op: Op) -> Result<bool, Fail> {
-    let count = history.events().len();
-    let same = again!(op.clone());
-    match history.push(Event::Call(*id, op)) {
-        Ok(()) => {}
-        Err(HistoryFault::OutOfMemory) => {
-            if history.events().len() != count || history.call(id).is_some() {
-                return Ok(false);
-            }
-            history.push(Event::Call(*id, same))?;
-        }
-        Err(fault) => return Err(fault.into()),
+fn op(alloc: Global, key: &[u8], value: Option<u8>) -> Result<Op, Refusal> {
+    let key = bytes(alloc, key)?;
+    match value {
+        None => Ok(Op::Get(key)),
+        Some(value) => Ok(Op::Set(key, bytes(alloc, [value].as_slice())?)),
     }
-    Ok(history.events().len() == count + 1 && history.called_at(id) == Some(count))
-}
-
-// Pushes an answer, as `call` pushes a call.
-fn answer(history: &mut History, id: &CallId, answer: Answer) -> Result<bool, Fail> {
-    let count = history.events().len();
-    let same = again!(answer.clone());
-    match history.push(Event::Answer(*id, answer)) {
-        Ok(()) => {}
-        Err(HistoryFault::OutOfMemory) => {
-            if history.events().len() != count || history.answer(id).is_some() {
-                return Ok(false);
-            }
-            history.push(Event::Answer(*id, same))?;
-        }
-        Err(fault) => return Err(fault.into()),
-    }
-    Ok(history.events().len() == count + 1 && history.answered_at(id) == Some(count))
-}
-
-#[test]
-fn operations(rt: HostRuntime) -> Result<(), Fail> {
-    let alloc = rt.alloc();
-    let get = get(alloc, b"k")?;
-    let set = again!(set(alloc, b"l", b"v")?.clone());
-    assert!(rt; get.is_get() && !set.is_get());
-    assert_eq!(rt; get.key().as_slice(), b"k".as_slice());
-    assert_eq!(rt; set.key().as_slice(), b"l".as_slice());
-    let value = again!(Answer::Value(bytes(alloc, b"v")?).clone());
-    assert!(rt; value.fits(&get) && Answer::Nil.fits(&get) && Answer::Ok.fits(&set));
-    assert!(rt; !value.fits(&set) && !Answer::Nil.fits(&set) && !Answer::Ok.fits(&get));
-    Ok(())
-}
-
-#[test]
-fn histories(rt: HostRuntime) -> Result<(), Fail> {
-    let alloc = rt.alloc();
-    let (a, b, c) = (id(1, 1)?, id(1, 2)?, id(2, 1)?);
-    let mut history = History::new(alloc);
-    assert!(rt; call(&mut history, &a, set(alloc, b"k", b"v")?)?);
-    assert!(rt; call(&mut history, &b, get(alloc, b"k")?)?);
-    assert!(rt; answer(&mut history, &a, Answer::Ok)?);
-
-    // Faults, which change nothing.
-    let again = Event::Call(a, get(alloc, b"k")?);
-    assert_eq!(rt; history.push(again), Err(HistoryFault::CalledTwice));
-    assert_eq!(rt;
-        history.push(Event::Answer(a, Answer::Ok)),
-        Err(HistoryFault::NotOpen)
-    );
-    assert_eq!(rt;
-        history.push(Event::Answer(c, Answer::Ok)),
-        Err(HistoryFault::NotOpen)
-    );
-    assert_eq!(rt;
-        history.push(Event::Answer(b, Answer::Ok)),
-        Err(HistoryFault::WrongKind)
-    );
-    assert_eq!(rt; history.events().len(), 3);
-
-    // With room made a push takes no memory.
-    again!(history.reserve(2));
-    let nil = Event::Answer(b, Answer::Nil);
-    assert_eq!(rt; history.fault(&nil), None);
-    history.push(nil)?;
-    history.push(Event::Call(c, get(alloc, b"")?))?;
-
-    assert!(rt; matches!(history.call(&a), Some(Op::Set(_, _))));
-    assert!(rt; matches!(history.answer(&a), Some(Answer::Ok)));
-    assert!(rt; matches!(history.call(&b), Some(Op::Get(_))));
-    assert!(rt; matches!(history.answer(&b), Some(Answer::Nil)));
-    assert_eq!(rt;
-        (history.called_at(&b), history.answered_at(&b)),
-        (Some(1), Some(3))
-    );
-    assert_eq!(rt;
-        (history.called_at(&c), history.answered_at(&c)),
-        (Some(4), None)
-    );
-    let other = id(2, 2)?;
-    assert!(rt; history.call(&other).is_none() && history.answer(&other).is_none());
-    assert_eq!(rt;
-        (history.called_at(&other), history.answered_at(&other)),
-        (None, None)
-    );
-    Ok(())
 }
 
 // The calls of the example, and one that isn't in it, by letters.
@@ -153,29 +63,158 @@ fn named(letter: u8) -> Result<CallId, Refusal> {
     }
 }
 
+fn event(alloc: Global, letter: u8, said: Said) -> Result<Event, Refusal> {
+    let id = named(letter)?;
+    match said {
+        Said::Get => Ok(Event::Call(id, op(alloc, b"k", None)?)),
+        Said::GetOther => Ok(Event::Call(id, op(alloc, b"l", None)?)),
+        Said::Set(value) => Ok(Event::Call(id, op(alloc, b"k", Some(value))?)),
+        Said::SetOther => Ok(Event::Call(id, op(alloc, b"l", Some(b'x'))?)),
+        Said::Ok => Ok(Event::Answer(id, Answer::Ok)),
+        Said::Nil => Ok(Event::Answer(id, Answer::Nil)),
+        Said::Value(value) => {
+            let value = bytes(alloc, [value].as_slice())?;
+            Ok(Event::Answer(id, Answer::Value(value)))
+        }
+    }
+}
+
+// Pushes an event, and says its fault. A push for which there is no memory is made again. None that is refused
+// changes how many events there are.
+fn push(history: &mut History, letter: u8, said: Said) -> Result<Option<HistoryFault>, Fail> {
+    let count = history.events().len();
+    let mut done = history.push(event(history.allocator(), letter, said)?);
+    if done == Err(HistoryFault::OutOfMemory) && history.events().len() == count {
+        done = history.push(event(history.allocator(), letter, said)?);
+    }
+    let grown = history.events().len() == count + 1;
+    match done {
+        Ok(()) if grown => Ok(None),
+        Err(fault) if !grown => Ok(Some(fault)),
+        _ => Err(HistoryFault::OutOfMemory.into()),
+    }
+}
+
+fn history_of(alloc: Global, events: &[(u8, Said)]) -> Result<History, Fail> {
+    let mut history = History::new(alloc);
+    for (letter, said) in events {
+        if let Some(fault) = push(&mut history, *letter, *said)? {
+            return Err(fault.into());
+        }
+    }
+    Ok(history)
+}
+
+#[test]
+fn operations(rt: HostRuntime) -> Result<(), Fail> {
+    let get = op(rt.alloc(), b"k", None)?;
+    assert!(rt; get.is_get());
+    assert_eq!(rt; get.key().as_slice(), b"k".as_slice());
+    let set = op(rt.alloc(), b"l", Some(b'v'))?;
+    assert!(rt; !set.is_get());
+    assert_eq!(rt; again!(set.clone()).key().as_slice(), b"l".as_slice());
+    Ok(())
+}
+
+#[test]
+fn answers(rt: HostRuntime) -> Result<(), Fail> {
+    let get = op(rt.alloc(), b"k", None)?;
+    let set = op(rt.alloc(), b"l", Some(b'v'))?;
+    assert!(rt; Answer::Nil.fits(&get) && !Answer::Nil.fits(&set));
+    assert!(rt; !Answer::Ok.fits(&get) && Answer::Ok.fits(&set));
+    let value = again!(Answer::Value(bytes(rt.alloc(), b"v")?).clone());
+    assert!(rt; value.fits(&get) && !value.fits(&set));
+    Ok(())
+}
+
+#[test]
+fn faults(rt: HostRuntime) -> Result<(), Fail> {
+    let mut history = History::new(rt.alloc());
+    let rows = [
+        (b'a', Said::Set(b'v'), None),
+        (b'b', Said::Get, None),
+        (b'a', Said::Ok, None),
+        (b'a', Said::Get, Some(HistoryFault::CalledTwice)),
+        (b'a', Said::Ok, Some(HistoryFault::NotOpen)),
+        (b'c', Said::Ok, Some(HistoryFault::NotOpen)),
+        (b'b', Said::Ok, Some(HistoryFault::WrongKind)),
+        (b'b', Said::Nil, None),
+        (b'c', Said::GetOther, None),
+    ];
+    for (letter, said, fault) in rows {
+        assert_eq!(rt; push(&mut history, letter, said)?, fault);
+    }
+    Ok(())
+}
+
+// Where the call of a letter is made, and where it is answered.
+fn places(history: &History, letter: u8) -> Result<(Option<usize>, Option<usize>), Refusal> {
+    let id = named(letter)?;
+    Ok((history.called_at(&id), history.answered_at(&id)))
+}
+
+#[test]
+fn places_of_calls(rt: HostRuntime) -> Result<(), Fail> {
+    let events = [
+        (b'a', Said::Set(b'v')),
+        (b'b', Said::Get),
+        (b'a', Said::Ok),
+        (b'b', Said::Nil),
+        (b'c', Said::GetOther),
+    ];
+    let history = history_of(rt.alloc(), events.as_slice())?;
+    let rows = [
+        (b'a', Some(0), Some(2)),
+        (b'b', Some(1), Some(3)),
+        (b'c', Some(4), None),
+        (b'd', None, None),
+    ];
+    for (letter, called, answered) in rows {
+        assert_eq!(rt; places(&history, letter)?, (called, answered));
+    }
+    Ok(())
+}
+
+#[test]
+fn events_of_calls(rt: HostRuntime) -> Result<(), Fail> {
+    let events = [(b'a', Said::Set(b'v')), (b'b', Said::Get), (b'a', Said::Ok)];
+    let history = history_of(rt.alloc(), events.as_slice())?;
+    let (a, b, c) = (named(b'a')?, named(b'b')?, named(b'c')?);
+    assert!(rt; matches!(history.call(&a), Some(Op::Set(_, _))));
+    assert!(rt; matches!(history.answer(&a), Some(Answer::Ok)));
+    assert!(rt; matches!(history.call(&b), Some(Op::Get(_))));
+    assert!(rt; history.answer(&b).is_none() && history.call(&c).is_none());
+    Ok(())
+}
+
+// With room made a push takes no memory.
+#[test]
+fn room(rt: HostRuntime) -> Result<(), Fail> {
+    let mut history = history_of(rt.alloc(), [(b'b', Said::Get)].as_slice())?;
+    again!(history.reserve(1));
+    let nil = event(rt.alloc(), b'b', Said::Nil)?;
+    assert_eq!(rt; history.fault(&nil), None);
+    history.push(nil)?;
+    assert_eq!(rt; history.events().len(), 2);
+    Ok(())
+}
+
 // Call a sets k to v and is answered. Call b sets k to w and isn't. Calls c and then d get w. Call e gets k
 // and isn't answered. Call f sets l to x and is answered.
 fn example(alloc: Global) -> Result<History, Fail> {
-    let mut history = History::new(alloc);
-    let mut fine = call(&mut history, &named(b'a')?, set(alloc, b"k", b"v")?)?;
-    fine &= answer(&mut history, &named(b'a')?, Answer::Ok)?;
-    fine &= call(&mut history, &named(b'b')?, set(alloc, b"k", b"w")?)?;
-    for letter in [b'c', b'd'] {
-        fine &= call(&mut history, &named(letter)?, get(alloc, b"k")?)?;
-        fine &= answer(
-            &mut history,
-            &named(letter)?,
-            Answer::Value(bytes(alloc, b"w")?),
-        )?;
-    }
-    fine &= call(&mut history, &named(b'e')?, get(alloc, b"k")?)?;
-    fine &= call(&mut history, &named(b'f')?, set(alloc, b"l", b"x")?)?;
-    fine &= answer(&mut history, &named(b'f')?, Answer::Ok)?;
-    if fine {
-        Ok(history)
-    } else {
-        Err(HistoryFault::OutOfMemory.into())
-    }
+    let events = [
+        (b'a', Said::Set(b'v')),
+        (b'a', Said::Ok),
+        (b'b', Said::Set(b'w')),
+        (b'c', Said::Get),
+        (b'c', Said::Value(b'w')),
+        (b'd', Said::Get),
+        (b'd', Said::Value(b'w')),
+        (b'e', Said::Get),
+        (b'f', Said::SetOther),
+        (b'f', Said::Ok),
+    ];
+    history_of(alloc, events.as_slice())
 }
 
 fn checker_of(history: &History) -> Result<Checker<'_>, Refusal> {
@@ -249,9 +288,8 @@ fn copy<R: Source, W: Sink>(alloc: Global, reader: &mut R, writer: &mut W) -> Op
     write_all(writer, all.as_slice()).err()
 }
 
-// What a copy of seven bytes in pieces comes to, where a call of the reader and one of the writer fail. A
-// copy for which there is no memory is made again.
-fn copied(
+// What a copy of seven bytes in pieces comes to, where a call of the reader and one of the writer fail.
+fn copied_once(
     alloc: Global,
     reads: u64,
     writes: u64,
@@ -263,36 +301,52 @@ fn copied(
         .failing_at(reads);
     let mut writer = Tape::new(bytes).in_pieces(3).failing_at(writes);
     let fault = copy(alloc, &mut reader, &mut writer);
-    if fault == Some(StreamFault::Memory) {
-        reader = Tape::new(vec(alloc, b"abcdefg")?)
-            .in_pieces(3)
-            .failing_at(reads);
-        return Ok((copy(alloc, &mut reader, &mut writer), reader, writer));
+    Ok((fault, reader, writer))
+}
+
+// The same. A copy for which there is no memory has written nothing, and is made again.
+fn copied(
+    alloc: Global,
+    reads: u64,
+    writes: u64,
+) -> Result<(Option<StreamFault>, Tape, Tape), Fail> {
+    let (fault, reader, writer) = copied_once(alloc, reads, writes)?;
+    if fault == Some(StreamFault::Memory) && writer.bytes() == b"> ".as_slice() {
+        return copied_once(alloc, reads, writes);
     }
     Ok((fault, reader, writer))
 }
 
+// Whether a copy, where a call of the reader and one of the writer fail, comes to a fault, with so many failures
+// of each, and leaves these bytes written.
+fn comes_to(
+    alloc: Global,
+    calls: (u64, u64),
+    fault: Option<StreamFault>,
+    failures: (u64, u64),
+    written: &[u8],
+) -> Result<bool, Fail> {
+    let (found, reader, writer) = copied(alloc, calls.0, calls.1)?;
+    Ok(
+        found == fault
+            && (reader.failures(), writer.failures()) == failures
+            && writer.bytes() == written,
+    )
+}
+
 #[test]
 fn tapes(rt: HostRuntime) -> Result<(), Fail> {
-    let alloc = rt.alloc();
     for reads in [0, 5] {
-        let (fault, reader, writer) = copied(alloc, reads, 0)?;
-        assert_eq!(rt; fault, None);
-        assert_eq!(rt; (reader.failures(), writer.failures()), (0, 0));
-        assert_eq!(rt; writer.bytes(), b"> abcdefg".as_slice());
+        assert!(rt; comes_to(rt.alloc(), (reads, 0), None, (0, 0), b"> abcdefg")?);
     }
     for reads in 1..=4 {
-        let (fault, reader, writer) = copied(alloc, reads, 0)?;
-        assert_eq!(rt; fault, Some(StreamFault::Read));
-        assert_eq!(rt; (reader.failures(), writer.failures()), (1, 0));
-        assert_eq!(rt; writer.bytes(), b"> ".as_slice());
+        let fault = Some(StreamFault::Read);
+        assert!(rt; comes_to(rt.alloc(), (reads, 0), fault, (1, 0), b"> ")?);
     }
     let written = [b"> ".as_slice(), b"> abc", b"> abcdef"];
     for (writes, bytes) in (1u64..).zip(written) {
-        let (fault, reader, writer) = copied(alloc, 0, writes)?;
-        assert_eq!(rt; fault, Some(StreamFault::Write));
-        assert_eq!(rt; (reader.failures(), writer.failures()), (0, 1));
-        assert_eq!(rt; writer.bytes(), bytes);
+        let fault = Some(StreamFault::Write);
+        assert!(rt; comes_to(rt.alloc(), (0, writes), fault, (0, 1), bytes)?);
     }
     Ok(())
 }

@@ -5,7 +5,7 @@ use Rattle.std.proofs.lemmas.Bool.Decides.{nat_tests}
 use Rattle.std.specs.Cmp.{nat_cmp_total}
 use Rattle.std.specs.FinSet.{contains, is_subset, intersection, contains-intersection, is_subset-contains}
 use Rattle.rambo_names.specs.Names.{NameSet, rising, how_many, count_of}
-use Rattle.rambo_names.specs.Quorums.{is_majority}
+use Rattle.rambo_names.specs.Quorums.{IsSound, is_majority, majorities}
 
 add_step : (a b : Bool) → (a ≡ true → b ≡ true) → (m n : ℕ) → m ≤ n → cond a 1 0 + m ≤ cond b 1 0 + n
 add_step true true f m n h = omega arith
@@ -62,7 +62,7 @@ still m a b h le = lt-test m (2 * b) (let k : m < 2 * a = more_than m (2 * a) h 
 into_both : (m w : NameSet) (n : ℕ) → contains m n ≡ true → contains w n ≡ true → contains (intersection m w) n ≡ true
 into_both m w n e f = contains-intersection nat_cmp_total m w n ∙ (λ i. e i && f i)
 
-pub majorities_share : (m a b : NameSet) → is_majority m a ≡ true → is_majority m b ≡ true
+majorities_share : (m a b : NameSet) → is_majority m a ≡ true → is_majority m b ≡ true
     → (n : ℕ) × (contains m n ≡ true) × (contains a n ≡ true) × (contains b n ≡ true)
 unfolding count_of
 majorities_share m a b ma mb =
@@ -74,9 +74,12 @@ majorities_share m a b ma mb =
     let e = both _ _ found.1 in
     (found.0, (in_both m a found.0 e.0).0, (in_both m a found.0 e.0).1, (in_both m b found.0 e.1).1)
 
-pub majorities_grow : (m a b : NameSet) → is_subset a b ≡ true → is_majority m a ≡ true → is_majority m b ≡ true
+majorities_grow : (m a b : NameSet) → is_subset a b ≡ true → is_majority m a ≡ true → is_majority m b ≡ true
 unfolding count_of
 majorities_grow m a b sub ma =
     still (count_of m) (count_of (intersection m a)) (count_of (intersection m b)) ma
     (count_grows (contains (intersection m a)) (contains (intersection m b))
     (λ n e. into_both m b n (in_both m a n e).0 (is_subset-contains nat_cmp_total a b sub n (in_both m a n e).1)) (rising 64 1))
+
+pub majorities_sound : IsSound majorities
+majorities_sound = record { share = majorities_share; grow = majorities_grow }

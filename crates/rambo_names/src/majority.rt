@@ -1,7 +1,7 @@
 //! Majority quorums.
 ghost use Rattle.std.specs.Prelude.{◌≡◌};
-ghost use Rattle.rambo_names.specs.Quorums.{is_majority};
-ghost use Rattle.rambo_names.specs.Majorities.{majorities_share, majorities_grow};
+ghost use Rattle.rambo_names.specs.Quorums.{majorities};
+ghost use Rattle.rambo_names.specs.Majorities.{majorities_sound};
 ghost use Rattle.rambo_names.specs.Same.{same_names-path};
 
 use crate::members::Members;
@@ -39,9 +39,9 @@ impl Majority {
 }
 
 impl Quorums for Majority {
-    ghost system = { record { members = λ q. q; is_quorum = is_majority } };
+    ghost system = { majorities };
 
-    ghost sound = { record { share = majorities_share; grow = majorities_grow } };
+    ghost sound = { majorities_sound };
 
     ghost identical = { same_names-path };
 

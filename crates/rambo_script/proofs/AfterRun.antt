@@ -1,6 +1,7 @@
 -- The text of a run, and what is left after a fault of the writer
 use Rattle.std.proofs.Common.{◌≡◌, ℕ, List, Option, None, Some, IfSome, subst, sym, ap, ◌∙◌}
 use Rattle.rambo_names.specs.Names.{NameSet}
+use Rattle.rambo_names.specs.Quorums.{majorities}
 use Rattle.rambo_atomic.specs.Streams.{Begins}
 use Rattle.rambo_atomic.specs.declared.whole.StreamFault.{StreamFault}
 use Rattle.rambo_atomic.specs.declared.whole.StreamFault.TheVariants as stream
@@ -8,7 +9,6 @@ use Rattle.rambo_run.specs.declared.step.Step.{Step}
 use Rattle.rambo_run.specs.Runs.{OutcomeState, outcome_of}
 use Rattle.rambo_text.specs.Faults.{of_stream}
 use Rattle.rambo_outcome.specs.Outcomes.{outcome_lines}
-use Rattle.rambo_world.specs.Worlds.{majorities}
 use Rattle.rambo_script.specs.Scripts.{ScriptState, IsScript}
 use Rattle.rambo_script.specs.Replays.{IsReplay, Leaves}
 

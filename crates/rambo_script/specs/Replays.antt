@@ -1,13 +1,13 @@
 -- What a replay writes, and what it leaves after a fault
 use Rattle.std.specs.Prelude.{◌≡◌, ◌⊎◌, ℕ, List, Option, IfSome}
 use Rattle.std.specs.Io.KnownBytes.{Appends, Keeps}
+use Rattle.rambo_names.specs.Quorums.{majorities}
 use Rattle.rambo_atomic.specs.Streams.{counted, Begins}
 use Rattle.rambo_run.specs.Runs.{outcome_of}
 use Rattle.rambo_text.specs.declared.fault.ReplayFault.{ReplayFault}
 use Rattle.rambo_text.specs.declared.fault.ScriptFault.{ScriptFault}
 use Rattle.rambo_text.specs.declared.fault.ReplayFault.TheVariants.{Script, Read, Write, Memory}
 use Rattle.rambo_outcome.specs.Outcomes.{outcome_lines}
-use Rattle.rambo_world.specs.Worlds.{majorities}
 use Rattle.rambo_script.specs.Scripts.{ScriptState, IsScript}
 use Rattle.rambo_script.specs.Faults.{IsScriptFault, RanOut}
 

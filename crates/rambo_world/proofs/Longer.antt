@@ -1,5 +1,5 @@
 -- Runs of one step more, and what they give
-use Rattle.std.proofs.Common.{◌≡◌, ◌+◌, ◌<◌, take, get_or, ℕ, inl, inr, arith, List, [], ◌∷◌, ◌++◌, length, Option, None, Some, Result, Ok, Err, refl, sym, ap, ◌∙◌, subst}
+use Rattle.std.proofs.Common.{◌≡◌, ◌+◌, ◌<◌, take, get_or, ℕ, inl, inr, arith, List, [], ◌∷◌, ◌++◌, length, None, Some, Result, Ok, Err, IfOk, refl, sym, ap, ◌∙◌, subst}
 use Rattle.std.proofs.lemmas.List.{same_from_push, length-append, take_more}
 use Rattle.rambo_names.specs.declared.refusal.Refusal.{Refusal}
 use Rattle.rambo_names.specs.Quorums.{QuorumSystem, IsSound}
@@ -96,6 +96,17 @@ outcome_proper s law founders ss o is key =
     let w = run s founders ss in
     subst (λ (o : OutcomeState _). IsProper o.history key (sequence_in o.sequences key)) (sym is)
     (subst (IsProper w.history key) (sym (sequence_in-sequences_of w.history w.marks key)) (is_atomic s law founders ss key))
+
+-- and so for the outcome that there is, if there is one
+pub told_outcome : {Q : Type 0} (s : QuorumSystem Q) (founders : Q) (ss : List Step) (first : WorldState Q) (r : Result (OutcomeState Q) Refusal)
+    → first ≡ first_world s founders → IfOk r (λ o. o ≡ outcome_at (results_from s first ss) (run_from s first ss)) → IfOk r (λ o. o ≡ outcome_of s founders ss)
+told_outcome s founders ss first (Ok o) is e = e ∙ outcome_is s founders ss first _ _ is refl refl
+told_outcome s founders ss first (Err f) is e = e
+
+pub told_proper : {Q : Type 0} (s : QuorumSystem Q) → IsSound s → (founders : Q) (ss : List Step) (r : Result (OutcomeState Q) Refusal)
+    → IfOk r (λ o. o ≡ outcome_of s founders ss) → IfOk r (λ o. (key : List ℕ) → IsProper o.history key (sequence_in o.sequences key))
+told_proper s law founders ss (Ok o) e = outcome_proper s law founders ss o e
+told_proper s law founders ss (Err f) e = e
 
 -- the results of one step more
 results_from-more : {Q : Type 0} (s : QuorumSystem Q) (w : WorldState Q) (sts : List Step) (st : Step)

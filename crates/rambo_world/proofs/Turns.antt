@@ -50,10 +50,10 @@ err_known (Ok t) P e h = absurd e
 err_known (Err f) P e h = h f e
 
 -- founders that may be are refused for memory alone
-pub err_alone : {T : Type 0} (r : Result T Refusal) (P : Refusal → Type 0) (o : Option Refusal) → o ≡ None → IsErrAnd r P → ((f : Refusal) → P f → f ≡ OutOfMemory) → IfErr r (IsRefusal o)
-err_alone (Ok t) P o n e h = absurd e
-err_alone (Err f) P None n e h = h f e
-err_alone (Err f) P (Some g) n e h = absurd (true≢false (ap is_some n))
+pub err_alone : {T : Type 0} (r : Result T Refusal) (o : Option Refusal) → o ≡ None → IfErr r (λ f. f ≡ OutOfMemory) → IfErr r (IsRefusal o)
+err_alone (Ok t) o n e = e
+err_alone (Err f) None n e = e
+err_alone (Err f) (Some g) n e = absurd (true≢false (ap is_some n))
 
 pub use_fact : {A B : Type 0} → A → (A → B) → B
 use_fact a f = f a

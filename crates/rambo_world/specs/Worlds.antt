@@ -1,8 +1,8 @@
 -- A world, by its founders and its steps
 use Rattle.std.specs.Prelude.{◌≡◌, List, [], ◌∷◌, ◌++◌, None, nat_eq}
 use Rattle.rambo_names.specs.declared.refusal.Refusal.TheVariants.{EmptyMembers}
-use Rattle.rambo_names.specs.Names.{NameSet, count_of}
-use Rattle.rambo_names.specs.Quorums.{QuorumSystem, is_majority}
+use Rattle.rambo_names.specs.Names.{count_of}
+use Rattle.rambo_names.specs.Quorums.{QuorumSystem}
 use Rattle.rambo_names.specs.Refusals.{Cause, cause}
 use Rattle.rambo_atomic.specs.declared.event.Event.{Event}
 use Rattle.rambo_atomic.specs.Faults.{fault_of}
@@ -27,7 +27,3 @@ EventsFit s w = (st : Step) (e : Event) → refusal s w st ≡ None → (turn w 
 -- why founders are refused
 abbrev pub founding_causes : {Q : Type 0} → QuorumSystem Q → Q → List Cause
 founding_causes s founders = cause EmptyMembers (nat_eq (count_of (s.members founders)) 0) ∷ []
-
--- the majorities of sets of names
-abbrev pub majorities : QuorumSystem NameSet
-majorities = record { members = λ q. q; is_quorum = is_majority }

@@ -1,11 +1,12 @@
 //! Whole runs.
 ghost use Rattle.std.specs.Prelude.{◌≡◌, List, ℕ, None, IfOk, IfErr, OnOk};
+ghost use Rattle.rambo_names.specs.Quorums.{majorities};
 ghost use Rattle.rambo_names.specs.Refusals.{least, IsRefusal};
 ghost use Rattle.rambo_atomic.specs.Proper.{IsProper};
 ghost use Rattle.rambo_sequence.specs.Sequences.{sequence_in};
 ghost use Rattle.rambo_run.specs.Claims.{Agrees};
-ghost use Rattle.rambo_run.specs.Runs.{outcome_of};
-ghost use Rattle.rambo_world.specs.Worlds.{founding_causes, majorities};
+ghost use Rattle.rambo_run.specs.Runs.{outcome_at, outcome_of, results_from, run_from};
+ghost use Rattle.rambo_world.specs.Worlds.{EventsFit, founding_causes};
 
 use crate::state::State;
 use crate::world::may_found;
@@ -15,8 +16,8 @@ use rambo_tag::Registers;
 use std::alloc::Global;
 use std::hash::{BuildHasherDefault, FoldHasher};
 
-/// What steps make of the world of these founders, with majority quorums. A step that is refused is noted with its refusal, and the run goes
-/// on.
+/// What steps make of the world of these founders, with majority quorums. A step that is refused is noted with its
+/// refusal, and the run goes on.
 ///
 /// The answered operations of each key, with some sets that weren't answered, stand in one sequence that the outcome
 /// gives: each get answers the latest set before it, or nil, and what was answered before another operation was called
@@ -34,6 +35,19 @@ pub fn run(alloc: Global, founders: Majority, steps: &[Step]) -> Result<Outcome<
     may_found(founders)?;
     let replica = Registers::new(alloc, BuildHasherDefault::<FoldHasher>::new());
     let mut state = State::new(alloc, founders, &replica)?;
+    outcome(alloc, &mut state, steps)
+}
+
+// What steps make of a state, which its history is taken out of.
+fn outcome(
+    alloc: Global,
+    state: &mut State<Majority, Registers<BuildHasherDefault<FoldHasher>>>,
+    steps: &[Step],
+) -> Result<Outcome<Majority>, Refusal>
+    requires fits { (done : List Step) → EventsFit majorities (run_from majorities state.old done) }
+    ensures outcome { IfOk result (λ o. o ≡ outcome_at (results_from majorities state.old steps.now) (run_from majorities state.old steps.now)) }
+    ensures refused { IfErr result (λ r. r ≡ Refusal.OutOfMemory) }
+{
     let effects = state.take_all(alloc, steps)?;
     let sequences = state.sequences(alloc)?;
     let maps = state.maps(alloc)?;

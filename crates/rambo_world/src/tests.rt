@@ -33,10 +33,6 @@ fn new_world(alloc: Global, founders: &[u64]) -> Result<Host, Refusal> {
     World::new(alloc, Majority::of(set_of(founders)?), &registers)
 }
 
-fn bytes(alloc: Global, items: &[u8]) -> Result<Bytes, Refusal> {
-    Ok(again!(Bytes::from_slice(alloc, items)))
-}
-
 fn id(name: u64, number: u64) -> Result<CallId, Refusal> {
     Ok(CallId {
         name: Name::new(name)?,
@@ -44,76 +40,111 @@ fn id(name: u64, number: u64) -> Result<CallId, Refusal> {
     })
 }
 
-fn set(alloc: Global, name: u64, value: &[u8]) -> Result<Step, Refusal> {
-    Ok(Step::Call(
-        Name::new(name)?,
-        Op::Set(bytes(alloc, b"k")?, bytes(alloc, value)?),
-    ))
+// A step by numbers. Each call is of the key k, and a set is to v.
+#[derive(Clone, Copy)]
+enum Move {
+    Get(u64),
+    Set(u64),
+    Advance(u64, u64),
+    Again(u64, u64),
+    Send(u64, u64),
+    Deliver(u64),
+    Join(u64, u64),
+    Stop(u64),
 }
 
-fn get(alloc: Global, name: u64) -> Result<Step, Refusal> {
-    Ok(Step::Call(Name::new(name)?, Op::Get(bytes(alloc, b"k")?)))
-}
-
-fn advance(name: u64, number: u64) -> Result<Step, Refusal> {
-    Ok(Step::Advance(id(name, number)?))
-}
-
-fn send(from: u64, to: u64) -> Result<Step, Refusal> {
-    Ok(Step::Send(Name::new(from)?, Name::new(to)?))
+fn step(alloc: Global, by: Move) -> Result<Step, Refusal> {
+    match by {
+        Move::Get(name) => {
+            let key = again!(Bytes::from_slice(alloc, b"k"));
+            Ok(Step::Call(Name::new(name)?, Op::Get(key)))
+        }
+        Move::Set(name) => {
+            let key = again!(Bytes::from_slice(alloc, b"k"));
+            let value = again!(Bytes::from_slice(alloc, b"v"));
+            Ok(Step::Call(Name::new(name)?, Op::Set(key, value)))
+        }
+        Move::Advance(name, number) => Ok(Step::Advance(id(name, number)?)),
+        Move::Again(name, number) => Ok(Step::Again(id(name, number)?)),
+        Move::Send(from, to) => Ok(Step::Send(Name::new(from)?, Name::new(to)?)),
+        Move::Deliver(letter) => Ok(Step::Deliver(letter)),
+        Move::Join(name, contact) => Ok(Step::Join(
+            Name::new(name)?,
+            Members::empty().with(Name::new(contact)?),
+        )),
+        Move::Stop(name) => Ok(Step::Stop(Name::new(name)?)),
+    }
 }
 
 // The writer tells one other node of its set and stops; a reader learns the value from that node.
-fn lost_writer(alloc: Global) -> Result<Vec<Step>, Fail> {
-    let mut steps = Vec::new(alloc);
-    again!(steps.reserve(20));
-    steps.push(set(alloc, 1, b"v")?)?;
-    steps.push(send(1, 2)?)?;
-    steps.push(Step::Deliver(1))?;
-    steps.push(send(2, 1)?)?;
-    steps.push(Step::Deliver(2))?;
-    steps.push(advance(1, 1)?)?;
-    steps.push(send(1, 2)?)?;
-    steps.push(Step::Deliver(3))?;
-    steps.push(Step::Stop(Name::new(1)?))?;
-    steps.push(get(alloc, 3)?)?;
-    steps.push(send(3, 2)?)?;
-    steps.push(Step::Deliver(4))?;
-    steps.push(send(2, 3)?)?;
-    steps.push(Step::Deliver(5))?;
-    steps.push(advance(3, 1)?)?;
-    steps.push(send(3, 2)?)?;
-    steps.push(Step::Deliver(6))?;
-    steps.push(send(2, 3)?)?;
-    steps.push(Step::Deliver(7))?;
-    steps.push(advance(3, 1)?)?;
-    Ok(steps)
+const LOST_WRITER: [Move; 20] = [
+    Move::Set(1),
+    Move::Send(1, 2),
+    Move::Deliver(1),
+    Move::Send(2, 1),
+    Move::Deliver(2),
+    Move::Advance(1, 1),
+    Move::Send(1, 2),
+    Move::Deliver(3),
+    Move::Stop(1),
+    Move::Get(3),
+    Move::Send(3, 2),
+    Move::Deliver(4),
+    Move::Send(2, 3),
+    Move::Deliver(5),
+    Move::Advance(3, 1),
+    Move::Send(3, 2),
+    Move::Deliver(6),
+    Move::Send(2, 3),
+    Move::Deliver(7),
+    Move::Advance(3, 1),
+];
+
+// What a step came to.
+#[derive(Clone, Copy, PartialEq, Eq, Debug)]
+enum Came {
+    Done,
+    Sent(u64),
+    Other,
+}
+
+fn told_by(effect: &Effect) -> Came {
+    match effect {
+        Effect::Done => Came::Done,
+        Effect::Sent(letter) => Came::Sent(*letter),
+        _ => Came::Other,
+    }
+}
+
+// Takes a step once.
+fn take_once(world: &mut Host, alloc: Global, by: Move) -> Result<Came, Refusal> {
+    let effect = world.step(step(alloc, by)?)?;
+    Ok(told_by(&effect))
 }
 
 // Takes a step. Where memory is wanting the world is as it was, and takes the step again.
-fn take(rt: &impl Abort, world: &mut Host, step: &Step) -> Result<Result<Effect, Refusal>, Fail> {
+fn take(rt: &impl Abort, world: &mut Host, alloc: Global, by: Move) -> Result<Came, Refusal> {
     let (steps, events) = (world.steps().len(), world.history().events().len());
-    let first = world.step(again!(step.clone()));
-    if !matches!(first, Err(Refusal::OutOfMemory)) {
-        return Ok(first);
+    let first = take_once(world, alloc, by);
+    if first != Err(Refusal::OutOfMemory) {
+        return first;
     }
     assert_eq!(rt; world.steps().len(), steps);
     assert_eq!(rt; world.history().events().len(), events);
-    Ok(world.step(again!(step.clone())))
+    take_once(world, alloc, by)
 }
 
-// Takes all steps of the writer that stops, and finds its set in the sequence.
-fn stops_and_is_seen(
-    rt: &impl Abort,
-    alloc: Global,
-    world: &mut Host,
-    steps: &[Step],
-) -> Result<(), Fail> {
-    for step in steps {
-        assert!(rt; take(rt, world, step)?.is_ok());
+// Takes all steps of the writer that stops.
+fn stops(rt: &impl Abort, alloc: Global, world: &mut Host) {
+    for by in LOST_WRITER {
+        assert!(rt; take(rt, world, alloc, by).is_ok());
     }
     assert_eq!(rt; world.steps().len(), 20);
     assert_eq!(rt; world.history().events().len(), 3);
+}
+
+// Finds its set in the sequence.
+fn is_seen(rt: &impl Abort, alloc: Global, world: &Host) -> Result<(), Fail> {
     let calls = again!(world.sequence(alloc, b"k"));
     assert_eq!(rt; calls.as_slice(), [id(1, 1)?, id(3, 1)?].as_slice());
     assert_eq!(rt; again!(world.sequence(alloc, b"l")).len(), 0);
@@ -121,11 +152,15 @@ fn stops_and_is_seen(
     Ok(())
 }
 
+fn stops_and_is_seen(rt: &impl Abort, alloc: Global, world: &mut Host) -> Result<(), Fail> {
+    stops(rt, alloc, world);
+    is_seen(rt, alloc, world)
+}
+
 #[test]
 fn writer_that_stops(rt: HostRuntime) -> Result<(), Fail> {
-    let steps = lost_writer(rt.alloc())?;
     let mut world = again!(new_world(rt.alloc(), &[1, 2, 3]));
-    stops_and_is_seen(&rt, rt.alloc(), &mut world, steps.as_slice())
+    stops_and_is_seen(&rt, rt.alloc(), &mut world)
 }
 
 // The outcome of the writer that stops.
@@ -136,9 +171,17 @@ fn is_whole(outcome: &Outcome<Majority>) -> bool {
         && outcome.maps.len() == 3
 }
 
+fn steps_of(alloc: Global, moves: &[Move]) -> Result<Vec<Step>, Fail> {
+    let mut steps = again!(Vec::with_capacity(alloc, moves.len()));
+    for by in moves {
+        steps.push(step(alloc, *by)?)?;
+    }
+    Ok(steps)
+}
+
 #[test]
 fn run_of_writer_that_stops(rt: HostRuntime) -> Result<(), Fail> {
-    let steps = lost_writer(rt.alloc())?;
+    let steps = steps_of(rt.alloc(), LOST_WRITER.as_slice())?;
     let founders = Majority::of(set_of(&[1, 2, 3])?);
     let outcome = again!(run(rt.alloc(), founders, steps.as_slice()));
     let whole = is_whole(&outcome);
@@ -147,46 +190,30 @@ fn run_of_writer_that_stops(rt: HostRuntime) -> Result<(), Fail> {
 }
 
 // Steps that are refused, and that leave the world as it was.
-fn refuses(rt: &impl Abort, world: &mut Host, alloc: Global) -> Result<(), Fail> {
-    let (one, two, three) = (Name::new(1)?, Name::new(2)?, Name::new(3)?);
-    assert!(rt; matches!(take(rt, world, &advance(1, 1)?)?, Err(Refusal::NoSuchCall)));
-    assert!(rt;
-        matches!(
-            take(rt, world, &Step::Again(id(1, 1)?))?,
-            Err(Refusal::NoSuchCall)
-        )
-    );
-    assert!(rt;
-        matches!(
-            take(rt, world, &Step::Deliver(1))?,
-            Err(Refusal::NoSuchLetter)
-        )
-    );
-    assert!(rt; matches!(take(rt, world, &send(1, 3)?)?, Err(Refusal::NotKnown)));
-    assert!(rt; matches!(take(rt, world, &Step::Stop(two))?, Ok(Effect::Done)));
-    assert!(rt;
-        matches!(
-            take(rt, world, &Step::Join(two, Members::empty().with(one)))?,
-            Err(Refusal::NameUsed)
-        )
-    );
-    assert!(rt;
-        matches!(
-            take(rt, world, &Step::Join(three, Members::empty().with(one)))?,
-            Ok(Effect::Done)
-        )
-    );
-    assert!(rt; matches!(take(rt, world, &send(3, 1)?)?, Ok(Effect::Sent(1))));
-    assert!(rt; matches!(take(rt, world, &Step::Deliver(1))?, Ok(Effect::Done)));
-    assert!(rt; matches!(take(rt, world, &get(alloc, 3)?)?, Err(Refusal::NotActive)));
+fn refuses(rt: &impl Abort, alloc: Global, world: &mut Host) {
+    let rows = [
+        (Move::Advance(1, 1), Err(Refusal::NoSuchCall)),
+        (Move::Again(1, 1), Err(Refusal::NoSuchCall)),
+        (Move::Deliver(1), Err(Refusal::NoSuchLetter)),
+        (Move::Send(1, 3), Err(Refusal::NotKnown)),
+        (Move::Stop(2), Ok(Came::Done)),
+        (Move::Join(2, 1), Err(Refusal::NameUsed)),
+        (Move::Join(3, 1), Ok(Came::Done)),
+        (Move::Send(3, 1), Ok(Came::Sent(1))),
+        (Move::Deliver(1), Ok(Came::Done)),
+        (Move::Get(3), Err(Refusal::NotActive)),
+    ];
+    for (by, outcome) in rows {
+        assert_eq!(rt; take(rt, world, alloc, by), outcome);
+    }
     assert_eq!(rt; world.steps().len(), 4);
-    Ok(())
 }
 
 #[test]
 fn refused_steps(rt: HostRuntime) -> Result<(), Fail> {
     let mut world = again!(new_world(rt.alloc(), &[1, 2]));
-    refuses(&rt, &mut world, rt.alloc())
+    refuses(&rt, rt.alloc(), &mut world);
+    Ok(())
 }
 
 #[test]
