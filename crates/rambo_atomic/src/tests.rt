@@ -177,13 +177,19 @@ fn places_of_calls(rt: HostRuntime) -> Result<(), Fail> {
 
 #[test]
 fn events_of_calls(rt: HostRuntime) -> Result<(), Fail> {
-    let events = [(b'a', Said::Set(b'v')), (b'b', Said::Get), (b'a', Said::Ok)];
+    let events = [
+        (b'a', Said::Set(b'v')),
+        (b'b', Said::Get),
+        (b'a', Said::Ok),
+        (b'b', Said::Nil),
+    ];
     let history = history_of(rt.alloc(), events.as_slice())?;
     let (a, b, c) = (named(b'a')?, named(b'b')?, named(b'c')?);
     assert!(rt; matches!(history.call(&a), Some(Op::Set(_, _))));
     assert!(rt; matches!(history.answer(&a), Some(Answer::Ok)));
     assert!(rt; matches!(history.call(&b), Some(Op::Get(_))));
-    assert!(rt; history.answer(&b).is_none() && history.call(&c).is_none());
+    assert!(rt; matches!(history.answer(&b), Some(Answer::Nil)));
+    assert!(rt; history.call(&c).is_none() && history.answer(&c).is_none());
     Ok(())
 }
 
