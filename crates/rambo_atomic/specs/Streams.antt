@@ -1,5 +1,5 @@
 -- What reads and writes of a stream do
-use Rattle.std.specs.Prelude.{◌≡◌, ℕ, ◌+◌, ◌-◌, ◌^◌, min, List, ◌++◌, Option}
+use Rattle.std.specs.Prelude.{◌≡◌, ℕ, ◌+◌, ◌-◌, ◌^◌, min, List, ◌++◌, take, drop, Option, Result, Ok, Err}
 use Rattle.std.specs.Io.KnownBytes.{Appends}
 
 -- a count of one call more; it stops at the greatest number of 64 bits
@@ -16,12 +16,38 @@ pub record WrappedState (T : Type 0) : Type 0 where
   pub reads : ℕ
   pub failures : ℕ
 
--- bytes in memory, of which those before a place were read; the longest piece that a call takes; in how many
--- calls one fails (0: in none); how often they were read, and how many calls failed
+-- one read more, which gave so many bytes or failed, and left the inner reader so
+abbrev pub wrapped_after_read : {T : Type 0} → {E : Type 0} → WrappedState T → T → Result ℕ E → WrappedState T
+wrapped_after_read w inner (Ok n) = record { inner = inner; reads = w.reads + 1; failures = w.failures }
+wrapped_after_read w inner (Err e) = record { inner = inner; reads = min (w.reads + 1) (2 ^ 60); failures = counted w.failures }
+
+-- one write more, which took so many bytes or failed, and left the inner writer so
+abbrev pub wrapped_after_write : {T : Type 0} → {E : Type 0} → WrappedState T → T → Result ℕ E → WrappedState T
+wrapped_after_write w inner (Ok n) = record w { inner = inner }
+wrapped_after_write w inner (Err e) = record w { inner = inner; failures = counted w.failures }
+
+-- bytes in memory, of which those before a place were read; how many more can be written with no memory taken;
+-- the longest piece that a call takes; in how many calls one fails (0: in none); how often they were read, and
+-- how many calls failed
 pub record TapeState : Type 0 where
   pub bytes : List ℕ
+  pub room : ℕ
   pub place : ℕ
   pub piece : ℕ
   pub until : ℕ
   pub reads : ℕ
   pub failures : ℕ
+
+-- what a tape has left to be read
+abbrev pub tape_left : TapeState → List ℕ
+tape_left t = drop t.place t.bytes
+
+-- one read more, which gave so many bytes or failed
+abbrev pub tape_after_read : {E : Type 0} → TapeState → Result ℕ E → TapeState
+tape_after_read t (Ok n) = record t { place = t.place + n; until = t.until - 1; reads = t.reads + 1 }
+tape_after_read t (Err e) = record t { until = t.until - 1; reads = min (t.reads + 1) (2 ^ 60); failures = counted t.failures }
+
+-- one write more, which took so many of these bytes or failed, and left this room
+abbrev pub tape_after_write : {E : Type 0} → TapeState → List ℕ → ℕ → Result ℕ E → TapeState
+tape_after_write t bytes room (Ok n) = record t { bytes = t.bytes ++ take n bytes; room = room; until = t.until - 1 }
+tape_after_write t bytes room (Err e) = record t { room = room; until = t.until - 1; failures = counted t.failures }

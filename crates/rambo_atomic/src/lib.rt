@@ -26,6 +26,3 @@ pub use tape::Tape;
 pub use verdict::{Rule, Verdict};
 pub use whole::{StreamFault, read_all, write_all};
 pub use wrapped::Wrapped;
-
-#[cfg(test)]
-mod tests;

@@ -1,6 +1,6 @@
 //! Streams over memory that can be set to fail.
-ghost use Rattle.std.specs.Prelude.{◌≡◌, ◌≢◌, ◌≤◌, ◌<◌, ◌+◌, ◌-◌, ◌++◌, ◌⊎◌, ◌↔◌, ◌^◌, ℕ, min, [], take, drop, length, IfOk, OnOk, OnErr, IsErr};
-ghost use Rattle.rambo_atomic.specs.Streams.{counted};
+ghost use Rattle.std.specs.Prelude.{◌≡◌, ◌≢◌, ◌≤◌, ◌<◌, ◌+◌, ◌-◌, ◌++◌, ◌⊎◌, ◌↔◌, ◌^◌, ℕ, min, take, drop, length, vec_capacity, vec_len, [], IfOk, IsOk, IsErr, MatchResult};
+ghost use Rattle.rambo_atomic.specs.Streams.{counted, tape_left, tape_after_read, tape_after_write};
 
 use crate::stream::{Failed, READ_LIMIT, Sink, Source};
 use std::marker::Model;
@@ -20,20 +20,20 @@ pub struct Tape {
 }
 
 impl Model for Tape {
-    ghost use Rattle.std.specs.Prelude.{◌≤◌, ◌<◌, length};
+    ghost use Rattle.std.specs.Prelude.{◌≤◌, ◌<◌, ◌-◌, ◌^◌, length, vec_capacity, vec_len};
     ghost use Rattle.rambo_atomic.specs.Streams.{TapeState};
 
     ghost Value = { TapeState };
 
-    ghost view = { λ t. record { bytes = t.bytes.items; place = t.place; piece = t.piece; until = t.until; reads = t.reads; failures = t.failures } };
+    ghost view = { λ t. record { bytes = t.bytes.items; room = vec_capacity t.bytes - vec_len t.bytes; place = t.place; piece = t.piece; until = t.until; reads = t.reads; failures = t.failures } };
 
-    ghost invariant = { λ t. (t.place ≤ length t.bytes.items) × (0 < t.piece) };
+    ghost invariant = { λ t. (t.place ≤ length t.bytes.items) × (0 < t.piece) × (t.reads ≤ 2 ^ 60) };
 }
 
 impl Tape {
     /// A tape with these bytes, of which none was read. Pieces have any length, and no call fails.
     pub fn new(bytes: Vec<u8>) -> Tape
-        ensures { result ≡ record { bytes = bytes.items; place = 0; piece = usize.MAX; until = 0; reads = 0; failures = 0 } }
+        ensures { result ≡ record { bytes = bytes.items; room = vec_capacity bytes - vec_len bytes; place = 0; piece = usize.MAX; until = 0; reads = 0; failures = 0 } }
     {
         Tape {
             bytes,
@@ -90,9 +90,10 @@ impl Tape {
 }
 
 impl Source for Tape {
-    ghost use Rattle.std.specs.Prelude.{Some, drop, ◌-◌, ◌^◌};
+    ghost use Rattle.std.specs.Prelude.{Some, ◌-◌, ◌^◌};
+    ghost use Rattle.rambo_atomic.specs.Streams.{tape_left};
 
-    ghost left = { λ t. Some (drop t.place t.bytes) };
+    ghost left = { λ t. Some (tape_left t) };
 
     ghost failures = { λ t. t.failures };
 
@@ -100,17 +101,14 @@ impl Source for Tape {
 
     fn read(&mut self, into: &mut [u8]) -> Result<usize, Failed>
         requires { 0 < length into.old }
-        ensures count { IfOk result (λ n. n ≤ min (length into.new) self.old.piece) }
-        ensures bytes { IfOk result (λ n. drop self.old.place self.old.bytes ≡ take n into.new ++ drop self.new.place self.new.bytes) }
-        ensures end { IfOk result (λ n. n ≡ 0 → drop self.new.place self.new.bytes ≡ []) }
-        ensures kept { OnErr result (drop self.new.place self.new.bytes ≡ drop self.old.place self.old.bytes) }
-        ensures fine { OnOk result (self.new.failures ≡ self.old.failures) }
-        ensures failed { OnErr result (self.new.failures ≡ counted self.old.failures) }
-        ensures reads { 2 ^ 60 - self.new.reads ≡ 2 ^ 60 - self.old.reads - 1 }
+        ensures state { self.new ≡ tape_after_read self.old result }
+        ensures count { IfOk result (λ n. n ≡ min (min (length (tape_left self.old)) (length into.old)) self.old.piece) }
+        ensures bytes { IfOk result (λ n. tape_left self.old ≡ take n into.new ++ tape_left self.new) }
+        ensures end { IfOk result (λ n. n ≡ 0 → tape_left self.new ≡ []) }
+        ensures rest { MatchResult result (λ n. drop n into.new ≡ drop n into.old) (λ _. into.new ≡ into.old) }
 
         // The set call fails, and each read after the first 2^60.
         ensures fails { IsErr result ↔ ((self.old.until ≡ 1) ⊎ (2 ^ 60 ≤ self.old.reads)) }
-        ensures until { self.new.until ≡ self.old.until - 1 }
     {
         let due = self.until == 1;
         self.until = self.until.saturating_sub(1);
@@ -141,15 +139,13 @@ impl Sink for Tape {
 
     fn write(&mut self, bytes: &[u8]) -> Result<usize, Failed>
         requires { 0 < length bytes.now }
-        ensures count { IfOk result (λ n. (0 < n) × (n ≤ min (length bytes.now) self.old.piece)) }
-        ensures bytes { IfOk result (λ n. self.new.bytes ≡ self.old.bytes ++ take n bytes.now) }
-        ensures kept { OnErr result (self.new.bytes ≡ self.old.bytes) }
-        ensures fine { OnOk result (self.new.failures ≡ self.old.failures) }
-        ensures failed { OnErr result (self.new.failures ≡ counted self.old.failures) }
+        ensures state { self.new ≡ tape_after_write self.old bytes.now self.new.room result }
+        ensures count { IfOk result (λ n. (0 < n) × (n ≡ min (length bytes.now) self.old.piece)) }
+        ensures room { self.old.room ≤ self.new.room + length bytes.now }
 
-        // The set call fails. So does one for which there is no memory.
+        // The set call fails. Any other finds room for its piece, or fails for want of memory.
         ensures fails { self.old.until ≡ 1 → IsErr result }
-        ensures until { self.new.until ≡ self.old.until - 1 }
+        ensures succeeds { self.old.until ≢ 1 → min (length bytes.now) self.old.piece ≤ self.old.room → IsOk result }
     {
         let due = self.until == 1;
         self.until = self.until.saturating_sub(1);

@@ -1,6 +1,7 @@
 //! Readers and writers of std as streams of this product.
-ghost use Rattle.std.specs.Prelude.{◌≡◌, ◌≤◌, ◌<◌, ℕ, take, length, IfOk, OnErr};
+ghost use Rattle.std.specs.Prelude.{◌≡◌, ◌≤◌, ◌<◌, ◌^◌, ℕ, take, length, IfOk, OnErr, IsErr};
 ghost use Rattle.std.specs.Io.KnownBytes.{Appends, Consumes, IsAtEnd, Keeps};
+ghost use Rattle.rambo_atomic.specs.Streams.{wrapped_after_read, wrapped_after_write};
 
 use crate::stream::{Failed, READ_LIMIT, Sink, Source};
 use std::io::{ErrorKind, Read, Write};
@@ -17,6 +18,7 @@ pub struct Wrapped<T> {
 }
 
 impl<T> Model for Wrapped<T> {
+    ghost use Rattle.std.specs.Prelude.{◌≤◌, ◌^◌};
     ghost use Rattle.std.specs.Coded.{codes};
     ghost use Rattle.rambo_atomic.specs.Streams.{WrappedState};
 
@@ -25,6 +27,8 @@ impl<T> Model for Wrapped<T> {
     ghost coded = { Prim.hlevel (codes, T.code) };
 
     ghost view = { λ w. record { inner = w.inner; reads = w.reads; failures = w.failures } };
+
+    ghost invariant = { λ w. w.reads ≤ 2 ^ 60 };
 }
 
 impl<T> Wrapped<T> {
@@ -63,7 +67,17 @@ impl<T: Read> Source for Wrapped<T> {
 
     ghost reads_left = { λ w. 2 ^ 60 - w.reads };
 
-    fn read(&mut self, into: &mut [u8]) -> Result<usize, Failed> {
+    fn read(&mut self, into: &mut [u8]) -> Result<usize, Failed>
+        requires { 0 < length into.old }
+        ensures state { self.new ≡ wrapped_after_read self.old self.new.inner result }
+        ensures count { IfOk result (λ n. n ≤ length into.new) }
+        ensures bytes { IfOk result (λ n. Consumes (T.remaining self.old.inner) (T.remaining self.new.inner) (take n into.new)) }
+        ensures end { IfOk result (λ n. n ≡ 0 → IsAtEnd (T.remaining self.new.inner)) }
+        ensures kept { OnErr result (Keeps (T.remaining self.old.inner) (T.remaining self.new.inner)) }
+
+        // Each read after the first 2^60 fails, and leaves the reader alone.
+        ensures limit { 2 ^ 60 ≤ self.old.reads → IsErr result × (self.new.inner ≡ self.old.inner) }
+    {
         if self.reads < READ_LIMIT {
             self.reads += 1;
             if let Ok(count) = read(&mut self.inner, into) {
@@ -84,7 +98,13 @@ impl<T: Write> Sink for Wrapped<T> {
 
     ghost failures = { λ w. w.failures };
 
-    fn write(&mut self, bytes: &[u8]) -> Result<usize, Failed> {
+    fn write(&mut self, bytes: &[u8]) -> Result<usize, Failed>
+        requires { 0 < length bytes.now }
+        ensures state { self.new ≡ wrapped_after_write self.old self.new.inner result }
+        ensures count { IfOk result (λ n. (0 < n) × (n ≤ length bytes.now)) }
+        ensures bytes { IfOk result (λ n. Appends (T.contents self.old.inner) (T.contents self.new.inner) (take n bytes.now)) }
+        ensures kept { OnErr result (Keeps (T.contents self.old.inner) (T.contents self.new.inner)) }
+    {
         match write(&mut self.inner, bytes) {
             Ok(count) => Ok(count),
             Err(_) => {

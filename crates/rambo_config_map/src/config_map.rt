@@ -29,7 +29,7 @@ impl<Q: Quorums> Model for ConfigMap<Q> {
 
     ghost view = { λ m. record { floor = m.floor; configs = m.places.configs } };
 
-    ghost invariant = { λ m. (1 ≤ length m.places.configs) × (length m.places.configs ≤ 8) × (m.floor + length m.places.configs ≤ 2 ^ 64) };
+    ghost invariant = { λ m. (1 ≤ length m.places.configs) × (length m.places.configs ≤ 8) × (m.floor + length m.places.configs ≤ 2 ^ 64) × (m.places.capacity ≡ 8) };
 }
 
 // How many places are active at most.
@@ -60,9 +60,11 @@ impl<Q: Quorums> ConfigMap<Q> {
         self.floor + (self.places.len() as u64 - 1)
     }
 
-    /// The configurations of the active places, from the floor on.
+    /// The configurations of the active places, from the floor on. Whatever was done to the map, they lie in the value
+    /// itself, where there is room for eight: no call of it took memory.
     pub fn places(&self) -> &Places<Q>
         ensures row { result.now.configs ≡ self.now.configs }
+        ensures inline { result.now.capacity ≡ 8 }
         ensures not_empty { 1 ≤ length self.now.configs }
         ensures at_most_eight { length self.now.configs ≤ 8 }
         ensures in_range { self.now.floor + length self.now.configs ≤ 2 ^ 64 }

@@ -1,6 +1,7 @@
 //! Configurations of a row of places.
 ghost use Rattle.std.specs.Prelude.{◌≡◌, ◌≤◌, ◌+◌, ◌-◌, ◌++◌, ◌∷◌, [], drop, length, slice_get, IsTrue, ◌↔◌, IsOk, IfErr, IfOk, OnOk, OnErr};
 ghost use Rattle.std.specs.List.{list_all};
+ghost use Rattle.smallvec.specs.SmallVec.{HasRoomFor};
 ghost use Rattle.rambo_config_map.specs.Rows.{slot_has_quorum};
 
 use rambo_names::{Members, Quorums, Refusal};
@@ -79,6 +80,7 @@ impl<Q: Quorums> Places<Q> {
         ensures refused { IfErr result (λ r. r ≡ Refusal.OutOfMemory) }
         ensures succeeds { length self.now.configs ≤ 8 → IsOk result }
         ensures room { IfOk result (λ p. 8 ≤ p.capacity) }
+        ensures inline { length self.now.configs ≤ 8 → IfOk result (λ p. p.capacity ≡ 8) }
     {
         let slots = SmallVec::from_slice(*self.slots.allocator(), self.slots.as_slice())?;
         Ok(Places { slots })
@@ -108,7 +110,7 @@ impl<Q: Quorums> Places<Q> {
         self.slots.truncate(len - start);
     }
 
-    /// Makes room for so many more configurations.
+    /// Makes room for so many more configurations. It takes memory only where there is no room yet.
     ///
     /// Refused with `OutOfMemory` where there is no memory for them. The row then stays as it was.
     pub fn reserve(&mut self, additional: usize) -> Result<(), Refusal>
@@ -117,6 +119,7 @@ impl<Q: Quorums> Places<Q> {
         ensures err { OnErr result (self.new ≡ self.old) }
         ensures refused { IfErr result (λ r. r ≡ Refusal.OutOfMemory) }
         ensures succeeds { length self.old.configs + additional ≤ self.old.capacity → IsOk result }
+        ensures had_room { length self.old.configs + additional ≤ self.old.capacity → self.new ≡ self.old }
         ensures capacity { self.old.capacity ≤ self.new.capacity }
     {
         self.slots.reserve(additional)?;
@@ -141,11 +144,15 @@ impl<Q: Quorums> Places<Q> {
         ensures refused { IfErr result (λ r. r ≡ Refusal.OutOfMemory) }
         ensures succeeds { length self.old.configs + (length other.now.configs - from) ≤ self.old.capacity
             → IsOk result }
+        ensures had_room { length self.old.configs + (length other.now.configs - from) ≤ self.old.capacity
+            → self.new.capacity ≡ self.old.capacity }
         ensures capacity { self.old.capacity ≤ self.new.capacity }
     {
         let slots = other.slots.as_slice();
         let start = from.min(slots.len());
-        self.slots.extend_from_slice(&slots[start..])?;
+        let more = &slots[start..];
+        self.slots.reserve(more.len())?;
+        append_slots(&mut self.slots, more);
         Ok(())
     }
 
@@ -153,13 +160,24 @@ impl<Q: Quorums> Places<Q> {
     pub fn append(&mut self, other: &Places<Q>, from: usize)
         requires { length self.old.configs + (length other.now.configs - from) ≤ 8 }
         ensures configs { self.new.configs ≡ self.old.configs ++ drop from other.now.configs }
-        ensures capacity { self.old.capacity ≤ self.new.capacity }
+        ensures capacity { self.new.capacity ≡ self.old.capacity }
     {
         // The value itself has room for eight.
         let _ = &self.slots;
         if self.extend(other, from).is_err() {
             unreachable!();
         }
+    }
+}
+
+// Appends slots for which there is room.
+fn append_slots<Q: Quorums>(slots: &mut SmallVec<Option<Q>, 8>, more: &[Option<Q>])
+    requires { HasRoomFor slots.old (length more.now) }
+    ensures items { slots.new.items ≡ slots.old.items ++ more.now }
+    ensures capacity { slots.new.capacity ≡ slots.old.capacity }
+{
+    for slot in more {
+        slots.push_reserved(*slot);
     }
 }
 

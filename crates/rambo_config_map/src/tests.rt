@@ -1,8 +1,7 @@
-ghost use Rattle.std.specs.Prelude.{◌≡◌, length};
-
 use crate::{ConfigMap, Entry, Places, merging_laws};
-use rambo_names::{Majority, Members, Name, Quorums, Refusal};
+use rambo_names::{Majority, Members, Name, Refusal};
 use std::alloc::Global;
+use std::env;
 use std::process::Abort;
 use std::test::Fail;
 
@@ -14,8 +13,12 @@ fn config(number: u64) -> Majority {
     }
 }
 
-// The map with configurations at the places from floor to top, which are numbered from `first` on.
-fn map_of(alloc: Global, floor: u64, top: u64, first: u64) -> Result<ConfigMap<Majority>, Refusal> {
+// The lowest and the last active place of a map, and the number of the configuration that was at place 0. Those above
+// it are numbered on.
+type Shape = (u64, u64, u64);
+
+fn map_of(alloc: Global, shape: Shape) -> Result<ConfigMap<Majority>, Refusal> {
+    let (floor, top, first) = shape;
     let mut map = ConfigMap::new(alloc, config(first));
     for place in 0..top {
         map.learn(config(first.saturating_add(place).saturating_add(1)))?;
@@ -26,184 +29,196 @@ fn map_of(alloc: Global, floor: u64, top: u64, first: u64) -> Result<ConfigMap<M
     Ok(map)
 }
 
+#[derive(Clone, Copy)]
+enum Move {
+    Learn,
+    Remove,
+}
+
+// What is done to a map that began with place 0, what it answers, and the lowest and the last active place then.
+const MOVES: [(Move, Result<u64, Refusal>, (u64, u64)); 11] = [
+    (Move::Remove, Err(Refusal::NothingToCollect), (0, 0)),
+    (Move::Learn, Ok(1), (0, 1)),
+    (Move::Learn, Ok(2), (0, 2)),
+    (Move::Learn, Ok(3), (0, 3)),
+    (Move::Learn, Ok(4), (0, 4)),
+    (Move::Learn, Ok(5), (0, 5)),
+    (Move::Learn, Ok(6), (0, 6)),
+    (Move::Learn, Ok(7), (0, 7)),
+    (Move::Learn, Err(Refusal::TooManyActive), (0, 7)),
+    (Move::Remove, Ok(0), (1, 7)),
+    (Move::Learn, Ok(8), (1, 8)),
+];
+
 #[test]
-fn learns_and_removes(rt: HostRuntime) -> Result<(), Fail> {
+fn moves(rt: HostRuntime) {
     let mut map = ConfigMap::new(rt.alloc(), config(1));
-    assert_eq!(rt; (map.floor(), map.top()), (0, 0));
-    assert_eq!(rt; map.remove_lowest(), Err(Refusal::NothingToCollect));
-    assert_eq!(rt; map.learn(config(2)), Ok(1));
-    assert_eq!(rt; map.learn(config(3)), Ok(2));
-    assert_eq!(rt; map.remove_lowest(), Ok(0));
-    assert_eq!(rt; (map.floor(), map.top()), (1, 2));
-    Ok(())
-}
-
-#[test]
-fn has_entries(rt: HostRuntime) -> Result<(), Fail> {
-    let map = map_of(rt.alloc(), 1, 2, 1)?;
-    assert_eq!(rt; map.entry(0), Entry::Removed);
-    assert_eq!(rt; map.entry(1), Entry::Active(config(2)));
-    assert_eq!(rt; map.entry(2), Entry::Active(config(3)));
-    assert_eq!(rt; map.entry(3), Entry::Unknown);
-    Ok(())
-}
-
-#[test]
-fn holds_eight_places(rt: HostRuntime) -> Result<(), Fail> {
-    let mut map = map_of(rt.alloc(), 1, 2, 1)?;
-    for place in 3..9 {
-        assert_eq!(rt; map.learn(config(9)), Ok(place));
+    let first = map.copy();
+    assert!(rt; first.same(&map));
+    for (step, answer, bounds) in MOVES {
+        let answered = match step {
+            Move::Learn => map.learn(config(2)),
+            Move::Remove => map.remove_lowest(),
+        };
+        assert_eq!(rt; answered, answer);
+        assert_eq!(rt; (map.floor(), map.top()), bounds);
     }
-    assert_eq!(rt; map.learn(config(9)), Err(Refusal::TooManyActive));
-    assert_eq!(rt; (map.floor(), map.top()), (1, 8));
-    Ok(())
+    assert!(rt; !first.same(&map));
+}
+
+// Two maps, the lowest and the last active place of the first merged with the second, and what then stands at the
+// places 0 to 5.
+type Merge = (Shape, Shape, (u64, u64), [Entry<u64>; 6]);
+
+const MERGES: [Merge; 4] = [
+    (
+        (0, 4, 1),
+        (3, 3, 11),
+        (3, 4),
+        [
+            Entry::Removed,
+            Entry::Removed,
+            Entry::Removed,
+            Entry::Active(4),
+            Entry::Active(5),
+            Entry::Unknown,
+        ],
+    ),
+    (
+        (0, 1, 1),
+        (3, 4, 11),
+        (3, 4),
+        [
+            Entry::Removed,
+            Entry::Removed,
+            Entry::Removed,
+            Entry::Active(14),
+            Entry::Active(15),
+            Entry::Unknown,
+        ],
+    ),
+    (
+        (1, 2, 1),
+        (0, 4, 11),
+        (1, 4),
+        [
+            Entry::Removed,
+            Entry::Active(2),
+            Entry::Active(3),
+            Entry::Active(14),
+            Entry::Active(15),
+            Entry::Unknown,
+        ],
+    ),
+    (
+        (2, 5, 1),
+        (1, 3, 11),
+        (2, 5),
+        [
+            Entry::Removed,
+            Entry::Removed,
+            Entry::Active(3),
+            Entry::Active(4),
+            Entry::Active(5),
+            Entry::Active(6),
+        ],
+    ),
+];
+
+fn entry_of(entry: Entry<u64>) -> Entry<Majority> {
+    match entry {
+        Entry::Unknown => Entry::Unknown,
+        Entry::Active(number) => Entry::Active(config(number)),
+        Entry::Removed => Entry::Removed,
+    }
+}
+
+fn check_entries(rt: &impl Abort, map: &ConfigMap<Majority>, entries: [Entry<u64>; 6]) {
+    let mut place = 0;
+    for entry in entries {
+        assert_eq!(rt; map.entry(place), entry_of(entry));
+        place = place.saturating_add(1);
+    }
 }
 
 #[test]
-fn merges_a_higher_floor(rt: HostRuntime) -> Result<(), Fail> {
-    let mut map = map_of(rt.alloc(), 0, 4, 1)?;
-    let before = map.copy();
-    map.merge(&map_of(rt.alloc(), 3, 3, 11)?);
-    assert_eq!(rt; (map.floor(), map.top()), (3, 4));
-    assert_eq!(rt; map.entry(2), Entry::Removed);
-    assert_eq!(rt; map.entry(3), Entry::Active(config(4)));
-    assert_eq!(rt; map.entry(4), Entry::Active(config(5)));
-    assert!(rt; !map.same(&before));
-    Ok(())
-}
-
-#[test]
-fn merges_a_later_map(rt: HostRuntime) -> Result<(), Fail> {
-    let mut map = map_of(rt.alloc(), 0, 1, 1)?;
-    let later = map_of(rt.alloc(), 3, 4, 11)?;
-    map.merge(&later);
-    assert_eq!(rt; (map.floor(), map.top()), (3, 4));
-    assert_eq!(rt; map.entry(4), Entry::Active(config(15)));
-    assert!(rt; map.same(&later));
-    Ok(())
-}
-
-#[test]
-fn merges_a_longer_map(rt: HostRuntime) -> Result<(), Fail> {
+fn merges(rt: HostRuntime) -> Result<(), Fail> {
     merging_laws::<Majority>();
-    let mut map = map_of(rt.alloc(), 1, 2, 1)?;
-    map.merge(&map_of(rt.alloc(), 0, 4, 11)?);
-    assert_eq!(rt; (map.floor(), map.top()), (1, 4));
-    assert_eq!(rt; map.entry(2), Entry::Active(config(3)));
-    assert_eq!(rt; map.entry(3), Entry::Active(config(14)));
+    for (own, other, bounds, entries) in MERGES {
+        let mut map = map_of(rt.alloc(), own)?;
+        map.merge(&map_of(rt.alloc(), other)?);
+        assert_eq!(rt; (map.floor(), map.top()), bounds);
+        check_entries(&rt, &map, entries);
+    }
     Ok(())
 }
 
 #[test]
-fn reaches_the_greatest_place(rt: HostRuntime) -> Result<(), Fail> {
+fn reaches_the_greatest_place(rt: HostRuntime) {
     let mut last = ConfigMap::at(rt.alloc(), u64::MAX, config(1));
-    assert_eq!(rt; last.top(), u64::MAX);
     assert_eq!(rt; last.learn(config(2)), Err(Refusal::NumbersSpent));
-    assert_eq!(rt; last.entry(u64::MAX), Entry::Active(config(1)));
     let mut first = ConfigMap::new(rt.alloc(), config(3));
     last.merge(&first);
     first.merge(&last);
     assert!(rt; first.same(&last));
     assert_eq!(rt; (first.floor(), first.top()), (u64::MAX, u64::MAX));
-    Ok(())
-}
-
-// The row of the configurations 1 to 3.
-fn three_of(alloc: Global) -> Places<Majority>
-    ensures { length result.configs ≡ 3 }
-{
-    let mut row = Places::one(alloc, config(1));
-    row.push(config(2));
-    row.push(config(3));
-    row
-}
-
-// The rows of the configurations 1 to 3, and of 1 to 3, 1 to 3, 2 and 3.
-fn rows(alloc: Global) -> (Places<Majority>, Places<Majority>)
-    ensures { (length result.0.configs ≡ 3) × (length result.1.configs ≡ 8) }
-{
-    let three = three_of(alloc);
-    let mut eight = three.copy_inline();
-    eight.append(&three, 0);
-    eight.append(&three, 1);
-    (three, eight)
-}
-
-#[test]
-fn reads_a_row(rt: HostRuntime) {
-    let row = three_of(rt.alloc());
-    assert_eq!(rt; row.len(), 3);
-    assert_eq!(rt; row.get(2), Some(config(3)));
-    assert_eq!(rt; row.get(3), None);
 }
 
 #[test]
 fn asks_each_configuration(rt: HostRuntime) -> Result<(), Fail> {
-    let row = three_of(rt.alloc());
+    let map = map_of(rt.alloc(), (0, 2, 1))?;
     let two = Members::empty().with(Name::new(1)?).with(Name::new(2)?);
-    assert!(rt; !row.have_quorums(two));
-    assert!(rt; row.have_quorums(two.with(Name::new(3)?)));
+    assert!(rt; !map.places().have_quorums(two));
+    assert!(rt; map.places().have_quorums(two.with(Name::new(3)?)));
     Ok(())
 }
 
-#[test]
-fn forgets_and_appends(rt: HostRuntime) {
-    let three = three_of(rt.alloc());
-    let mut row = three.copy_inline();
-    row.forget(1);
-    row.append(&three, 2);
-    assert_eq!(rt; row.len(), 3);
-    assert_eq!(rt; row.get(0), Some(config(2)));
-    assert_eq!(rt; row.get(2), Some(config(3)));
-}
-
-// More than eight configurations take memory. A refused call changes nothing, and can be made again.
-fn ten(rt: &impl Abort, alloc: Global) -> Result<Places<Majority>, Refusal> {
-    let (three, eight) = rows(alloc);
-    let mut row = eight.copy_inline();
-    if let Err(refusal) = row.extend(&three, 1) {
-        assert_eq!(rt; refusal, Refusal::OutOfMemory);
-        assert!(rt; row.same(&eight));
-        row.extend(&three, 1)?;
+// More than eight configurations take memory, and only then may a call be refused: where the tool that refuses one
+// request runs the test. A refused call changes nothing, and can be made again.
+fn extended(
+    rt: &impl Abort,
+    starved: bool,
+    map: &ConfigMap<Majority>,
+) -> Result<Places<Majority>, Refusal> {
+    let mut row = map.places().copy_inline();
+    if row.extend(map.places(), 6).is_err() {
+        assert!(rt; starved && row.same(map.places()));
+        row.extend(map.places(), 6)?;
     }
     Ok(row)
 }
 
-#[test]
-fn extends_past_eight(rt: HostRuntime) -> Result<(), Fail> {
-    let mut row = ten(&rt, rt.alloc())?;
-    assert_eq!(rt;
-        (row.len(), row.get(7), row.get(9)),
-        (10, Some(config(3)), Some(config(3)))
-    );
-    row.forget(8);
-    assert_eq!(rt; (row.len(), row.get(0)), (2, Some(config(2))));
-    Ok(())
-}
-
-#[test]
-fn copies_past_eight(rt: HostRuntime) -> Result<(), Fail> {
-    let row = ten(&rt, rt.alloc())?;
-    let copy = match row.copy() {
-        Ok(copy) => copy,
-        Err(refusal) => {
-            assert_eq!(rt; refusal, Refusal::OutOfMemory);
-            row.copy()?
+fn copied(
+    rt: &impl Abort,
+    starved: bool,
+    row: &Places<Majority>,
+) -> Result<Places<Majority>, Refusal> {
+    match row.copy() {
+        Ok(copy) => Ok(copy),
+        Err(_) => {
+            assert!(rt; starved);
+            row.copy()
         }
-    };
-    assert!(rt; copy.same(&row));
-    Ok(())
+    }
+}
+
+fn reserves(rt: &impl Abort, starved: bool, map: &ConfigMap<Majority>) {
+    let mut row = map.places().copy_inline();
+    assert!(rt; row.reserve(1).is_ok() || starved);
+    assert!(rt; row.same(map.places()));
 }
 
 #[test]
-fn reserves_past_eight(rt: HostRuntime) -> Result<(), Fail> {
-    let (_three, eight) = rows(rt.alloc());
-    let mut row = eight.copy_inline();
-    if let Err(refusal) = row.reserve(2) {
-        assert_eq!(rt; refusal, Refusal::OutOfMemory);
-        assert!(rt; row.same(&eight));
-        row.reserve(2)?;
-    }
-    assert!(rt; row.same(&eight));
+fn takes_memory_past_eight(rt: HostRuntime) -> Result<(), Fail> {
+    let starved = env::var(&rt, "FAIL_ALLOC").is_ok();
+    let map = map_of(rt.alloc(), (0, 7, 1))?;
+    reserves(&rt, starved, &map);
+    let row = extended(&rt, starved, &map)?;
+    let copy = copied(&rt, starved, &row)?;
+    assert!(rt; copy.same(&row));
+    assert_eq!(rt;
+        (copy.len(), copy.get(7), copy.get(9)),
+        (10, Some(config(8)), Some(config(8)))
+    );
     Ok(())
 }

@@ -1,7 +1,7 @@
 use crate::{Gossip, Kind, Letter};
 use rambo_config_map::ConfigMap;
 use rambo_names::{Bytes, Majority, Members, Name, Refusal};
-use rambo_tag::{Change, Pack, Tag, Version};
+use rambo_tag::{KeyedVersion, Pack, Tag, Version};
 use std::alloc::Global;
 use std::process::Abort;
 use std::test::Fail;
@@ -32,7 +32,7 @@ fn names(numbers: &[u64]) -> Result<Members, Refusal> {
 const ROWS: [(&[u8], u64, Option<&[u8]>); 2] = [(b"k", 3, Some(b"v")), (b"", 4, None)];
 
 fn copies(alloc: Global) -> Result<Pack, Fail> {
-    let mut changes = again!(Vec::with_capacity(alloc, ROWS.len()));
+    let mut copies = again!(Vec::with_capacity(alloc, ROWS.len()));
     for (key, sequence, value) in ROWS {
         let value = match value {
             Some(items) => Some(bytes(alloc, items)?),
@@ -43,27 +43,27 @@ fn copies(alloc: Global) -> Result<Pack, Fail> {
             tag: Tag { sequence, name },
             value,
         };
-        changes.push(Change {
+        copies.push(KeyedVersion {
             key: bytes(alloc, key)?,
             version,
         })?;
     }
-    Ok(Pack::new(changes))
+    Ok(Pack::new(copies))
 }
 
-fn holds(copies: &Pack) -> bool {
-    let changes = copies.changes();
-    for (change, (key, sequence, value)) in changes.iter().zip(ROWS) {
-        let same_value = match (&change.version.value, value) {
+fn holds(pack: &Pack) -> bool {
+    let copies = pack.copies();
+    for (copy, (key, sequence, value)) in copies.iter().zip(ROWS) {
+        let same_value = match (&copy.version.value, value) {
             (Some(bytes), Some(items)) => bytes.as_slice() == items,
             (None, None) => true,
             _ => false,
         };
-        if change.key.as_slice() != key || change.version.tag.sequence != sequence || !same_value {
+        if copy.key.as_slice() != key || copy.version.tag.sequence != sequence || !same_value {
             return false;
         }
     }
-    changes.len() == ROWS.len()
+    copies.len() == ROWS.len()
 }
 
 // The sender, the addressee, and the gossip where the letter says some.

@@ -1,17 +1,55 @@
--- Exit statuses, and what was written before a command ended with one
-use Rattle.std.specs.Prelude.{◌≡◌, ◌⊎◌, ℕ, Bool, List, Option, if◌then◌else◌}
+-- Exit statuses, what was told, and what was written before a command ended
+use Rattle.std.specs.Prelude.{◌≡◌, ◌⊎◌, ℕ, Bool, List, [], ◌∷◌, ◌++◌, Option, codes, if◌then◌else◌}
 use Rattle.std.specs.Io.KnownBytes.{Appends, IsAtEnd, Keeps}
 use Rattle.clap.specs.declared.error.kind.ErrorKind.{ErrorKind}
 use Rattle.clap.specs.declared.error.kind.ErrorKind.TheVariants.{DisplayHelp, DisplayVersion}
 use Rattle.clap.specs.Words.{Text, IsAmong, fault_of}
 use Rattle.rambo_atomic.specs.Streams.{counted, Begins}
+use Rattle.rambo_text.specs.Faults.{told}
 use Rattle.rambo_text.specs.declared.fault.ScriptFault.{ScriptFault}
 use Rattle.rambo_text.specs.declared.fault.ReplayFault.{ReplayFault}
 use Rattle.rambo_text.specs.declared.fault.ReplayFault.TheVariants.{Script, Read, Write, Memory}
 use Rattle.rambo_outcome.specs.Checks.{IsLeft, IsChecked}
 use Rattle.rambo_outcome.specs.Texts.{IsTextFault}
-use Rattle.rambo_script.specs.Replays.{Replays, Leaves}
+use Rattle.rambo_script.specs.Replays.{Replays, Leaves, reads_failed, writes_failed}
 use Rattle.rambo_main.specs.Lines.{rambo}
+
+-- a stream before and after: the bytes that it has left or has taken, where these are known, and how many of its
+-- calls failed
+pub record Stream : Type 0 where
+  pub old : Option (List ℕ)
+  pub new : Option (List ℕ)
+  pub failures : ℕ
+  pub failures_now : ℕ
+
+abbrev pub stream : {S : Type 0} → (S → Option (List ℕ)) → (S → ℕ) → S → S → Stream
+stream bytes failures old new =
+    record { old = bytes old; new = bytes new; failures = failures old; failures_now = failures new }
+
+-- no call failed
+abbrev pub IsFine : Stream → Type 0
+IsFine s = s.failures_now ≡ s.failures
+
+-- no call failed, and the text was taken whole
+pub record Takes (text : List ℕ) (s : Stream) : Type 0 where
+  pub fine : IsFine s
+  pub taken : Appends s.old s.new text
+
+-- a call failed, and a beginning of the text was taken before
+pub record Breaks (text : List ℕ) (s : Stream) : Type 0 where
+  pub failed : s.failures_now ≡ counted s.failures
+  pub taken : Begins s.old s.new text
+
+-- a text was told on standard error, as far as that took it
+abbrev pub Tells : List ℕ → Stream → Type 0
+Tells text told = Takes text told ⊎ Breaks text told
+
+-- the line that tells a fault
+abbrev pub fault_line : ReplayFault → List ℕ
+fault_line (Script f) = told f ++ 10 ∷ []
+fault_line Read = codes "fault read" ++ 10 ∷ []
+fault_line Write = codes "fault write" ++ 10 ∷ []
+fault_line Memory = codes "fault memory" ++ 10 ∷ []
 
 -- the status after a fault
 abbrev pub status_of : ReplayFault → ℕ
@@ -20,37 +58,52 @@ status_of Read = 1
 status_of Write = 1
 status_of Memory = 1
 
+-- A command ended by a fault: one call of the reader failed after Read and one of the writer after Write, and none else;
+-- and the line of the fault was told. So want of memory alone, told as Memory or as the fault of a line that was being
+-- read, can't be told from a command that gives up.
+pub record EndsBy (f : ReplayFault) (status : ℕ) (read write told : Stream) : Type 0 where
+  pub status_is : status ≡ status_of f
+  pub reads : read.failures_now ≡ reads_failed f read.failures
+  pub writes : write.failures_now ≡ writes_failed f write.failures
+  pub line : Tells (fault_line f) told
+
+-- a replay that is done
+pub record IsReplayed (status : ℕ) (read write : Stream) : Type 0 where
+  pub done : status ≡ 0
+  pub end : IsAtEnd read.new
+  pub reads : IsFine read
+  pub writes : IsFine write
+  pub written : Replays read.old write.old write.new
+
+-- how a replay ends: done, or by a fault, after which is written what that fault leaves
+abbrev pub ReplaysTo : ℕ → Stream → Stream → Stream → Type 0
+ReplaysTo status read write told =
+    IsReplayed status read write
+    ⊎ ((f : ReplayFault) × EndsBy f status read write told × Leaves f read.old write.old write.new)
+
 -- the status after a check that said yes of all keys, or no of some
 abbrev pub verdict_status : Bool → ℕ
 verdict_status all = if all then 0 else 3
 
--- a replay ended with this status: what it had read and has left, and what was written before and after
-pub record IsReplayed (status : ℕ) (input rest old new : Option (List ℕ)) : Type 0 where
-  pub done : status ≡ 0
-  pub end : IsAtEnd rest
-  pub written : Replays input old new
-
-abbrev pub ReplaysTo : ℕ → Option (List ℕ) → Option (List ℕ) → Option (List ℕ) → Option (List ℕ) → Type 0
-ReplaysTo status input rest old new =
-    IsReplayed status input rest old new ⊎ ((f : ReplayFault) × (status ≡ status_of f) × Leaves f input old new)
-
--- a check likewise
-pub record IsCheckedTo (status : ℕ) (input rest old new : Option (List ℕ)) : Type 0 where
+-- a check that is done
+pub record IsCheckedTo (status : ℕ) (read write : Stream) : Type 0 where
   pub text : List ℕ
   pub lines : List ℕ
   pub all : Bool
   pub done : status ≡ verdict_status all
-  pub read : IsLeft input text
+  pub left : IsLeft read.old text
   pub checked : IsChecked text lines all
-  pub end : IsAtEnd rest
-  pub written : Appends old new lines
+  pub end : IsAtEnd read.new
+  pub reads : IsFine read
+  pub writes : IsFine write
+  pub written : Appends write.old write.new lines
 
 -- a beginning of the lines of a check was written
 pub record StopsCheck (input old new : Option (List ℕ)) : Type 0 where
   pub text : List ℕ
   pub lines : List ℕ
   pub all : Bool
-  pub read : IsLeft input text
+  pub left : IsLeft input text
   pub checked : IsChecked text lines all
   pub written : Begins old new lines
 
@@ -65,27 +118,41 @@ LeavesCheck Read input old new = Keeps old new
 LeavesCheck Write input old new = StopsCheck input old new
 LeavesCheck Memory input old new = Keeps old new
 
-abbrev pub ChecksTo : ℕ → Option (List ℕ) → Option (List ℕ) → Option (List ℕ) → Option (List ℕ) → Type 0
-ChecksTo status input rest old new =
-    IsCheckedTo status input rest old new ⊎ ((f : ReplayFault) × (status ≡ status_of f) × LeavesCheck f input old new)
+-- how a check ends: done, or by a fault
+abbrev pub ChecksTo : ℕ → Stream → Stream → Stream → Type 0
+ChecksTo status read write told =
+    IsCheckedTo status read write
+    ⊎ ((f : ReplayFault) × EndsBy f status read write told × LeavesCheck f read.old write.old write.new)
 
 -- clap answers with a text that was asked for, and not with a mistake
 abbrev pub IsShown : ErrorKind → Type 0
 IsShown k = (k ≡ DisplayHelp) ⊎ (k ≡ DisplayVersion)
 
--- a text was written, or a beginning of it before the writer failed
-abbrev pub Shows : ℕ → Option (List ℕ) → Option (List ℕ) → Type 0
-Shows status old new = (text : List ℕ) × (((status ≡ 0) × Appends old new text) ⊎ ((status ≡ 1) × Begins old new text))
+-- some text was written; or the writer failed, and that was told
+abbrev pub Shows : ℕ → Stream → Stream → Type 0
+Shows status write told =
+    (text : List ℕ) × (((status ≡ 0) × Takes text write)
+    ⊎ ((status ≡ status_of Write) × Breaks text write × Tells (fault_line Write) told))
 
--- how an answer of this kind ends
-abbrev pub EndsAs : ErrorKind → ℕ → Option (List ℕ) → Option (List ℕ) → Type 0
-EndsAs k status old new = (IsShown k → Shows status old new) × (¬ (IsShown k) → (status ≡ 2) × Keeps old new)
+-- nothing was written, and a mistake in the words was told
+pub record Mistaken (status : ℕ) (write told : Stream) : Type 0 where
+  pub status_is : status ≡ 2
+  pub unwritten : Takes [] write
+  pub text : List ℕ
+  pub line : Tells text told
 
--- the end of a command that asks for no task: memory ran out, or the answer is of a kind that its words call for
-abbrev pub AnswersTo : ℕ → List Text → Option (List ℕ) → Option (List ℕ) → Type 0
-AnswersTo status words old new =
-    ((status ≡ 1) × Keeps old new) ⊎ ((k : ErrorKind) × IsAmong k (fault_of rambo words) × EndsAs k status old new)
+-- nothing was written, since there was no room for what clap answers, and that was told
+pub record GivesUp (status : ℕ) (write told : Stream) : Type 0 where
+  pub status_is : status ≡ status_of Memory
+  pub unwritten : Takes [] write
+  pub line : Tells (fault_line Memory) told
 
--- how often a reader or writer had failed before and after a command: not at all, or once, which its status tells
-abbrev pub MayHaveFailed : ℕ → ℕ → ℕ → Type 0
-MayHaveFailed status before after = (after ≡ before) ⊎ ((status ≡ 1) × (after ≡ counted before))
+-- how a command of words that ask for no task ends, where clap answers with an error of this kind
+abbrev pub EndsAs : ErrorKind → ℕ → Stream → Stream → Type 0
+EndsAs k status write told =
+    (IsShown k → Shows status write told) × (¬ (IsShown k) → Mistaken status write told)
+
+abbrev pub AnswersTo : List Text → ℕ → Stream → Stream → Type 0
+AnswersTo words status write told =
+    GivesUp status write told
+    ⊎ ((k : ErrorKind) × IsAmong k (fault_of rambo words) × EndsAs k status write told)

@@ -1,19 +1,15 @@
 //! The program's work over any streams.
 ghost use Rattle.std.specs.Prelude.{◌≡◌, ◌⊎◌, map};
 ghost use Rattle.rambo_main.specs.Lines.{Asks};
-ghost use Rattle.rambo_main.specs.Statuses.{AnswersTo, ChecksTo, MayHaveFailed, ReplaysTo};
+ghost use Rattle.rambo_main.specs.Statuses.{AnswersTo, ChecksTo, ReplaysTo, stream};
 ghost use Rattle.rambo_main.specs.declared.line.Task.{Task as AnyTask};
 
 use crate::line::{Task, task_of};
-use crate::telling::{answer, tell};
+use crate::telling::{DONE, answer, tell};
 use rambo_atomic::{Sink, Source};
-use rambo_outcome::check_text;
-use rambo_script::replay;
+use rambo_script::{check_text, replay};
 use std::alloc::Global;
 use std::convert::AsStr;
-
-/// The exit status of what was done.
-const DONE: u8 = 0;
 
 /// The exit status of a check that said no of some key.
 const SAID_NO: u8 = 3;
@@ -25,7 +21,8 @@ const SAID_NO: u8 = 3;
 /// - 2: the words ask for nothing that there is, or the input is faulty.
 /// - 3: the check said no of some key.
 ///
-/// After 1 and 2 the cause was told to `errors`, as far as these took it.
+/// After 1 and 2 the cause was told to `errors`, as far as these took it. A failure of `errors` themselves changes no
+/// status: there is nowhere left to tell it.
 pub fn command<S: AsStr, R: Source, W: Sink, E: Sink>(
     alloc: Global,
     words: &[S],
@@ -34,15 +31,16 @@ pub fn command<S: AsStr, R: Source, W: Sink, E: Sink>(
     errors: &mut E,
 ) -> u8
     ensures replay { Asks (map S.text words.now) Task.Replay
-        → ReplaysTo result (R.left reader.old) (R.left reader.new) (W.taken writer.old) (W.taken writer.new) }
+        → ReplaysTo result (stream R.left R.failures reader.old reader.new)
+        (stream W.taken W.failures writer.old writer.new)
+        (stream E.taken E.failures errors.old errors.new) }
     ensures check { Asks (map S.text words.now) Task.Check
-        → ChecksTo result (R.left reader.old) (R.left reader.new) (W.taken writer.old) (W.taken writer.new) }
+        → ChecksTo result (stream R.left R.failures reader.old reader.new)
+        (stream W.taken W.failures writer.old writer.new)
+        (stream E.taken E.failures errors.old errors.new) }
     ensures other { ((t : AnyTask) → ¬ (Asks (map S.text words.now) t))
-        → AnswersTo result (map S.text words.now) (W.taken writer.old) (W.taken writer.new) × (reader.new ≡ reader.old) }
-
-    // A failure of the reader or writer is never hidden, and it ends the command.
-    ensures reads { MayHaveFailed result (R.failures reader.old) (R.failures reader.new) }
-    ensures writes { MayHaveFailed result (W.failures writer.old) (W.failures writer.new) }
+        → AnswersTo (map S.text words.now) result (stream W.taken W.failures writer.old writer.new)
+        (stream E.taken E.failures errors.old errors.new) × (reader.new ≡ reader.old) }
     ensures quiet { (result ≡ 0) ⊎ (result ≡ 3) → errors.new ≡ errors.old }
 {
     match task_of(alloc, words) {
@@ -59,9 +57,9 @@ fn replayed<R: Source, W: Sink, E: Sink>(
     writer: &mut W,
     errors: &mut E,
 ) -> u8
-    ensures replay { ReplaysTo result (R.left reader.old) (R.left reader.new) (W.taken writer.old) (W.taken writer.new) }
-    ensures reads { MayHaveFailed result (R.failures reader.old) (R.failures reader.new) }
-    ensures writes { MayHaveFailed result (W.failures writer.old) (W.failures writer.new) }
+    ensures ends { ReplaysTo result (stream R.left R.failures reader.old reader.new)
+        (stream W.taken W.failures writer.old writer.new)
+        (stream E.taken E.failures errors.old errors.new) }
     ensures quiet { (result ≡ 0) ⊎ (result ≡ 3) → errors.new ≡ errors.old }
 {
     match replay(alloc, reader, writer) {
@@ -77,9 +75,9 @@ fn checked<R: Source, W: Sink, E: Sink>(
     writer: &mut W,
     errors: &mut E,
 ) -> u8
-    ensures check { ChecksTo result (R.left reader.old) (R.left reader.new) (W.taken writer.old) (W.taken writer.new) }
-    ensures reads { MayHaveFailed result (R.failures reader.old) (R.failures reader.new) }
-    ensures writes { MayHaveFailed result (W.failures writer.old) (W.failures writer.new) }
+    ensures ends { ChecksTo result (stream R.left R.failures reader.old reader.new)
+        (stream W.taken W.failures writer.old writer.new)
+        (stream E.taken E.failures errors.old errors.new) }
     ensures quiet { (result ≡ 0) ⊎ (result ≡ 3) → errors.new ≡ errors.old }
 {
     match check_text(alloc, reader, writer) {

@@ -9,9 +9,76 @@ use std::convert::AsStr;
 
 const STATUSES: &str = "Exit statuses:
   0  done
-  1  a stream failed or memory ran out
+  1  a stream failed or memory ran out (fault read, fault write, fault memory)
   2  the command line or the input is faulty
   3  check said no of some key";
+
+const SCRIPTS: &str =
+    "A script is lines, each a step of its words with one space between. A NAME is a
+node, 1 to 64. A SET is names in rising order with commas between, or - for
+none. A CALL is the name of its node, a dot and its number there, from 1. Keys
+and values are HEX, pairs of digits 0 to 9 and a to f, or - for no bytes.
+
+  founders SET        the first line: the nodes that are active from the start
+  join NAME SET       an idle node asks to join, by way of these contacts
+  get NAME KEY        a client asks a node for the value of a key
+  set NAME KEY VALUE  a client asks a node to set a key to a value
+  send NAME NAME      the first node sends a letter to the second
+  deliver NUMBER      a letter comes to its addressee; they are counted from 1
+  advance CALL        a call whose replies suffice goes on, or is answered
+  again CALL          a call begins its present phase anew
+  stop NAME           a node stops for good
+
+The first faulty line is told with its number, as script fault S2 at line 3:
+  S1  the first line names no founders
+  S2  the first word of a line is none of these
+  S3  a line has another number of words than its step has
+  S4  a word is not the number, name, set or call that belongs there
+  S5  a word is not the HEX that belongs there
+  S6  a line has over 16,384 bytes
+  S7  memory ran out while the line was read
+
+Exit statuses:
+  0  done
+  1  a stream failed or memory ran out (fault read, fault write, fault memory)
+  2  the command line or the script is faulty";
+
+const OUTCOMES: &str =
+    "What replay writes is read: the calls and their answers in order, for each key
+the sequence of its calls, and lines on refusals and maps, which are passed
+over.
+
+  call CALL get KEY
+  call CALL set KEY VALUE
+  answer CALL ok
+  answer CALL nil
+  answer CALL value VALUE
+  sequence KEY CALL CALL ..
+  refused STEP REFUSAL
+  map NAME FLOOR SET SET ..
+
+For each key the verdict is yes KEY, or no KEY and the least rule that its
+sequence breaks:
+  1  an answered call of the key is missing
+  2  a call stands there twice
+  3  an entry is no call of the key, or a get without an answer
+  4  a get does not answer the set before it, or nil where there is none
+  5  a call was answered before another was made, and stands behind it
+
+The first faulty line is told with its number, as script fault S2 at line 3:
+  S2  the first word of a line is none of these, or the third of a call or answer
+  S3  a line has another number of words than its kind has
+  S4  a word is not the number, name, set or call that belongs there
+  S5  a word is not the HEX that belongs there
+  S7  memory ran out while the line was read
+  S8  a call is made twice, an answer has no open call or is not of its kind, or
+      a key has a second sequence
+
+Exit statuses:
+  0  yes of all keys
+  1  a stream failed or memory ran out (fault read, fault write, fault memory)
+  2  the command line or the outcome text is faulty
+  3  no of some key";
 
 /// What a command line asks for.
 #[derive(Clone, Copy, PartialEq, Eq, Debug)]
@@ -44,13 +111,13 @@ fn rambo_command<'a>(alloc: Global) -> Result<Command<'a>, AllocError>
 {
     let replay = Command::new(alloc, "replay")
         .about("Runs the script on standard input and writes what its run gives")
-        .after_help(STATUSES);
+        .after_help(SCRIPTS);
     let check = Command::new(alloc, "check")
         .about("Reads the outcome text on standard input and writes yes or no for each of its keys")
-        .after_help(STATUSES);
+        .after_help(OUTCOMES);
     let program = Command::new(alloc, "rambo")
         .bin_name("rambo")?
-        .version("1.0.0")
+        .version("0.1.0")
         .about("Runs scripts of a replicated key-value store, and checks what they give")
         .after_help(STATUSES)
         .no_binary_name(true)

@@ -1,11 +1,12 @@
 -- The steps of reading a set
-use Rattle.std.proofs.Common.{◌≡◌, ℕ, ◌+◌, ◌-◌, ◌^◌, ◌<◌, ◌≤◌, Bool, true, false, cond, ◌||◌, not, nat_eq, List, [], ◌∷◌, ◌++◌, length, filter, decimal, refl, sym, ap, ◌∙◌, arith, true≢false}
+use Rattle.std.proofs.Common.{◌≡◌, ℕ, zero, suc, inl, inr, ◌+◌, ◌-◌, ◌^◌, ◌<◌, ◌≤◌, Bool, true, false, cond, ◌||◌, not, nat_eq, List, [], ◌∷◌, ◌++◌, length, filter, decimal, refl, sym, ap, ◌∙◌, arith, true≢false}
+use Rattle.std.proofs.lemmas.Bool.{cases_lt}
 use Rattle.std.proofs.lemmas.Bool.Decides.{nat_tests}
 use Rattle.std.specs.Cmp.{nat_cmp_total, unsigned_tied}
 use Rattle.std.specs.FinSet.{contains, insert, contains-insert}
 use Rattle.std.specs.Str.{bytes_eq}
 use Rattle.std.proofs.lemmas.Slice.Eq.{bytes_eq-Decides}
-use Rattle.rambo_names.specs.Names.{NameSet, rising, names}
+use Rattle.rambo_names.specs.Names.{NameSet, AreNames, rising, names}
 use Rattle.rambo_names.specs.Signs.{set_text, before, IsEnd, rest_text, front_text, names_text}
 use Rattle.rambo_names.proofs.NameTexts.{FirstIs, whole-name, rest-name, rest-other, rising-step, next_above}
 use Rattle.rambo_names.proofs.NameInserts.{names-insert}
@@ -16,6 +17,7 @@ pub record Reads (bytes : List ℕ) (first : Bool) (set : NameSet) (rest : List 
   pub later : (s : NameSet) → bytes ≡ set_text s → rest ≡ rest_text first (filter (contains s) (rising (64 - place) (place + 1)))
   pub below : (q : ℕ) → place < q → contains set q ≡ false
   pub first_is : FirstIs first (names set)
+  pub no_zero : contains set 0 ≡ false
 
 abbrev left : NameSet → ℕ → List ℕ
 left s place = filter (contains s) (rising (64 - (place + 1)) (place + 1 + 1))
@@ -40,6 +42,7 @@ reads-name bytes first set rest r place h now is end =
       below = λ q lt.
           contains-insert nat_cmp_total set (place + 1) q ∙ (λ i. unsigned_tied q (place + 1) i || now.below q (omega arith) i) ∙ grind (arith, nat_tests);
       first_is = some (names set) (place + 1) (names (insert set (place + 1))) grown;
+      no_zero = contains-insert nat_cmp_total set (place + 1) 0 ∙ (λ i. unsigned_tied 0 (place + 1) i || now.no_zero i) ∙ grind (arith, nat_tests);
     }
   where
     some : (xs : List ℕ) (n : ℕ) (ys : List ℕ) → ys ≡ xs ++ n ∷ [] → (m : ℕ) × (ms : List ℕ) × (ys ≡ m ∷ ms)
@@ -54,12 +57,27 @@ reads-other bytes first set rest place h now none = record {
   later = λ s e. rest-other first (place + 1) (contains s (place + 1)) (left s place) rest none (now.later s e ∙ ap (rest_text first) (split_off s place h));
   below = λ q lt. now.below q (omega arith);
   first_is = now.first_is;
+  no_zero = now.no_zero;
 }
 
 -- the start
 pub reads-start : (bytes : List ℕ) (set : NameSet) → names set ≡ [] → ((q : ℕ) → contains set q ≡ false) → Reads bytes true set bytes 0
 unfolding names
-reads-start bytes set none each = record { whole = refl; later = λ s e. e; below = λ q _. each q; first_is = none }
+reads-start bytes set none each = record { whole = refl; later = λ s e. e; below = λ q _. each q; first_is = none; no_zero = each 0 }
+
+-- at the end the set has names alone
+pub reads-names : (bytes : List ℕ) (first : Bool) (set : NameSet) (rest : List ℕ) (place : ℕ) → 64 ≤ place → place ≤ 64 → Reads bytes first set rest place → AreNames set
+reads-names bytes first set rest place high low now q has = (above_zero q has, below_it q has)
+  where
+    above_zero : (q : ℕ) → contains set q ≡ true → 1 ≤ q
+    above_zero zero has = absurd (true≢false (sym has ∙ now.no_zero))
+    above_zero (suc q) has = omega arith
+
+    below_it : (q : ℕ) → contains set q ≡ true → q ≤ 64
+    below_it q has = elim (cases_lt place q) [
+      | inl over ↦ absurd (true≢false (sym has ∙ now.below q over))
+      | inr under ↦ omega arith
+    ]
 
 -- at the end nothing is left to come
 pub reads-end : (bytes : List ℕ) (first : Bool) (set : NameSet) (rest : List ℕ) (place : ℕ) → 64 ≤ place → Reads bytes first set rest place

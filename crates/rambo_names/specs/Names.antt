@@ -1,5 +1,5 @@
 -- Names and sets of names
-use Rattle.std.specs.Prelude.{ℕ, zero, suc, ◌+◌, ◌≤◌, Bool, ◌&&◌, List, [], ◌∷◌, cond, filter}
+use Rattle.std.specs.Prelude.{◌≡◌, true, ℕ, zero, suc, ◌+◌, ◌≤◌, Bool, ◌&&◌, List, [], ◌∷◌, cond, filter}
 use Rattle.std.specs.Coded.{Coded, coded_ℕ}
 use Rattle.std.specs.Ordering.{nat_cmp}
 use Rattle.std.specs.FinSet.{FinSet, code, is_subset, contains}
@@ -11,6 +11,10 @@ IsName n = (1 ≤ n) × (n ≤ 64)
 -- a set of names
 abbrev pub NameSet : Type 0
 NameSet = FinSet nat_cmp
+
+-- a set has no number that is no name
+abbrev pub AreNames : NameSet → Type 0
+AreNames s = (n : ℕ) → contains s n ≡ true → IsName n
 
 -- how a proof tells two sets apart
 abbrev pub names_code : Coded NameSet

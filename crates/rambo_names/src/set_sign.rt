@@ -1,6 +1,6 @@
 //! Reading the sign of a set of names.
 ghost use Rattle.std.specs.Prelude.{◌≡◌, ◌≢◌, ◌+◌, ◌++◌, ℕ, List, ◌<◌, decimal, IfSome, IfNone, MatchBool, MatchOption};
-ghost use Rattle.rambo_names.specs.Names.{NameSet};
+ghost use Rattle.rambo_names.specs.Names.{NameSet, AreNames};
 ghost use Rattle.rambo_names.specs.Signs.{set_text, before, IsEnd};
 
 use crate::members::Members;
@@ -13,6 +13,7 @@ use itoa::Buffer;
 /// None where they spell no set.
 pub fn read_set(bytes: &[u8]) -> Option<Members>
     ensures found { IfSome result (λ s. bytes.now ≡ set_text s) }
+    ensures names { IfSome result (λ s. AreNames s) }
     ensures none { IfNone result ((s : NameSet) → bytes.now ≢ set_text s) }
 {
     if bytes == b"-".as_slice() {

@@ -1,5 +1,5 @@
 pub mod Advances
 pub mod CallLists
-pub mod Copying
 pub mod Judged
+pub mod Sizes
 pub mod Telling

@@ -1,22 +1,29 @@
 -- How open calls are kept
-use Rattle.std.specs.Prelude.{ℕ, ◌+◌, ◌≤◌, List, [], ◌∷◌, map, Option, None, Some, slice_set}
+use Rattle.std.specs.Prelude.{ℕ, ◌+◌, ◌≤◌, List, [], ◌∷◌, map as list_map, Option, None, Some, slice_set}
+use Rattle.std.specs.FinMap as map
 use Rattle.rambo_config_map.specs.Maps.{MapState}
 use Rattle.rambo_phase.specs.Phases.{PhaseState, started, needed}
+use Rattle.rambo_tag.specs.declared.keyed_version.KeyedVersion.{KeyedVersion}
 use Rattle.rambo_tag.specs.declared.version.Version.{Version}
+use Rattle.rambo_tag.specs.Copies.{Copies}
+use Rattle.rambo_atomic.specs.declared.event.CallId.{CallId}
+use Rattle.rambo_atomic.specs.declared.event.Event.TheVariants as event
 use Rattle.rambo_atomic.specs.declared.operation.Op.{Op}
 use Rattle.rambo_node.specs.declared.open_call.OpenCall.{OpenCall}
-use Rattle.rambo_node.specs.declared.progress.Progress.{Progress}
-use Rattle.rambo_node.specs.declared.progress.Progress.TheVariants as progress
+use Rattle.rambo_node.specs.declared.deed.Deed.{Deed}
+use Rattle.rambo_node.specs.declared.effect.Effect.TheVariants as effect
 use Rattle.rambo_node.specs.declared.stage.Stage.{Stage}
 use Rattle.rambo_node.specs.declared.stage.Stage.TheVariants.{Query, Propagation}
 use Rattle.rambo_node.specs.Calls.{CallState, place_of, find_call}
+use Rattle.rambo_node.specs.Changes.{quiet_deed, set_mark, get_mark, copy_put}
 use Rattle.rambo_node.specs.Nodes.{NodeState}
+use Rattle.rambo_node.specs.Operations.{answer_of}
 
 abbrev pub call_of : {Q : Type 0} → OpenCall Q → CallState Q
 call_of c = record { number = c.number; op = c.op; stage = c.stage; phase = c.phase.state }
 
 abbrev pub calls_of : {Q : Type 0} → List (OpenCall Q) → List (CallState Q)
-calls_of cs = map call_of cs
+calls_of cs = list_map call_of cs
 
 abbrev pub call_found : {Q : Type 0} → Option (OpenCall Q) → Option (CallState Q)
 call_found None = None
@@ -38,14 +45,27 @@ propagation_begun x number kept = record x {
   calls = with_call (place_of number x.calls) (find_call number x.calls) (propagating kept (started (x.number + 1) x.map x.name)) x.calls;
 }
 
--- a call that is taken out of the list
-abbrev pub closed_in : Op → Stage → Option Progress
-closed_in o Query = None
-closed_in o (Propagation kept) = Some (progress.Closed o kept)
+-- what a met query does, which keeps a copy
+abbrev pub move_deed : CallId → Op → Option Version → Deed
+move_deed id o kept = record { effect = effect.Moved; event = None; mark = set_mark id o kept; copy = copy_put o kept }
 
-abbrev pub closed_from : {Q : Type 0} → Option (CallState Q) → Option Progress
-closed_from None = None
-closed_from (Some c) = closed_in c.op c.stage
+-- what a met propagation does, which sent a copy round
+abbrev pub answer_deed : CallId → Op → Option Version → Deed
+answer_deed id o kept = record { effect = effect.Answered id (answer_of o kept); event = Some (event.Answer id (answer_of o kept)); mark = get_mark id o kept; copy = None }
+
+-- and what it does if the call is in it
+abbrev pub answered_in : CallId → Op → Stage → Deed
+answered_in id o Query = quiet_deed
+answered_in id o (Propagation kept) = answer_deed id o kept
+
+abbrev pub answered_from : {Q : Type 0} → CallId → Option (CallState Q) → Deed
+answered_from id None = quiet_deed
+answered_from id (Some c) = answered_in id c.op c.stage
+
+-- the copies that are held with one more, if there is one
+abbrev pub copy_held : Copies → Option KeyedVersion → Copies
+copy_held r None = r
+copy_held r (Some c) = map.insert r c.key c.version
 
 -- to hear a letter with this map takes no memory
 abbrev pub IsRoomy : {Q : Type 0} → MapState Q → List (OpenCall Q) → Type 0

@@ -5,3 +5,5 @@ pub mod Letters
 pub mod Hearing
 pub mod Operations
 pub mod Refusals
+pub mod Changes
+pub mod Claims

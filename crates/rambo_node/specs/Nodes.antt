@@ -1,15 +1,15 @@
 -- What a node holds, and what a new one holds
-use Rattle.std.specs.Prelude.{ℕ, ◌-◌, max, if◌then◌else◌, List, [], replicate, slice_index, slice_set}
+use Rattle.std.specs.Prelude.{ℕ, ◌-◌, max, nat_eq, if◌then◌else◌, List, [], Option, None, replicate, slice_index, slice_set}
 use Rattle.std.specs.FinSet as set
 use Rattle.std.specs.FinMap as map
 use Rattle.rambo_names.specs.Names.{NameSet}
 use Rattle.rambo_names.specs.Quorums.{QuorumSystem}
-use Rattle.rambo_tag.specs.declared.change.Change.{Change}
 use Rattle.rambo_tag.specs.Copies.{Copies}
+use Rattle.rambo_atomic.specs.declared.event.CallId.{CallId}
 use Rattle.rambo_config_map.specs.Maps.{MapState, first_map}
 use Rattle.rambo_joiner.specs.declared.status.Status.{Status}
 use Rattle.rambo_joiner.specs.declared.status.Status.TheVariants.{Idle, Active}
-use Rattle.rambo_node.specs.Calls.{CallState}
+use Rattle.rambo_node.specs.Calls.{CallState, find_call}
 
 -- status and names: who takes part, as far as the node knows; registers: its copies; map: its configurations;
 -- number: its phase number; made: the number of its last call; heard: of the names 1, 2, .. the greatest phase number
@@ -25,10 +25,9 @@ pub record NodeState (Q : Type 0) : Type 0 where
   pub heard : List ℕ
   pub calls : List (CallState Q)
 
--- a node as it is kept, with the changes that made its registers
-pub record KeptNode (Q : Type 0) : Type 0 where
-  pub state : NodeState Q
-  pub changes : List Change
+-- the open call of an id: none where the id is of another node
+abbrev pub open_call : {Q : Type 0} → NodeState Q → CallId → Option (CallState Q)
+open_call x id = if nat_eq id.name x.name then find_call id.number x.calls else None
 
 -- the greatest phase number of a name that was heard
 abbrev pub heard_from : List ℕ → ℕ → ℕ

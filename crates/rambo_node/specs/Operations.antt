@@ -14,8 +14,6 @@ use Rattle.rambo_atomic.specs.declared.operation.Answer.TheVariants as answer
 use Rattle.rambo_atomic.specs.Calls.{answer_for}
 use Rattle.rambo_phase.specs.Phases.{started}
 use Rattle.rambo_joiner.specs.declared.status.Status.TheVariants.{Joining, Stopped}
-use Rattle.rambo_node.specs.declared.progress.Progress.{Progress}
-use Rattle.rambo_node.specs.declared.progress.Progress.TheVariants as progress
 use Rattle.rambo_node.specs.declared.stage.Stage.{Stage}
 use Rattle.rambo_node.specs.declared.stage.Stage.TheVariants.{Query, Propagation}
 use Rattle.rambo_node.specs.Calls.{CallState, place_of}
@@ -71,47 +69,12 @@ abbrev pub answer_of : Op → Option Version → Answer
 answer_of (op.Set key value) kept = answer.Ok
 answer_of (op.Get key) kept = answer_for (value_of kept)
 
--- a call whose phase is met goes on
-abbrev pub advanced_from : {Q : Type 0} → NodeState Q → CallState Q → Stage → NodeState Q
-advanced_from x c Query = query_answered x c
-advanced_from x c (Propagation kept) = call_closed x c
-
-abbrev pub advanced : {Q : Type 0} → NodeState Q → Option (CallState Q) → NodeState Q
-advanced x None = x
-advanced x (Some c) = advanced_from x c c.stage
-
--- and what it came to
-abbrev pub query_progress : {Q : Type 0} → NodeState Q → Op → Progress
-query_progress x (op.Get key) = progress.Found
-query_progress x (op.Set key value) = progress.Tagged (op.Set key value) (new_copy x key value)
-
-abbrev pub progress_in : {Q : Type 0} → NodeState Q → Op → Stage → Progress
-progress_in x o Query = query_progress x o
-progress_in x o (Propagation kept) = progress.Closed o kept
-
-abbrev pub progress_of : {Q : Type 0} → NodeState Q → Option (CallState Q) → Option Progress
-progress_of x None = None
-progress_of x (Some c) = Some (progress_in x c.op c.stage)
-
--- the answer that a call gets when its propagation is over
-abbrev pub answer_in : Op → Stage → Option Answer
-answer_in o Query = None
-answer_in o (Propagation kept) = Some (answer_of o kept)
-
-abbrev pub answer_ahead : {Q : Type 0} → Option (CallState Q) → Option Answer
-answer_ahead None = None
-answer_ahead (Some c) = answer_in c.op c.stage
-
 -- the present phase of a call begins anew, under a new number
 unfoldable pub called_again : {Q : Type 0} → NodeState Q → CallState Q → NodeState Q
 called_again x c = record x {
   number = x.number + 1;
   calls = slice_set x.calls (place_of c.number x.calls) (restarted (x.number + 1) x.map x.name c);
 }
-
-abbrev pub again_of : {Q : Type 0} → NodeState Q → Option (CallState Q) → NodeState Q
-again_of x None = x
-again_of x (Some c) = called_again x c
 
 -- an idle node joins: it knows itself and its contacts
 unfoldable pub joined_by : {Q : Type 0} → NodeState Q → NameSet → NodeState Q

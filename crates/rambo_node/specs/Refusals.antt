@@ -1,4 +1,4 @@
--- Why a node refuses a step: of the causes that hold, the least number is answered
+-- Why a node refuses a change of each kind: of the causes that hold, the least number is answered
 use Rattle.std.specs.Prelude.{ℕ, ◌^◌, ◌-◌, Bool, true, false, not, ◌&&◌, ◌||◌, nat_eq, nat_le, nat_lt, List, [], ◌∷◌, length, Option, None, Some}
 use Rattle.std.specs.FinSet as set
 use Rattle.std.specs.FinMap as map
@@ -7,6 +7,7 @@ use Rattle.rambo_names.specs.Names.{NameSet, count_of}
 use Rattle.rambo_names.specs.Quorums.{QuorumSystem}
 use Rattle.rambo_names.specs.Refusals.{Cause, cause}
 use Rattle.rambo_tag.specs.Tags.{tag_of}
+use Rattle.rambo_atomic.specs.declared.event.CallId.{CallId}
 use Rattle.rambo_atomic.specs.declared.operation.Op.{Op}
 use Rattle.rambo_atomic.specs.declared.operation.Op.TheVariants as op
 use Rattle.rambo_atomic.specs.Calls.{key_of}
@@ -14,9 +15,9 @@ use Rattle.rambo_phase.specs.Phases.{is_met}
 use Rattle.rambo_joiner.specs.Statuses.{is_idle, is_early, is_stopped}
 use Rattle.rambo_gossip.specs.declared.letter.Kind.{Kind}
 use Rattle.rambo_gossip.specs.declared.letter.Kind.TheVariants as kind
-use Rattle.rambo_node.specs.Calls.{CallState, find_call}
+use Rattle.rambo_node.specs.Calls.{CallState}
 use Rattle.rambo_node.specs.Hearing.{any_gap}
-use Rattle.rambo_node.specs.Nodes.{NodeState}
+use Rattle.rambo_node.specs.Nodes.{NodeState, open_call}
 use Rattle.rambo_node.specs.Operations.{query_in}
 
 -- whether a counter can't rise
@@ -69,15 +70,15 @@ abbrev pub is_missing : {Q : Type 0} → Option (CallState Q) → Bool
 is_missing None = true
 is_missing (Some c) = false
 
-abbrev pub advance_causes : {Q : Type 0} → QuorumSystem Q → NodeState Q → ℕ → List Cause
-advance_causes s x number =
-    let found = find_call number x.calls in
+abbrev pub advance_causes : {Q : Type 0} → QuorumSystem Q → NodeState Q → CallId → List Cause
+advance_causes s x id =
+    let found = open_call x id in
     cause NotActive (is_early x.status) ∷ cause Stopped (is_stopped x.status) ∷ cause NoSuchCall (is_missing found)
     ∷ cause NotYet (is_unmet s found) ∷ cause NumbersSpent (query_spent x (query_in found)) ∷ []
 
-abbrev pub again_causes : {Q : Type 0} → NodeState Q → ℕ → List Cause
-again_causes x number =
-    cause NotActive (is_early x.status) ∷ cause Stopped (is_stopped x.status) ∷ cause NoSuchCall (is_missing (find_call number x.calls))
+abbrev pub again_causes : {Q : Type 0} → NodeState Q → CallId → List Cause
+again_causes x id =
+    cause NotActive (is_early x.status) ∷ cause Stopped (is_stopped x.status) ∷ cause NoSuchCall (is_missing (open_call x id))
     ∷ cause NumbersSpent (is_last x.number) ∷ []
 
 abbrev pub stop_causes : {Q : Type 0} → NodeState Q → List Cause

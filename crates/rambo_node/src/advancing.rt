@@ -1,210 +1,146 @@
-//! How open calls go on.
-ghost use Rattle.std.specs.Prelude.{◌≡◌, ◌++◌, ◌∷◌, [], None, Some, false, IfOk, IfErr, OnOk, OnErr};
-ghost use Rattle.std.specs.FinMap as map;
-ghost use Rattle.rambo_names.specs.Refusals.{least, IsRefusal};
-ghost use Rattle.rambo_tag.specs.Changes.{Extends, IsRising, latest_of};
-ghost use Rattle.rambo_tag.specs.Tags.{tag_of};
-ghost use Rattle.rambo_node.specs.Calls.{find_call};
+//! How open calls begin and go on.
+ghost use Rattle.std.specs.Prelude.{◌≡◌, None, Some, false, IfOk, IfErr, OnOk, OnErr};
 ghost use Rattle.std.specs.Option.{option_copied};
-ghost use Rattle.rambo_atomic.specs.declared.operation.Op.TheVariants as op;
-ghost use Rattle.rambo_node.specs.Kept.{propagation_begun};
-ghost use Rattle.rambo_node.specs.Operations.{query_in, query_progress, new_copy, answer_ahead, advanced, progress_of, again_of};
-ghost use Rattle.rambo_node.specs.Refusals.{is_last, is_missing, query_spent, advance_causes, again_causes};
+ghost use Rattle.rambo_tag.specs.Tags.{tag_of};
+ghost use Rattle.rambo_node.specs.Changes.{refusal_of, made_by, advanced};
+ghost use Rattle.rambo_node.specs.Kept.{copy_held, propagation_begun};
+ghost use Rattle.rambo_node.specs.Nodes.{open_call};
+ghost use Rattle.rambo_node.specs.Operations.{query_in, taken};
+ghost use Rattle.rambo_node.specs.Refusals.{is_last, is_missing, query_spent, tags_spent};
+ghost use Rattle.rambo_node.specs.declared.change.Change.TheVariants as change;
 
+use crate::deed::{Deed, clone_of};
+use crate::effect::Effect;
 use crate::node::Node;
-use crate::progress::Progress;
-use rambo_atomic::{Answer, Op};
-use rambo_names::{Bytes, Quorums, Refusal};
-use rambo_tag::{Replica, Tag, Version};
+use rambo_atomic::{CallId, Event, Op};
+use rambo_names::{Quorums, Refusal};
+use rambo_tag::{KeyedVersion, Replica, Tag, Version};
 
 impl<Q: Quorums, S: Replica> Node<Q, S> {
-    /// The answer that the open call of this number gets when its propagation is over, if it is in it.
-    ///
-    /// `OutOfMemory` where a count of owners is full.
-    pub fn answer_ahead(&self, number: u64) -> Result<Option<Answer>, Refusal>
-        ensures ok { IfOk result (λ answer. answer ≡ answer_ahead (find_call number self.now.state.calls)) }
+    // A call that isn't refused begins.
+    #[tactic(auto, unfolding(crate::specs::Changes::made_by, crate::specs::Operations::called))]
+    pub(crate) fn do_call(&mut self, op: Op) -> Result<Deed, Refusal>
+        requires { refusal_of Q.system self.old (change.Call op) ≡ None }
+        ensures node { OnOk result (self.new ≡ (made_by self.old (change.Call op)).node) }
+        ensures deed { IfOk result (λ d. d ≡ (made_by self.old (change.Call op)).deed) }
         ensures refused { IfErr result (λ r. r ≡ Refusal.OutOfMemory) }
+        ensures err { OnErr result (self.new ≡ self.old) }
     {
-        self.calls.answer_ahead(number)
+        let id = CallId {
+            name: self.name,
+            number: self.made + 1,
+        };
+        let event = Event::Call(id, op.clone()?);
+        self.calls
+            .open(id.number, op, self.number + 1, &self.map, self.name)?;
+        self.number += 1;
+        self.made = id.number;
+        Ok(Deed {
+            effect: Effect::Called(id),
+            event: Some(event),
+            mark: None,
+            copy: None,
+        })
     }
 
-    /// The open call of this number goes on, whose phase is met. In its query a get finds the copy that it
-    /// will answer, a set makes a new copy under the next tag of its key, and the propagation begins; in its
-    /// propagation the call is answered.
-    ///
-    /// Refused are 3 where the node is idle or joining, 4 where it has stopped, 7 where there is no such open
-    /// call, 8 where its phase isn't met, 21 where it is in its query and the phase number, or for a set the
-    /// sequence number of the key's tag, is the greatest one, 22 where there is no room for the copy.
-    pub fn advance(&mut self, number: u64) -> Result<Progress, Refusal>
-        ensures judged { OnOk result (least (advance_causes Q.system self.old.state number) ≡ None) }
-        ensures ok { OnOk result (self.new.state ≡ advanced self.old.state (find_call number self.old.state.calls)) }
-        ensures progress { IfOk result (λ p. Some p ≡ progress_of self.old.state (find_call number self.old.state.calls)) }
-        ensures refused { IfErr result (IsRefusal (least (advance_causes Q.system self.old.state number))) }
-        ensures err { OnErr result (self.new ≡ self.old) }
-        ensures grows { Extends self.old.changes self.new.changes }
-        ensures rises { IsRising self.old.changes → IsRising self.new.changes }
-        ensures recorded { OnOk result (self.new.state.registers ≡ latest_of self.new.changes) }
+    // A phase that isn't refused begins anew.
+    #[tactic(auto, unfolding(crate::specs::Changes::made_by, crate::specs::Operations::called_again))]
+    pub(crate) fn do_again(&mut self, id: CallId)
+        requires { refusal_of Q.system self.old (change.Again id) ≡ None }
+        ensures { self.new ≡ (made_by self.old (change.Again id)).node }
     {
-        self.may_advance(number)?;
-        self.go_on(number)
-    }
-
-    /// The present phase of the open call of this number begins anew, under a new number, with the node's
-    /// present map, and with the node alone as a replier.
-    ///
-    /// Refused are 3 where the node is idle or joining, 4 where it has stopped, 7 where there is no such open
-    /// call, 21 where the phase number is the greatest one.
-    #[tactic(auto, unfolding(crate::specs::Operations::called_again))]
-    pub fn again(&mut self, number: u64) -> Result<(), Refusal>
-        ensures judged { OnOk result (least (again_causes self.old.state number) ≡ None) }
-        ensures ok { OnOk result (self.new.state ≡ again_of self.old.state (find_call number self.old.state.calls)) }
-        ensures refused { IfErr result (λ r. least (again_causes self.old.state number) ≡ Some r) }
-        ensures err { OnErr result (self.new ≡ self.old) }
-        ensures changes { self.new.changes ≡ self.old.changes }
-    {
-        self.may_restart(number)?;
         self.number += 1;
         self.calls
-            .restart(number, self.number, &self.map, self.name);
-        Ok(())
+            .restart(id.number, self.number, &self.map, self.name);
     }
-}
 
-impl<Q: Quorums, S: Replica> Node<Q, S> {
-    // A call that may advance does so.
-    fn go_on(&mut self, number: u64) -> Result<Progress, Refusal>
-        requires { least (advance_causes Q.system self.old.state number) ≡ None }
-        ensures ok { OnOk result (self.new.state ≡ advanced self.old.state (find_call number self.old.state.calls)) }
-        ensures progress { IfOk result (λ p. Some p ≡ progress_of self.old.state (find_call number self.old.state.calls)) }
+    // A call that isn't refused goes on.
+    #[tactic(auto, unfolding(crate::specs::Changes::made_by))]
+    pub(crate) fn do_advance(&mut self, id: CallId) -> Result<Deed, Refusal>
+        requires { refusal_of Q.system self.old (change.Advance id) ≡ None }
+        ensures node { OnOk result (self.new ≡ (made_by self.old (change.Advance id)).node) }
+        ensures deed { IfOk result (λ d. d ≡ (made_by self.old (change.Advance id)).deed) }
         ensures refused { IfErr result (λ r. r ≡ Refusal.OutOfMemory) }
         ensures err { OnErr result (self.new ≡ self.old) }
-        ensures grows { Extends self.old.changes self.new.changes }
-        ensures rises { IsRising self.old.changes → IsRising self.new.changes }
-        ensures recorded { OnOk result (self.new.state.registers ≡ latest_of self.new.changes) }
     {
-        let asked = match self.calls.query(number) {
+        let asked = match self.query(&id) {
             Some(op) => op.clone()?,
-            None => return Ok(self.close(number)),
+            None => return self.close(id),
         };
-        self.answer_query(number, asked)
+        self.answer_query(id, asked)
     }
 
-    // A query that asked for this is answered.
-    fn answer_query(&mut self, number: u64, asked: Op) -> Result<Progress, Refusal>
-        requires asked { query_in (find_call number self.old.state.calls) ≡ Some asked }
-        requires next { query_spent self.old.state (Some asked) ≡ false }
-        ensures ok { OnOk result (self.new.state ≡ advanced self.old.state (find_call number self.old.state.calls)) }
-        ensures progress { IfOk result (λ p. p ≡ query_progress self.old.state asked) }
+    // A met propagation is answered.
+    fn close(&mut self, id: CallId) -> Result<Deed, Refusal>
+        requires open { is_missing (open_call self.old id) ≡ false }
+        requires told { query_in (open_call self.old id) ≡ None }
+        ensures node { OnOk result (self.new ≡ (advanced self.old id (open_call self.old id)).node) }
+        ensures deed { IfOk result (λ d. d ≡ (advanced self.old id (open_call self.old id)).deed) }
         ensures refused { IfErr result (λ r. r ≡ Refusal.OutOfMemory) }
         ensures err { OnErr result (self.new ≡ self.old) }
-        ensures grows { Extends self.old.changes self.new.changes }
-        ensures rises { IsRising self.old.changes → IsRising self.new.changes }
-        ensures recorded { OnOk result (self.new.state.registers ≡ latest_of self.new.changes) }
     {
-        match asked {
-            Op::Get(key) => self.find(number, &key),
-            Op::Set(key, value) => self.tag(number, key, value),
-        }
+        let number = id.number;
+        let deed = self.calls.answered(id)?;
+        self.calls.close(number);
+        Ok(deed)
     }
 
-    // What a get found goes round.
-    fn find(&mut self, number: u64, key: &Bytes) -> Result<Progress, Refusal>
-        requires asked { query_in (find_call number self.old.state.calls) ≡ Some (op.Get key.now) }
-        requires next { is_last self.old.state.number ≡ false }
-        ensures ok { OnOk result (self.new.state ≡ advanced self.old.state (find_call number self.old.state.calls)) }
-        ensures progress { IfOk result (λ p. p ≡ Progress.Found) }
+    // A query that asked for this is answered, and its propagation begins. All that can fail comes first.
+    fn answer_query(&mut self, id: CallId, asked: Op) -> Result<Deed, Refusal>
+        requires asked { query_in (open_call self.old id) ≡ Some asked }
+        requires next { query_spent self.old (Some asked) ≡ false }
+        ensures node { OnOk result (self.new ≡ (advanced self.old id (open_call self.old id)).node) }
+        ensures deed { IfOk result (λ d. d ≡ (advanced self.old id (open_call self.old id)).deed) }
         ensures refused { IfErr result (λ r. r ≡ Refusal.OutOfMemory) }
         ensures err { OnErr result (self.new ≡ self.old) }
-        ensures changes { self.new.changes ≡ self.old.changes }
-        ensures recorded { OnOk result (self.new.state.registers ≡ latest_of self.new.changes) }
     {
-        let kept = clone_of(self.registers.copy(key.as_slice()))?;
+        let number = id.number;
+        let kept = self.taken(&asked)?;
+        let deed = Deed::moved(id, &asked, &kept)?;
+        self.put(&deed.copy)?;
         self.propagate(number, kept);
-        Ok(Progress::Found)
-    }
-
-    // A set makes a copy, which goes round.
-    fn tag(&mut self, number: u64, key: Bytes, value: Bytes) -> Result<Progress, Refusal>
-        requires asked { query_in (find_call number self.old.state.calls) ≡ Some (op.Set key value) }
-        requires next { is_last self.old.state.number ≡ false }
-        requires tags { is_last (tag_of (map.get self.old.state.registers key)).sequence ≡ false }
-        ensures ok { OnOk result (self.new.state ≡ advanced self.old.state (find_call number self.old.state.calls)) }
-        ensures progress { IfOk result (λ p. p ≡ Progress.Tagged (op.Set key value) (new_copy self.old.state key value)) }
-        ensures refused { IfErr result (λ r. r ≡ Refusal.OutOfMemory) }
-        ensures err { OnErr result (self.new ≡ self.old) }
-        ensures grows { Extends self.old.changes self.new.changes }
-        ensures rises { IsRising self.old.changes → IsRising self.new.changes }
-        ensures recorded { OnOk result (self.new.state.registers ≡ latest_of self.new.changes) }
-    {
-        let version = self.new_copy(&key, &value)?;
-        self.keep(number, &key, &version)?;
-        Ok(Progress::Tagged(Op::Set(key, value), version))
-    }
-
-    // The copy that a set made is put, and goes round.
-    fn keep(&mut self, number: u64, key: &Bytes, version: &Version) -> Result<(), Refusal>
-        requires { is_last self.old.state.number ≡ false }
-        ensures ok { OnOk result (self.new.state ≡ propagation_begun (record self.old.state { registers = map.insert self.old.state.registers key.now version.now }) number (Some version.now)) }
-        ensures refused { IfErr result (λ r. r ≡ Refusal.OutOfMemory) }
-        ensures err { OnErr result (self.new ≡ self.old) }
-        ensures changes { OnOk result (self.new.changes ≡ self.old.changes ++ record { key = key.now; version = version.now } ∷ []) }
-        ensures recorded { OnOk result (self.new.state.registers ≡ latest_of self.new.changes) }
-    {
-        let kept = version.clone()?;
-        self.registers.put(key.clone()?, version.clone()?)?;
-        self.propagate(number, Some(kept));
-        Ok(())
+        Ok(deed)
     }
 
     // The propagation of a call begins.
     fn propagate(&mut self, number: u64, kept: Option<Version>)
-        requires { is_last self.old.state.number ≡ false }
-        ensures state { self.new.state ≡ propagation_begun self.old.state number kept }
-        ensures changes { self.new.changes ≡ self.old.changes }
-        ensures recorded { self.new.state.registers ≡ latest_of self.new.changes }
+        requires { is_last self.old.number ≡ false }
+        ensures { self.new ≡ propagation_begun self.old number kept }
     {
         self.number += 1;
         self.calls
             .propagate(number, kept, self.number, &self.map, self.name);
     }
 
-    // The copy that a set makes.
-    fn new_copy(&self, key: &Bytes, value: &Bytes) -> Result<Version, Refusal>
-        requires { is_last (tag_of (map.get self.now.state.registers key.now)).sequence ≡ false }
-        ensures ok { IfOk result (λ v. v ≡ new_copy self.now.state key.now value.now) }
+    // The copy that a met query keeps, if a set has a next tag.
+    fn taken(&self, op: &Op) -> Result<Option<Version>, Refusal>
+        ensures ok { IfOk result (λ v. tags_spent self.now op.now ≡ false → v ≡ taken self.now op.now) }
         ensures refused { IfErr result (λ r. r ≡ Refusal.OutOfMemory) }
-        ensures recorded { self.now.state.registers ≡ latest_of self.now.changes }
     {
-        let sequence = sequence_of(self.registers.copy(key.as_slice()));
-        Ok(Version {
-            tag: Tag {
-                sequence: sequence + 1,
-                name: self.name,
-            },
-            value: Some(value.clone()?),
-        })
+        let held = self.registers.copy(op.key().as_slice());
+        match op {
+            Op::Get(_) => clone_of(held),
+            Op::Set(_, value) => Ok(Some(Version {
+                tag: Tag {
+                    sequence: sequence_of(held).saturating_add(1),
+                    name: self.name,
+                },
+                value: Some(value.clone()?),
+            })),
+        }
     }
 
-    // The answered propagation.
-    fn close(&mut self, number: u64) -> Progress
-        requires open { is_missing (find_call number self.old.state.calls) ≡ false }
-        requires told { query_in (find_call number self.old.state.calls) ≡ None }
-        ensures state { self.new.state ≡ advanced self.old.state (find_call number self.old.state.calls) }
-        ensures progress { Some result ≡ progress_of self.old.state (find_call number self.old.state.calls) }
-        ensures changes { self.new.changes ≡ self.old.changes }
-        ensures recorded { self.new.state.registers ≡ latest_of self.new.changes }
+    // Puts a copy, if there is one.
+    fn put(&mut self, copy: &Option<KeyedVersion>) -> Result<(), Refusal>
+        ensures ok { OnOk result (self.new ≡ record self.old { registers = copy_held self.old.registers copy.now }) }
+        ensures refused { IfErr result (λ r. r ≡ Refusal.OutOfMemory) }
+        ensures err { OnErr result (self.new ≡ self.old) }
     {
-        self.calls.close(number).unwrap_or(Progress::Found)
-    }
-}
-
-fn clone_of(version: Option<&Version>) -> Result<Option<Version>, Refusal>
-    ensures same { IfOk result (λ v. v ≡ option_copied version.entry) }
-    ensures refused { IfErr result (λ r. r ≡ Refusal.OutOfMemory) }
-{
-    match version {
-        Some(version) => Ok(Some(version.clone()?)),
-        None => Ok(None),
+        if let Some(copy) = copy {
+            self.registers
+                .put(copy.key.clone()?, copy.version.clone()?)?;
+        }
+        Ok(())
     }
 }
 

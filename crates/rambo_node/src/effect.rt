@@ -1,5 +1,8 @@
 //! What a step does.
 
+ghost use Rattle.std.specs.Prelude.{◌≡◌};
+ghost use Rattle.rambo_node.specs.Changes.{answer_in};
+
 use rambo_atomic::{Answer, CallId};
 
 /// What an accepted step did.
@@ -15,4 +18,16 @@ pub enum Effect {
     Moved,
     /// A call's propagation phase was met.
     Answered(CallId, Answer),
+}
+
+impl Effect {
+    // The answer that a call got, if it did.
+    pub(crate) fn into_answer(self) -> Option<Answer>
+        ensures { result ≡ answer_in self }
+    {
+        match self {
+            Effect::Answered(_, answer) => Some(answer),
+            _ => None,
+        }
+    }
 }

@@ -1,12 +1,15 @@
-//! Why a node refuses a step.
+//! Why a node refuses a change.
 ghost use Rattle.std.specs.Prelude.{◌≡◌, OnOk, IfErr, None, Some};
 ghost use Rattle.rambo_names.specs.Refusals.{least};
-ghost use Rattle.rambo_node.specs.Refusals.{join_causes, call_causes, send_causes, hear_causes, advance_causes, again_causes, stop_causes, tags_spent, value_is_long, restarts, query_spent, is_last};
-ghost use Rattle.rambo_node.specs.Calls.{find_call};
+ghost use Rattle.rambo_node.specs.Refusals.{join_causes, call_causes, send_causes, advance_causes, again_causes, stop_causes, tags_spent, value_is_long, restarts, query_spent, is_last, is_missing, is_unmet};
+ghost use Rattle.rambo_node.specs.Nodes.{open_call};
 ghost use Rattle.rambo_node.specs.Operations.{query_in};
+ghost use Rattle.rambo_node.specs.Changes.{refusal_of};
+ghost use Rattle.rambo_node.specs.declared.change.Change.TheVariants as change;
 
+use crate::change::Change;
 use crate::node::Node;
-use rambo_atomic::Op;
+use rambo_atomic::{CallId, Op};
 use rambo_gossip::{Kind, Letter};
 use rambo_names::{Members, Name, Quorums, Refusal};
 use rambo_tag::Replica;
@@ -21,9 +24,60 @@ const VALUE_LIMIT: usize = 4096;
 const CALL_LIMIT: usize = 64;
 
 impl<Q: Quorums, S: Replica> Node<Q, S> {
+    /// Why a change is refused, if it is: the least number of the causes that hold.
+    ///
+    /// - `Join`: 2 where the node isn't idle, 18 where there is no contact.
+    /// - `Call`: 3 where it is idle or joining, 4 where it has stopped, 9 where it has 64 open calls, 19 where
+    ///   the key has over 256 bytes, 20 where the value has over 4,096 bytes, 21 where its phase number or its
+    ///   last call number is the greatest one.
+    /// - `Send`: 3 where it is idle, 4 where it has stopped, 5 where the name is its own or one that it
+    ///   doesn't know.
+    /// - `Deliver`: 3 where it is idle, 4 where it has stopped, 21 where a phase would begin anew and the phase
+    ///   number is the greatest one.
+    /// - `Advance`: 3 where it is idle or joining, 4 where it has stopped, 7 where there is no such open call,
+    ///   8 where its phase isn't met, 21 where it is in its query and the phase number, or for a set the
+    ///   sequence number of the key's tag, is the greatest one.
+    /// - `Again`: 3 where it is idle or joining, 4 where it has stopped, 7 where there is no such open call, 21
+    ///   where the phase number is the greatest one.
+    /// - `Stop`: 3 where it is idle, 4 where it has stopped.
+    pub fn judge(&self, change: &Change<Q>) -> Result<(), Refusal>
+        ensures ok { OnOk result (refusal_of Q.system self.now change.now ≡ None) }
+        ensures refused { IfErr result (λ r. refusal_of Q.system self.now change.now ≡ Some r) }
+    {
+        match change {
+            Change::Join(contacts) => self.may_join(*contacts),
+            Change::Call(op) => self.may_call(op),
+            Change::Send(to) => self.may_send(*to),
+            Change::Deliver(letter) => self.may_hear(letter),
+            Change::Advance(id) => self.may_advance(id),
+            Change::Again(id) => self.may_restart(id),
+            Change::Stop => self.may_stop(),
+        }
+    }
+
+    /// Why a letter is refused, if it is: 3 where the node is idle, 4 where it has stopped, 21 where a phase
+    /// would begin anew and the phase number is the greatest one.
+    pub fn may_hear(&self, letter: &Letter<Q>) -> Result<(), Refusal>
+        ensures ok { OnOk result (refusal_of Q.system self.now (change.Deliver letter.now) ≡ None) }
+        ensures refused { IfErr result (λ r. refusal_of Q.system self.now (change.Deliver letter.now) ≡ Some r) }
+    {
+        if self.status.is_idle() {
+            return Err(Refusal::NotActive);
+        }
+        if self.status.is_stopped() {
+            return Err(Refusal::Stopped);
+        }
+        if self.restarts(&letter.kind) && is_last(self.number) {
+            return Err(Refusal::NumbersSpent);
+        }
+        Ok(())
+    }
+}
+
+impl<Q: Quorums, S: Replica> Node<Q, S> {
     // Whether a letter would restart a phase.
     fn restarts(&self, kind: &Kind<Q>) -> bool
-        ensures { result ≡ restarts self.now.state kind.now }
+        ensures { result ≡ restarts self.now kind.now }
     {
         match kind {
             Kind::Join => false,
@@ -33,7 +87,7 @@ impl<Q: Quorums, S: Replica> Node<Q, S> {
 
     // Whether a set can take no further tag.
     fn tags_are_spent(&self, op: &Op) -> bool
-        ensures { result ≡ tags_spent self.now.state op.now }
+        ensures { result ≡ tags_spent self.now op.now }
     {
         match op {
             Op::Get(_) => false,
@@ -44,11 +98,10 @@ impl<Q: Quorums, S: Replica> Node<Q, S> {
         }
     }
 
-    /// Whether the node may join with these contacts: refused are 2 where it isn't idle, 18 where there is no
-    /// contact.
-    pub fn may_join(&self, contacts: Members) -> Result<(), Refusal>
-        ensures ok { OnOk result (least (join_causes self.now.state contacts) ≡ None) }
-        ensures refused { IfErr result (λ r. least (join_causes self.now.state contacts) ≡ Some r) }
+    // Whether the node may join with these contacts.
+    pub(crate) fn may_join(&self, contacts: Members) -> Result<(), Refusal>
+        ensures ok { OnOk result (least (join_causes self.now contacts) ≡ None) }
+        ensures refused { IfErr result (λ r. least (join_causes self.now contacts) ≡ Some r) }
     {
         if !self.status.is_idle() {
             return Err(Refusal::NameUsed);
@@ -59,12 +112,10 @@ impl<Q: Quorums, S: Replica> Node<Q, S> {
         Ok(())
     }
 
-    /// Whether a client may ask this of the node: refused are 3 where it is idle or joining, 4 where it has
-    /// stopped, 9 where it has 64 open calls, 19 where the key has over 256 bytes, 20 where the value has over
-    /// 4,096 bytes, 21 where its phase number or its last call number is the greatest one.
+    /// Why a client may not ask this of the node, if it may not: what `judge` says of a call, where none is made yet.
     pub fn may_call(&self, op: &Op) -> Result<(), Refusal>
-        ensures ok { OnOk result (least (call_causes self.now.state op.now) ≡ None) }
-        ensures refused { IfErr result (λ r. least (call_causes self.now.state op.now) ≡ Some r) }
+        ensures ok { OnOk result (least (call_causes self.now op.now) ≡ None) }
+        ensures refused { IfErr result (λ r. least (call_causes self.now op.now) ≡ Some r) }
     {
         if self.status.is_early() {
             return Err(Refusal::NotActive);
@@ -90,11 +141,10 @@ impl<Q: Quorums, S: Replica> Node<Q, S> {
         Ok(())
     }
 
-    /// Whether the node may send a letter to a name: refused are 3 where it is idle, 4 where it has stopped,
-    /// 5 where the name is its own or one that it doesn't know.
-    pub fn may_send(&self, to: Name) -> Result<(), Refusal>
-        ensures ok { OnOk result (least (send_causes self.now.state to) ≡ None) }
-        ensures refused { IfErr result (λ r. least (send_causes self.now.state to) ≡ Some r) }
+    // Whether the node may send a letter to a name.
+    pub(crate) fn may_send(&self, to: Name) -> Result<(), Refusal>
+        ensures ok { OnOk result (least (send_causes self.now to) ≡ None) }
+        ensures refused { IfErr result (λ r. least (send_causes self.now to) ≡ Some r) }
     {
         if self.status.is_idle() {
             return Err(Refusal::NotActive);
@@ -108,41 +158,34 @@ impl<Q: Quorums, S: Replica> Node<Q, S> {
         Ok(())
     }
 
-    /// Whether a letter may come to the node: refused are 3 where it is idle, 4 where it has stopped, 21 where
-    /// a phase would restart and the phase number is the greatest one.
-    pub fn may_hear(&self, letter: &Letter<Q>) -> Result<(), Refusal>
-        ensures ok { OnOk result (least (hear_causes self.now.state letter.now.kind) ≡ None) }
-        ensures refused { IfErr result (λ r. least (hear_causes self.now.state letter.now.kind) ≡ Some r) }
+    // Whether there is no open call of an id.
+    fn is_missing(&self, id: &CallId) -> bool
+        ensures { result ≡ is_missing (open_call self.now id.now) }
     {
-        if self.status.is_idle() {
-            return Err(Refusal::NotActive);
-        }
-        if self.status.is_stopped() {
-            return Err(Refusal::Stopped);
-        }
-        if self.restarts(&letter.kind) && is_last(self.number) {
-            return Err(Refusal::NumbersSpent);
-        }
-        Ok(())
+        id.name != self.name || self.calls.is_missing(id.number)
+    }
+
+    // Whether there is an open call of an id whose phase isn't met.
+    fn is_unmet(&self, id: &CallId) -> bool
+        ensures { result ≡ is_unmet Q.system (open_call self.now id.now) }
+    {
+        id.name == self.name && self.calls.is_unmet(id.number)
     }
 
     // Whether an answered query can't go on.
-    fn query_is_spent(&self, number: u64) -> bool
-        ensures { result ≡ query_spent self.now.state (query_in (find_call number self.now.state.calls)) }
+    fn query_is_spent(&self, id: &CallId) -> bool
+        ensures { result ≡ query_spent self.now (query_in (open_call self.now id.now)) }
     {
-        match self.calls.query(number) {
+        match self.query(id) {
             Some(op) => is_last(self.number) || self.tags_are_spent(op),
             None => false,
         }
     }
 
-    /// Whether the open call of this number may go on: refused are 3 where the node is idle or joining, 4
-    /// where it has stopped, 7 where there is no such open call, 8 where its phase isn't met, 21 where it is
-    /// in its query and the phase number, or for a set the sequence number of the key's tag, is the greatest
-    /// one.
-    pub fn may_advance(&self, number: u64) -> Result<(), Refusal>
-        ensures ok { OnOk result (least (advance_causes Q.system self.now.state number) ≡ None) }
-        ensures refused { IfErr result (λ r. least (advance_causes Q.system self.now.state number) ≡ Some r) }
+    // Whether the open call of an id may go on.
+    pub(crate) fn may_advance(&self, id: &CallId) -> Result<(), Refusal>
+        ensures ok { OnOk result (least (advance_causes Q.system self.now id.now) ≡ None) }
+        ensures refused { IfErr result (λ r. least (advance_causes Q.system self.now id.now) ≡ Some r) }
     {
         if self.status.is_early() {
             return Err(Refusal::NotActive);
@@ -150,24 +193,22 @@ impl<Q: Quorums, S: Replica> Node<Q, S> {
         if self.status.is_stopped() {
             return Err(Refusal::Stopped);
         }
-        if self.calls.is_missing(number) {
+        if self.is_missing(id) {
             return Err(Refusal::NoSuchCall);
         }
-        if self.calls.is_unmet(number) {
+        if self.is_unmet(id) {
             return Err(Refusal::NotYet);
         }
-        if self.query_is_spent(number) {
+        if self.query_is_spent(id) {
             return Err(Refusal::NumbersSpent);
         }
         Ok(())
     }
 
-    /// Whether the phase of the open call of this number may begin anew: refused are 3 where the node is idle
-    /// or joining, 4 where it has stopped, 7 where there is no such open call, 21 where the phase number is
-    /// the greatest one.
-    pub fn may_restart(&self, number: u64) -> Result<(), Refusal>
-        ensures ok { OnOk result (least (again_causes self.now.state number) ≡ None) }
-        ensures refused { IfErr result (λ r. least (again_causes self.now.state number) ≡ Some r) }
+    // Whether the phase of the open call of an id may begin anew.
+    pub(crate) fn may_restart(&self, id: &CallId) -> Result<(), Refusal>
+        ensures ok { OnOk result (least (again_causes self.now id.now) ≡ None) }
+        ensures refused { IfErr result (λ r. least (again_causes self.now id.now) ≡ Some r) }
     {
         if self.status.is_early() {
             return Err(Refusal::NotActive);
@@ -175,7 +216,7 @@ impl<Q: Quorums, S: Replica> Node<Q, S> {
         if self.status.is_stopped() {
             return Err(Refusal::Stopped);
         }
-        if self.calls.is_missing(number) {
+        if self.is_missing(id) {
             return Err(Refusal::NoSuchCall);
         }
         if is_last(self.number) {
@@ -184,10 +225,10 @@ impl<Q: Quorums, S: Replica> Node<Q, S> {
         Ok(())
     }
 
-    /// Whether the node may stop: refused are 3 where it is idle, 4 where it has stopped.
-    pub fn may_stop(&self) -> Result<(), Refusal>
-        ensures ok { OnOk result (least (stop_causes self.now.state) ≡ None) }
-        ensures refused { IfErr result (λ r. least (stop_causes self.now.state) ≡ Some r) }
+    // Whether the node may stop.
+    pub(crate) fn may_stop(&self) -> Result<(), Refusal>
+        ensures ok { OnOk result (least (stop_causes self.now) ≡ None) }
+        ensures refused { IfErr result (λ r. least (stop_causes self.now) ≡ Some r) }
     {
         if self.status.is_idle() {
             return Err(Refusal::NotActive);

@@ -1,21 +1,23 @@
-//! One node of the store: its copies, its map, its open calls, and what it makes of letters.
+//! One node of the store: its copies, its map, its open calls, and what it makes of changes.
 #![tactic(auto)]
 
 mod advancing;
+mod change;
+mod deed;
 mod effect;
 mod heard_numbers;
 mod hearing;
 mod judging;
+mod laws;
 mod node;
 mod open_call;
 mod open_calls;
-mod progress;
 mod stage;
+mod taking;
 
+pub use change::Change;
+pub use deed::Deed;
 pub use effect::Effect;
+pub use laws::{causes_rise, short_letters_are_heard_alike};
 pub use node::Node;
-pub use progress::Progress;
 pub use stage::Stage;
-
-#[cfg(test)]
-mod tests;

@@ -2,12 +2,11 @@
 ghost use Rattle.std.specs.Prelude.{◌≡◌, ◌≤◌, IfOk, IfErr};
 ghost use Rattle.rambo_phase.specs.Phases.{needed, started};
 ghost use Rattle.rambo_node.specs.Hearing.{heard_call, restarted};
-ghost use Rattle.rambo_node.specs.Operations.{answer_in, answer_of};
-ghost use Rattle.rambo_node.specs.Kept.{call_of, closed_in, propagating};
+ghost use Rattle.rambo_node.specs.Kept.{call_of, propagating, answered_in};
 
-use crate::progress::Progress;
+use crate::deed::Deed;
 use crate::stage::Stage;
-use rambo_atomic::{Answer, Op};
+use rambo_atomic::{CallId, Op};
 use rambo_config_map::ConfigMap;
 use rambo_names::{Name, Quorums, Refusal};
 use rambo_phase::{Heard, Phase};
@@ -44,25 +43,14 @@ impl<Q: Quorums> OpenCall<Q> {
         self.phase = Phase::start(number, map, me);
     }
 
-    // The answer that it gets when its propagation is over, if it is in it.
-    pub(crate) fn answer_ahead(&self) -> Result<Option<Answer>, Refusal>
-        ensures ok { IfOk result (λ answer. answer ≡ answer_in self.now.op self.now.stage) }
+    // What it does when its propagation is met, if it is in it.
+    pub(crate) fn answered(&self, id: CallId) -> Result<Deed, Refusal>
+        ensures ok { IfOk result (λ d. d ≡ answered_in id self.now.op self.now.stage) }
         ensures refused { IfErr result (λ r. r ≡ Refusal.OutOfMemory) }
     {
         match &self.stage {
-            Stage::Query => Ok(None),
-            Stage::Propagation(kept) => Ok(Some(answer_of(&self.op, kept)?)),
-        }
-    }
-
-    // What it came to, where it sent a copy round.
-    pub(crate) fn into_progress(self) -> Option<Progress>
-        ensures { result ≡ closed_in self.op self.stage }
-    {
-        let OpenCall { op, stage, .. } = self;
-        match stage {
-            Stage::Query => None,
-            Stage::Propagation(kept) => Some(Progress::Closed(op, kept)),
+            Stage::Query => Ok(Deed::quiet()),
+            Stage::Propagation(kept) => Deed::answered(id, &self.op, kept),
         }
     }
 
@@ -86,24 +74,5 @@ impl<Q: Quorums> OpenCall<Q> {
             Ok(Heard::Old) => {}
             Err(_) => {}
         }
-    }
-}
-
-// The answer to an operation that sent a copy round.
-fn answer_of(op: &Op, kept: &Option<Version>) -> Result<Answer, Refusal>
-    ensures ok { IfOk result (λ answer. answer ≡ answer_of op.now kept.now) }
-    ensures refused { IfErr result (λ r. r ≡ Refusal.OutOfMemory) }
-{
-    match op {
-        Op::Set(_, _) => Ok(Answer::Ok),
-        Op::Get(_) => match kept {
-            Some(
-                Version {
-                    value: Some(value),
-                    ..
-                },
-            ) => Ok(Answer::Value(value.clone()?)),
-            _ => Ok(Answer::Nil),
-        },
     }
 }

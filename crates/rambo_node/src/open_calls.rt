@@ -1,18 +1,18 @@
 //! The open calls of a node, the oldest first.
-ghost use Rattle.std.specs.Prelude.{◌≡◌, ◌≤◌, ◌<◌, ◌++◌, ◌∷◌, [], length, Some, IfSome, OnOk, OnErr, IfOk, IfErr, slice_get, remove, map as list_map};
+ghost use Rattle.std.specs.Prelude.{◌≡◌, ◌≤◌, ◌<◌, ◌++◌, ◌∷◌, [], length, OnOk, OnErr, IfOk, IfErr, remove, map as list_map};
 ghost use Rattle.std.specs.Option.{option_copied};
 ghost use Rattle.rambo_node.specs.Calls.{place_of, find_call};
 ghost use Rattle.rambo_node.specs.Hearing.{any_gap, restarted, heard_call};
-ghost use Rattle.rambo_node.specs.Kept.{calls_of, call_found, with_call, propagating, closed_from, IsRoomy};
-ghost use Rattle.rambo_node.specs.Operations.{query_in, answer_ahead};
-ghost use Rattle.rambo_phase.specs.Phases.{started};
+ghost use Rattle.rambo_node.specs.Kept.{calls_of, call_found, with_call, propagating, answered_from, IsRoomy};
+ghost use Rattle.rambo_node.specs.Operations.{query_in};
 ghost use Rattle.rambo_node.specs.Refusals.{is_missing, is_unmet};
+ghost use Rattle.rambo_phase.specs.Phases.{started};
 ghost use Rattle.rambo_node.specs.declared.stage.Stage.TheVariants.{Query};
 
+use crate::deed::Deed;
 use crate::open_call::OpenCall;
-use crate::progress::Progress;
 use crate::stage::Stage;
-use rambo_atomic::{Answer, Op};
+use rambo_atomic::{CallId, Op};
 use rambo_config_map::ConfigMap;
 use rambo_names::{Name, Quorums, Refusal};
 use rambo_phase::{Heard, Phase};
@@ -49,6 +49,11 @@ impl<Q: Quorums> OpenCalls<Q> {
             list: Vec::new(alloc),
             spare: None,
         }
+    }
+
+    // Where its memory comes from.
+    pub(crate) fn alloc(&self) -> Global {
+        *self.list.allocator()
     }
 
     pub(crate) fn len(&self) -> usize
@@ -108,16 +113,15 @@ impl<Q: Quorums> OpenCalls<Q> {
         self.list[place].restart(phase_number, map, me);
     }
 
-    // Takes the call of a number out, and tells what it came to where it sent a copy round.
-    pub(crate) fn close(&mut self, number: u64) -> Option<Progress>
-        ensures calls { calls_of self.new ≡ remove (calls_of self.old) (place_of number (calls_of self.old)) }
-        ensures progress { result ≡ closed_from (find_call number (calls_of self.old)) }
+    // Takes the call of a number out.
+    pub(crate) fn close(&mut self, number: u64)
+        ensures { calls_of self.new ≡ remove (calls_of self.old) (place_of number (calls_of self.old)) }
     {
         let place = self.place_of(number);
         if place >= self.list.len() {
-            return None;
+            return;
         }
-        self.list.remove(place).into_progress()
+        self.list.remove(place);
     }
 
     // Makes room for what a map has above the phases, so that to hear it takes no memory.
@@ -190,14 +194,14 @@ impl<Q: Quorums> OpenCalls<Q> {
         }
     }
 
-    // The answer that the call of a number gets when its propagation is over, if it is in it.
-    pub(crate) fn answer_ahead(&self, number: u64) -> Result<Option<Answer>, Refusal>
-        ensures ok { IfOk result (λ answer. answer ≡ answer_ahead (find_call number (calls_of self.now))) }
+    // What the call of an id's number does when its propagation is met, if it is in it.
+    pub(crate) fn answered(&self, id: CallId) -> Result<Deed, Refusal>
+        ensures ok { IfOk result (λ d. d ≡ answered_from id (find_call id.number (calls_of self.now))) }
         ensures refused { IfErr result (λ r. r ≡ Refusal.OutOfMemory) }
     {
-        match find(self.list.as_slice(), number) {
-            Some(call) => call.answer_ahead(),
-            None => Ok(None),
+        match find(self.list.as_slice(), id.number) {
+            Some(call) => call.answered(id),
+            None => Ok(Deed::quiet()),
         }
     }
 

@@ -1,7 +1,9 @@
 pub mod Counts
+pub mod ItemShapes
 pub mod LineWords
 pub mod Judged
 pub mod LineFaults
 pub mod Loops
 pub mod Rows
+pub mod TextLaws
 pub mod TextSteps

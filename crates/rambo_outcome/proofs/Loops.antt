@@ -4,7 +4,7 @@ use Rattle.std.specs.List.{slice_get}
 use Rattle.std.proofs.lemmas.Option.{slice_get-get_or}
 use Rattle.std.proofs.lemmas.List.{drop_all, drop_more}
 use Rattle.rambo_names.specs.declared.refusal.Refusal.{Refusal}
-use Rattle.rambo_names.specs.Names.{NameSet}
+use Rattle.rambo_names.specs.Quorums.{QuorumSystem}
 use Rattle.rambo_atomic.specs.declared.event.Event.{Event}
 use Rattle.rambo_node.specs.declared.effect.Effect.{Effect}
 use Rattle.rambo_run.specs.Runs.{OutcomeState}
@@ -41,14 +41,14 @@ step_on h rs i r out new whole lt item now before =
     ∙ ap (λ t. out ++ items_text (steps_items h (i + 1) t)) (sym split) ∙ before
 
 -- the steps, then the sequences, then the maps
-pub whole_text : (o : OutcomeState NameSet) (start a b c : List ℕ) → start ≡ [] → a ≡ start ++ items_text (steps_items o.history 1 o.effects)
-    → b ≡ a ++ items_text (map Ordered o.sequences) → c ≡ b ++ items_text (map map_item o.maps) → c ≡ outcome_lines o
-whole_text o start a b c none steps sequences maps =
+pub whole_text : {Q : Type 0} (s : QuorumSystem Q) (o : OutcomeState Q) (start a b c : List ℕ) → start ≡ [] → a ≡ start ++ items_text (steps_items o.history 1 o.effects)
+    → b ≡ a ++ items_text (map Ordered o.sequences) → c ≡ b ++ items_text (map (map_item s) o.maps) → c ≡ outcome_lines s o
+whole_text s o start a b c none steps sequences maps =
     let first : a ≡ items_text (steps_items o.history 1 o.effects) = steps ∙ ap (λ t. t ++ items_text (steps_items o.history 1 o.effects)) none in
     maps
-    ∙ ap (λ t. t ++ items_text (map map_item o.maps))
+    ∙ ap (λ t. t ++ items_text (map (map_item s) o.maps))
     (sequences ∙ ap (λ t. t ++ items_text (map Ordered o.sequences)) first ∙ sym (items-append (steps_items o.history 1 o.effects) (map Ordered o.sequences)))
-    ∙ sym (items-append (steps_items o.history 1 o.effects ++ map Ordered o.sequences) (map map_item o.maps))
+    ∙ sym (items-append (steps_items o.history 1 o.effects ++ map Ordered o.sequences) (map (map_item s) o.maps))
 
 apart : {X : Type 0} (o : Option X) (x : X) → o ≡ None → o ≡ Some x → ⊥
 apart o x e f = let clash : None ≡ Some x = sym e ∙ f in cc

@@ -2,6 +2,7 @@ pub mod Checks
 pub mod EvidenceStates
 pub mod Items
 pub mod Judgings
+pub mod Laws
 pub mod Lines
 pub mod Outcomes
 pub mod Plans

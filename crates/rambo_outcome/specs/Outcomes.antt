@@ -1,7 +1,7 @@
 -- What an outcome says, line by line
 use Rattle.std.specs.Prelude.{ℕ, ◌+◌, List, [], ◌∷◌, ◌++◌, map, Option, None, Some, Result, Ok, Err}
 use Rattle.rambo_names.specs.declared.refusal.Refusal.{Refusal}
-use Rattle.rambo_names.specs.Names.{NameSet}
+use Rattle.rambo_names.specs.Quorums.{QuorumSystem}
 use Rattle.rambo_names.specs.Refusals.{number_of}
 use Rattle.rambo_atomic.specs.declared.operation.Op.{Op}
 use Rattle.rambo_atomic.specs.declared.event.CallId.{CallId}
@@ -10,8 +10,7 @@ use Rattle.rambo_atomic.specs.declared.event.Event.TheVariants as event
 use Rattle.rambo_atomic.specs.Histories.{call_in}
 use Rattle.rambo_node.specs.declared.effect.Effect.{Effect}
 use Rattle.rambo_node.specs.declared.effect.Effect.TheVariants as effect
-use Rattle.rambo_run.specs.declared.outcome.NodeMap.{NodeMap}
-use Rattle.rambo_run.specs.Runs.{OutcomeState}
+use Rattle.rambo_run.specs.Runs.{MapOf, OutcomeState}
 use Rattle.rambo_outcome.specs.Lines.{Item, Happened, Refused, Ordered, Mapped, items_text}
 
 -- a call that was made, with what the history says that it asked
@@ -33,13 +32,14 @@ abbrev pub steps_items : List Event → ℕ → List (Result Effect Refusal) →
 steps_items h n [] = []
 steps_items h n (r ∷ rs) = step_items h n r ++ steps_items h (n + 1) rs
 
-abbrev pub map_item : NodeMap NameSet → Item
-map_item m = Mapped m.name m.map.floor m.map.configs
+-- of a configuration its members are told
+abbrev pub map_item : {Q : Type 0} → QuorumSystem Q → MapOf Q → Item
+map_item s m = Mapped m.name m.floor (map s.members m.active)
 
 -- the steps, then the sequences, then the maps
-abbrev pub outcome_items : OutcomeState NameSet → List Item
-outcome_items o = steps_items o.history 1 o.effects ++ map Ordered o.sequences ++ map map_item o.maps
+abbrev pub outcome_items : {Q : Type 0} → QuorumSystem Q → OutcomeState Q → List Item
+outcome_items s o = steps_items o.history 1 o.effects ++ map Ordered o.sequences ++ map (map_item s) o.maps
 
 -- the text of an outcome
-abbrev pub outcome_lines : OutcomeState NameSet → List ℕ
-outcome_lines o = items_text (outcome_items o)
+abbrev pub outcome_lines : {Q : Type 0} → QuorumSystem Q → OutcomeState Q → List ℕ
+outcome_lines s o = items_text (outcome_items s o)

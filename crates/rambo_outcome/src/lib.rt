@@ -2,6 +2,7 @@
 //!
 //! - `outcome_text`: what a run gave, in lines of words.
 //! - `check_text`: for each key of such a text, whether its sequence explains its calls and answers.
+//! - `one_reading` and the others: laws of such texts.
 #![tactic(auto)]
 
 mod checking;
@@ -9,6 +10,7 @@ mod evidence;
 mod item;
 mod judging;
 mod kept;
+mod laws;
 mod line;
 mod operands;
 mod order;
@@ -17,7 +19,5 @@ mod text;
 mod verdict_text;
 
 pub use checking::check_text;
+pub use laws::{no_told_is_faulty, one_evidence, one_fault, one_reading};
 pub use outcome::outcome_text;
-
-#[cfg(test)]
-mod tests;

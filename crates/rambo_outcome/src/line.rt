@@ -9,8 +9,7 @@ ghost use Rattle.rambo_outcome.specs.Lines.{Happened, Refused, Ordered, op_words
 ghost use Rattle.rambo_outcome.specs.Outcomes.{map_item};
 
 use rambo_atomic::{Answer, CallId, Op};
-use rambo_config_map::Places;
-use rambo_names::{Majority, Members, Quorums, Refusal, write_set};
+use rambo_names::{Quorums, Refusal, write_set};
 use rambo_run::NodeMap;
 use rambo_sequence::KeySequence;
 use rambo_text::{write_call, write_hex, write_name, write_num};
@@ -110,28 +109,26 @@ fn write_calls(calls: &[CallId], out: &mut Vec<u8>) -> Result<(), Refusal>
 }
 
 /// Appends the line of a node's map.
-pub(crate) fn write_map(node: &NodeMap<Majority>, out: &mut Vec<u8>) -> Result<(), Refusal>
-    ensures ok { OnOk result (out.new.items ≡ out.old.items ++ item_line (map_item node.now)) }
+pub(crate) fn write_map<Q: Quorums>(node: &NodeMap<Q>, out: &mut Vec<u8>) -> Result<(), Refusal>
+    ensures ok { OnOk result (out.new.items ≡ out.old.items ++ item_line (map_item Q.system node.now)) }
     ensures refused { IfErr result (λ r. r ≡ Refusal.OutOfMemory) }
 {
     out.extend_from_slice(b"map ")?;
     write_name(node.name, out)?;
     out.push(b' ')?;
-    write_num(node.map.floor(), out)?;
-    write_configs(node.map.places(), out)?;
+    write_num(node.floor, out)?;
+    write_configs(node.active.as_slice(), out)?;
     out.push(b'\n')?;
     Ok(())
 }
 
-fn write_configs(places: &Places<Majority>, out: &mut Vec<u8>) -> Result<(), Refusal>
-    ensures ok { OnOk result (out.new.items ≡ out.old.items ++ more_words (map set_text places.now.configs)) }
+fn write_configs<Q: Quorums>(configs: &[Q], out: &mut Vec<u8>) -> Result<(), Refusal>
+    ensures ok { OnOk result (out.new.items ≡ out.old.items ++ more_words (map set_text (map Q.system.members configs.now))) }
     ensures refused { IfErr result (λ r. r ≡ Refusal.OutOfMemory) }
 {
-    for place in 0..places.len() {
-        if let Some(config) = places.get(place) {
-            out.push(b' ')?;
-            write_set(&config.members(), out)?;
-        }
+    for config in configs {
+        out.push(b' ')?;
+        write_set(&config.members(), out)?;
     }
     Ok(())
 }

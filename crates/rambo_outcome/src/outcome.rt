@@ -5,18 +5,18 @@ ghost use Rattle.rambo_outcome.specs.Outcomes.{step_items, steps_items, map_item
 
 use crate::line::{write_answered, write_called, write_map, write_refused, write_sequence};
 use rambo_atomic::History;
-use rambo_names::{Majority, Refusal};
+use rambo_names::{Quorums, Refusal};
 use rambo_node::Effect;
 use rambo_run::{NodeMap, Outcome};
 use rambo_sequence::KeySequence;
 use std::alloc::Global;
 
 /// The text of an outcome: a line for each call, answer and refusal in the order of the steps, then one for each
-/// sequence, then one for each map.
+/// sequence, then one for each map, in which the members of each configuration stand.
 ///
 /// `OutOfMemory` where there is no room for it.
-pub fn outcome_text(alloc: Global, outcome: &Outcome<Majority>) -> Result<Vec<u8>, Refusal>
-    ensures text { IfOk result (λ text. text.items ≡ outcome_lines outcome.now) }
+pub fn outcome_text<Q: Quorums>(alloc: Global, outcome: &Outcome<Q>) -> Result<Vec<u8>, Refusal>
+    ensures text { IfOk result (λ text. text.items ≡ outcome_lines Q.system outcome.now) }
     ensures refused { IfErr result (λ r. r ≡ Refusal.OutOfMemory) }
 {
     let mut out = Vec::new(alloc);
@@ -71,8 +71,8 @@ fn write_sequences(sequences: &[KeySequence], out: &mut Vec<u8>) -> Result<(), R
     Ok(())
 }
 
-fn write_maps(maps: &[NodeMap<Majority>], out: &mut Vec<u8>) -> Result<(), Refusal>
-    ensures ok { OnOk result (out.new.items ≡ out.old.items ++ items_text (map map_item maps.now)) }
+fn write_maps<Q: Quorums>(maps: &[NodeMap<Q>], out: &mut Vec<u8>) -> Result<(), Refusal>
+    ensures ok { OnOk result (out.new.items ≡ out.old.items ++ items_text (map (map_item Q.system) maps.now)) }
     ensures refused { IfErr result (λ r. r ≡ Refusal.OutOfMemory) }
 {
     for node in maps {

@@ -8,6 +8,3 @@ mod phase;
 pub use counting::counting_laws;
 pub use heard::Heard;
 pub use phase::Phase;
-
-#[cfg(test)]
-mod tests;

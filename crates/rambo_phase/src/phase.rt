@@ -32,14 +32,14 @@ impl<Q: Quorums> Model for Phase<Q> {
 
     ghost view = { λ p. record { state = record { number = p.number; lo = p.lo; configs = p.places.configs; repliers = p.repliers }; capacity = p.places.capacity } };
 
-    ghost invariant = { λ p. p.lo + length p.places.configs ≤ 2 ^ 64 };
+    ghost invariant = { λ p. (p.lo + length p.places.configs ≤ 2 ^ 64) × (8 ≤ p.places.capacity) };
 }
 
 impl<Q: Quorums> Phase<Q> {
     /// A phase of node `me` begins with the configurations of its map, and the node replies to itself.
     pub fn start(number: u64, map: &ConfigMap<Q>, me: Name) -> Self
         ensures state { result.state ≡ started number map.now me }
-        ensures room { 8 ≤ result.capacity }
+        ensures inline { result.capacity ≡ 8 }
     {
         Phase {
             number,
@@ -79,6 +79,7 @@ impl<Q: Quorums> Phase<Q> {
         ensures err { OnErr result (self.new ≡ self.old) }
         ensures refused { IfErr result (λ r. r ≡ Refusal.OutOfMemory) }
         ensures succeeds { needed self.old.state map.now ≤ self.old.capacity → IsOk result }
+        ensures had_room { needed self.old.state map.now ≤ self.old.capacity → self.new ≡ self.old }
         ensures capacity { self.old.capacity ≤ self.new.capacity }
     {
         let more = map.places().len().saturating_sub(self.known(map));
@@ -100,6 +101,11 @@ impl<Q: Quorums> Phase<Q> {
         ensures err { OnErr result (self.new ≡ self.old) }
         ensures refused { IfErr result (λ r. r ≡ Refusal.OutOfMemory) }
         ensures succeeds { needed self.old.state map.now ≤ self.old.capacity → IsOk result }
+
+        // It takes no memory where there is room, and for eight configurations there always is.
+        ensures had_room { needed self.old.state map.now ≤ self.old.capacity
+            → self.new.capacity ≡ self.old.capacity }
+        ensures eight { 8 ≤ self.old.capacity }
         ensures capacity { self.old.capacity ≤ self.new.capacity }
     {
         let answer = self.would_hear(heard, map);
@@ -136,6 +142,7 @@ impl<Q: Quorums> Phase<Q> {
         ensures refused { IfErr result (λ r. r ≡ Refusal.OutOfMemory) }
         ensures succeeds { length self.now.state.configs ≤ 8 → IsOk result }
         ensures room { IfOk result (λ copy. 8 ≤ copy.capacity) }
+        ensures inline { length self.now.state.configs ≤ 8 → IfOk result (λ copy. copy.capacity ≡ 8) }
     {
         Ok(Phase {
             number: self.number,

@@ -19,7 +19,7 @@ use Rattle.rambo_node.specs.Operations.{taken, answer_of}
 use Rattle.rambo_sequence.specs.declared.mark.Mark.{Mark}
 use Rattle.rambo_sequence.specs.Sequences.{call_place}
 use Rattle.rambo_run.specs.Worlds.{WorldState, first_world}
-use Rattle.rambo_run.specs.Steps.{id_of}
+use Rattle.rambo_run.proofs.Deeds.{id_of}
 use Rattle.rambo_run.proofs.Lists.{none-some, Member}
 use Rattle.rambo_run.proofs.Turn.{Moments, Run}
 use Rattle.rambo_run.proofs.Held.{from_then}
@@ -27,7 +27,7 @@ use Rattle.rambo_run.proofs.Phases.{calls_at}
 use Rattle.rambo_run.proofs.LaterPhases.{Done, met_quorum, reads}
 use Rattle.rambo_run.proofs.Events.{none_or_some, call_kept, call_still, answer_split, answer_still, before_called, before_answered, before_answer, before_call, place_there, place_kept, place_new}
 use Rattle.rambo_run.proofs.Seen.{Seen, mark_of, t_still, t_node, t_calls, t_queries, t_answers}
-use Rattle.rambo_run.proofs.Worlds.{Worlds}
+use Rattle.rambo_run.proofs.Worlds.{Worlds, Came}
 use Rattle.rambo_run.proofs.Books.{Book, apart_same, get_cases, get_new, next_new}
 use Rattle.rambo_run.proofs.Booked.{book}
 use Rattle.rambo_run.proofs.Tags.{node, sight, run, turns, Turning, Queried, Answers, by_query, by_answer, mark_split, mark_later, told_split, new_tag}
@@ -46,7 +46,7 @@ module _ {Q : Type 0} (s : QuorumSystem Q) (law : IsSound s) (founders : Q) (wor
   abbrev pub H : ℕ → List Event
   H m = (world m).history
 
-  abbrev runs : Run s founders at
+  abbrev runs : Run s (Came s founders world worlds) founders at
   runs = run s founders world worlds
 
   abbrev Going : ℕ → Type 0

@@ -5,11 +5,11 @@ use Rattle.rambo_atomic.specs.Histories.{call_in, answer_in}
 use Rattle.rambo_node.specs.Calls.{CallState}
 use Rattle.rambo_node.specs.Nodes.{first_node}
 use Rattle.rambo_run.specs.Worlds.{WorldState, first_world}
-use Rattle.rambo_run.specs.Steps.{id_of}
+use Rattle.rambo_run.proofs.Deeds.{id_of}
 use Rattle.rambo_run.proofs.Lists.{pick, none-some, Member}
 use Rattle.rambo_run.proofs.Numbers.{Numbered, numbered_at}
 use Rattle.rambo_run.proofs.Seen.{same_refl, WorldTurn, t_still, t_node, t_calls, t_queries, t_answers}
-use Rattle.rambo_run.proofs.Worlds.{Worlds, at, view, steps, run_of}
+use Rattle.rambo_run.proofs.Worlds.{Worlds, Came, at, view, steps, run_of}
 use Rattle.rambo_run.proofs.Books.{Apart, Book, book_same, book_calls, book_queries, book_answers}
 
 module _ {Q : Type 0} (s : QuorumSystem Q) (founders : Q) (world : ℕ → WorldState Q) (worlds : Worlds s founders world) where
@@ -43,7 +43,7 @@ module _ {Q : Type 0} (s : QuorumSystem Q) (founders : Q) (world : ℕ → World
         positive = λ n c i. absurd (no_calls n c i);
       }
 
-  book_on : (m : ℕ) → Book (view s founders world worlds m) → WorldTurn s (at s founders world worlds) m (view s founders world worlds m) (view s founders world worlds (suc m)) → Book (view s founders world worlds (suc m))
+  book_on : (m : ℕ) → Book (view s founders world worlds m) → WorldTurn s (Came s founders world worlds) (at s founders world worlds) m (view s founders world worlds m) (view s founders world worlds (suc m)) → Book (view s founders world worlds (suc m))
   book_on m b (t_still e) = subst Book (sym e) b
   book_on m b (t_node n y t k g e) =
       let v = view s founders world worlds m in

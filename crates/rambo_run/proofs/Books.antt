@@ -16,7 +16,7 @@ use Rattle.rambo_node.specs.Calls.{CallState, propagates, kept_in}
 use Rattle.rambo_node.specs.Nodes.{NodeState}
 use Rattle.rambo_node.specs.Operations.{called, taken, query_answered, call_closed, answer_of}
 use Rattle.rambo_sequence.specs.declared.mark.Mark.{Mark}
-use Rattle.rambo_run.specs.Steps.{id_of, with_set, with_get}
+use Rattle.rambo_run.proofs.Deeds.{id_of, with_set, with_get}
 use Rattle.rambo_run.proofs.Lists.{pick, none-some, Member, member_more, member_left, member_last, member_put, member_out}
 use Rattle.rambo_run.proofs.Numbers.{Numbered}
 use Rattle.rambo_run.proofs.Events.{none_or_some, call_kept, answer_kept, call_last, answer_last, call_split, answer_split, call_still, answer_still}

@@ -12,13 +12,13 @@ use Rattle.rambo_sequence.specs.Sequences.{sequence_of}
 use Rattle.rambo_run.specs.declared.step.Step.{Step}
 use Rattle.rambo_run.specs.Worlds.{WorldState, node_at}
 use Rattle.rambo_run.specs.Runs.{run}
-use Rattle.rambo_run.specs.Claims.{IsAtomic, Agrees, AtLeast, RepliesAreFresh}
+use Rattle.rambo_run.specs.Claims.{IsAtomic, Agrees, AtLeast, IsHeard, RepliesAreFresh}
 use Rattle.rambo_run.proofs.Lists.{some_inj, Member, member_stands}
 use Rattle.rambo_run.proofs.Turn.{Moments}
 use Rattle.rambo_run.proofs.Events.{none_or_some}
 use Rattle.rambo_run.proofs.Held.{HoldsAll, maps_first, get_or-replicate}
-use Rattle.rambo_run.proofs.Phases.{calls_at}
-use Rattle.rambo_run.proofs.Worlds.{Worlds, at, run_of}
+use Rattle.rambo_run.proofs.Phases.{Replied, calls_at}
+use Rattle.rambo_run.proofs.Worlds.{Worlds, Came, at, run_of}
 use Rattle.rambo_run.proofs.Sequence.{proper}
 use Rattle.rambo_run.proofs.Moments.{moment, worlds, last_moment}
 use Rattle.rambo_run.proofs.NodeLists.{node_is, node_stays, nowhere}
@@ -55,17 +55,33 @@ module _ {Q : Type 0} (s : QuorumSystem Q) (founders : Q) (world : ℕ → World
   unfolding first_node
   first_heard j n = get_or-replicate 64 (n - 1) 0
 
+  abbrev Replies : ℕ → ℕ → ℕ → ℕ → ℕ → ℕ → Type 0
+  Replies n t m j u number = Replied (Came s founders world all) then n t m j u number
+
   -- who replied is a node
-  replier_there : (m u n j number : ℕ) (x : NodeState Q) → node_at (world m) n ≡ Some x → 1 ≤ number → (j ≡ n) ⊎ (number ≤ heard_from (then u j).heard n) → node_at (world u) j ≡ Some (then u j)
-  replier_there m u n j number x e a h = elim h [
-    | inl q ↦ subst (λ j. node_at (world u) j ≡ Some (then u j)) (sym q) (node_stays s founders world all m u n x e)
+  replier_there : (m t u n j number : ℕ) (x : NodeState Q) → node_at (world m) n ≡ Some x → 1 ≤ number → Replies n t m j u number → node_at (world u) j ≡ Some (then u j)
+  replier_there m t u n j number x e a h = elim h [
+    | inl q ↦ subst (λ j. node_at (world u) j ≡ Some (then u j)) (sym q.0) (node_stays s founders world all m u n x e)
     | inr l ↦ elim (none_or_some (node_at (world u) j)) [
       | inr r ↦ node_stays s founders world all u u j r.0 r.1
-      | inl q ↦ absurd (let z : heard_from (then u j).heard n ≡ 0 = ap (λ x. heard_from x.heard n) (nowhere s founders world all u j q) ∙ first_heard j n in omega (arith, z, l, a))
+      | inl q ↦ absurd (let z : heard_from (then u j).heard n ≡ 0 = ap (λ x. heard_from x.heard n) (nowhere s founders world all u j q) ∙ first_heard j n in omega (arith, z, l.0, a))
     ]
   ]
 
--- each counted reply was told after its sender had heard a letter that was sent since the phase began
+module _ {Q : Type 0} (s : QuorumSystem Q) (founders : Q) (ss : List Step) where
+  abbrev node : Moments Q
+  node m n = at s founders (moment s founders ss) (worlds s founders ss) m n
+
+  came_heard : (m n u j : ℕ) → Came s founders (moment s founders ss) (worlds s founders ss) m n u j → IsHeard s founders ss n j u (node u j)
+  unfolding worlds
+  came_heard m n u j h = record { active = h.active; sent = h.sent.happens; letter = h.letter; number = h.sent.number; heard_at = m; later = h.later; came = h.comes; content = h.content }
+
+  reply_heard : (m t u n j number : ℕ) → Replies s founders (moment s founders ss) (worlds s founders ss) n t m j u number
+      → ((j ≡ n) × (u ≡ t)) ⊎ ((number ≤ heard_from (node u j).heard n) × IsHeard s founders ss n j u (node u j))
+  reply_heard m t u n j number h = elim h [ inl o ↦ inl o | inr r ↦ inr (r.0, came_heard r.1 n u j r.3) ]
+
+-- each counted reply was told after its sender had heard a letter that was sent since the phase began, and came in one
+-- that was sent then
 pub replies_are_fresh : {Q : Type 0} (s : QuorumSystem Q) → RepliesAreFresh s
 replies_are_fresh s founders ss n x e c st j i =
     let all = worlds s founders ss in
@@ -89,7 +105,8 @@ replies_are_fresh s founders ss n x e c st j i =
         | inr le ↦ absurd (let b : f.began ≤ u = f.phase.fresh.by u (subst (λ y. c.phase.number ≤ y.number) (node_is s founders world all u n y h) le) in omega (arith, b, l))
       ];
       replier = node r.moment j;
-      replier_is = replier_there s founders world all m r.moment n j c.phase.number x here f.phase.positive r.heard;
-      heard = r.heard;
+      replier_is = replier_there s founders world all m f.began r.moment n j c.phase.number x here f.phase.positive r.heard;
+      heard = reply_heard s founders ss m f.began r.moment n j c.phase.number r.heard;
       holds = at_least (node f.began n) (node r.moment j) r.reply.told;
+      kept = subst (AtLeast (node r.moment j)) (sym is_x) (at_least (node r.moment j) (node m n) r.reply.kept);
     }

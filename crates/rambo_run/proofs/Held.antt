@@ -20,7 +20,7 @@ use Rattle.rambo_node.specs.Letters.{gossip_for}
 use Rattle.rambo_node.specs.Hearing.{heard_gossip, any_gap, number_after}
 use Rattle.rambo_node.specs.Operations.{called, taken, new_copy, with_copy, query_answered, call_closed, called_again}
 use Rattle.rambo_run.proofs.Lists.{pick}
-use Rattle.rambo_run.proofs.Turn.{Moments, Turn, stays, quiet, calls, hears, queried, answers, agains, Run}
+use Rattle.rambo_run.proofs.Turn.{Moments, Telling, Turn, stays, quiet, calls, hears, queried, answers, agains, Run}
 
 -- y holds at least what x holds
 pub record HoldsAll {Q : Type 0} (x y : NodeState Q) : Type 0 where
@@ -100,12 +100,12 @@ unfolding heard_gossip
 hear_right x j n y a b = record { tags = λ key. TagLe-joined_right x.registers y.registers key; floor = omega arith; top = omega (arith, merged_end x.map y.map a b) }
 
 -- a node keeps its name
-pub name_turn : {Q : Type 0} (s : QuorumSystem Q) (at : Moments Q) (m n : ℕ) (x y : NodeState Q) → Turn s at m n x y → y.name ≡ x.name
+pub name_turn : {Q : Type 0} {T : Telling} (s : QuorumSystem Q) (at : Moments Q) (m n : ℕ) (x y : NodeState Q) → Turn s T at m n x y → y.name ≡ x.name
 unfolding called query_answered call_closed called_again heard_gossip
 name_turn s at m n x y (stays e) = ap (λ y. y.name) e
 name_turn s at m n x y (quiet st known e) = ap (λ y. y.name) e
 name_turn s at m n x y (calls o e) = ap (λ y. y.name) e
-name_turn s at m n x y (hears u j h b k e) = ap (λ y. y.name) e
+name_turn s at m n x y (hears u j h b k t e) = ap (λ y. y.name) e
 name_turn s at m n x y (queried c i p h e) = ap (λ y. y.name) e
 name_turn s at m n x y (answers c i p h e) = ap (λ y. y.name) e
 name_turn s at m n x y (agains c i e) = ap (λ y. y.name) e
@@ -128,15 +128,15 @@ pub record Reply {Q : Type 0} (at : Moments Q) (n t m j u : ℕ) : Type 0 where
   pub told : HoldsAll (at t n) (at u j)
   pub kept : HoldsAll (at u j) (at m n)
 
-module _ {Q : Type 0} (s : QuorumSystem Q) (founders : Q) (at : Moments Q) (run : Run s founders at) where
+module _ {Q : Type 0} {T : Telling} (s : QuorumSystem Q) (founders : Q) (at : Moments Q) (run : Run s T founders at) where
   -- what the first map has and merging keeps, each map has
   map_turn : (P : MapState Q → Type 0) → ((a b : MapState Q) → P a → P b → P (merged_map a b)) → (m : ℕ) → ((u : ℕ) → u ≤ m → (n : ℕ) → P (at u n).map)
-      → (n : ℕ) (y : NodeState Q) → Turn s at m n (at m n) y → P y.map
+      → (n : ℕ) (y : NodeState Q) → Turn s T at m n (at m n) y → P y.map
   unfolding called query_answered call_closed called_again heard_gossip
   map_turn P merge m f n y (stays e) = subst (λ y. P y.map) (sym e) (f m (omega arith) n)
   map_turn P merge m f n y (quiet st known e) = subst (λ y. P y.map) (sym e) (f m (omega arith) n)
   map_turn P merge m f n y (calls o e) = subst (λ y. P y.map) (sym e) (f m (omega arith) n)
-  map_turn P merge m f n y (hears u j h b k e) = subst (λ y. P y.map) (sym e) (merge (at m n).map (at u j).map (f m (omega arith) n) (f u h j))
+  map_turn P merge m f n y (hears u j h b k t e) = subst (λ y. P y.map) (sym e) (merge (at m n).map (at u j).map (f m (omega arith) n) (f u h j))
   map_turn P merge m f n y (queried c i p h e) = subst (λ y. P y.map) (sym e) (f m (omega arith) n)
   map_turn P merge m f n y (answers c i p h e) = subst (λ y. P y.map) (sym e) (f m (omega arith) n)
   map_turn P merge m f n y (agains c i e) = subst (λ y. P y.map) (sym e) (f m (omega arith) n)
@@ -161,12 +161,12 @@ module _ {Q : Type 0} (s : QuorumSystem Q) (founders : Q) (at : Moments Q) (run 
   names zero n = ap (λ x. x.name) (run.first n)
   names (suc m) n = name_turn s at m n (at m n) (at (suc m) n) (run.turn m n) ∙ names m n
 
-  growth : (m n : ℕ) → Turn s at m n (at m n) (at (suc m) n) → Growth at m (at m n) (at (suc m) n)
+  growth : (m n : ℕ) → Turn s T at m n (at m n) (at (suc m) n) → Growth at m (at m n) (at (suc m) n)
   unfolding called query_answered call_closed called_again heard_gossip
   growth m n (stays e) = by_itself (holds_same _ _ (ap (λ y. y.registers) e) (ap (λ y. y.map) e)) (omega (arith, ap (λ y. y.number) e)) (ap (λ y. y.heard) e) (omega (arith, ap (λ y. y.made) e))
   growth m n (quiet st known e) = by_itself (holds_same _ _ (ap (λ y. y.registers) e) (ap (λ y. y.map) e)) (omega (arith, ap (λ y. y.number) e)) (ap (λ y. y.heard) e) (omega (arith, ap (λ y. y.made) e))
   growth m n (calls o e) = by_itself (holds_same _ _ (ap (λ y. y.registers) e) (ap (λ y. y.map) e)) (omega (arith, ap (λ y. y.number) e)) (ap (λ y. y.heard) e) (omega (arith, ap (λ y. y.made) e))
-  growth m n (hears u j h b k e) =
+  growth m n (hears u j h b k t e) =
       let x = at m n in
       let g = gossip_for (at u j) n in
       subst (Growth at m x) (sym e) (by_letter u j h (hear_left x j g (active m n) (active u j)) (hear_right x j n (at u j) (active m n) (active u j)) (number_up_after x g)

@@ -9,7 +9,7 @@ use Rattle.rambo_tag.specs.declared.tag.Tag.{Tag}
 use Rattle.rambo_tag.specs.Tags.{tag_of}
 use Rattle.rambo_tag.proofs.TagOrder.{TagLe, TagLe-trans}
 use Rattle.rambo_phase.specs.Phases.{PhaseState, is_met}
-use Rattle.rambo_run.proofs.Turn.{Moments, Run}
+use Rattle.rambo_run.proofs.Turn.{Moments, Telling, Run}
 use Rattle.rambo_run.proofs.Held.{HoldsAll, up}
 use Rattle.rambo_run.proofs.Phases.{PhaseAt}
 
@@ -37,9 +37,9 @@ and_first false b e = absurd (true≢false (sym e))
 pub met_quorum : {Q : Type 0} (s : QuorumSystem Q) (founders : Q) (p : PhaseState Q) → p.configs ≡ founders ∷ [] → is_met s p ≡ true → s.is_quorum founders p.repliers ≡ true
 met_quorum s founders p c e = and_first (s.is_quorum founders p.repliers) true (sym (ap (list_all (λ q. s.is_quorum q p.repliers)) c) ∙ e)
 
-module _ {Q : Type 0} (s : QuorumSystem Q) (law : IsSound s) (founders : Q) (at : Moments Q) (run : Run s founders at) where
+module _ {Q : Type 0} {T : Telling} (s : QuorumSystem Q) (law : IsSound s) (founders : Q) (at : Moments Q) (run : Run s T founders at) where
   -- a later phase that is met reads at least the tag
-  pub reads : (e : ℕ) (key : List ℕ) (tag : Tag) → Done s founders at e key tag → (u m n : ℕ) (p : PhaseState Q) → PhaseAt founders at u m n p → e ≤ u → is_met s p ≡ true
+  pub reads : (e : ℕ) (key : List ℕ) (tag : Tag) → Done s founders at e key tag → (u m n : ℕ) (p : PhaseState Q) → PhaseAt T founders at u m n p → e ≤ u → is_met s p ≡ true
       → TagLe tag (tag_of (map.get (at m n).registers key))
   reads e key tag d u m n p f h met =
       let both = law.share founders d.repliers p.repliers d.quorum (met_quorum s founders p f.configs met) in

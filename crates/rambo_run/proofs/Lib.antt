@@ -1,4 +1,5 @@
 pub mod Lists
+pub mod Deeds
 pub mod Turn
 pub mod Held
 pub mod Numbers
@@ -16,5 +17,6 @@ pub mod Sequence
 pub mod Moments
 pub mod NodeLists
 pub mod EveryRun
+pub mod Replays
 pub mod Fitting
 mod Rows

@@ -1,5 +1,5 @@
 -- A list of steps gives a world at each moment
-use Rattle.std.proofs.Common.{◌≡◌, ℕ, zero, suc, ◌⊎◌, List, [], ◌∷◌, length, take, Option, Some, None, refl, ap, inl, inr}
+use Rattle.std.proofs.Common.{◌≡◌, ℕ, zero, suc, ◌⊎◌, List, [], ◌∷◌, length, take, Option, Some, None, slice_get, refl, ap, inl, inr}
 use Rattle.rambo_names.specs.declared.refusal.Refusal.{Refusal}
 use Rattle.rambo_names.specs.Quorums.{QuorumSystem}
 use Rattle.rambo_run.specs.declared.step.Step.{Step}
@@ -9,16 +9,16 @@ use Rattle.rambo_run.specs.Runs.{unless_refused, after, run_from, run}
 use Rattle.rambo_run.proofs.Worlds.{Worlds}
 
 -- a step that is refused changes nothing, and another one takes its turn
-abbrev pub OneStep : {Q : Type 0} → QuorumSystem Q → WorldState Q → WorldState Q → Type 0
-OneStep s w z = (z ≡ w) ⊎ ((st : Step) × (refusal s w st ≡ None) × (z ≡ (turn w st).world))
+abbrev pub OneStep : {Q : Type 0} → QuorumSystem Q → Option Step → WorldState Q → WorldState Q → Type 0
+OneStep s o w z = (z ≡ w) ⊎ ((st : Step) × (refusal s w st ≡ None) × (z ≡ (turn w st).world) × (o ≡ Some st))
 
 module _ {Q : Type 0} (s : QuorumSystem Q) where
-  after_cases : (w : WorldState Q) (st : Step) (o : Option Refusal) → refusal s w st ≡ o → OneStep s w (after s w st)
+  after_cases : (w : WorldState Q) (st : Step) (o : Option Refusal) → refusal s w st ≡ o → OneStep s (Some st) w (after s w st)
   unfolding after
-  after_cases w st None e = inr (st, e, ap (λ o. unless_refused o w (turn w st).world) e)
+  after_cases w st None e = inr (st, e, ap (λ o. unless_refused o w (turn w st).world) e, refl)
   after_cases w st (Some r) e = inl (ap (λ o. unless_refused o w (turn w st).world) e)
 
-  run_next : (ss : List Step) (w : WorldState Q) (m : ℕ) → OneStep s (run_from s w (take m ss)) (run_from s w (take (suc m) ss))
+  pub run_next : (ss : List Step) (w : WorldState Q) (m : ℕ) → OneStep s (slice_get ss m) (run_from s w (take m ss)) (run_from s w (take (suc m) ss))
   unfolding run_from
   run_next [] w zero = inl refl
   run_next [] w (suc m) = inl refl
@@ -29,9 +29,9 @@ module _ {Q : Type 0} (s : QuorumSystem Q) where
   abbrev pub moment : Q → List Step → ℕ → WorldState Q
   moment founders ss m = run s founders (take m ss)
 
-  pub worlds : (founders : Q) (ss : List Step) → Worlds s founders (moment founders ss)
+  unfoldable pub worlds : (founders : Q) (ss : List Step) → Worlds s founders (moment founders ss)
   unfolding run run_from
-  worlds founders ss = record { first = refl; next = run_next ss (first_world s founders) }
+  worlds founders ss = record { first = refl; steps = slice_get ss; next = run_next ss (first_world s founders) }
 
 pub take_all : {A : Type 0} (xs : List A) → take (length xs) xs ≡ xs
 take_all [] = refl

@@ -1,16 +1,11 @@
 -- The nodes of a run: there are 64, and each name has its node
 use Rattle.std.proofs.Common.{◌≡◌, ℕ, zero, suc, ◌-◌, ◌<◌, ◌≤◌, List, [], ◌∷◌, length, Option, Some, None, slice_get, refl, sym, ap, ◌∙◌, inl, inr, arith, length-set}
 use Rattle.rambo_names.specs.Quorums.{QuorumSystem}
-use Rattle.rambo_gossip.specs.declared.letter.Letter.{Letter}
-use Rattle.rambo_node.specs.declared.stage.Stage.{Stage}
-use Rattle.rambo_node.specs.declared.stage.Stage.TheVariants.{Query, Propagation}
-use Rattle.rambo_node.specs.Calls.{CallState, find_call}
+use Rattle.rambo_node.specs.declared.change.Change.{Change}
 use Rattle.rambo_node.specs.Nodes.{NodeState, first_node}
-use Rattle.rambo_node.specs.Hearing.{heard_letter}
 use Rattle.rambo_run.specs.declared.step.Step.{Step}
-use Rattle.rambo_run.specs.declared.step.Step.TheVariants as step
-use Rattle.rambo_run.specs.Worlds.{WorldState, node_at, letter_at, first_world}
-use Rattle.rambo_run.specs.Steps.{Turn, turn_of, quiet_turn, deliver_turn, stage_turn, advance_turn, again_turn, turn}
+use Rattle.rambo_run.specs.Worlds.{WorldState, node_at, first_world}
+use Rattle.rambo_run.specs.Steps.{Meant, meant, Turn, turn_at, turn_of, turn}
 use Rattle.rambo_run.specs.Runs.{run}
 use Rattle.rambo_run.proofs.Lists.{none-some}
 use Rattle.rambo_run.proofs.Held.{names}
@@ -45,35 +40,17 @@ at_named w (suc n) x l e = (omega arith, omega (arith, l, there_below w.nodes n 
 abbrev SameCount : {Q : Type 0} → WorldState Q → Turn Q → Type 0
 SameCount w t = length t.world.nodes ≡ length w.nodes
 
-of_count : {Q : Type 0} (w : WorldState Q) (o : Option (NodeState Q)) (f : NodeState Q → Turn Q) → ((x : NodeState Q) → SameCount w (f x)) → SameCount w (turn_of w o f)
-of_count w None f h = refl
-of_count w (Some x) f h = h x
+at_count : {Q : Type 0} (w : WorldState Q) (n : ℕ) (c : Change Q) (o : Option (NodeState Q)) → SameCount w (turn_at w n o c)
+at_count w n c None = refl
+at_count w n c (Some x) = length-set w.nodes (n - 1) _
 
-stage_count : {Q : Type 0} (w : WorldState Q) (n : ℕ) (x : NodeState Q) (c : CallState Q) (g : Stage) → SameCount w (stage_turn w n x c g)
-stage_count w n x c Query = length-set w.nodes (n - 1) _
-stage_count w n x c (Propagation kept) = length-set w.nodes (n - 1) _
-
-advance_count : {Q : Type 0} (w : WorldState Q) (n : ℕ) (x : NodeState Q) (o : Option (CallState Q)) → SameCount w (advance_turn w n x o)
-advance_count w n x None = refl
-advance_count w n x (Some c) = stage_count w n x c c.stage
-
-again_count : {Q : Type 0} (w : WorldState Q) (n : ℕ) (x : NodeState Q) (o : Option (CallState Q)) → SameCount w (again_turn w n x o)
-again_count w n x None = refl
-again_count w n x (Some c) = length-set w.nodes (n - 1) _
-
-deliver_count : {Q : Type 0} (w : WorldState Q) (o : Option (Letter Q)) → SameCount w (deliver_turn w o)
-deliver_count w None = refl
-deliver_count w (Some l) = of_count w (node_at w l.addressee) (λ x. quiet_turn w l.addressee (heard_letter x l)) (λ x. length-set w.nodes (l.addressee - 1) _)
+of_count : {Q : Type 0} (w : WorldState Q) (o : Option (Meant Q)) → SameCount w (turn_of w o)
+of_count w None = refl
+of_count w (Some m) = at_count w m.name m.change (node_at w m.name)
 
 turn_count : {Q : Type 0} (w : WorldState Q) (st : Step) → SameCount w (turn w st)
 unfolding turn
-turn_count w (step.Join n contacts) = of_count w (node_at w n) _ (λ x. length-set w.nodes (n - 1) _)
-turn_count w (step.Call n o) = of_count w (node_at w n) _ (λ x. length-set w.nodes (n - 1) _)
-turn_count w (step.Send n to) = of_count w (node_at w n) _ (λ x. refl)
-turn_count w (step.Deliver l) = deliver_count w (letter_at w.letters l)
-turn_count w (step.Advance c) = of_count w (node_at w c.name) _ (λ x. advance_count w c.name x (find_call c.number x.calls))
-turn_count w (step.Again c) = of_count w (node_at w c.name) _ (λ x. again_count w c.name x (find_call c.number x.calls))
-turn_count w (step.Stop n) = of_count w (node_at w n) _ (λ x. length-set w.nodes (n - 1) _)
+turn_count w st = of_count w (meant w st)
 
 module _ {Q : Type 0} (s : QuorumSystem Q) (founders : Q) (world : ℕ → WorldState Q) (all : Worlds s founders world) where
   pub count_at : (m : ℕ) → length (world m).nodes ≡ 64

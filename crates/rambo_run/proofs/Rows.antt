@@ -1,5 +1,5 @@
 -- What small runs do, computed from the definitions alone
-use Rattle.std.proofs.Common.{◌≡◌, ℕ, Bool, true, false, List, [], ◌∷◌, Some, None, Result, Ok, Err, replicate, refl}
+use Rattle.std.proofs.Common.{◌≡◌, ℕ, true, false, List, [], ◌∷◌, Some, None, Result, Ok, Err, replicate, refl}
 use Rattle.std.specs.Ordering.{nat_cmp}
 use Rattle.std.specs.Cmp.Lexicographic.{slice_cmp}
 use Rattle.std.specs.FinSet as set
@@ -10,7 +10,6 @@ use Rattle.rambo_names.specs.Names.{rising}
 use Rattle.rambo_names.specs.Quorums.{QuorumSystem}
 use Rattle.rambo_tag.specs.declared.version.Version.{Version}
 use Rattle.rambo_tag.proofs.Joins.{get-put_same}
-use Rattle.rambo_atomic.specs.declared.operation.Op.{Op}
 use Rattle.rambo_atomic.specs.declared.operation.Op.TheVariants as op
 use Rattle.rambo_atomic.specs.declared.event.CallId.{CallId}
 use Rattle.rambo_atomic.specs.declared.operation.Answer.TheVariants as answer
@@ -21,14 +20,16 @@ use Rattle.rambo_phase.specs.Phases.{only}
 use Rattle.rambo_joiner.specs.declared.status.Status.TheVariants.{Active}
 use Rattle.rambo_node.specs.declared.effect.Effect.{Effect}
 use Rattle.rambo_node.specs.declared.effect.Effect.TheVariants as effect
+use Rattle.rambo_node.specs.Changes.{made_by}
 use Rattle.rambo_node.specs.Nodes.{NodeState, first_node}
 use Rattle.rambo_node.specs.Operations.{called, query_answered, call_closed}
 use Rattle.rambo_run.specs.declared.step.Step.{Step}
 use Rattle.rambo_run.specs.declared.step.Step.TheVariants as step
 use Rattle.rambo_sequence.specs.Sequences.{sequence_of}
 use Rattle.rambo_run.specs.Worlds.{WorldState, first_world}
-use Rattle.rambo_run.specs.Steps.{id_of, causes, refusal, turn}
+use Rattle.rambo_run.specs.Steps.{causes, refusal, turn}
 use Rattle.rambo_run.specs.Runs.{after, run_from, results_from}
+use Rattle.rambo_run.proofs.Deeds.{id_of}
 
 -- the first call of node 1, and the second
 abbrev one : CallId
@@ -96,7 +97,7 @@ module _ {Q : Type 0} (s : QuorumSystem Q) (founders : Q) (others : List (NodeSt
         event.Call one (op.Get key) ∷ event.Answer one answer.Nil ∷ [],
         one ∷ [],
       )
-  unfolding run_from results_from after refusal causes turn called query_answered call_closed sequence_of
+  unfolding run_from results_from after refusal causes turn made_by called query_answered call_closed sequence_of
   get_of_nothing quorum = simp (quorum, none) refl
 
   -- a set, then a get
@@ -107,19 +108,19 @@ module _ {Q : Type 0} (s : QuorumSystem Q) (founders : Q) (others : List (NodeSt
         event.Call one (op.Set key value) ∷ event.Answer one answer.Ok ∷ event.Call two (op.Get key) ∷ event.Answer two (answer.Value value) ∷ [],
         one ∷ two ∷ [],
       )
-  unfolding run_from results_from after refusal causes turn called query_answered call_closed sequence_of
+  unfolding run_from results_from after refusal causes turn made_by called query_answered call_closed sequence_of
   set_then_get quorum = simp (quorum, none, put) refl
 
   -- a set that took a tag and isn't answered stands in the sequence
   open_set : s.is_quorum founders (only 1) ≡ true → outcome s (lone_world founders others) (step.Call 1 (op.Set key value) ∷ step.Advance one ∷ [])
       ≡ (Ok (effect.Called one) ∷ Ok effect.Moved ∷ [], event.Call one (op.Set key value) ∷ [], one ∷ [])
-  unfolding run_from results_from after refusal causes turn called query_answered call_closed sequence_of
+  unfolding run_from results_from after refusal causes turn made_by called query_answered call_closed sequence_of
   open_set quorum = simp (quorum, none) refl
 
   -- while the node alone is no quorum, its call waits
   not_yet : s.is_quorum founders (only 1) ≡ false → outcome s (lone_world founders others) (step.Call 1 (op.Get key) ∷ step.Advance one ∷ [])
       ≡ (Ok (effect.Called one) ∷ Err NotYet ∷ [], event.Call one (op.Get key) ∷ [], [])
-  unfolding run_from results_from after refusal causes turn called query_answered call_closed sequence_of
+  unfolding run_from results_from after refusal causes turn made_by called query_answered call_closed sequence_of
   not_yet quorum = simp quorum refl
 
   -- at first the founders can be called, and no others

@@ -17,9 +17,9 @@ use Rattle.rambo_node.specs.Hearing.{heard_call, heard_gossip}
 use Rattle.rambo_node.specs.Operations.{called, taken, query_answered, call_closed, answer_of, called_again}
 use Rattle.rambo_sequence.specs.declared.mark.Mark.{Mark}
 use Rattle.rambo_run.specs.Worlds.{WorldState, node_at}
-use Rattle.rambo_run.specs.Steps.{id_of, with_set, with_get}
+use Rattle.rambo_run.proofs.Deeds.{id_of, with_set, with_get}
 use Rattle.rambo_run.proofs.Lists.{pick, none-some, Member, member_map, member_put, Single, set_here, set_there}
-use Rattle.rambo_run.proofs.Turn.{Moments, Turn}
+use Rattle.rambo_run.proofs.Turn.{Moments, Telling, Turn}
 
 pub record Seen (Q : Type 0) : Type 0 where
   pub node : ℕ → NodeState Q
@@ -117,12 +117,12 @@ copies_heard at m u j i x g h e key = ⊎_elim
     (greater-either (map.get x.registers key) (map.get g.copies key))
 
 -- one step of the world
-pub data WorldTurn {Q : Type 0} (s : QuorumSystem Q) (at : Moments Q) (m : ℕ) (v z : Seen Q) : Type 0 where
-  t_still : z ≡ v → WorldTurn s at m v z
-  t_node : (n : ℕ) (y : NodeState Q) → Turn s at m n (v.node n) y → Keeps (v.node n) y → CopiesFrom at m (v.node n) y → z ≡ with_seen v n y → WorldTurn s at m v z
-  t_calls : (n : ℕ) (o : Op) → z ≡ seen_called v n o → WorldTurn s at m v z
-  t_queries : (n : ℕ) (c : CallState Q) → Member c (v.node n).calls → propagates c.stage ≡ false → is_met s c.phase ≡ true → z ≡ seen_queried v n c → WorldTurn s at m v z
-  t_answers : (n : ℕ) (c : CallState Q) → Member c (v.node n).calls → propagates c.stage ≡ true → is_met s c.phase ≡ true → z ≡ seen_answered v n c → WorldTurn s at m v z
+pub data WorldTurn {Q : Type 0} (s : QuorumSystem Q) (T : Telling) (at : Moments Q) (m : ℕ) (v z : Seen Q) : Type 0 where
+  t_still : z ≡ v → WorldTurn s T at m v z
+  t_node : (n : ℕ) (y : NodeState Q) → Turn s T at m n (v.node n) y → Keeps (v.node n) y → CopiesFrom at m (v.node n) y → z ≡ with_seen v n y → WorldTurn s T at m v z
+  t_calls : (n : ℕ) (o : Op) → z ≡ seen_called v n o → WorldTurn s T at m v z
+  t_queries : (n : ℕ) (c : CallState Q) → Member c (v.node n).calls → propagates c.stage ≡ false → is_met s c.phase ≡ true → z ≡ seen_queried v n c → WorldTurn s T at m v z
+  t_answers : (n : ℕ) (c : CallState Q) → Member c (v.node n).calls → propagates c.stage ≡ true → is_met s c.phase ≡ true → z ≡ seen_answered v n c → WorldTurn s T at m v z
 
 pub named_some : {Q : Type 0} (w : WorldState Q) (n : ℕ) (x : NodeState Q) → node_at w n ≡ Some x → 1 ≤ n
 named_some w zero x e = absurd (none-some x e)

@@ -24,7 +24,7 @@ use Rattle.rambo_run.proofs.Turn.{Moments, Run}
 use Rattle.rambo_run.proofs.Held.{up, names, from_then, up_to}
 use Rattle.rambo_run.proofs.Phases.{keeps}
 use Rattle.rambo_run.proofs.Seen.{Seen, seen_queried, seen_answered, mark_of, SameCall, same_refl, WorldTurn, t_still, t_node, t_calls, t_queries, t_answers}
-use Rattle.rambo_run.proofs.Worlds.{Worlds, at, view, steps, run_of}
+use Rattle.rambo_run.proofs.Worlds.{Worlds, Came, at, view, steps, run_of}
 use Rattle.rambo_run.proofs.Books.{set_grows, set_new, set_split, get_grows, get_split, moved_call, calls_split, query_split, answer_left}
 use Rattle.rambo_run.proofs.Booked.{numbers}
 
@@ -55,11 +55,11 @@ module _ {Q : Type 0} (s : QuorumSystem Q) (founders : Q) (world : ℕ → World
   abbrev pub sight : ℕ → Seen Q
   sight m = view s founders world worlds m
 
-  abbrev pub run : Run s founders node
+  abbrev pub run : Run s (Came s founders world worlds) founders node
   run = run_of s founders world worlds
 
   abbrev pub Turning : ℕ → Type 0
-  Turning m = WorldTurn s node m (sight m) (sight (suc m))
+  Turning m = WorldTurn s (Came s founders world worlds) node m (sight m) (sight (suc m))
 
   abbrev pub turns : (m : ℕ) → Turning m
   turns m = steps s founders world worlds m

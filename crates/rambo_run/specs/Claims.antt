@@ -1,5 +1,5 @@
 -- What holds of every run
-use Rattle.std.specs.Prelude.{◌≡◌, ◌⊎◌, ℕ, ◌<◌, ◌≤◌, List, ◌++◌, take, length, Some}
+use Rattle.std.specs.Prelude.{◌≡◌, ◌⊎◌, ℕ, ◌+◌, ◌<◌, ◌≤◌, List, ◌++◌, take, length, Some, None, slice_get}
 use Rattle.std.specs.FinSet as set
 use Rattle.std.specs.FinMap as map
 use Rattle.std.specs.Prelude.{true, false}
@@ -7,11 +7,15 @@ use Rattle.rambo_names.specs.Quorums.{QuorumSystem}
 use Rattle.rambo_tag.specs.Tags.{tag_lt, tag_of}
 use Rattle.rambo_atomic.specs.Proper.{IsProper, Stands}
 use Rattle.rambo_config_map.specs.Maps.{active_at, end_of}
+use Rattle.rambo_joiner.specs.Statuses.{is_active}
 use Rattle.rambo_node.specs.Calls.{CallState}
+use Rattle.rambo_node.specs.Letters.{letter_for}
 use Rattle.rambo_node.specs.Nodes.{NodeState, heard_from}
 use Rattle.rambo_run.specs.declared.step.Step.{Step}
+use Rattle.rambo_run.specs.declared.step.Step.TheVariants as step
 use Rattle.rambo_sequence.specs.Sequences.{sequence_of}
-use Rattle.rambo_run.specs.Worlds.{WorldState, node_at}
+use Rattle.rambo_run.specs.Worlds.{WorldState, node_at, letter_at}
+use Rattle.rambo_run.specs.Steps.{refusal}
 use Rattle.rambo_run.specs.Runs.{run}
 
 -- for each key the given sequence is proper for the history
@@ -34,9 +38,25 @@ pub record AtLeast {Q : Type 0} (x y : NodeState Q) : Type 0 where
   pub floor : x.map.floor ≤ y.map.floor
   pub top : end_of x.map ≤ end_of y.map
 
--- j replied to a phase of n: the phase began after `began` steps, when the node took its number, and j told after
--- `told` steps, when it had heard that number of n (or is n itself) and held all that n held when the phase began
-pub record IsFreshReply {Q : Type 0} (s : QuorumSystem Q) (founders : Q) (steps : List Step) (n : ℕ) (c : CallState Q) (j : ℕ) : Type 0 where
+-- the step after these many steps is this one, and isn't refused
+abbrev pub IsDone : {Q : Type 0} → QuorumSystem Q → Q → List Step → ℕ → Step → Type 0
+IsDone s founders steps m st = (slice_get steps m ≡ Some st) × (refusal s (run s founders (take m steps)) st ≡ None)
+
+-- the letter that j sent to n after `told` steps, when it was `replier` and active, came to n since
+pub record IsHeard {Q : Type 0} (s : QuorumSystem Q) (founders : Q) (steps : List Step) (n j told : ℕ) (replier : NodeState Q) : Type 0 where
+  pub active : is_active replier.status ≡ true
+  pub sent : IsDone s founders steps told (step.Send j n)
+  pub letter : ℕ
+  pub number : letter ≡ length (run s founders (take told steps)).letters + 1
+  pub heard_at : ℕ
+  pub later : told < heard_at
+  pub came : IsDone s founders steps heard_at (step.Deliver letter)
+  pub content : letter_at (run s founders (take heard_at steps)).letters letter ≡ Some (letter_for replier n)
+
+-- j replied to a phase of n, which is x now: the phase began after `began` steps, when the node took its number, and j
+-- told after `told` steps, when it had heard that number of n and held all that n held when the phase began. What it
+-- told came to n, which holds it. n itself replies as the phase begins
+pub record IsFreshReply {Q : Type 0} (s : QuorumSystem Q) (founders : Q) (steps : List Step) (n : ℕ) (x : NodeState Q) (c : CallState Q) (j : ℕ) : Type 0 where
   pub began : ℕ
   pub told : ℕ
   pub order : began ≤ told
@@ -47,14 +67,16 @@ pub record IsFreshReply {Q : Type 0} (s : QuorumSystem Q) (founders : Q) (steps 
   pub first : (m : ℕ) (x : NodeState Q) → m < began → node_at (run s founders (take m steps)) n ≡ Some x → x.number < c.phase.number
   pub replier : NodeState Q
   pub replier_is : node_at (run s founders (take told steps)) j ≡ Some replier
-  pub heard : (j ≡ n) ⊎ (c.phase.number ≤ heard_from replier.heard n)
+  pub heard : ((j ≡ n) × (told ≡ began)) ⊎ ((c.phase.number ≤ heard_from replier.heard n) × IsHeard s founders steps n j told replier)
   pub holds : AtLeast opener replier
+  pub kept : AtLeast replier x
 
--- each counted reply was told after its sender had heard a letter that was sent since the phase began
+-- each counted reply was told after its sender had heard a letter that was sent since the phase began, and came in one
+-- that was sent then
 abbrev pub RepliesAreFresh : {Q : Type 0} → QuorumSystem Q → Type 0
 RepliesAreFresh {Q} s =
     (founders : Q) (steps : List Step) (n : ℕ) (x : NodeState Q) → node_at (run s founders steps) n ≡ Some x
-    → (c : CallState Q) → Stands x.calls c → (j : ℕ) → set.contains c.phase.repliers j ≡ true → IsFreshReply s founders steps n c j
+    → (c : CallState Q) → Stands x.calls c → (j : ℕ) → set.contains c.phase.repliers j ≡ true → IsFreshReply s founders steps n x c j
 
 -- of every run, of any founders and steps, the given sequences are proper
 abbrev pub EveryRunIsAtomic : {Q : Type 0} → QuorumSystem Q → Type 0

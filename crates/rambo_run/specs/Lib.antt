@@ -1,4 +1,5 @@
 pub mod Worlds
 pub mod Steps
 pub mod Runs
+pub mod Journals
 pub mod Claims

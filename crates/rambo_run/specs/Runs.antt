@@ -1,12 +1,11 @@
 -- Whole runs, and what they give
-use Rattle.std.specs.Prelude.{if◌then◌else◌, List, [], ◌∷◌, Option, None, Some, Result, Ok, Err}
+use Rattle.std.specs.Prelude.{ℕ, if◌then◌else◌, List, [], ◌∷◌, Option, None, Some, Result, Ok, Err}
 use Rattle.rambo_names.specs.declared.refusal.Refusal.{Refusal}
 use Rattle.rambo_names.specs.Quorums.{QuorumSystem}
 use Rattle.rambo_atomic.specs.declared.event.Event.{Event}
 use Rattle.rambo_joiner.specs.Statuses.{is_idle}
 use Rattle.rambo_node.specs.declared.effect.Effect.{Effect}
 use Rattle.rambo_node.specs.Nodes.{NodeState}
-use Rattle.rambo_run.specs.declared.outcome.NodeMap.{NodeMap}
 use Rattle.rambo_run.specs.declared.step.Step.{Step}
 use Rattle.rambo_sequence.specs.Sequences.{SequenceOf, sequences_of}
 use Rattle.rambo_run.specs.Worlds.{WorldState, first_world}
@@ -37,10 +36,16 @@ unfoldable pub results_from : {Q : Type 0} → QuorumSystem Q → WorldState Q �
 results_from s w [] = []
 results_from s w (st ∷ sts) = result_of (refusal s w st) w st ∷ results_from s (after s w st) sts
 
+-- what is told of the map of a node: its lowest place that isn't removed, and the configurations from there on
+pub record MapOf (Q : Type 0) : Type 0 where
+  pub name : ℕ
+  pub floor : ℕ
+  pub active : List Q
+
 -- the maps of the nodes that aren't idle
-abbrev pub maps_of : {Q : Type 0} → List (NodeState Q) → List (NodeMap Q)
+abbrev pub maps_of : {Q : Type 0} → List (NodeState Q) → List (MapOf Q)
 maps_of [] = []
-maps_of (x ∷ xs) = if is_idle x.status then maps_of xs else record { name = x.name; map = x.map } ∷ maps_of xs
+maps_of (x ∷ xs) = if is_idle x.status then maps_of xs else record { name = x.name; floor = x.map.floor; active = x.map.configs } ∷ maps_of xs
 
 -- what a run gives: the effect or refusal of each step, the history, the sequence of each key that has one, and the
 -- map of each node that isn't idle
@@ -48,7 +53,7 @@ pub record OutcomeState (Q : Type 0) : Type 0 where
   pub effects : List (Result Effect Refusal)
   pub history : List Event
   pub sequences : List SequenceOf
-  pub maps : List (NodeMap Q)
+  pub maps : List (MapOf Q)
 
 abbrev pub outcome_at : {Q : Type 0} → List (Result Effect Refusal) → WorldState Q → OutcomeState Q
 outcome_at effects w = record { effects = effects; history = w.history; sequences = sequences_of w.history w.marks; maps = maps_of w.nodes }

@@ -5,7 +5,7 @@ mod laws;
 mod outcome;
 mod step;
 
-pub use laws::{given_sequences_are_proper, nodes_agree, replies_are_fresh};
+pub use laws::{given_sequences_are_proper, nodes_agree, nodes_are_replayed, replies_are_fresh};
 pub use outcome::{NodeMap, Outcome};
 pub use step::Step;
 

@@ -2,17 +2,30 @@
 
 use crate::step::Step;
 use rambo_atomic::History;
-use rambo_config_map::ConfigMap;
 use rambo_names::{Name, Quorums, Refusal};
 use rambo_node::Effect;
 use rambo_sequence::KeySequence;
 use std::marker::Model;
 
-/// The configuration map of a node.
+/// What is told of the configuration map of a node.
 #[derive(Drop)]
 pub struct NodeMap<Q: Quorums> {
     pub name: Name,
-    pub map: ConfigMap<Q>,
+    /// The lowest place that isn't removed.
+    pub floor: u64,
+    /// The configurations from there on.
+    pub active: Vec<Q>,
+}
+
+impl<Q: Quorums> Model for NodeMap<Q> {
+    ghost use Rattle.std.specs.Coded.{codes};
+    ghost use Rattle.rambo_run.specs.Runs.{MapOf};
+
+    ghost Value = { MapOf Q };
+
+    ghost coded = { Prim.hlevel (codes, Q.code) };
+
+    ghost view = { λ m. record { name = m.name; floor = m.floor; active = m.active.items } };
 }
 
 /// What a run gives: the effect or refusal of each step, the history, the sequence of each key that has one, keys in

@@ -1,4 +1,4 @@
-use crate::{Step, given_sequences_are_proper, nodes_agree, replies_are_fresh};
+use crate::{Step, given_sequences_are_proper, nodes_agree, nodes_are_replayed, replies_are_fresh};
 use rambo_atomic::{CallId, Op};
 use rambo_names::{Bytes, Majority, Members, Name, Refusal};
 use std::alloc::Global;
@@ -74,5 +74,6 @@ fn laws(rt: HostRuntime) -> Result<(), Fail> {
     given_sequences_are_proper::<Majority>();
     nodes_agree::<Majority>();
     replies_are_fresh::<Majority>();
+    nodes_are_replayed::<Majority>();
     Ok(())
 }

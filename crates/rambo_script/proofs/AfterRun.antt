@@ -14,12 +14,12 @@ use Rattle.rambo_script.specs.Replays.{IsReplay, Leaves}
 
 -- the text is that of the run of the script that was read
 pub replay_of : (bytes : List ℕ) (s : ScriptState) (founders : NameSet) (items steps : List Step) (o : OutcomeState NameSet) (text : List ℕ) → IsScript bytes s
-    → record { founders = founders; steps = items } ≡ s → steps ≡ items → o ≡ outcome_of majorities founders steps → text ≡ outcome_lines o → IsReplay bytes text
+    → record { founders = founders; steps = items } ≡ s → steps ≡ items → o ≡ outcome_of majorities founders steps → text ≡ outcome_lines majorities o → IsReplay bytes text
 replay_of bytes s founders items steps o text is view same ran told =
     record {
       script = s;
       is_script = is;
-      text_is = told ∙ ap outcome_lines (ran ∙ ap (λ sts. outcome_of majorities founders sts) same ∙ ap (λ (t : ScriptState). outcome_of majorities t.founders t.steps) view);
+      text_is = told ∙ ap (outcome_lines majorities) (ran ∙ ap (λ sts. outcome_of majorities founders sts) same ∙ ap (λ (t : ScriptState). outcome_of majorities t.founders t.steps) view);
     }
 
 known : (input : Option (List ℕ)) (bytes read text : List ℕ) → IfSome input (λ b. bytes ≡ b) → read ≡ bytes → IsReplay read text → IfSome input (λ b. IsReplay b text)

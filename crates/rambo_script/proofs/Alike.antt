@@ -8,7 +8,7 @@ use Rattle.std.proofs.lemmas.Bool.{cases_lt}
 use Rattle.std.proofs.lemmas.Bool.Decides.{nat_tests}
 use Rattle.std.proofs.lemmas.List.Elements.{recursion_from_All}
 use Rattle.rambo_names.specs.Same.{level}
-use Rattle.rambo_names.specs.Names.{NameSet, rising, names}
+use Rattle.rambo_names.specs.Names.{NameSet, AreNames, rising, names}
 use Rattle.rambo_names.specs.Signs.{set_text, names_text, more_names}
 use Rattle.rambo_names.proofs.NameTexts.{next_above}
 use Rattle.rambo_atomic.specs.declared.event.CallId.{CallId}
@@ -17,7 +17,6 @@ use Rattle.rambo_text.specs.Words.{Lacks}
 use Rattle.rambo_text.proofs.Dots.{call_parts}
 use Rattle.rambo_text.proofs.Lacking.{lacks-decimal}
 use Rattle.rambo_text.proofs.WordSplits.{cut, no_cut}
-use Rattle.rambo_script.specs.Laws.{AreNames}
 use Rattle.rambo_script.proofs.Plain.{AreSmall, small_names}
 
 -- a dash is no number

@@ -17,7 +17,6 @@ use Rattle.rambo_text.proofs.WordSplits.{same_words}
 use Rattle.rambo_script.specs.declared.kind.StepKind.{StepKind}
 use Rattle.rambo_script.specs.declared.kind.StepKind.TheVariants as kind
 use Rattle.rambo_script.specs.StepLines.{word_of, forms_of, step_words, step_line, IsStep}
-use Rattle.rambo_script.specs.Laws.{HasNames}
 use Rattle.rambo_script.proofs.Plain.{lacks-set, lacks-hex, lacks-call, lacks-tested, lacks-words}
 use Rattle.rambo_script.proofs.Alike.{same_set_text, same_hex, same_id}
 
@@ -53,7 +52,7 @@ words_are (step.Stop n) = refl
 
 -- the parts of a step are in the forms of its kind
 pub spelt : (st : Step) → IsStep st → AreSpelt (forms_of (kind_of st)) (parts_of st)
-spelt (step.Join n contacts) is = ((n, is, refl), ((contacts, refl), tt))
+spelt (step.Join n contacts) is = ((n, is.0, refl), ((contacts, refl), tt))
 spelt (step.Call n (op.Get key)) is = ((n, is.0, refl), ((key, is.1, refl), tt))
 spelt (step.Call n (op.Set key value)) is = ((n, is.0, refl), ((key, is.1.0, refl), ((value, is.1.1, refl), tt)))
 spelt (step.Send n to) is = ((n, is.0, refl), ((to, is.1, refl), tt))
@@ -114,7 +113,7 @@ lacks-name : (b n : ℕ) → b < 44 → IsName n → Lacks b (decimal n)
 lacks-name b n low is = lacks-decimal b n (omega arith) (omega arith)
 
 lacks-parts : (b : ℕ) (st : Step) → b < 44 → IsStep st → AllByRecursion (Lacks b) (parts_of st)
-lacks-parts b (step.Join n contacts) low is = (lacks-name b n low is, (lacks-set b contacts low, tt))
+lacks-parts b (step.Join n contacts) low is = (lacks-name b n low is.0, (lacks-set b contacts low, tt))
 lacks-parts b (step.Call n (op.Get key)) low is = (lacks-name b n low is.0, (lacks-hex b key low, tt))
 lacks-parts b (step.Call n (op.Set key value)) low is = (lacks-name b n low is.0, (lacks-hex b key low, (lacks-hex b value low, tt)))
 lacks-parts b (step.Send n to) low is = (lacks-name b n low is.0, (lacks-name b to low is.1, tt))
@@ -139,25 +138,25 @@ same_number n m a b e = decimal_injective n m a b e
 same_name : (n m : ℕ) → IsName n → IsName m → decimal n ≡ decimal m → n ≡ m
 same_name n m a b e = decimal_injective n m (omega arith) (omega arith) e
 
-same_shape : (st su : Step) → IsStep st → IsStep su → HasNames st → HasNames su → kind_of st ≡ kind_of su → parts_of st ≡ parts_of su → st ≡ su
-same_shape (step.Join n s) (step.Join m t) a b x y k e = (λ i. step.Join (same_name n m a b (cc) i) (same_set_text s t x y (cc) i))
-same_shape (step.Call n (op.Get k1)) (step.Call m (op.Get k2)) a b x y k e = (λ i. step.Call (same_name n m a.0 b.0 (cc) i) (op.Get (same_hex k1 k2 a.1 b.1 (cc) i)))
-same_shape (step.Call n (op.Set k1 v1)) (step.Call m (op.Set k2 v2)) a b x y k e =
+same_shape : (st su : Step) → IsStep st → IsStep su → kind_of st ≡ kind_of su → parts_of st ≡ parts_of su → st ≡ su
+same_shape (step.Join n s) (step.Join m t) a b k e = (λ i. step.Join (same_name n m a.0 b.0 (cc) i) (same_set_text s t a.1 b.1 (cc) i))
+same_shape (step.Call n (op.Get k1)) (step.Call m (op.Get k2)) a b k e = (λ i. step.Call (same_name n m a.0 b.0 (cc) i) (op.Get (same_hex k1 k2 a.1 b.1 (cc) i)))
+same_shape (step.Call n (op.Set k1 v1)) (step.Call m (op.Set k2 v2)) a b k e =
     (λ i. step.Call (same_name n m a.0 b.0 (cc) i) (op.Set (same_hex k1 k2 a.1.0 b.1.0 (cc) i) (same_hex v1 v2 a.1.1 b.1.1 (cc) i)))
-same_shape (step.Send n t) (step.Send m u) a b x y k e = (λ i. step.Send (same_name n m a.0 b.0 (cc) i) (same_name t u a.1 b.1 (cc) i))
-same_shape (step.Deliver l) (step.Deliver m) a b x y k e = ap step.Deliver (same_number l m a b (cc))
-same_shape (step.Advance c) (step.Advance d) a b x y k e = ap step.Advance (same_id c d a b (cc))
-same_shape (step.Again c) (step.Again d) a b x y k e = ap step.Again (same_id c d a b (cc))
-same_shape (step.Stop n) (step.Stop m) a b x y k e = ap step.Stop (same_name n m a b (cc))
-same_shape st (step.Call m (op.Get key)) a b x y k e = cc
-same_shape st (step.Call m (op.Set key value)) a b x y k e = cc
-same_shape (step.Call n (op.Get key)) su a b x y k e = cc
-same_shape (step.Call n (op.Set key value)) su a b x y k e = cc
-same_shape st su a b x y k e = cc
+same_shape (step.Send n t) (step.Send m u) a b k e = (λ i. step.Send (same_name n m a.0 b.0 (cc) i) (same_name t u a.1 b.1 (cc) i))
+same_shape (step.Deliver l) (step.Deliver m) a b k e = ap step.Deliver (same_number l m a b (cc))
+same_shape (step.Advance c) (step.Advance d) a b k e = ap step.Advance (same_id c d a b (cc))
+same_shape (step.Again c) (step.Again d) a b k e = ap step.Again (same_id c d a b (cc))
+same_shape (step.Stop n) (step.Stop m) a b k e = ap step.Stop (same_name n m a b (cc))
+same_shape st (step.Call m (op.Get key)) a b k e = cc
+same_shape st (step.Call m (op.Set key value)) a b k e = cc
+same_shape (step.Call n (op.Get key)) su a b k e = cc
+same_shape (step.Call n (op.Set key value)) su a b k e = cc
+same_shape st su a b k e = cc
 
 -- a step is known by its line
-pub same_step : (st su : Step) → IsStep st → IsStep su → HasNames st → HasNames su → step_line st ≡ step_line su → st ≡ su
-same_step st su a b x y e =
+pub same_step : (st su : Step) → IsStep st → IsStep su → step_line st ≡ step_line su → st ≡ su
+same_step st su a b e =
     let words = same_words (step_line su) (step_words st) (step_words su) (subst (λ l. AreWords l (step_words st)) e (step_are_words st a)) (step_are_words su b) in
     let both = sym (words_are st) ∙ words ∙ words_are su in
-    same_shape st su a b x y (same_kind (kind_of st) (kind_of su) (cc)) (cc)
+    same_shape st su a b (same_kind (kind_of st) (kind_of su) (cc)) (cc)

@@ -15,7 +15,6 @@ use Rattle.rambo_script.specs.declared.kind.StepKind.TheVariants as kind
 use Rattle.rambo_script.specs.StepLines.{word_of, forms_of, step_words, step_line, IsStep}
 use Rattle.rambo_script.specs.Scripts.{ScriptState, HasLine, HasLines, AreFounders, IsTextOf, IsScript, founders_words, founders_line, steps_text, script_text}
 use Rattle.rambo_script.specs.Faults.{IsLineFault, TellNoStep, TellNoFounders, AreUnfit, IsScriptFault}
-use Rattle.rambo_script.specs.Laws.{HasNames, HaveNames}
 use Rattle.rambo_script.proofs.Plain.{small_names, lacks-set, lacks-tested, lacks-words}
 use Rattle.rambo_script.proofs.Alike.{same_list, same_set_text}
 use Rattle.rambo_script.proofs.StepShapes.{kind_of, parts_of, words_are, spelt, not_bad, as_many, same_kind, step_are_words, step_lacks, same_step}
@@ -30,14 +29,14 @@ no_nothing : (l t : List ℕ) → [] ≡ l ++ 10 ∷ t → ⊥
 no_nothing [] t e = cc
 no_nothing (x ∷ l) t e = cc
 
-same_steps : (xs ys : List Step) → AllByRecursion HasLine xs → AllByRecursion HasLine ys → AllByRecursion HasNames xs → AllByRecursion HasNames ys
+same_steps : (xs ys : List Step) → AllByRecursion HasLine xs → AllByRecursion HasLine ys
     → steps_text xs ≡ steps_text ys → xs ≡ ys
-same_steps [] [] a b n m e = refl
-same_steps [] (y ∷ ys) a b n m e = absurd (no_nothing (step_line y) (steps_text ys) e)
-same_steps (x ∷ xs) [] a b n m e = absurd (no_nothing (step_line x) (steps_text xs) (sym e))
-same_steps (x ∷ xs) (y ∷ ys) a b n m e =
+same_steps [] [] a b e = refl
+same_steps [] (y ∷ ys) a b e = absurd (no_nothing (step_line y) (steps_text ys) e)
+same_steps (x ∷ xs) [] a b e = absurd (no_nothing (step_line x) (steps_text xs) (sym e))
+same_steps (x ∷ xs) (y ∷ ys) a b e =
     let parts = cut 10 (step_line x) (step_line y) (steps_text xs) (steps_text ys) (step_lacks x a.0.is_step) (step_lacks y b.0.is_step) e in
-    (λ i. same_step x y a.0.is_step b.0.is_step n.0 m.0 parts.0 i ∷ same_steps xs ys a.1 b.1 n.1 m.1 parts.1 i)
+    (λ i. same_step x y a.0.is_step b.0.is_step parts.0 i ∷ same_steps xs ys a.1 b.1 parts.1 i)
 
 word_there : (k : StepKind) → word_of k ≡ [] → ⊥
 word_there kind.Join e = cc
@@ -65,13 +64,13 @@ no_line_more (x ∷ xs) (y ∷ ys) a b e =
     (cut 10 (step_line x) (step_line y) (steps_text xs ++ 10 ∷ []) (steps_text ys) (step_lacks x a.0.is_step) (step_lacks y b.0.is_step)
     (sym (append_assoc (step_line x) (10 ∷ steps_text xs) (10 ∷ [])) ∙ e)).1
 
-same_text : (s t : ScriptState) → HasLines s → HasLines t → HaveNames s → HaveNames t → script_text s ≡ script_text t → s ≡ t
-same_text s t a b n m e =
+same_text : (s t : ScriptState) → HasLines s → HasLines t → script_text s ≡ script_text t → s ≡ t
+same_text s t a b e =
     let parts = cut 10 (founders_line s.founders) (founders_line t.founders) (steps_text s.steps) (steps_text t.steps) (founders_lack s.founders) (founders_lack t.founders) e in
     let words = same_words (founders_line t.founders) (founders_words s.founders) (founders_words t.founders)
     (subst (λ l. AreWords l (founders_words s.founders)) parts.0 (founders_are_words s.founders)) (founders_are_words t.founders) in
-    let founders = same_set_text s.founders t.founders n.founders m.founders (cc) in
-    let steps = same_steps s.steps t.steps a.steps b.steps n.steps m.steps parts.1 in
+    let founders = same_set_text s.founders t.founders a.founders.names b.founders.names (cc) in
+    let steps = same_steps s.steps t.steps a.steps b.steps parts.1 in
     (λ i. record { founders = founders i; steps = steps i })
 
 no_feed_more : (s t : ScriptState) → HasLines s → HasLines t → script_text s ++ 10 ∷ [] ≡ script_text t → ⊥
@@ -80,22 +79,22 @@ no_feed_more s t a b e =
     (cut 10 (founders_line s.founders) (founders_line t.founders) (steps_text s.steps ++ 10 ∷ []) (steps_text t.steps) (founders_lack s.founders) (founders_lack t.founders)
     (sym (append_assoc (founders_line s.founders) (10 ∷ steps_text s.steps) (10 ∷ [])) ∙ e)).1
 
-pub one_reading_is : (bytes : List ℕ) (s t : ScriptState) → HaveNames s → HaveNames t → IsScript bytes s → IsScript bytes t → s ≡ t
-one_reading_is bytes s t n m a b = elim a.whole [
+pub one_reading_is : (bytes : List ℕ) (s t : ScriptState) → IsScript bytes s → IsScript bytes t → s ≡ t
+one_reading_is bytes s t a b = elim a.whole [
   | inl whole ↦ elim b.whole [
-    | inl other ↦ same_text s t a.lines b.lines n m (sym whole ∙ other)
+    | inl other ↦ same_text s t a.lines b.lines (sym whole ∙ other)
     | inr other ↦ absurd (no_feed_more s t a.lines b.lines (ap (λ x. x ++ 10 ∷ []) (sym whole) ∙ other))
   ]
   | inr whole ↦ elim b.whole [
     | inl other ↦ absurd (no_feed_more t s b.lines a.lines (ap (λ x. x ++ 10 ∷ []) (sym other) ∙ whole))
-    | inr other ↦ same_text s t a.lines b.lines n m (sym whole ∙ other)
+    | inr other ↦ same_text s t a.lines b.lines (sym whole ∙ other)
   ]
 ]
 
-pub reads_back_is : (s : ScriptState) → HasLines s → HaveNames s → IsScript (script_text s) s × ((t : ScriptState) → HaveNames t → IsScript (script_text s) t → t ≡ s)
-reads_back_is s lines names =
+pub reads_back_is : (s : ScriptState) → HasLines s → IsScript (script_text s) s × ((t : ScriptState) → IsScript (script_text s) t → t ≡ s)
+reads_back_is s lines =
     let is : IsScript (script_text s) s = record { lines = lines; whole = inl refl } in
-    (is, λ t named other. one_reading_is (script_text s) t s named names other is)
+    (is, λ t other. one_reading_is (script_text s) t s other is)
 
 -- the first line is the front up to the first line feed
 pub head_line : (front t bytes line rest : List ℕ) → Lacks 10 front → IsTextOf bytes (front ++ 10 ∷ t) → IsFirstLine bytes line rest → line ≡ front

@@ -13,7 +13,7 @@ use Rattle.rambo_script.specs.Faults.{IsScriptFault, RanOut}
 
 -- the text of what the run of a script gives
 abbrev pub replayed : ScriptState → List ℕ
-replayed s = outcome_lines (outcome_of majorities s.founders s.steps)
+replayed s = outcome_lines majorities (outcome_of majorities s.founders s.steps)
 
 -- the bytes are a script, and the text is that of its run
 pub record IsReplay (bytes text : List ℕ) : Type 0 where

@@ -1,7 +1,7 @@
 -- How a script is written
 use Rattle.std.specs.Prelude.{◌≡◌, ◌⊎◌, ℕ, ◌<◌, ◌≤◌, ◌++◌, List, [], ◌∷◌, length, codes}
 use Rattle.std.specs.List.{AllByRecursion}
-use Rattle.rambo_names.specs.Names.{NameSet, count_of}
+use Rattle.rambo_names.specs.Names.{NameSet, AreNames, count_of}
 use Rattle.rambo_names.specs.Signs.{set_text}
 use Rattle.rambo_run.specs.declared.step.Step.{Step}
 use Rattle.rambo_text.specs.Words.{words_text}
@@ -33,8 +33,9 @@ script_text s = founders_line s.founders ++ 10 ∷ steps_text s.steps
 abbrev pub IsShort : List ℕ → Type 0
 IsShort line = length line ≤ 16384
 
--- some founders, on a line that isn't too long
+-- some founders, which are names, on a line that isn't too long
 pub record AreFounders (founders : NameSet) : Type 0 where
+  pub names : AreNames founders
   pub some : 0 < count_of founders
   pub short : IsShort (founders_line founders)
 

@@ -1,6 +1,6 @@
 -- How a step is written: the word of its kind, and a word for each of its parts
 use Rattle.std.specs.Prelude.{ℕ, ◌<◌, ◌^◌, List, [], ◌∷◌, codes, decimal}
-use Rattle.rambo_names.specs.Names.{IsName}
+use Rattle.rambo_names.specs.Names.{IsName, AreNames}
 use Rattle.rambo_names.specs.Signs.{set_text}
 use Rattle.rambo_atomic.specs.declared.operation.Op.{Op}
 use Rattle.rambo_atomic.specs.declared.operation.Op.TheVariants as op
@@ -58,9 +58,9 @@ abbrev pub IsOp : Op → Type 0
 IsOp (op.Get key) = AreBytes key
 IsOp (op.Set key value) = AreBytes key × AreBytes value
 
--- names are names, and numbers have 64 bits
+-- names are names, also those of sets, and numbers have 64 bits
 abbrev pub IsStep : Step → Type 0
-IsStep (step.Join n contacts) = IsName n
+IsStep (step.Join n contacts) = IsName n × AreNames contacts
 IsStep (step.Call n o) = IsName n × IsOp o
 IsStep (step.Send n to) = IsName n × IsName to
 IsStep (step.Deliver l) = l < 2 ^ 64

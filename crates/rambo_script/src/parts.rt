@@ -1,7 +1,7 @@
 //! The words behind the first of a line, each in its form.
 ghost use Rattle.std.specs.Prelude.{◌≡◌, ◌≢◌, ◌⊎◌, ℕ, List, [], ◌∷◌, ◌<◌, ◌^◌, length, decimal, IfOk, IfErr};
 ghost use Rattle.std.specs.Option.{option_copied};
-ghost use Rattle.rambo_names.specs.Names.{IsName};
+ghost use Rattle.rambo_names.specs.Names.{IsName, AreNames};
 ghost use Rattle.rambo_names.specs.Signs.{set_text};
 ghost use Rattle.rambo_text.specs.Forms.{Num, Name as AName, Set, Call};
 ghost use Rattle.rambo_text.specs.Signs.{call_text, IsCall};
@@ -57,7 +57,7 @@ pub fn name_of(word: &[u8]) -> Result<Name, Fault>
 
 /// The set of names that a word spells; else `BadNumber`.
 pub fn set_of(word: &[u8]) -> Result<Members, Fault>
-    ensures found { IfOk result (λ s. word.now ≡ set_text s) }
+    ensures found { IfOk result (λ s. AreNames s × (word.now ≡ set_text s)) }
     ensures fault { IfErr result (λ f. IsUnspelt Set word.now f) }
 {
     read_set(word).ok_or(Fault::BadNumber)

@@ -1,6 +1,8 @@
 mod Ascents
 mod GroupLists
 mod KeyLists
+mod OneList
+mod OneOrder
 pub mod Outcomes
 mod RankedLists
 mod WeakOrders

@@ -46,7 +46,7 @@ numbers_then : (m n r p q s : ℕ)
     ≡ cond (cond (nat_lt m p) true (cond (nat_eq m p) (nat_lt n q) false)) true (cond (cond (nat_lt p m) true (cond (nat_eq p m) (nat_lt q n) false)) false (nat_lt r s))
 numbers_then m n r p q s = grind (arith, nat_tests)
 
-is_before-mark_lt : (h : List Event) (a b : Mark) → is_before (ranked h a) (ranked h b) ≡ mark_lt h a b
+pub is_before-mark_lt : (h : List Event) (a b : Mark) → is_before (ranked h a) (ranked h b) ≡ mark_lt h a b
 is_before-mark_lt h a b =
     numbers_then (tag_of a.kept).sequence (tag_of a.kept).name (rank h a) (tag_of b.kept).sequence (tag_of b.kept).name (rank h b)
 

@@ -2,8 +2,6 @@ pub mod TagOrder
 pub mod CopyOrder
 pub mod Keys
 pub mod Joins
-pub mod ChangeLists
-pub mod MergeSteps
-pub mod Places
+pub mod Logged
 pub mod Tables
-pub mod Packing
+pub mod MergeSteps

@@ -1,5 +1,5 @@
 pub mod Tags
 pub mod Copies
-pub mod Changes
+pub mod Logs
 pub mod Merging
-pub mod Places
+pub mod Tables

@@ -1,21 +1,19 @@
 //! Tags, copies of a key's value, and the copies that a node holds.
 #![tactic(auto)]
 
-mod change;
+mod keyed_version;
 mod merging;
 mod pack;
 mod registers;
 mod replica;
+mod row;
 mod tag;
 mod version;
 
-pub use change::Change;
+pub use keyed_version::KeyedVersion;
 pub use merging::merging_laws;
 pub use pack::Pack;
 pub use registers::Registers;
 pub use replica::Replica;
 pub use tag::Tag;
 pub use version::Version;
-
-#[cfg(test)]
-mod tests;

@@ -1,12 +1,15 @@
 //! The laws of merging.
 ghost use Rattle.rambo_tag.specs.Copies.{joined};
-ghost use Rattle.rambo_tag.specs.Merging.{IsIdempotent, IsCommutative, IsAssociative, NeverLowers};
+ghost use Rattle.rambo_tag.specs.Merging.{IsIdempotent, IsCommutative, IsAssociative, NeverLowers, TakesGreater, JoinsLogs};
 
 /// Copies may be merged in any order and any number of times: what a node holds is the same, and no copy
-/// is replaced by a lesser one.
+/// is replaced by a lesser one. Of each key the greater copy stands, and to append to a log of copies is
+/// to merge what is appended.
 pub fn merging_laws()
     ensures idempotent { IsIdempotent joined }
     ensures commutative { IsCommutative joined }
     ensures associative { IsAssociative joined }
     ensures grows { NeverLowers joined }
+    ensures greater { TakesGreater joined }
+    ensures logs { JoinsLogs joined }
 {}

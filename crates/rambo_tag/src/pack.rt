@@ -1,41 +1,41 @@
 //! The copies in a letter.
 ghost use Rattle.std.specs.Prelude.{◌≡◌, IfOk, IfErr};
-ghost use Rattle.rambo_tag.specs.Changes.{greatest_of};
+ghost use Rattle.rambo_tag.specs.Logs.{greatest_of};
 
-use crate::change::Change;
+use crate::keyed_version::KeyedVersion;
 use rambo_names::Refusal;
 use std::marker::Model;
 
 /// The copies that a letter carries, seen as the greatest copy of each key.
 #[derive(Drop, Debug)]
 pub struct Pack {
-    changes: Vec<Change>,
+    copies: Vec<KeyedVersion>,
 }
 
 impl Model for Pack {
     ghost use Rattle.rambo_tag.specs.Copies.{Copies, copies_code};
-    ghost use Rattle.rambo_tag.specs.Changes.{greatest_of};
+    ghost use Rattle.rambo_tag.specs.Logs.{greatest_of};
 
     ghost Value = { Copies };
 
     ghost coded = { copies_code };
 
-    ghost view = { λ p. greatest_of p.changes.items };
+    ghost view = { λ p. greatest_of p.copies.items };
 }
 
 impl Pack {
     /// The greatest of these copies of each key.
-    pub fn new(changes: Vec<Change>) -> Pack
-        ensures { result ≡ greatest_of changes.items }
+    pub fn new(copies: Vec<KeyedVersion>) -> Pack
+        ensures { result ≡ greatest_of copies.items }
     {
-        Pack { changes }
+        Pack { copies }
     }
 
     /// Copies of which each key's greatest is in the pack. A key may stand more than once.
-    pub fn changes(&self) -> &[Change]
+    pub fn copies(&self) -> &[KeyedVersion]
         ensures { greatest_of result.now ≡ self.now }
     {
-        self.changes.as_slice()
+        self.copies.as_slice()
     }
 
     /// The same copies once more. No key and no value is copied.
@@ -46,7 +46,7 @@ impl Pack {
         ensures refused { IfErr result (λ r. r ≡ Refusal.OutOfMemory) }
     {
         Ok(Pack {
-            changes: self.changes.clone()?,
+            copies: self.copies.clone()?,
         })
     }
 }

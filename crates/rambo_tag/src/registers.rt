@@ -1,13 +1,16 @@
 //! Copies in a hash table.
-ghost use Rattle.std.specs.Prelude.{◌≡◌, ◌++◌, ◌∷◌, [], ◌-◌, false, take, length, IsOk, OnOk, OnErr, IfErr, if◌then◌else◌, refl};
-ghost use Rattle.std.specs.FinMap.{get};
+ghost use Rattle.std.specs.Prelude.{◌≡◌, ◌≤◌, [], length, IsOk, IfOk, IfErr, OnOk, OnErr};
+ghost use Rattle.std.specs.FinMap.{empty, insert, get};
+ghost use Rattle.indexmap.specs.IndexMap.{spare};
 ghost use Rattle.rambo_tag.specs.Tags.{is_newer};
-ghost use Rattle.rambo_tag.specs.Changes.{latest_of};
-ghost use Rattle.rambo_tag.specs.Places.{last_place};
+ghost use Rattle.rambo_tag.specs.Copies.{joined};
+ghost use Rattle.rambo_tag.specs.Logs.{greatest_after};
+ghost use Rattle.rambo_tag.specs.Tables.{IsKeyed, copies_in};
 
-use crate::change::Change;
+use crate::keyed_version::KeyedVersion;
 use crate::pack::Pack;
 use crate::replica::Replica;
+use crate::row::Row;
 use crate::version::Version;
 use indexmap::IndexMap;
 use rambo_names::{Bytes, Refusal};
@@ -15,180 +18,125 @@ use std::alloc::Global;
 use std::hash::BuildHasher;
 use std::marker::Model;
 
-/// The copies of a node: all changes in order, and a hash table that finds each key's last one.
+/// The copies of a node in a hash table.
 ///
-/// Each call hashes a key that is there once, and takes time in the size of what it is given or makes. Only
-/// where memory runs out inside a merge is the list of changes walked, to find what stood there before.
+/// Each call takes time in the size of what it is given or makes.
 #[derive(Drop)]
 pub struct Registers<H: BuildHasher> {
-    // The place in the log of each key's last change.
-    index: IndexMap<Vec<u8>, usize, H>,
-    log: Vec<Change>,
+    // By each key's bytes, which stand here once more: packs share those of the copy.
+    table: IndexMap<Vec<u8>, KeyedVersion, H>,
 }
 
 impl<H: BuildHasher> Model for Registers<H> {
-    ghost use Rattle.std.specs.Prelude.{List};
-    ghost use Rattle.rambo_tag.specs.declared.change.Change.{Change};
-    ghost use Rattle.rambo_tag.specs.Places.{IsIndexOf};
+    ghost use Rattle.rambo_tag.specs.Copies.{Copies, copies_code};
+    ghost use Rattle.rambo_tag.specs.Tables.{IsKeyed, copies_in};
 
-    ghost Value = { List Change };
+    ghost Value = { Copies };
 
-    ghost view = { λ r. r.log.items };
+    ghost coded = { copies_code };
 
-    ghost invariant = { λ r. IsIndexOf r.log.items r.index.entries };
+    ghost view = { λ r. copies_in r.table.entries };
+
+    ghost invariant = { λ r. IsKeyed r.table.entries };
 }
 
 impl<H: BuildHasher> Registers<H> {
     /// The replica that holds nothing, under a hasher.
     pub fn new(alloc: Global, hasher: H) -> Self
-        ensures { result ≡ [] }
+        ensures { result ≡ empty }
     {
         Registers {
-            index: IndexMap::with_hasher(alloc, hasher),
-            log: Vec::new(alloc),
+            table: IndexMap::with_hasher(alloc, hasher),
         }
     }
 
-    // Adds a change.
-    fn append(&mut self, change: Change) -> Result<(), Refusal>
-        ensures ok { OnOk result (self.new ≡ self.old ++ change ∷ []) }
+    // Puts the copy of a key that the table may lack.
+    fn put_new_key(&mut self, copy: KeyedVersion) -> Result<(), Refusal>
+        ensures ok { OnOk result (self.new ≡ insert self.old copy.key copy.version) }
         ensures err { OnErr result (self.new ≡ self.old) }
         ensures refused { IfErr result (λ r. r ≡ Refusal.OutOfMemory) }
     {
-        let place = self.log.len();
-        match self.index.get_mut(change.key.as_slice()) {
-            Some(last) => {
-                self.log.push(change)?;
-                *last = place;
-                Ok(())
-            }
-            None => self.append_new_key(change),
-        }
-    }
-
-    // Adds a change whose key the index may lack.
-    fn append_new_key(&mut self, change: Change) -> Result<(), Refusal>
-        ensures ok { OnOk result (self.new ≡ self.old ++ change ∷ []) }
-        ensures err { OnErr result (self.new ≡ self.old) }
-        ensures refused { IfErr result (λ r. r ≡ Refusal.OutOfMemory) }
-    {
-        self.log.reserve(1)?;
-        let key = Vec::from_slice(*self.index.allocator(), change.key.as_slice())?;
-        self.index.insert(key, self.log.len())?;
-        self.log.push_reserved(change);
+        let bytes = Vec::from_slice(*self.table.allocator(), copy.key.as_slice())?;
+        self.table.insert(bytes, copy)?;
         Ok(())
     }
 
-    // Adds a change where it is newer than what its key holds.
-    fn append_if_newer(&mut self, change: &Change) -> Result<(), Refusal>
-        ensures ok { OnOk result (self.new ≡ (if is_newer (get (latest_of self.old) change.now.key) change.now.version then self.old ++ change.now ∷ [] else self.old)) }
-        ensures err { OnErr result (self.new ≡ self.old) }
+    // Those copies of a pack that are newer than what their keys hold here.
+    fn newer_rows(&self, pack: &Pack) -> Result<Vec<Row>, Refusal>
+        ensures all { IfOk result (λ rows. greatest_after self.now rows.items ≡ joined self.now pack.now) }
+        ensures idle { joined self.now pack.now ≡ self.now → IsOk result }
+        ensures none { joined self.now pack.now ≡ self.now → IfOk result (λ rows. rows.items ≡ []) }
         ensures refused { IfErr result (λ r. r ≡ Refusal.OutOfMemory) }
-        ensures idle { is_newer (get (latest_of self.old) change.now.key) change.now.version ≡ false → IsOk result }
     {
-        let place = self.log.len();
-        match self.index.get_mut(change.key.as_slice()) {
-            Some(last) => {
-                if self.log[*last].version.is_before(&change.version) {
-                    self.log.push(change.clone()?)?;
-                    *last = place;
-                }
-                Ok(())
-            }
-            None => self.append_new_key(change.clone()?),
-        }
-    }
-
-    // Takes back the changes from a place on. It needs no memory.
-    fn cut_back(&mut self, count: usize)
-        ensures { self.new ≡ take count self.old }
-    {
-        while count < self.log.len() {
-            self.take_back();
-        }
-    }
-
-    // Takes back the last change, and has the index find the one before it.
-    fn take_back(&mut self)
-        ensures { self.new ≡ take (length self.old - 1) self.old }
-    {
-        if let Some(change) = self.log.pop() {
-            let key = change.key.as_slice();
-            match last_place(self.log.as_slice(), key) {
-                Some(place) => {
-                    if let Some(last) = self.index.get_mut(key) {
-                        *last = place;
-                    }
-                }
-                None => {
-                    self.index.swap_remove(key);
-                }
+        let alloc = *self.table.allocator();
+        let mut rows = Vec::new(alloc);
+        for copy in pack.copies() {
+            if is_newer(&self.table, copy) {
+                rows.push(Row::of(alloc, copy)?)?;
             }
         }
+        Ok(rows)
     }
 }
 
 impl<H: BuildHasher + Clone + Drop> Replica for Registers<H> {
-    ghost copies = { latest_of };
-
-    ghost changes = { λ r. r };
-
-    ghost recorded = { λ r. refl };
+    ghost copies = { λ r. r };
 
     fn fresh(&self) -> Result<Self, Refusal> {
-        Ok(Registers::new(*self.index.allocator(), self.index.hasher().clone()?))
+        Ok(Registers::new(*self.table.allocator(), self.table.hasher().clone()?))
     }
 
     fn copy(&self, key: &[u8]) -> Option<&Version> {
-        let place = *self.index.get(key)?;
-        Some(&self.log[place].version)
+        Some(&self.table.get(key)?.version)
     }
 
     fn put(&mut self, key: Bytes, version: Version) -> Result<(), Refusal> {
-        self.append(Change { key, version })
+        match self.table.get_mut(key.as_slice()) {
+            Some(kept) => {
+                kept.version = version;
+                Ok(())
+            }
+            None => self.put_new_key(KeyedVersion { key, version }),
+        }
     }
 
     fn merge(&mut self, pack: &Pack) -> Result<(), Refusal> {
-        let count = self.log.len();
-        for change in pack.changes() {
-            if let Err(refusal) = self.append_if_newer(change) {
-                self.cut_back(count);
-                return Err(refusal);
-            }
-        }
+        let rows = self.newer_rows(pack)?;
+        self.table.reserve(rows.len())?;
+        put_newer_rows(&mut self.table, rows);
         Ok(())
     }
 
     fn pack(&self) -> Result<Pack, Refusal> {
-        let mut changes = Vec::with_capacity(*self.log.allocator(), self.index.len())?;
-        for place in self.index.values() {
-            changes.push(self.log[*place].clone()?)?;
+        let mut copies = Vec::with_capacity(*self.table.allocator(), self.table.len())?;
+        for copy in self.table.values() {
+            copies.push(copy.clone()?)?;
         }
-        Ok(Pack::new(changes))
-    }
-
-    fn change_count(&self) -> usize {
-        self.log.len()
-    }
-
-    fn changes_between(&self, from: usize, to: usize) -> Result<Pack, Refusal> {
-        if from == to {
-            return Ok(Pack::new(Vec::new(*self.log.allocator())));
-        }
-        Ok(Pack::new(Vec::from_clones(*self.log.allocator(), &self.log[from..to])?))
+        Ok(Pack::new(copies))
     }
 }
 
-// The place of a key's last change.
-fn last_place(log: &[Change], key: &[u8]) -> Option<usize>
-    ensures { result ≡ last_place key.now log.now }
+// Whether a copy is newer than what its key holds.
+fn is_newer<H: BuildHasher>(table: &IndexMap<Vec<u8>, KeyedVersion, H>, copy: &KeyedVersion) -> bool
+    ensures { result ≡ is_newer (get (copies_in table.now.entries) copy.now.key) copy.now.version }
 {
-    let mut rest = log;
-    while let Some((change, front)) = rest.split_last() {
-        if key == change.key.as_slice() {
-            return Some(front.len());
-        }
-        rest = front;
+    match table.get(copy.key.as_slice()) {
+        Some(kept) => kept.version.is_before(&copy.version),
+        None => true,
     }
-    None
+}
+
+// Puts rows into a table that has room for them, each where it is newer. It needs no memory.
+fn put_newer_rows<H: BuildHasher>(table: &mut IndexMap<Vec<u8>, KeyedVersion, H>, rows: Vec<Row>)
+    requires room { length rows.items ≤ spare table.old }
+    requires keyed { IsKeyed table.old.entries }
+    ensures keyed { IsKeyed table.new.entries }
+    ensures copies { copies_in table.new.entries ≡ greatest_after (copies_in table.old.entries) rows.items }
+{
+    for row in rows {
+        if is_newer(table, row.copy()) {
+            let (bytes, copy) = row.into_parts();
+            let _kept = table.insert(bytes, copy);
+        }
+    }
 }

@@ -1,30 +1,25 @@
 //! What a node needs of its copies.
-ghost use Rattle.std.specs.Prelude.{◌≡◌, ◌≤◌, ◌++◌, ◌∷◌, [], List, take, drop, length, IsOk, IfOk, IfErr, OnOk, OnErr};
+ghost use Rattle.std.specs.Prelude.{◌≡◌, IsOk, IfOk, IfErr, OnOk, OnErr};
 ghost use Rattle.std.specs.FinMap as map;
 ghost use Rattle.std.specs.Option.{option_copied};
-ghost use Rattle.rambo_tag.specs.declared.change.Change.{Change};
 ghost use Rattle.rambo_tag.specs.Copies.{Copies, joined};
-ghost use Rattle.rambo_tag.specs.Changes.{latest_of, greatest_of, IsRising, Extends};
 
 use crate::pack::Pack;
 use crate::version::Version;
 use rambo_names::{Bytes, Refusal};
 
-/// The copies of one node, seen as a finite map from keys to copies, and the list of the changes that
-/// made it, the oldest first.
+/// The copies of one node, seen as a finite map from keys to copies.
 ///
 /// An absent key stands for the tag (0, 0) with nil. Each call that answers `OutOfMemory` leaves the
 /// replica as it was.
 pub trait Replica: Drop {
     ghost copies: { Self → Copies };
 
-    ghost changes: { Self → List Change };
-
     /// A replica of the same kind that holds nothing.
     ///
     /// `OutOfMemory` where there is no room for it.
     fn fresh(&self) -> Result<Self, Refusal>
-        ensures empty { IfOk result (λ r. changes r ≡ []) }
+        ensures empty { IfOk result (λ r. copies r ≡ map.empty) }
         ensures refused { IfErr result (λ r. r ≡ Refusal.OutOfMemory) };
 
     /// The copy of a key, if there is one. A key is any bytes.
@@ -36,7 +31,6 @@ pub trait Replica: Drop {
     /// `OutOfMemory` where there is no room for it.
     fn put(&mut self, key: Bytes, version: Version) -> Result<(), Refusal>
         ensures ok { OnOk result (copies self.new ≡ map.insert (copies self.old) key version) }
-        ensures changes { OnOk result (changes self.new ≡ changes self.old ++ record { key = key; version = version } ∷ []) }
         ensures err { OnErr result (self.new ≡ self.old) }
         ensures refused { IfErr result (λ r. r ≡ Refusal.OutOfMemory) };
 
@@ -45,8 +39,6 @@ pub trait Replica: Drop {
     /// `OutOfMemory` where there is no room for what is newer. Where nothing is newer no memory is taken.
     fn merge(&mut self, pack: &Pack) -> Result<(), Refusal>
         ensures ok { OnOk result (copies self.new ≡ joined (copies self.old) pack.now) }
-        ensures grows { OnOk result (Extends (changes self.old) (changes self.new)) }
-        ensures rises { OnOk result (IsRising (changes self.old) → IsRising (changes self.new)) }
         ensures idle { joined (copies self.old) pack.now ≡ copies self.old → IsOk result }
         ensures err { OnErr result (self.new ≡ self.old) }
         ensures refused { IfErr result (λ r. r ≡ Refusal.OutOfMemory) };
@@ -57,22 +49,4 @@ pub trait Replica: Drop {
     fn pack(&self) -> Result<Pack, Refusal>
         ensures all { IfOk result (λ p. p ≡ copies self.now) }
         ensures refused { IfErr result (λ r. r ≡ Refusal.OutOfMemory) };
-
-    /// How many changes made this replica.
-    fn change_count(&self) -> usize
-        ensures { result ≡ length (changes self.now) };
-
-    /// The changes from one place up to another, counted from 0, to be sent. No key and no value is
-    /// copied, and where there is no change no memory is taken.
-    ///
-    /// `OutOfMemory` where there is no room for the list of them.
-    fn changes_between(&self, from: usize, to: usize) -> Result<Pack, Refusal>
-        requires order { from ≤ to }
-        requires within { to ≤ length (changes self.now) }
-        ensures some { IfOk result (λ p. p ≡ greatest_of (drop from (take to (changes self.now)))) }
-        ensures idle { from ≡ to → IsOk result }
-        ensures refused { IfErr result (λ r. r ≡ Refusal.OutOfMemory) };
-
-    // The copies are what the changes leave.
-    ghost recorded: { (r : Self) → copies r ≡ latest_of (changes r) };
 }

@@ -1,6 +1,7 @@
 -- How calls and bytes are spelt
-use Rattle.std.specs.Prelude.{◌≡◌, ℕ, ◌+◌, ◌<◌, ◌≤◌, ◌^◌, if◌then◌else◌, nat_lt, List, [], ◌∷◌, ◌++◌, decimal, ◌/◌, ◌%◌, All}
-use Rattle.rambo_names.specs.Names.{IsName}
+use Rattle.std.specs.Prelude.{◌≡◌, true, ℕ, ◌+◌, ◌<◌, ◌≤◌, ◌^◌, if◌then◌else◌, nat_lt, List, [], ◌∷◌, ◌++◌, decimal, ◌/◌, ◌%◌, All}
+use Rattle.std.specs.FinSet.{contains}
+use Rattle.rambo_names.specs.Names.{IsName, NameSet}
 use Rattle.rambo_atomic.specs.declared.event.CallId.{CallId}
 
 -- the digit of a number below 16
@@ -32,3 +33,7 @@ AreBytes bs = All (λ b. b < 256) bs
 -- a text with some more behind it
 abbrev pub Grows : List ℕ → List ℕ → Type 0
 Grows old new = (more : List ℕ) × (new ≡ old ++ more)
+
+-- a set has no number that is no name
+abbrev pub AreNames : NameSet → Type 0
+AreNames s = (n : ℕ) → contains s n ≡ true → IsName n

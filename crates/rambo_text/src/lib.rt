@@ -15,6 +15,3 @@ pub use fault::{Fault, ReplayFault, ScriptFault};
 pub use reading::{read_call, read_hex, read_name};
 pub use words::{next_line, next_word, one_word, three_words, two_words};
 pub use writing::{write_call, write_hex, write_name, write_num};
-
-#[cfg(test)]
-mod tests;

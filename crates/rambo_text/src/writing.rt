@@ -30,8 +30,21 @@ pub fn write_name(name: Name, out: &mut Vec<u8>) -> Result<(), AllocError>
 
 /// Appends a call: the name of its node, a dot, and its number there.
 ///
-/// `AllocError` where the text can't grow; it then has a front of the call at most behind what it had.
+/// `AllocError` where the text can't grow; it is then as before.
 pub fn write_call(id: &CallId, out: &mut Vec<u8>) -> Result<(), AllocError>
+    ensures ok { OnOk result (out.new.items ≡ out.old.items ++ call_text id.now) }
+    ensures err { OnErr result (out.new.items ≡ out.old.items) }
+{
+    let before = out.len();
+    let written = append_call(id, out);
+    if written.is_err() {
+        out.truncate(before);
+    }
+    written
+}
+
+// Appends a call, or after a refusal some bytes.
+fn append_call(id: &CallId, out: &mut Vec<u8>) -> Result<(), AllocError>
     ensures ok { OnOk result (out.new.items ≡ out.old.items ++ call_text id.now) }
     ensures err { OnErr result (Grows out.old.items out.new.items) }
 {
@@ -42,8 +55,21 @@ pub fn write_call(id: &CallId, out: &mut Vec<u8>) -> Result<(), AllocError>
 
 /// Appends bytes as pairs of digits, `0` to `9` and `a` to `f`, or a dash where there is none.
 ///
-/// `AllocError` where the text can't grow; it then has a front of the digits at most behind what it had.
+/// `AllocError` where the text can't grow; it is then as before.
 pub fn write_hex(bytes: &[u8], out: &mut Vec<u8>) -> Result<(), AllocError>
+    ensures ok { OnOk result (out.new.items ≡ out.old.items ++ hex_text bytes.now) }
+    ensures err { OnErr result (out.new.items ≡ out.old.items) }
+{
+    let before = out.len();
+    let written = append_hex(bytes, out);
+    if written.is_err() {
+        out.truncate(before);
+    }
+    written
+}
+
+// Appends bytes as digits, or after a refusal some bytes.
+fn append_hex(bytes: &[u8], out: &mut Vec<u8>) -> Result<(), AllocError>
     ensures ok { OnOk result (out.new.items ≡ out.old.items ++ hex_text bytes.now) }
     ensures err { OnErr result (Grows out.old.items out.new.items) }
 {

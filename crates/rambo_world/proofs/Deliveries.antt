@@ -1,49 +1,53 @@
 -- What a letter that is delivered does to the world
-use Rattle.std.proofs.Common.{◌≡◌, ℕ, zero, suc, ◌+◌, ◌-◌, ◌*◌, ◌≤◌, ◌<◌, max, List, take, drop, length, None, Some, slice_get, slice_set, sym, ap, ◌∙◌, inl, inr, subst, arith}
+use Rattle.std.proofs.Common.{◌≡◌, ℕ, zero, suc, ◌+◌, ◌-◌, ◌*◌, ◌≤◌, ◌<◌, max, List, take, drop, length, Option, None, Some, slice_get, slice_set, refl, sym, ap, ◌∙◌, inl, inr, subst, arith}
 use Rattle.std.proofs.lemmas.Bool.{cases_eq, false≢true}
 use Rattle.std.proofs.lemmas.List.{length-set, get_or-set_same}
-use Rattle.std.proofs.lemmas.Option.{slice_get_cases, slice_get_within, slice_get_read, slice_get-map}
+use Rattle.std.proofs.lemmas.Option.{slice_get_within, slice_get_read, slice_get-map}
 use Rattle.std.proofs.Math.Nat.{max-le, max-eq_left}
 use Rattle.std.specs.Option.{option_map, is_some}
 use Rattle.rambo_names.specs.Names.{IsName}
-use Rattle.rambo_tag.specs.declared.change.Change.{Change}
+use Rattle.rambo_names.specs.Quorums.{QuorumSystem}
+use Rattle.rambo_tag.specs.declared.keyed_version.KeyedVersion.{KeyedVersion}
 use Rattle.rambo_tag.specs.Copies.{Copies, joined}
-use Rattle.rambo_tag.specs.Changes.{IsRising, latest_of, greatest_of}
-use Rattle.rambo_tag.proofs.ChangeLists.{IsRising-nil}
+use Rattle.rambo_tag.specs.Logs.{greatest_of}
 use Rattle.rambo_atomic.specs.declared.event.Event.{Event}
+use Rattle.rambo_gossip.specs.declared.letter.Letter.{Letter}
 use Rattle.rambo_gossip.specs.Letters.{letter_with}
-use Rattle.rambo_node.specs.Hearing.{heard_letter}
-use Rattle.rambo_node.specs.Nodes.{NodeState, KeptNode}
-use Rattle.rambo_node.specs.Refusals.{hear_causes}
+use Rattle.rambo_node.specs.declared.change.Change.TheVariants as change
 use Rattle.rambo_node.specs.declared.effect.Effect.TheVariants as effect
+use Rattle.rambo_node.specs.Changes.{made_by}
+use Rattle.rambo_node.specs.Hearing.{heard_letter}
+use Rattle.rambo_node.specs.Nodes.{NodeState}
 use Rattle.rambo_sequence.specs.declared.mark.Mark.{Mark}
 use Rattle.rambo_run.specs.declared.step.Step.TheVariants as step
-use Rattle.rambo_run.specs.Worlds.{letter_at}
-use Rattle.rambo_run.specs.Steps.{causes_of, delivery_causes, turn}
-use Rattle.rambo_world.specs.Kept.{SentState, state_of, states_of, moved_in, kept_at, state_at, changes_in, changes_at, whole_letter, whole_letters, sent_at, moved, merged_at, merged_raised, AllGrow, IsSent, HasMerged, IsKept}
+use Rattle.rambo_run.specs.Worlds.{WorldState, letter_at}
+use Rattle.rambo_run.specs.Steps.{causes_at, causes_of, delivery, turn, turn_at, turn_of}
+use Rattle.rambo_world.specs.Kept.{KeptNode, SentState, state_of, states_of, moved_in, kept_at, state_at, log_at, whole_letter, whole_letters, sent_at, moved, merged_at, merged_raised, AllGrow, IsSent, HasMerged, IsKept}
 use Rattle.rambo_world.proofs.Growth.{some_is}
-use Rattle.rambo_world.proofs.Delivering.{letter_at-sent, hear_causes-with, merge_told, merged_told, heard_alike, heard_registers, raised_same, raised_other, own_place, place_below}
+use Rattle.rambo_world.proofs.Merging.{merge_told, merged_told}
+use Rattle.rambo_world.proofs.Delivering.{letter_at-sent, causes_with, heard_alike, heard_registers, raised_same, raised_other, own_place, place_below}
 use Rattle.rambo_world.proofs.Stepping.{told_stays}
-use Rattle.rambo_world.proofs.Turns.{world_of, stepped, delivered_turn, none_turn}
+use Rattle.rambo_world.proofs.Turns.{world_of, step_turn}
 
 module _ {Q : Type 0} (ks : List (KeptNode Q)) (ss : List (SentState Q)) (h : List Event) (ms : List Mark) (number : ℕ) where
-  pub sent_letter : (s : SentState Q) → sent_at ss number ≡ Some s → letter_at (whole_letters ks ss) number ≡ Some (whole_letter ks s)
-  sent_letter s found = letter_at-sent ks ss number ∙ ap (option_map (whole_letter ks)) found
+  pub sent_letter : (m : SentState Q) → sent_at ss number ≡ Some m → letter_at (whole_letters ks ss) number ≡ Some (whole_letter ks m)
+  sent_letter m found = letter_at-sent ks ss number ∙ ap (option_map (whole_letter ks)) found
 
-  pub no_letter : sent_at ss number ≡ None → letter_at (whole_letters ks ss) number ≡ None
+  no_letter : sent_at ss number ≡ None → letter_at (whole_letters ks ss) number ≡ None
   no_letter found = letter_at-sent ks ss number ∙ ap (option_map (whole_letter ks)) found
 
-  pub sent_causes : (s : SentState Q) → sent_at ss number ≡ Some s
-      → delivery_causes (world_of ks ss h ms) (letter_at (whole_letters ks ss) number) ≡ causes_of (state_at ks s.letter.addressee) (λ x. hear_causes x s.letter.kind)
-  sent_causes s found =
-      ap (delivery_causes (world_of ks ss h ms)) (sent_letter s found)
-      ∙ λ i. causes_of (state_at ks s.letter.addressee) (λ x. hear_causes-with x s.letter.kind (latest_of (take s.changes (changes_at ks s.letter.sender))) i)
+  pub sent_causes : (s : QuorumSystem Q) (m : SentState Q) → sent_at ss number ≡ Some m
+      → causes_of s (world_of ks ss h ms) (delivery (letter_at (whole_letters ks ss) number)) ≡ causes_at s (state_at ks m.letter.addressee) (change.Deliver m.letter)
+  sent_causes s m found =
+      ap (λ l. causes_of s (world_of ks ss h ms) (delivery l)) (sent_letter m found)
+      ∙ causes_with s (state_at ks m.letter.addressee) m.letter (greatest_of (take m.told (log_at ks m.letter.sender)))
 
-  pub no_causes : sent_at ss number ≡ None → delivery_causes (world_of ks ss h ms) (letter_at (whole_letters ks ss) number) ≡ delivery_causes (world_of ks ss h ms) None
-  no_causes found = ap (delivery_causes (world_of ks ss h ms)) (no_letter found)
+  pub no_causes : (s : QuorumSystem Q) → sent_at ss number ≡ None → causes_of s (world_of ks ss h ms) (delivery (letter_at (whole_letters ks ss) number)) ≡ causes_of s (world_of ks ss h ms) None
+  no_causes s found = ap (λ l. causes_of s (world_of ks ss h ms) (delivery l)) (no_letter found)
 
   pub no_delivery : sent_at ss number ≡ None → turn (world_of ks ss h ms) (step.Deliver number) ≡ record { world = world_of ks ss h ms; effect = effect.Done }
-  no_delivery found = none_turn (world_of ks ss h ms) number (no_letter found)
+  unfolding turn
+  no_delivery found = ap (λ l. turn_of (world_of ks ss h ms) (delivery l)) (no_letter found)
 
 -- the letter of a number stands one place before it
 pub sent_before : {Q : Type 0} (ss : List (SentState Q)) (number : ℕ) (s : SentState Q) → sent_at ss number ≡ Some s → slice_get ss (number - 1) ≡ Some s
@@ -62,61 +66,68 @@ moved_state ks new (suc i) f x y e there found =
     ∙ slice_get_read (slice_set (states_of ks) i (f x)) (length (states_of ks)) i (f x) (sym (length-set (states_of ks) i (f x))) below (sym (get_or-set_same (states_of ks) i (f x) (f x) below)) in
     some_is y.state (f x) (sym (slice_get-map state_of new i ∙ ap (option_map state_of) (ap (slice_get new) (sym place) ∙ found)) ∙ here)
 
--- the changes of a kept node rise
-pub rising_at : {Q : Type 0} (ks : List (KeptNode Q)) (ss : List (SentState Q)) (ms : List ℕ) (n : ℕ) → IsKept ks ss ms → IsRising (changes_at ks n)
-rising_at ks ss ms n kept =
-    elim ((slice_get_cases ks (n - 1)).1) [
-      | inl h ↦ subst (λ o. IsRising (changes_in o)) (sym h.2) (kept.recorded (n - 1) h.0 h.2).rising
-      | inr h ↦ subst (λ o. IsRising (changes_in o)) (sym h.1) IsRising-nil
-    ]
+-- a delivery is the hearing of a letter
+delivered : {Q : Type 0} (x : NodeState Q) (l : Letter Q) → (made_by x (change.Deliver l)).node ≡ heard_letter x l
+unfolding made_by
+delivered x l = refl
+
+delivered_in : {Q : Type 0} (n : ℕ) (o : Option (NodeState Q)) (l : Letter Q) (xs : List (NodeState Q)) → moved_in n o (λ y. (made_by y (change.Deliver l)).node) xs ≡ moved_in n o (λ y. heard_letter y l) xs
+delivered_in n None l xs = refl
+delivered_in n (Some x) l xs = ap (slice_set xs (n - 1)) (delivered x l)
+
+pub delivered_moved : {Q : Type 0} (ks : List (KeptNode Q)) (n : ℕ) (l m : Letter Q) → l ≡ m → moved ks n (λ y. (made_by y (change.Deliver l)).node) ≡ moved ks n (λ y. heard_letter y m)
+delivered_moved ks n l m same = delivered_in n (state_at ks n) l (states_of ks) ∙ ap (λ l. moved ks n (λ y. heard_letter y l)) same
+
+-- a letter that comes to a node that is there
+heard_turn : {Q : Type 0} (w : WorldState Q) (l : Letter Q) (x : NodeState Q) → turn_at w l.addressee (Some x) (change.Deliver l)
+    ≡ record { world = record w { nodes = slice_set w.nodes (l.addressee - 1) (heard_letter x l) }; effect = effect.Done }
+unfolding made_by
+heard_turn w l x = refl
 
 module _ {Q : Type 0} (ks new : List (KeptNode Q)) (ss : List (SentState Q)) (counts : List ℕ) (kept : IsKept ks ss counts) (grow : AllGrow ks new)
     (s : SentState Q) (sent : IsSent ks s) (x : KeptNode Q) (pack : Copies) (to : IsName s.letter.addressee) (from : IsName s.letter.sender)
     (there : kept_at ks s.letter.addressee ≡ Some x)
-    (packed : pack ≡ greatest_of (drop (merged_at counts s.letter.addressee s.letter.sender) (take (max (merged_at counts s.letter.addressee s.letter.sender) s.changes) (changes_at ks s.letter.sender)))) where
+    (packed : joined x.state.registers pack ≡ joined x.state.registers (greatest_of (drop (merged_at counts s.letter.addressee s.letter.sender) (take (max (merged_at counts s.letter.addressee s.letter.sender) s.told) (log_at ks s.letter.sender))))) where
   abbrev m : ℕ
   m = merged_at counts s.letter.addressee s.letter.sender
 
-  abbrev cs : List Change
-  cs = changes_at ks s.letter.sender
+  abbrev log : List KeyedVersion
+  log = log_at ks s.letter.sender
 
   has : HasMerged ks counts s.letter.addressee s.letter.sender x
   has = kept.merged s.letter.addressee s.letter.sender x to from there
 
-  rises : IsRising cs
-  rises = rising_at ks ss counts s.letter.sender kept
-
   -- the copies that are new do what all of them do
-  pub alike : joined x.state.registers pack ≡ joined x.state.registers (latest_of (take s.changes cs))
-  alike = ap (joined x.state.registers) packed ∙ merge_told x.state.registers m s.changes cs rises has.holds
+  pub alike : joined x.state.registers pack ≡ joined x.state.registers (greatest_of (take s.told log))
+  alike = packed ∙ merge_told x.state.registers m s.told log has.holds
 
-  holds_after : (y : KeptNode Q) → y.state ≡ heard_letter x.state (letter_with s.letter pack) → joined y.state.registers (latest_of (take (max m s.changes) cs)) ≡ y.state.registers
+  holds_after : (y : KeptNode Q) → y.state ≡ heard_letter x.state (letter_with s.letter pack) → joined y.state.registers (greatest_of (take (max m s.told) log)) ≡ y.state.registers
   holds_after y e =
       elim (heard_registers x.state s.letter.sender s.letter.kind pack) [
         | inl h ↦ let same = ap (λ z. z.registers) e ∙ h.1 in
-            ap (λ r. joined r (latest_of (take (max m s.changes) cs))) same
-            ∙ ap (λ n. joined x.state.registers (latest_of (take n cs))) (ap (max m) (sent.join h.0) ∙ max-eq_left (omega arith))
+            ap (λ r. joined r (greatest_of (take (max m s.told) log))) same
+            ∙ ap (λ n. joined x.state.registers (greatest_of (take n log))) (ap (max m) (sent.join h.0) ∙ max-eq_left (omega arith))
             ∙ has.holds ∙ sym same
         | inr h ↦ let same = ap (λ z. z.registers) e ∙ h ∙ alike in
-            ap (λ r. joined r (latest_of (take (max m s.changes) cs))) same ∙ merged_told x.state.registers m s.changes cs rises has.holds ∙ sym same
+            ap (λ r. joined r (greatest_of (take (max m s.told) log))) same ∙ merged_told x.state.registers m s.told log has.holds ∙ sym same
       ]
 
-  told_after : (max m s.changes ≤ length (changes_at new s.letter.sender)) × (take (max m s.changes) (changes_at new s.letter.sender) ≡ take (max m s.changes) cs)
-  told_after = told_stays ks new grow s.letter.sender (max m s.changes) (max-le has.within sent.within)
+  told_after : (max m s.told ≤ length (log_at new s.letter.sender)) × (take (max m s.told) (log_at new s.letter.sender) ≡ take (max m s.told) log)
+  told_after = told_stays ks new grow s.letter.sender (max m s.told) (max-le has.within sent.within)
 
   abbrev raised : List ℕ
-  raised = merged_raised counts s.letter.addressee s.letter.sender s.changes
+  raised = merged_raised counts s.letter.addressee s.letter.sender s.told
 
   below : (s.letter.addressee - 1) * 64 + (s.letter.sender - 1) < length counts
   below = subst (λ n. (s.letter.addressee - 1) * 64 + (s.letter.sender - 1) < n) (sym kept.counts) (place_below s.letter.addressee s.letter.sender to from)
 
   merged_here : (y : KeptNode Q) → y.state ≡ heard_letter x.state (letter_with s.letter pack) → HasMerged new raised s.letter.addressee s.letter.sender y
   merged_here y e =
-      let count = raised_same counts s.letter.addressee s.letter.sender s.changes below in
+      let count = raised_same counts s.letter.addressee s.letter.sender s.told below in
       record {
-        within = subst (λ n. n ≤ length (changes_at new s.letter.sender)) (sym count) told_after.0;
-        holds = ap (λ n. joined y.state.registers (latest_of (take n (changes_at new s.letter.sender)))) count
-            ∙ ap (λ l. joined y.state.registers (latest_of l)) told_after.1 ∙ holds_after y e;
+        within = subst (λ n. n ≤ length (log_at new s.letter.sender)) (sym count) told_after.0;
+        holds = ap (λ n. joined y.state.registers (greatest_of (take n (log_at new s.letter.sender)))) count
+            ∙ ap (λ l. joined y.state.registers (greatest_of l)) told_after.1 ∙ holds_after y e;
       }
 
   -- and then they count as merged
@@ -133,10 +144,10 @@ module _ {Q : Type 0} (ks new : List (KeptNode Q)) (ss : List (SentState Q)) (co
               subst (λ t. HasMerged new raised t f y) (sym own.0) (subst (λ f. HasMerged new raised s.letter.addressee f y) (sym own.1)
               (merged_here y (heard y (ap (kept_at new) (sym own.0) ∙ found))))
           | inr other ↦ let has = after.merged t f y named_t named_f found in
-              let count = raised_other counts s.letter.addressee s.letter.sender s.changes t f other in
+              let count = raised_other counts s.letter.addressee s.letter.sender s.told t f other in
               record {
-                within = subst (λ n. n ≤ length (changes_at new f)) (sym count) has.within;
-                holds = ap (λ n. joined y.state.registers (latest_of (take n (changes_at new f)))) count ∙ has.holds;
+                within = subst (λ n. n ≤ length (log_at new f)) (sym count) has.within;
+                holds = ap (λ n. joined y.state.registers (greatest_of (take n (log_at new f)))) count ∙ has.holds;
               }
         ];
   }
@@ -145,12 +156,13 @@ module _ {Q : Type 0} (ks new : List (KeptNode Q)) (ss : List (SentState Q)) (co
       → states_of new ≡ moved ks s.letter.addressee (λ y. heard_letter y (letter_with s.letter pack)) → whole_letters new ss ≡ whole_letters ks ss
       → turn (world_of ks ss h ms) (step.Deliver number) ≡ record { world = world_of new ss h ms; effect = effect.Done }
   deliver_world h ms number found state e letters =
+      let w = world_of ks ss h ms in
       let whole = whole_letter ks s in
       let same : heard_letter x.state whole ≡ heard_letter x.state (letter_with s.letter pack) =
-      sym (heard_alike x.state s.letter.sender s.letter.kind pack (latest_of (take s.changes cs)) alike) in
-      delivered_turn (world_of ks ss h ms) number whole x.state (sent_letter ks ss h ms number s found) state
-      ∙ λ i. record {
-        world = ((λ j. record { nodes = slice_set (states_of ks) (s.letter.addressee - 1) (same j); letters = whole_letters ks ss; history = h; marks = ms })
-            ∙ stepped ks new ss h ms s.letter.addressee (λ y. heard_letter y (letter_with s.letter pack)) x.state e letters state) i;
-        effect = effect.Done;
-      }
+      sym (heard_alike x.state s.letter.sender s.letter.kind pack (greatest_of (take s.told log)) alike) in
+      let node : slice_set (states_of ks) (s.letter.addressee - 1) (heard_letter x.state whole) ≡ states_of new =
+      ap (slice_set (states_of ks) (s.letter.addressee - 1)) same ∙ sym (e ∙ ap (λ o. moved_in s.letter.addressee o (λ y. heard_letter y (letter_with s.letter pack)) (states_of ks)) state) in
+      step_turn w (step.Deliver number) s.letter.addressee (change.Deliver whole) (ap delivery (sent_letter ks ss h ms number s found))
+      ∙ ap (λ o. turn_at w s.letter.addressee o (change.Deliver whole)) state
+      ∙ heard_turn w whole x.state
+      ∙ λ i. record { world = record { nodes = node i; letters = sym letters i; history = h; marks = ms }; effect = effect.Done }

@@ -1,13 +1,14 @@
 -- Nodes after a step
-use Rattle.std.proofs.Common.{◌≡◌, ◌≢◌, ℕ, zero, suc, ◌-◌, ◌≤◌, ◌<◌, List, length, Option, None, Some, Result, Ok, Err, slice_get, slice_set, get_or, refl, sym, ap, ◌∙◌, inl, inr, subst, arith, OnOk, OnErr}
+use Rattle.std.proofs.Common.{◌≡◌, ◌≢◌, ℕ, zero, suc, ◌-◌, ◌≤◌, ◌<◌, List, [], length, append-nil, Option, None, Some, Result, Ok, Err, OnErr, IfErr, slice_get, slice_set, get_or, refl, sym, ap, ◌∙◌, inl, inr, subst, arith}
 use Rattle.std.proofs.lemmas.Bool.{cases_eq}
 use Rattle.std.proofs.lemmas.Option.{slice_get-map, slice_get_within, slice_get_read, get_or_from_slice_get}
 use Rattle.std.proofs.lemmas.List.{map-set, set-get_or, length-set, get_or-set_same, get_or-set_other}
 use Rattle.std.specs.Option.{IsSomeAnd, option_map}
-use Rattle.rambo_tag.specs.Changes.{Extends, IsRising, latest_of}
-use Rattle.rambo_tag.proofs.ChangeLists.{Extends-refl}
-use Rattle.rambo_node.specs.Nodes.{NodeState, KeptNode}
-use Rattle.rambo_world.specs.Kept.{state_of, states_of, state_at, kept_at, moved, moved_in, IsRecorded, Grows, AllGrow}
+use Rattle.std.specs.Result.{IsErrAnd}
+use Rattle.rambo_names.specs.declared.refusal.Refusal.{Refusal}
+use Rattle.rambo_tag.specs.declared.keyed_version.KeyedVersion.{KeyedVersion}
+use Rattle.rambo_node.specs.Nodes.{NodeState}
+use Rattle.rambo_world.specs.Kept.{KeptNode, state_of, states_of, state_at, kept_at, moved, moved_in, Extends, IsRecorded, Grows, AllGrow}
 
 abbrev or_this : {X : Type 0} → X → Option X → X
 or_this x None = x
@@ -16,41 +17,25 @@ or_this x (Some y) = y
 pub some_is : {X : Type 0} (x y : X) → Some x ≡ Some y → x ≡ y
 some_is x y e = ap (or_this x) e
 
+pub Extends-refl : (log : List KeyedVersion) → Extends log log
+Extends-refl log = ([], sym (append-nil log))
+
 -- a node that stays as it is
 pub grows_same : {Q : Type 0} (x y : KeptNode Q) → y ≡ x → Grows x y
 grows_same x y e = record {
   name = ap (λ k. k.state.name) e;
-  extends = subst (λ k. Extends x.changes k.changes) (sym e) (Extends-refl x.changes);
+  extends = subst (λ k. Extends x.log k.log) (sym e) (Extends-refl x.log);
   recorded = λ r. subst IsRecorded (sym e) r;
 }
 
--- a step that leaves the copies alone
-pub grows_quietly : {Q : Type 0} (x y : KeptNode Q) → y.state.name ≡ x.state.name → y.state.registers ≡ x.state.registers → y.changes ≡ x.changes → Grows x y
-grows_quietly x y name registers changes = record {
-  name = name;
-  extends = subst (Extends x.changes) (sym changes) (Extends-refl x.changes);
-  recorded = λ r. record {
-    latest = registers ∙ r.latest ∙ sym (ap latest_of changes);
-    rising = subst IsRising (sym changes) r.rising;
-  };
-}
+-- whatever brings an error on
+pub err_is : {T : Type 0} (r : Result T Refusal) (P R : Refusal → Type 0) → IsErrAnd r P → ((f : Refusal) → P f → R f) → IfErr r R
+err_is (Ok t) P R e h = absurd e
+err_is (Err f) P R e h = h f e
 
--- a step that records what it does to the copies
-pub grows_recorded : {Q : Type 0} (x y : KeptNode Q) → y.state.name ≡ x.state.name → Extends x.changes y.changes → (IsRising x.changes → IsRising y.changes) → y.state.registers ≡ latest_of y.changes → Grows x y
-grows_recorded x y name extends rises latest = record {
-  name = name;
-  extends = extends;
-  recorded = λ r. record { latest = latest; rising = rises r.rising };
-}
-
-pub on_ok_both : {T E P R S : Type 0} (r : Result T E) → (P → R → S) → OnOk r P → OnOk r R → OnOk r S
-on_ok_both (Ok t) f p q = f p q
-on_ok_both (Err e) f p q = q
-
--- whatever came of it
-pub grows_anyway : {Q T E : Type 0} (r : Result T E) (x y : KeptNode Q) → OnOk r (Grows x y) → OnErr r (y ≡ x) → Grows x y
-grows_anyway (Ok t) x y ok err = ok
-grows_anyway (Err e) x y ok err = grows_same x y err
+pub on_err_all : {T E P : Type 0} (r : Result T E) → P → OnErr r P
+on_err_all (Ok t) p = tt
+on_err_all (Err e) p = p
 
 -- the state of a kept node
 pub state_at-kept : {Q : Type 0} (ks : List (KeptNode Q)) (name : ℕ) → 1 ≤ name → state_at ks name ≡ option_map state_of (kept_at ks name)

@@ -1,12 +1,13 @@
 mod Growth
-mod Moves
+mod Logging
 mod Stepping
+mod Merging
 mod Delivering
 mod Turns
 mod Sizes
-mod Clamps
-mod Callings
+mod Changing
 mod Sendings
+mod Sharing
 mod Deliveries
 mod Longer
 mod Starting

@@ -1,6 +1,9 @@
 -- Runs of one step more, and what they give
-use Rattle.std.proofs.Common.{◌≡◌, ◌+◌, ◌<◌, take, get_or, ℕ, inl, inr, arith, List, [], ◌∷◌, ◌++◌, length, None, Some, Result, Ok, Err, IfOk, refl, sym, ap, ◌∙◌, subst}
-use Rattle.std.proofs.lemmas.List.{same_from_push, length-append, take_more}
+use Rattle.std.proofs.Common.{◌≡◌, ◌+◌, ◌≤◌, ◌<◌, take, get_or, slice_get, ℕ, zero, suc, inl, inr, arith, List, [], ◌∷◌, ◌++◌, length, None, Some, Result, Ok, Err, IfOk, refl, sym, ap, ◌∙◌, subst}
+use Rattle.std.proofs.lemmas.Bool.{false≢true}
+use Rattle.std.proofs.lemmas.List.{same_from_push, length-append, take_more, take_all, take-append-le}
+use Rattle.std.proofs.lemmas.Option.{slice_get_within}
+use Rattle.std.specs.Option.{is_some}
 use Rattle.rambo_names.specs.declared.refusal.Refusal.{Refusal}
 use Rattle.rambo_names.specs.Quorums.{QuorumSystem, IsSound}
 use Rattle.rambo_atomic.specs.Proper.{IsProper}
@@ -12,12 +15,12 @@ use Rattle.rambo_node.specs.declared.effect.Effect.{Effect}
 use Rattle.rambo_run.specs.declared.step.Step.{Step}
 use Rattle.rambo_run.specs.Worlds.{WorldState, first_world}
 use Rattle.rambo_run.specs.Steps.{Turn, refusal, turn}
-use Rattle.rambo_run.specs.declared.outcome.NodeMap.{NodeMap}
 use Rattle.rambo_sequence.specs.Sequences.{SequenceOf}
-use Rattle.rambo_run.specs.Runs.{maps_of, after, unless_refused, run_from, run, result_of, results_from, outcome_at, outcome_of, OutcomeState}
+use Rattle.rambo_run.specs.Runs.{MapOf, maps_of, after, unless_refused, run_from, run, result_of, results_from, outcome_at, outcome_of, OutcomeState}
 use Rattle.rambo_run.proofs.Fitting.{events_fit}
 use Rattle.rambo_run.proofs.EveryRun.{is_atomic}
-use Rattle.rambo_world.specs.Worlds.{EventsFit}
+use Rattle.rambo_world.specs.Worlds.{EventsFit, AreAccepted}
+use Rattle.rambo_world.proofs.Growth.{some_is}
 
 pub run_from-more : {Q : Type 0} (s : QuorumSystem Q) (w : WorldState Q) (sts : List Step) (st : Step) → run_from s w (sts ++ st ∷ []) ≡ after s (run_from s w sts) st
 unfolding run_from
@@ -63,6 +66,28 @@ kept_run s founders old st w new e steps is accepted done more =
     ∙ ap (λ w. (turn w st).world) is
     ∙ sym (run-more s founders old st (subst (λ w. refusal s w st ≡ None) is accepted))
     ∙ ap (run s founders) (sym more)
+
+-- each item of a list, and of one more
+push_places : {X : Type 0} (P : ℕ → X → Type 0) (xs : List X) (x : X) → ((place : ℕ) (y : X) → slice_get xs place ≡ Some y → P place y) → P (length xs) x
+    → (place : ℕ) (y : X) → slice_get (xs ++ x ∷ []) place ≡ Some y → P place y
+push_places P [] x all last zero y e = subst (P zero) (some_is x y e) last
+push_places P [] x all last (suc place) y e = absurd (false≢true (ap is_some e))
+push_places P (z ∷ xs) x all last zero y e = all zero y e
+push_places P (z ∷ xs) x all last (suc place) y e = push_places (λ p. P (suc p)) xs x (λ p w f. all (suc p) w f) last place y e
+
+pub accepted_none : {Q : Type 0} (s : QuorumSystem Q) (founders : Q) → AreAccepted s founders []
+accepted_none s founders place st e = absurd (false≢true (ap is_some e))
+
+-- the accepted steps, and one more
+pub accepted_more : {Q : Type 0} (s : QuorumSystem Q) (founders : Q) (old : List Step) (st : Step) (w : WorldState Q) (steps : List Step)
+    → w ≡ run s founders old → AreAccepted s founders old → refusal s w st ≡ None → steps ≡ old ++ st ∷ [] → AreAccepted s founders steps
+accepted_more s founders old st w steps is all accepted more =
+    let still : (n : ℕ) → n ≤ length old → take n (old ++ st ∷ []) ≡ take n old = λ n within. take-append-le n old (st ∷ []) within in
+    let whole : run s founders (take (length old) (old ++ st ∷ [])) ≡ w = ap (run s founders) (still (length old) (omega arith) ∙ take_all (length old) old (omega arith)) ∙ sym is in
+    subst (AreAccepted s founders) (sym more)
+    (push_places (λ place y. refusal s (run s founders (take place (old ++ st ∷ []))) y ≡ None) old st
+    (λ place y found. let below = slice_get_within old place y found in ap (λ l. refusal s (run s founders l) y) (still place (omega (arith, below))) ∙ all place y found)
+    (ap (λ w. refusal s w st) whole ∙ accepted))
 
 -- a list is no longer list
 no_more : {X A : Type 0} (h : List A) (e : A) → h ≡ h ++ e ∷ [] → X
@@ -128,6 +153,6 @@ module _ {Q : Type 0} (s : QuorumSystem Q) (w : WorldState Q) (steps : List Step
       more ∙ (λ k. told k ++ (e ∙ ap (λ w. result_of (refusal s w x) w x) then) k ∷ []) ∙ sym (results_from-more s w (take i steps) x) ∙ ap (results_from s w) (sym next_steps)
 
 -- an outcome by its parts
-pub outcome_made : {Q : Type 0} (effects : List (Result Effect Refusal)) (w : WorldState Q) (history : List Event) (sequences : List SequenceOf) (maps : List (NodeMap Q))
+pub outcome_made : {Q : Type 0} (effects : List (Result Effect Refusal)) (w : WorldState Q) (history : List Event) (sequences : List SequenceOf) (maps : List (MapOf Q))
     → history ≡ w.history → sequences ≡ sequences_of w.history w.marks → maps ≡ maps_of w.nodes → record { effects = effects; history = history; sequences = sequences; maps = maps } ≡ outcome_at effects w
 outcome_made effects w history sequences maps h s m = λ i. record { effects = effects; history = h i; sequences = s i; maps = m i }

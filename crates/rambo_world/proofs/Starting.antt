@@ -1,22 +1,22 @@
 -- The nodes before any step, and the maps of the nodes
-use Rattle.std.proofs.Common.{◌≡◌, ℕ, zero, suc, ◌+◌, ◌-◌, ◌*◌, ◌<◌, Bool, true, false, if◌then◌else◌, List, [], ◌∷◌, ◌++◌, take, length, replicate, Some, slice_get, slice_index, get_or, refl, sym, ap, ◌∙◌, subst, arith}
-use Rattle.std.proofs.lemmas.Bool.{false≢true}
+use Rattle.std.proofs.Common.{◌≡◌, ℕ, zero, suc, ◌+◌, ◌-◌, ◌*◌, ◌<◌, Bool, true, false, if◌then◌else◌, List, [], ◌∷◌, ◌++◌, take, length, replicate, None, Some, slice_get, slice_index, get_or, refl, sym, ap, ◌∙◌, subst, inl, inr, arith}
+use Rattle.std.proofs.lemmas.Bool.{false≢true, true≢false}
+use Rattle.std.proofs.lemmas.Option.{slice_get_cases, slice_get_within, get_or_from_slice_get}
 use Rattle.std.proofs.lemmas.List.{map-append, take_more, length-replicate}
 use Rattle.std.specs.Option.{is_some}
 use Rattle.rambo_names.specs.Names.{rising}
 use Rattle.rambo_names.specs.Quorums.{QuorumSystem}
 use Rattle.rambo_tag.specs.Copies.{joined}
-use Rattle.rambo_tag.specs.Changes.{IsRising, latest_of}
-use Rattle.rambo_tag.proofs.ChangeLists.{latest_of-nil}
+use Rattle.rambo_tag.specs.Logs.{greatest_of}
+use Rattle.rambo_tag.proofs.Logged.{greatest_of-nil}
 use Rattle.rambo_tag.proofs.Joins.{joined-empty}
 use Rattle.rambo_atomic.specs.declared.event.Event.{Event}
 use Rattle.rambo_joiner.specs.Statuses.{is_idle}
-use Rattle.rambo_node.specs.Nodes.{NodeState, KeptNode, first_node}
+use Rattle.rambo_node.specs.Nodes.{NodeState, first_node}
 use Rattle.rambo_sequence.specs.declared.mark.Mark.{Mark}
 use Rattle.rambo_run.specs.Runs.{maps_of}
 use Rattle.rambo_run.specs.Worlds.{first_nodes, first_world}
-use Rattle.rambo_run.proofs.Held.{get_or-replicate}
-use Rattle.rambo_world.specs.Kept.{SentState, state_of, states_of, whole_letters, changes_at, merged_at, fresh_nodes, IsRecorded, HasMerged, IsKept}
+use Rattle.rambo_world.specs.Kept.{KeptNode, SentState, state_of, states_of, whole_letters, log_at, merged_at, fresh_nodes, IsRecorded, HasMerged, IsKept}
 use Rattle.rambo_world.proofs.Growth.{some_is}
 use Rattle.rambo_world.proofs.Turns.{world_of}
 
@@ -27,7 +27,7 @@ more_maps false m all bs cs e = ap (λ l. m ∷ l) e
 
 maps_push : {Q : Type 0} (xs : List (NodeState Q)) (x : NodeState Q) → maps_of (xs ++ x ∷ []) ≡ maps_of xs ++ maps_of (x ∷ [])
 maps_push [] x = refl
-maps_push (y ∷ ys) x = more_maps (is_idle y.status) (record { name = y.name; map = y.map }) (maps_of (ys ++ x ∷ [])) (maps_of ys) (maps_of (x ∷ [])) (maps_push ys x)
+maps_push (y ∷ ys) x = more_maps (is_idle y.status) (record { name = y.name; floor = y.map.floor; active = y.map.configs }) (maps_of (ys ++ x ∷ [])) (maps_of ys) (maps_of (x ∷ [])) (maps_push ys x)
 
 pub maps_next : {Q : Type 0} (ks : List (KeptNode Q)) (place : ℕ) (k : KeptNode Q) → place < length ks → k ≡ get_or ks place k
     → maps_of (states_of (take (place + 1) ks)) ≡ maps_of (states_of (take place ks)) ++ maps_of (k.state ∷ [])
@@ -38,14 +38,26 @@ maps_next ks place k below is =
 
 -- an idle node has no map to show, and any other node has its own
 pub no_map : {Q : Type 0} (x : NodeState Q) → is_idle x.status ≡ true → maps_of (x ∷ []) ≡ []
-no_map x e = ap (λ b. if b then [] else (record { name = x.name; map = x.map } ∷ [])) e
+no_map x e = ap (λ b. if b then [] else (record { name = x.name; floor = x.map.floor; active = x.map.configs } ∷ [])) e
 
-pub own_map : {Q : Type 0} (x : NodeState Q) → is_idle x.status ≡ false → maps_of (x ∷ []) ≡ record { name = x.name; map = x.map } ∷ []
-own_map x e = ap (λ b. if b then [] else (record { name = x.name; map = x.map } ∷ [])) e
+pub own_map : {Q : Type 0} (x : NodeState Q) → is_idle x.status ≡ false → maps_of (x ∷ []) ≡ record { name = x.name; floor = x.map.floor; active = x.map.configs } ∷ []
+own_map x e = ap (λ b. if b then [] else (record { name = x.name; floor = x.map.floor; active = x.map.configs } ∷ [])) e
+
+-- the configurations of a row up to a place, and the next one
+pub next_config : {X : Type 0} (xs items new : List X) (place : ℕ) (x : X) → items ≡ take place xs → slice_get xs place ≡ Some x → new ≡ items ++ x ∷ [] → new ≡ take (place + 1) xs
+next_config xs items new place x told found more =
+    more ∙ (λ i. told i ++ sym (get_or_from_slice_get xs place x x found) i ∷ []) ∙ sym (take_more xs place x (slice_get_within xs place x found))
+
+pub no_config : {X Y : Type 0} (xs : List X) (place : ℕ) → place < length xs → slice_get xs place ≡ None → Y
+no_config xs place below none =
+    elim ((slice_get_cases xs place).1) [
+      | inl h ↦ absurd (true≢false (ap is_some (sym h.2 ∙ none)))
+      | inr h ↦ absurd (let past = h.0 in omega (arith, past, below))
+    ]
 
 -- a node before any step
 abbrev pub fresh_node : {Q : Type 0} → QuorumSystem Q → Q → ℕ → KeptNode Q
-fresh_node s founders n = record { state = first_node s founders n; changes = [] }
+fresh_node s founders n = record { state = first_node s founders n; log = [] }
 
 -- the last name goes behind the others
 fresh_push : {Q : Type 0} (s : QuorumSystem Q) (founders : Q) (k n : ℕ) → fresh_nodes s founders (rising k n) ++ fresh_node s founders (n + k) ∷ [] ≡ fresh_nodes s founders (rising (suc k) n)
@@ -61,9 +73,9 @@ unfolding rising fresh_nodes
 fresh_none s founders = refl
 
 pub fresh_next : {Q : Type 0} (s : QuorumSystem Q) (founders : Q) (place : ℕ) (made : List (KeptNode Q)) (k : KeptNode Q) → made ≡ fresh_nodes s founders (rising place 1)
-    → k.state ≡ first_node s founders (place + 1) → k.changes ≡ [] → made ++ k ∷ [] ≡ fresh_nodes s founders (rising (place + 1) 1)
-fresh_next s founders place made k is state changes =
-    (λ i. is i ++ record { state = state i; changes = changes i } ∷ [])
+    → k ≡ fresh_node s founders (place + 1) → made ++ k ∷ [] ≡ fresh_nodes s founders (rising (place + 1) 1)
+fresh_next s founders place made k is node =
+    (λ i. is i ++ node i ∷ [])
     ∙ ap (λ m. fresh_nodes s founders (rising place 1) ++ fresh_node s founders m ∷ []) (let e : place + 1 ≡ 1 + place = omega arith in e)
     ∙ fresh_push s founders place 1
     ∙ ap (λ m. fresh_nodes s founders (rising m 1)) (let e : suc place ≡ place + 1 = omega arith in e)
@@ -89,15 +101,20 @@ unfolding first_node
 first_name s founders n = refl
 
 fresh_recorded : {Q : Type 0} (s : QuorumSystem Q) (founders : Q) (n : ℕ) → IsRecorded (fresh_node s founders n)
-unfolding first_node IsRising
-fresh_recorded s founders n = record { latest = sym latest_of-nil; rising = tt }
+unfolding first_node
+fresh_recorded s founders n = sym greatest_of-nil
 
 -- what hasn't been merged
 none_merged : {Q : Type 0} (ks : List (KeptNode Q)) (counts : List ℕ) (to from : ℕ) (k : KeptNode Q) → merged_at counts to from ≡ 0 → HasMerged ks counts to from k
 none_merged ks counts to from k e = record {
   within = omega (arith, e);
-  holds = ap (λ n. joined k.state.registers (latest_of (take n (changes_at ks from)))) e ∙ ap (joined k.state.registers) latest_of-nil ∙ joined-empty k.state.registers;
+  holds = ap (λ n. joined k.state.registers (greatest_of (take n (log_at ks from)))) e ∙ ap (joined k.state.registers) greatest_of-nil ∙ joined-empty k.state.registers;
 }
+
+get_or-replicate : (n place : ℕ) → slice_index (replicate n 0) place ≡ 0
+get_or-replicate zero place = refl
+get_or-replicate (suc n) zero = refl
+get_or-replicate (suc n) (suc place) = get_or-replicate n place
 
 -- what holds of every world holds before any step
 first_kept_of : {Q : Type 0} (s : QuorumSystem Q) (founders : Q) (counts : List ℕ) → length counts ≡ 4096 → ((place : ℕ) → slice_index counts place ≡ 0) → IsKept (fresh_nodes s founders (rising 64 1)) [] counts
@@ -111,7 +128,7 @@ first_kept_of s founders counts long zeros = record {
 }
 
 pub first_kept : {Q : Type 0} (s : QuorumSystem Q) (founders : Q) → IsKept (fresh_nodes s founders (rising 64 1)) [] (replicate 4096 0)
-first_kept s founders = first_kept_of s founders (replicate 4096 0) (length-replicate {A = ℕ} 4096 0) (λ place. get_or-replicate 4096 place 0)
+first_kept s founders = first_kept_of s founders (replicate 4096 0) (length-replicate {A = ℕ} 4096 0) (get_or-replicate 4096)
 
 -- the world that is kept in them
 module _ {Q : Type 0} (s : QuorumSystem Q) (founders : Q) (ks : List (KeptNode Q)) (ss : List (SentState Q)) (nodes : ks ≡ fresh_nodes s founders (rising 64 1)) (letters : ss ≡ []) where

@@ -4,37 +4,25 @@ use Rattle.std.proofs.lemmas.Bool.{false≢true}
 use Rattle.std.specs.Option.{is_some, IsSomeAnd}
 use Rattle.std.proofs.lemmas.Option.{slice_get_past, slice_get_cases}
 use Rattle.std.proofs.lemmas.List.{length-append, take-append-le}
-use Rattle.rambo_tag.specs.declared.change.Change.{Change}
+use Rattle.rambo_tag.specs.declared.keyed_version.KeyedVersion.{KeyedVersion}
 use Rattle.rambo_tag.specs.Copies.{Copies, joined}
-use Rattle.rambo_tag.specs.Changes.{Extends, IsRising, latest_of, greatest_of}
-use Rattle.rambo_tag.proofs.ChangeLists.{Extends-refl, latest_of-rising_append}
-use Rattle.rambo_tag.proofs.Joins.{joined-assoc, joined-comm}
+use Rattle.rambo_tag.specs.Logs.{greatest_of}
+use Rattle.rambo_tag.proofs.Logged.{greatest_of-append, joined-absorbed}
 use Rattle.rambo_gossip.specs.Letters.{letter_with}
-use Rattle.rambo_node.specs.Nodes.{KeptNode}
-use Rattle.rambo_world.specs.Kept.{SentState, changes_in, changes_at, whole_letter, whole_letters, merged_at, IsRecorded, Grows, AllGrow, IsSent, HasMerged, IsKept}
-use Rattle.rambo_world.proofs.Growth.{some_is}
+use Rattle.rambo_world.specs.Kept.{KeptNode, SentState, Extends, log_in, log_at, whole_letter, whole_letters, merged_at, IsRecorded, Grows, AllGrow, IsSent, HasMerged, IsKept}
+use Rattle.rambo_world.proofs.Growth.{some_is, Extends-refl}
 
 pub some_and : {X : Type 0} (P : X → Type 0) (o : Option X) → IsSomeAnd o P → (y : X) × (o ≡ Some y) × P y
 some_and P None e = absurd e
 some_and P (Some y) e = (y, refl, e)
 
--- the order of two merges doesn't matter
-pub joined-swap : (a b c : Copies) → joined (joined a b) c ≡ joined (joined a c) b
-joined-swap a b c = joined-assoc a b c ∙ ap (joined a) (joined-comm b c) ∙ sym (joined-assoc a c b)
-
--- a node gains copies alone
-pub gains : {Q : Type 0} (x y : KeptNode Q) → IsRecorded x → Grows x y → (more : Copies) × (y.state.registers ≡ joined x.state.registers more)
-gains x y recorded grows =
-    let more = grows.extends.0 in
-    let e = grows.extends.1 in
-    let after = grows.recorded recorded in
-    (greatest_of more, after.latest ∙ ap latest_of e ∙ sym (latest_of-rising_append x.changes more (subst IsRising e after.rising)) ∙ ap (λ r. joined r (greatest_of more)) (sym recorded.latest))
-
--- so it keeps what it has merged
+-- a node gains copies alone, so it keeps what it has merged
 pub keeps_merged : {Q : Type 0} (x y : KeptNode Q) (c : Copies) → IsRecorded x → Grows x y → joined x.state.registers c ≡ x.state.registers → joined y.state.registers c ≡ y.state.registers
 keeps_merged x y c recorded grows holds =
-    let gain = gains x y recorded grows in
-    ap (λ r. joined r c) gain.1 ∙ joined-swap x.state.registers gain.0 c ∙ ap (λ r. joined r gain.0) holds ∙ sym gain.1
+    let more = grows.extends.0 in
+    let gain : y.state.registers ≡ joined x.state.registers (greatest_of more) =
+    grows.recorded recorded ∙ ap greatest_of grows.extends.1 ∙ greatest_of-append x.log more ∙ ap (λ r. joined r (greatest_of more)) (sym recorded) in
+    ap (λ r. joined r c) gain ∙ joined-absorbed x.state.registers c (greatest_of more) holds ∙ sym gain
 
 module _ {Q : Type 0} (old new : List (KeptNode Q)) (grow : AllGrow old new) where
   -- the node of a place, after and before
@@ -51,39 +39,39 @@ module _ {Q : Type 0} (old new : List (KeptNode Q)) (grow : AllGrow old new) whe
         | inr h ↦ absurd (false≢true (ap is_some (sym (none_after place h.0) ∙ found)))
       ]
 
-  changes_extend : (place : ℕ) → Extends (changes_in (slice_get old place)) (changes_in (slice_get new place))
-  changes_extend place =
+  log_extends : (place : ℕ) → Extends (log_in (slice_get old place)) (log_in (slice_get new place))
+  log_extends place =
       elim ((slice_get_cases old place).1) [
         | inl h ↦ let there = after place h.0 h.2 in
-            subst (λ o. Extends (changes_in o) (changes_in (slice_get new place))) (sym h.2) (subst (λ o. Extends h.0.changes (changes_in o)) (sym there.1) there.2.extends)
-        | inr h ↦ subst (λ o. Extends (changes_in o) (changes_in (slice_get new place))) (sym h.1) (subst (λ o. Extends [] (changes_in o)) (sym (none_after place h.0)) (Extends-refl []))
+            subst (λ o. Extends (log_in o) (log_in (slice_get new place))) (sym h.2) (subst (λ o. Extends h.0.log (log_in o)) (sym there.1) there.2.extends)
+        | inr h ↦ subst (λ o. Extends (log_in o) (log_in (slice_get new place))) (sym h.1) (subst (λ o. Extends [] (log_in o)) (sym (none_after place h.0)) (Extends-refl []))
       ]
 
-  more_changes : (cs ds : List Change) (n : ℕ) → Extends cs ds → n ≤ length cs → (n ≤ length ds) × (take n ds ≡ take n cs)
-  more_changes cs ds n extends within =
+  more_logged : (cs ds : List KeyedVersion) (n : ℕ) → Extends cs ds → n ≤ length cs → (n ≤ length ds) × (take n ds ≡ take n cs)
+  more_logged cs ds n extends within =
       let same = ap length extends.1 ∙ length-append cs extends.0 in
       (omega (arith, same, within), ap (take n) extends.1 ∙ take-append-le n cs extends.0 within)
 
   -- what a letter told of is still there
-  pub told_stays : (name n : ℕ) → n ≤ length (changes_at old name) → (n ≤ length (changes_at new name)) × (take n (changes_at new name) ≡ take n (changes_at old name))
-  told_stays name n within = more_changes (changes_at old name) (changes_at new name) n (changes_extend (name - 1)) within
+  pub told_stays : (name n : ℕ) → n ≤ length (log_at old name) → (n ≤ length (log_at new name)) × (take n (log_at new name) ≡ take n (log_at old name))
+  told_stays name n within = more_logged (log_at old name) (log_at new name) n (log_extends (name - 1)) within
 
   letter_stays : (s : SentState Q) → IsSent old s → whole_letter new s ≡ whole_letter old s
-  letter_stays s sent = ap (λ cs. letter_with s.letter (latest_of cs)) (told_stays s.letter.sender s.changes sent.within).1
+  letter_stays s sent = ap (λ cs. letter_with s.letter (greatest_of cs)) (told_stays s.letter.sender s.told sent.within).1
 
   pub letters_stay : (ss : List (SentState Q)) → ((place : ℕ) (s : SentState Q) → slice_get ss place ≡ Some s → IsSent old s) → whole_letters new ss ≡ whole_letters old ss
   letters_stay [] sent = refl
   letters_stay (s ∷ ss) sent = λ i. letter_stays s (sent 0 s refl) i ∷ letters_stay ss (λ place t found. sent (suc place) t found) i
 
   pub sent_stays : (s : SentState Q) → IsSent old s → IsSent new s
-  sent_stays s sent = record { within = (told_stays s.letter.sender s.changes sent.within).0; join = sent.join }
+  sent_stays s sent = record { within = (told_stays s.letter.sender s.told sent.within).0; join = sent.join }
 
   pub merged_stays : (ms : List ℕ) (to from : ℕ) (x y : KeptNode Q) → IsRecorded x → Grows x y → HasMerged old ms to from x → HasMerged new ms to from y
   merged_stays ms to from x y recorded grows merged =
       let told = told_stays from (merged_at ms to from) merged.within in
       record {
         within = told.0;
-        holds = ap (λ cs. joined y.state.registers (latest_of cs)) told.1 ∙ keeps_merged x y (latest_of (take (merged_at ms to from) (changes_at old from))) recorded grows merged.holds;
+        holds = ap (λ cs. joined y.state.registers (greatest_of cs)) told.1 ∙ keeps_merged x y (greatest_of (take (merged_at ms to from) (log_at old from))) recorded grows merged.holds;
       }
 
   pub kept_stays : (ss : List (SentState Q)) (ms : List ℕ) → IsKept old ss ms → IsKept new ss ms

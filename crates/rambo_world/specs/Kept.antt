@@ -1,25 +1,45 @@
--- How the nodes and the letters of a world are kept: a letter goes without its copies, which are a beginning of the list
--- of changes of its sender, and a node merges of them only what it hasn't merged before
-use Rattle.std.specs.Prelude.{◌≡◌, ℕ, zero, suc, ◌+◌, ◌-◌, ◌*◌, ◌≤◌, max, if◌then◌else◌, List, [], ◌∷◌, map, take, length, Option, None, Some, slice_get, slice_index, slice_set}
+-- How the nodes and the letters of a world are kept: a letter goes without its copies, which are those of a beginning of
+-- its sender's log, and its addressee hears of them only what it lacks
+use Rattle.std.specs.Prelude.{◌≡◌, ℕ, zero, suc, ◌+◌, ◌-◌, ◌*◌, ◌≤◌, max, if◌then◌else◌, List, [], ◌∷◌, ◌++◌, map, take, length, Option, None, Some, slice_get, slice_index, slice_set}
 use Rattle.std.specs.FinMap as copies
 use Rattle.std.specs.Option.{IsSomeAnd}
 use Rattle.rambo_names.specs.Names.{IsName}
 use Rattle.rambo_names.specs.Quorums.{QuorumSystem}
-use Rattle.rambo_tag.specs.declared.change.Change.{Change}
+use Rattle.rambo_tag.specs.declared.keyed_version.KeyedVersion.{KeyedVersion}
 use Rattle.rambo_tag.specs.Copies.{joined}
-use Rattle.rambo_tag.specs.Changes.{Extends, IsRising, latest_of}
+use Rattle.rambo_tag.specs.Logs.{greatest_of}
 use Rattle.rambo_joiner.specs.Statuses.{is_active}
 use Rattle.rambo_gossip.specs.declared.letter.Letter.{Letter}
+use Rattle.rambo_gossip.specs.declared.letter.Gossip.{Gossip}
+use Rattle.rambo_gossip.specs.declared.letter.Kind.{Kind}
 use Rattle.rambo_gossip.specs.declared.letter.Kind.TheVariants as kind
 use Rattle.rambo_gossip.specs.Letters.{letter_with}
 use Rattle.rambo_node.specs.Letters.{letter_for}
-use Rattle.rambo_node.specs.Nodes.{NodeState, KeptNode, first_node}
+use Rattle.rambo_node.specs.Nodes.{NodeState, first_node}
 use Rattle.rambo_run.specs.Worlds.{node_at}
 
--- a letter as it is kept: without copies, and how many changes its sender's copies then had
+-- a node as it is kept, with the log of the copies that its registers took on, the oldest first
+pub record KeptNode (Q : Type 0) : Type 0 where
+  pub state : NodeState Q
+  pub log : List KeyedVersion
+
+-- a letter as it is kept: without copies, and how long its sender's log then was, or 0 where it tells of no copies
 pub record SentState (Q : Type 0) : Type 0 where
   pub letter : Letter Q
-  pub changes : ℕ
+  pub told : ℕ
+
+-- a letter without its copies
+abbrev pub bare : {Q : Type 0} → SentState Q → SentState Q
+bare s = record s { letter = letter_with s.letter copies.empty }
+
+-- what a letter says: what an active node knows, or that its sender wants to join
+abbrev pub kind_of : {Q : Type 0} → Option (Gossip Q) → Kind Q
+kind_of None = kind.Join
+kind_of (Some g) = kind.Gossip g
+
+-- new is old with more at its end
+abbrev pub Extends : List KeyedVersion → List KeyedVersion → Type 0
+Extends old new = (more : List KeyedVersion) × (new ≡ old ++ more)
 
 abbrev pub state_of : {Q : Type 0} → KeptNode Q → NodeState Q
 state_of k = k.state
@@ -30,17 +50,17 @@ states_of ks = map state_of ks
 abbrev pub kept_at : {Q : Type 0} → List (KeptNode Q) → ℕ → Option (KeptNode Q)
 kept_at ks name = slice_get ks (name - 1)
 
-abbrev pub changes_in : {Q : Type 0} → Option (KeptNode Q) → List Change
-changes_in None = []
-changes_in (Some k) = k.changes
+abbrev pub log_in : {Q : Type 0} → Option (KeptNode Q) → List KeyedVersion
+log_in None = []
+log_in (Some k) = k.log
 
--- the changes of the node of a name
-abbrev pub changes_at : {Q : Type 0} → List (KeptNode Q) → ℕ → List Change
-changes_at ks name = changes_in (kept_at ks name)
+-- the log of the node of a name
+abbrev pub log_at : {Q : Type 0} → List (KeptNode Q) → ℕ → List KeyedVersion
+log_at ks name = log_in (kept_at ks name)
 
 -- the letter as it was sent
 abbrev pub whole_letter : {Q : Type 0} → List (KeptNode Q) → SentState Q → Letter Q
-whole_letter ks s = letter_with s.letter (latest_of (take s.changes (changes_at ks s.letter.sender)))
+whole_letter ks s = letter_with s.letter (greatest_of (take s.told (log_at ks s.letter.sender)))
 
 abbrev pub whole_letters : {Q : Type 0} → List (KeptNode Q) → List (SentState Q) → List (Letter Q)
 whole_letters ks ss = map (whole_letter ks) ss
@@ -52,12 +72,12 @@ sent_at ss (suc i) = slice_get ss i
 
 -- the letter of a node as it is kept
 abbrev pub outline : {Q : Type 0} → KeptNode Q → ℕ → SentState Q
-outline k to = record { letter = letter_with (letter_for k.state to) copies.empty; changes = if is_active k.state.status then length k.changes else 0 }
+outline k to = record { letter = letter_with (letter_for k.state to) copies.empty; told = if is_active k.state.status then length k.log else 0 }
 
 -- nodes of these names before any step
 unfoldable pub fresh_nodes : {Q : Type 0} → QuorumSystem Q → Q → List ℕ → List (KeptNode Q)
 fresh_nodes s founders [] = []
-fresh_nodes s founders (n ∷ ns) = record { state = first_node s founders n; changes = [] } ∷ fresh_nodes s founders ns
+fresh_nodes s founders (n ∷ ns) = record { state = first_node s founders n; log = [] } ∷ fresh_nodes s founders ns
 
 -- the states with that of one name put in another way
 abbrev pub moved_in : {Q : Type 0} → ℕ → Option (NodeState Q) → (NodeState Q → NodeState Q) → List (NodeState Q) → List (NodeState Q)
@@ -70,15 +90,14 @@ state_at ks name = node_at (record { nodes = states_of ks; letters = []; history
 abbrev pub moved : {Q : Type 0} → List (KeptNode Q) → ℕ → (NodeState Q → NodeState Q) → List (NodeState Q)
 moved ks name f = moved_in name (state_at ks name) f (states_of ks)
 
--- the copies of a node are what its changes left, each of which was newer than what stood there
-pub record IsRecorded {Q : Type 0} (k : KeptNode Q) : Type 0 where
-  pub latest : k.state.registers ≡ latest_of k.changes
-  pub rising : IsRising k.changes
+-- the copies of a node are the greatest of its log
+abbrev pub IsRecorded : {Q : Type 0} → KeptNode Q → Type 0
+IsRecorded k = k.state.registers ≡ greatest_of k.log
 
--- a node after a step: it keeps its name and its changes
+-- a node after a step: it keeps its name, and its log grows at its end, so that its copies stay recorded
 pub record Grows {Q : Type 0} (old new : KeptNode Q) : Type 0 where
   pub name : new.state.name ≡ old.state.name
-  pub extends : Extends old.changes new.changes
+  pub extends : Extends old.log new.log
   pub recorded : IsRecorded old → IsRecorded new
 
 -- all nodes after a step
@@ -86,25 +105,25 @@ pub record AllGrow {Q : Type 0} (old new : List (KeptNode Q)) : Type 0 where
   pub count : length new ≡ length old
   pub grow : (place : ℕ) (x : KeptNode Q) → slice_get old place ≡ Some x → IsSomeAnd (slice_get new place) (Grows x)
 
--- how many changes of one name another has merged
+-- how much of one name's log another has merged
 abbrev pub merged_at : List ℕ → ℕ → ℕ → ℕ
 merged_at counts to from = slice_index counts ((to - 1) * 64 + (from - 1))
 
 abbrev pub merged_raised : List ℕ → ℕ → ℕ → ℕ → List ℕ
 merged_raised counts to from n = slice_set counts ((to - 1) * 64 + (from - 1)) (max (merged_at counts to from) n)
 
--- a letter that is kept: it tells of changes that its sender has, and of none where it doesn't gossip
+-- a letter that is kept: it tells of no more than its sender's log, and of nothing where it doesn't gossip
 pub record IsSent {Q : Type 0} (ks : List (KeptNode Q)) (s : SentState Q) : Type 0 where
-  pub within : s.changes ≤ length (changes_at ks s.letter.sender)
-  pub join : s.letter.kind ≡ kind.Join → s.changes ≡ 0
+  pub within : s.told ≤ length (log_at ks s.letter.sender)
+  pub join : s.letter.kind ≡ kind.Join → s.told ≡ 0
 
 -- a node has merged what it is told to have merged
 pub record HasMerged {Q : Type 0} (ks : List (KeptNode Q)) (counts : List ℕ) (to from : ℕ) (k : KeptNode Q) : Type 0 where
-  pub within : merged_at counts to from ≤ length (changes_at ks from)
-  pub holds : joined k.state.registers (latest_of (take (merged_at counts to from) (changes_at ks from))) ≡ k.state.registers
+  pub within : merged_at counts to from ≤ length (log_at ks from)
+  pub holds : joined k.state.registers (greatest_of (take (merged_at counts to from) (log_at ks from))) ≡ k.state.registers
 
 -- what holds of the nodes, the letters and the counts of every world: the nodes are those of the names 1 to 64, their
--- copies are recorded, letters tell of changes that there are, and what counts as merged was merged
+-- copies are recorded, letters tell of what was logged, and what counts as merged was merged
 pub record IsKept {Q : Type 0} (ks : List (KeptNode Q)) (ss : List (SentState Q)) (ms : List ℕ) : Type 0 where
   pub nodes : length ks ≡ 64
   pub counts : length ms ≡ 4096

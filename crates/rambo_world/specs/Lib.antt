@@ -1,3 +1,4 @@
 pub mod Kept
-pub mod Marks
+pub mod Logging
+pub mod Shared
 pub mod Worlds

@@ -1,4 +1,4 @@
-//! What nodes have merged of each other's changes.
+//! What nodes have merged of each other's logs.
 ghost use Rattle.std.specs.Prelude.{◌≡◌, ◌+◌, ◌-◌, ◌*◌, ◌<◌, replicate, IfOk, IfErr};
 ghost use Rattle.rambo_names.specs.Names.{IsName};
 ghost use Rattle.rambo_world.specs.Kept.{merged_at, merged_raised};
@@ -7,7 +7,7 @@ use rambo_names::{Name, Refusal};
 use std::alloc::Global;
 use std::marker::Model;
 
-/// Of each two nodes, how many changes of the second the first has merged.
+/// Of each two nodes, how much of the second one's log the first has merged.
 #[derive(Drop)]
 pub(crate) struct MergedCounts {
     counts: Vec<usize>,
@@ -34,7 +34,7 @@ impl MergedCounts {
         })
     }
 
-    // How many changes of `from` the node `to` has merged.
+    // How much of the log of `from` the node `to` has merged.
     pub(crate) fn of(&self, to: Name, from: Name) -> usize
         ensures count { result ≡ merged_at self.now to from }
         ensures to { IsName to }
@@ -43,7 +43,7 @@ impl MergedCounts {
         self.counts[place_of(to, from)]
     }
 
-    // The node `to` has merged so many changes of `from`.
+    // The node `to` has merged so much of the log of `from`.
     pub(crate) fn raise(&mut self, to: Name, from: Name, count: usize)
         ensures { self.new ≡ merged_raised self.old to from count }
     {

@@ -1,25 +1,23 @@
 //! A letter that was sent.
 
-use rambo_gossip::Letter;
-use rambo_names::Quorums;
-use std::marker::Model;
+use rambo_names::{Members, Name};
 
-/// A letter with no copies in it: those that it tells of are the first so many changes of its sender's.
-#[derive(Drop)]
-pub(crate) struct Sent<Q: Quorums> {
-    pub(crate) letter: Letter<Q>,
-    pub(crate) changes: usize,
+/// A letter as it is kept, with no copies in it: those that it tells of are the first so many of its sender's log.
+#[derive(Clone, Copy)]
+pub(crate) struct Sent {
+    pub(crate) sender: Name,
+    pub(crate) addressee: Name,
+    pub(crate) told: usize,
+    // None where its sender wants to join.
+    pub(crate) gossip: Option<SentGossip>,
 }
 
-impl<Q: Quorums> Model for Sent<Q> {
-    ghost use Rattle.std.specs.Coded.{codes};
-    ghost use Rattle.rambo_names.specs.Names.{names_code};
-    ghost use Rattle.rambo_tag.specs.Copies.{copies_code};
-    ghost use Rattle.rambo_world.specs.Kept.{SentState};
-
-    ghost Value = { SentState Q };
-
-    ghost coded = { Prim.hlevel (codes, names_code, copies_code, Q.code) };
-
-    ghost view = { λ s. record { letter = s.letter; changes = s.changes } };
+/// What its sender, an active node, knew besides copies.
+#[derive(Clone, Copy)]
+pub(crate) struct SentGossip {
+    pub(crate) known: Members,
+    // Where its map stands among those that the letters share.
+    pub(crate) map: usize,
+    pub(crate) number: u64,
+    pub(crate) heard: u64,
 }

@@ -13,7 +13,7 @@ use crate::nodes::Nodes;
 use rambo_atomic::{CallId, History};
 use rambo_config_map::ConfigMap;
 use rambo_names::{Name, Quorums, Refusal};
-use rambo_node::Effect;
+use rambo_node::{Change, Effect};
 use rambo_run::{NodeMap, Step};
 use rambo_sequence::{KeySequence, Mark};
 use rambo_tag::Replica;
@@ -29,6 +29,8 @@ pub(crate) struct State<Q: Quorums, S: Replica> {
     pub(crate) merged: MergedCounts,
     pub(crate) history: History,
     pub(crate) marks: Vec<Mark>,
+    // Never filled: it tells the prover that a change has a size.
+    spare: Option<Change<Q>>,
 }
 
 impl<Q: Quorums, S: Replica> Model for State<Q, S> {
@@ -54,13 +56,13 @@ impl<Q: Quorums, S: Replica> State<Q, S> {
         ensures refused { IfErr result (λ r. refusal Q.system self.now step.now ≡ Some r) }
     {
         match step {
-            Step::Join(name, contacts) => self.nodes.may_join(*name, *contacts),
+            Step::Join(name, contacts) => self.nodes.judge(*name, &Change::Join(*contacts)),
             Step::Call(name, op) => self.nodes.may_call(*name, op),
-            Step::Send(from, to) => self.nodes.may_send(*from, *to),
+            Step::Send(from, to) => self.nodes.judge(*from, &Change::Send(*to)),
             Step::Deliver(number) => self.may_deliver(*number),
-            Step::Advance(id) => self.nodes.may_advance(id.name, id.number),
-            Step::Again(id) => self.nodes.may_restart(id.name, id.number),
-            Step::Stop(name) => self.nodes.may_stop(*name),
+            Step::Advance(id) => self.nodes.judge(id.name, &Change::Advance(*id)),
+            Step::Again(id) => self.nodes.judge(id.name, &Change::Again(*id)),
+            Step::Stop(name) => self.nodes.judge(*name, &Change::Stop),
         }
     }
 }
@@ -79,6 +81,7 @@ impl<Q: Quorums, S: Replica> State<Q, S> {
             merged,
             history: History::new(alloc),
             marks: Vec::new(alloc),
+            spare: None,
         })
     }
 
@@ -91,13 +94,13 @@ impl<Q: Quorums, S: Replica> State<Q, S> {
         ensures refused { IfErr result (λ r. r ≡ Refusal.OutOfMemory) }
     {
         match step {
-            Step::Join(name, contacts) => self.join(*name, *contacts),
-            Step::Call(name, op) => self.call(*name, op),
+            Step::Join(name, contacts) => self.change(*name, Change::Join(*contacts)),
+            Step::Call(name, op) => self.change(*name, Change::Call(op.clone()?)),
             Step::Send(from, to) => self.send(*from, *to),
             Step::Deliver(number) => self.deliver(*number),
-            Step::Advance(id) => self.advance(id.name, id.number),
-            Step::Again(id) => self.again(id.name, id.number),
-            Step::Stop(name) => self.stop(*name),
+            Step::Advance(id) => self.change(id.name, Change::Advance(*id)),
+            Step::Again(id) => self.change(id.name, Change::Again(*id)),
+            Step::Stop(name) => self.change(*name, Change::Stop),
         }
     }
 

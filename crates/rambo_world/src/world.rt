@@ -1,11 +1,13 @@
 //! Worlds.
 ghost use Rattle.std.specs.Prelude.{◌≡◌, ◌++◌, ◌∷◌, [], List, ℕ, Some, None, IfOk, IfErr, OnOk, OnErr};
 ghost use Rattle.rambo_names.specs.Refusals.{least, IsRefusal};
+ghost use Rattle.rambo_atomic.specs.Proper.{IsProper};
 ghost use Rattle.rambo_node.specs.Nodes.{NodeState};
+ghost use Rattle.rambo_run.specs.Claims.{Agrees};
 ghost use Rattle.rambo_run.specs.Steps.{refusal, turn};
 ghost use Rattle.rambo_run.specs.Worlds.{node_at};
 ghost use Rattle.rambo_sequence.specs.Sequences.{sequence_of};
-ghost use Rattle.rambo_world.specs.Worlds.{WorldOf, state, founding_causes};
+ghost use Rattle.rambo_world.specs.Worlds.{WorldOf, AreAccepted, state, founding_causes};
 
 use crate::state::State;
 use rambo_atomic::{CallId, History};
@@ -35,7 +37,7 @@ impl<Q: Quorums, S: Replica> Model for World<Q, S> {
     ghost use Rattle.std.specs.Coded.{codes};
     ghost use Rattle.rambo_names.specs.Names.{names_code};
     ghost use Rattle.rambo_run.specs.Runs.{run};
-    ghost use Rattle.rambo_world.specs.Worlds.{WorldOf};
+    ghost use Rattle.rambo_world.specs.Worlds.{WorldOf, AreAccepted};
 
     ghost Value = { WorldOf Q };
 
@@ -43,7 +45,7 @@ impl<Q: Quorums, S: Replica> Model for World<Q, S> {
 
     ghost view = { λ w. record { founders = w.founders; steps = w.steps.items } };
 
-    ghost invariant = { λ w. w.state ≡ run Q.system w.founders w.steps.items };
+    ghost invariant = { λ w. (w.state ≡ run Q.system w.founders w.steps.items) × AreAccepted Q.system w.founders w.steps.items };
 }
 
 impl<Q: Quorums, S: Replica> World<Q, S> {
@@ -80,9 +82,10 @@ impl<Q: Quorums, S: Replica> World<Q, S> {
         Ok(effect)
     }
 
-    /// The accepted steps, the first of them first.
+    /// The accepted steps, the first of them first: none of them is refused where it stands.
     pub fn steps(&self) -> &[Step]
-        ensures { result.now ≡ self.now.steps }
+        ensures steps { result.now ≡ self.now.steps }
+        ensures accepted { AreAccepted Q.system self.now.founders self.now.steps }
     {
         self.steps.as_slice()
     }
@@ -95,19 +98,24 @@ impl<Q: Quorums, S: Replica> World<Q, S> {
     }
 
     /// The given sequence of a key: its answered calls and its sets that took a tag, by tag, a set before gets of its
-    /// tag, and gets of one tag by the places of their calls in the history.
+    /// tag, and gets of one tag by the places of their calls in the history. An ordinary map, asked in this order, gives
+    /// each answer that was given, and what was answered before another call was made stands before it (Herlihy and
+    /// Wing, "Linearizability", TOPLAS 1990).
     ///
     /// `OutOfMemory` where there is no room for it.
     pub fn sequence(&self, alloc: Global, key: &[u8]) -> Result<Vec<CallId>, Refusal>
         ensures calls { IfOk result (λ calls. calls.items ≡ sequence_of (state Q.system self.now).history (state Q.system self.now).marks key.now) }
+        ensures proper { IfOk result (λ calls. IsProper (state Q.system self.now).history key.now calls.items) }
         ensures refused { IfErr result (λ r. r ≡ Refusal.OutOfMemory) }
     {
         self.state.sequence(alloc, key)
     }
 
-    /// The configuration map of a node.
+    /// The configuration map of a node. No two nodes, at one moment or at two, hold different configurations at one
+    /// place.
     pub fn map(&self, name: Name) -> &ConfigMap<Q>
-        ensures { (x : NodeState Q) → node_at (state Q.system self.now) name ≡ Some x → result.now ≡ x.map }
+        ensures agreed { Agrees Q.system self.now.founders self.now.steps }
+        ensures map { (x : NodeState Q) → node_at (state Q.system self.now) name ≡ Some x → result.now ≡ x.map }
     {
         self.state.map(name)
     }

@@ -1,8 +1,17 @@
-use Rattle.std.proofs.Common.{inr, refl, ⊎_elim}
-use Rattle.rambo_main.proofs.Untouched.{keeps}
+use Rattle.std.proofs.Common.{inl}
+use Rattle.rambo_main.proofs.Untouched.{takes_nothing}
 use Rattle.rambo_main.proofs.telling.answer.Goals as goal
 
-pub returns-clause-ends : goal.returns-clause-ends
-returns-clause-ends g c =
-    let mistake = c.use_stderr.ensures.0 c.if-not-use_stderr.false in
-    inr ((λ shown. absurd (⊎_elim (λ help. mistake.0 help) (λ version. mistake.1 version) shown)), (λ unshown. (refl, keeps _)))
+pub returns-in_default-format-clause-ends : goal.returns-in_default-format-clause-ends
+returns-in_default-format-clause-ends g c = inl (record {
+  status_is = c.tell-in_default-format.ensures.status;
+  unwritten = takes_nothing g.W.Sink.taken g.W.Sink.failures c.args.writer.now;
+  line = c.tell-in_default-format.ensures.line;
+})
+
+pub returns-in_default-format-clause-memory : goal.returns-in_default-format-clause-memory
+returns-in_default-format-clause-memory g c _ = record {
+  status_is = c.tell-in_default-format.ensures.status;
+  unwritten = takes_nothing g.W.Sink.taken g.W.Sink.failures c.args.writer.now;
+  line = c.tell-in_default-format.ensures.line;
+}

@@ -1,4 +1,4 @@
-use Rattle.std.proofs.Common.{◌||◌, not, nat_eq, length, ap, sym, ◌∙◌}
+use Rattle.std.proofs.Common.{◌||◌, not, nat_eq, length, ap, sym, ◌∙◌, true≢false, arith}
 use Rattle.std.specs.Str.{bytes_eq}
 use Rattle.std.specs.Ordering.{nat_cmp}
 use Rattle.std.specs.FinSet.{contains, contains-empty}
@@ -6,7 +6,7 @@ use Rattle.std.proofs.lemmas.Slice.Eq.{bytes_eq-Decides}
 use Rattle.rambo_names.specs.Names.{names}
 use Rattle.rambo_names.specs.Signs.{names_text}
 use Rattle.rambo_names.proofs.NameInserts.{names-empty}
-use Rattle.rambo_names.proofs.ReadSteps.{reads-start, reads-name, reads-other, nothing_spelt}
+use Rattle.rambo_names.proofs.ReadSteps.{reads-start, reads-name, reads-other, reads-names, nothing_spelt}
 use Rattle.rambo_names.proofs.set_sign.read_set.Goals as goal
 use Rattle.rambo_names.proofs.set_sign.read_set.Goals.{in-Some, in_default, then-first, else-first}
 
@@ -38,3 +38,10 @@ returns-then-not-is_empty-clause-none c s e =
       | then-first w ↦ ap (λ t. t || not (nat_eq (length c.loop-place.rest.now) 0)) w.if-first.true
       | else-first w ↦ (λ i. w.if-first.false i || not (sym w.is_empty.ensures i)) ∙ sym w.value-is ∙ c.if-not-is_empty.true
     ]) s e
+
+pub returns-then-eq-clause-names : goal.returns-then-eq-clause-names
+returns-then-eq-clause-names c n has =
+    absurd (true≢false (sym has ∙ ap (λ s. contains s n) c.empty.ensures ∙ contains-empty nat_cmp n))
+
+pub returns-else-not-is_empty-clause-names : goal.returns-else-not-is_empty-clause-names
+returns-else-not-is_empty-clause-names c = reads-names _ _ _ _ _ c.loop-place-test.false (omega arith) c.loop-place.invariant

@@ -3,5 +3,8 @@ use Rattle.rambo_names.specs.Signs.{set_text}
 use Rattle.rambo_text.specs.Words.{more_words}
 use Rattle.rambo_outcome.proofs.line.write_configs.Given as goal
 
-abbrev pub invariant-loop-place : goal.invariant-loop-place
-invariant-loop-place l = l.out.items ++ more_words (map set_text (drop l.place l.places.configs)) ≡ l.initial.out.items ++ more_words (map set_text l.places.configs)
+abbrev pub invariant-loop-config : goal.invariant-loop-config
+invariant-loop-config g l =
+    let members = g.Q.Quorums.system.members in
+    l.out.items ++ more_words (map set_text (map members (drop l.config-index l.configs)))
+    ≡ l.initial.out.items ++ more_words (map set_text (map members l.configs))

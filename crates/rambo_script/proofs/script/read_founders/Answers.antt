@@ -15,4 +15,4 @@ returns-in_err-founders-clause-fault c =
 
 pub returns-then-count-eq0-clause-fault : goal.returns-then-count-eq0-clause-fault
 returns-then-count-eq0-clause-fault c =
-    no_founder _ _ _ _ _ c.if-line-gt-LINE_LIMIT.false c.next_word.ensures (alike _ _ _ c.as_slice.ensures c.if-ne.ensures) c.in_ok-set.ensures.found c.in_ok-founders.ensures.found (sym c.count.ensures.count ∙ c.if-count-eq0.true)
+    no_founder _ _ _ _ _ c.if-line-gt-LINE_LIMIT.false c.next_word.ensures (alike _ _ _ c.as_slice.ensures c.if-ne.ensures) c.in_ok-set.ensures.found c.in_ok-founders.ensures.found.1 (sym c.count.ensures.count ∙ c.if-count-eq0.true)

@@ -1,25 +1,27 @@
-use Rattle.std.proofs.Common.{rules, ◌≡◌, Some, sym, ap, ◌∙◌}
-use Rattle.std.proofs.lemmas.Result.{IfOk-weaker}
-use Rattle.rambo_node.specs.declared.progress.Progress.TheVariants as progress
-use Rattle.rambo_node.specs.Operations.{query_progress}
-use Rattle.rambo_node.specs.Refusals.{query_spent}
-use Rattle.rambo_node.proofs.Judged.{neither}
+use Rattle.std.proofs.Common.{ap, ◌∙◌, rules}
+use Rattle.rambo_node.specs.Changes.{copy_put}
+use Rattle.rambo_node.specs.Kept.{propagation_begun, copy_held, move_deed}
+use Rattle.rambo_node.specs.Refusals.{is_last}
+use Rattle.rambo_node.proofs.Advances.{query_moves}
+use Rattle.rambo_node.proofs.Judged.{asked_next}
 use Rattle.rambo_node.proofs.node.Node.answer_query.Goals as goal
 
-pub find-requires : goal.find-requires
-find-requires g c =
-    let next = neither _ _ (ap (λ o. query_spent c.args.self.now.state (Some o)) (sym c.in-Get.is) ∙ c.requires.next) in
-    (search rules, (c.requires.asked ∙ ap Some c.in-Get.is, next.0))
+pub propagate-requires : goal.propagate-requires
+propagate-requires g c = (search rules, ap (λ n. is_last n.number) c.in_ok-put.ensures.ok ∙ (asked_next c.args.self.now c.args.asked c.requires.next).0)
 
-pub tag-requires : goal.tag-requires
-tag-requires g c =
-    let next = neither _ _ (ap (λ o. query_spent c.args.self.now.state (Some o)) (sym c.in-Set.is) ∙ c.requires.next) in
-    (search rules, (c.requires.asked ∙ ap Some c.in-Set.is, (next.0, next.1)))
+pub returns-clause-node : goal.returns-clause-node
+returns-clause-node g c =
+    let x = c.args.self.now in
+    let n = c.args.id.number in
+    let same = c.in_ok-kept.ensures.ok (asked_next x c.args.asked c.requires.next).1 in
+    c.propagate.ensures
+    ∙ ap (λ y. propagation_begun y n c.in_ok-kept.kept) c.in_ok-put.ensures.ok
+    ∙ ap (λ d. propagation_begun (record x { registers = copy_held x.registers d.copy }) n c.in_ok-kept.kept) c.in_ok-deed.ensures.ok
+    ∙ ap (λ k. propagation_begun (record x { registers = copy_held x.registers (copy_put c.args.asked k) }) n k) same
+    ∙ (query_moves x c.args.id c.args.asked c.requires.asked).0
 
-pub returns-in-Get-clause-progress : goal.returns-in-Get-clause-progress
-returns-in-Get-clause-progress g c =
-    IfOk-weaker c.find.result (λ p. p ≡ progress.Found) (λ p. p ≡ query_progress c.args.self.now.state c.args.asked) (λ p e. e ∙ sym (ap (query_progress c.args.self.now.state) c.in-Get.is)) c.find.ensures.progress
-
-pub returns-in-Set-clause-progress : goal.returns-in-Set-clause-progress
-returns-in-Set-clause-progress g c =
-    IfOk-weaker c.tag.result _ (λ p. p ≡ query_progress c.args.self.now.state c.args.asked) (λ p e. e ∙ sym (ap (query_progress c.args.self.now.state) c.in-Set.is)) c.tag.ensures.progress
+pub returns-clause-deed : goal.returns-clause-deed
+returns-clause-deed g c =
+    let x = c.args.self.now in
+    let same = c.in_ok-kept.ensures.ok (asked_next x c.args.asked c.requires.next).1 in
+    c.in_ok-deed.ensures.ok ∙ ap (move_deed c.args.id c.args.asked) same ∙ (query_moves x c.args.id c.args.asked c.requires.asked).1

@@ -1,6 +1,5 @@
-use Rattle.std.proofs.Common.{map, sym, ap, ◌∙◌, subst}
+use Rattle.std.proofs.Common.{map, ap, ◌∙◌}
 use Rattle.std.specs.FinSet as set
-use Rattle.rambo_tag.specs.Changes.{IsRising}
 use Rattle.rambo_tag.specs.Copies.{joined}
 use Rattle.rambo_config_map.specs.Maps.{merged_map}
 use Rattle.rambo_joiner.specs.Statuses.{woken}
@@ -13,25 +12,19 @@ unfolding heard_gossip
 returns-clause-ok g c next =
     let v = c.self.view_is in
     let from = c.args.from in
-    let name = ap (λ n. n.state.name) v in
+    let name = ap (λ n. n.name) v in
     let number = c.number_after-own.ensures next in
-    let merged = c.merge-2.ensures ∙ ap (λ n. merged_map n.state.map c.args.map.now) v in
-    let kept = c.make_room.ensures.same ∙ ap (λ n. n.state.calls) v in
+    let merged = c.merge-2.ensures ∙ ap (λ n. merged_map n.map c.args.map.now) v in
+    let kept = c.make_room.ensures.same ∙ ap (λ n. n.calls) v in
     let calls = c.hear.ensures c.in_ok-make_room.ensures.ok ∙ λ i. map (heard_call c.args.heard from c.args.map.now (number i) (merged i) (name i)) (kept i) in
     λ i. record {
       name = name i;
-      status = (c.wake.ensures ∙ ap (λ n. woken n.state.status) v) i;
-      known = (c.union-self-inside.ensures ∙ ap (λ n. set.union n.state.known c.args.known) v) i;
-      registers = (c.in_ok-merge.ensures.ok ∙ ap (λ n. joined n.state.registers c.args.copies.now) v) i;
+      status = (c.wake.ensures ∙ ap (λ n. woken n.status) v) i;
+      known = (c.union-self-inside.ensures ∙ ap (λ n. set.union n.known c.args.known) v) i;
+      registers = (c.in_ok-merge.ensures.ok ∙ ap (λ n. joined n.registers c.args.copies.now) v) i;
       map = merged i;
       number = number i;
-      made = (v i).state.made;
-      heard = (c.raise.ensures ∙ ap (λ n. raised n.state.heard from c.args.number) v) i;
+      made = (v i).made;
+      heard = (c.raise.ensures ∙ ap (λ n. raised n.heard from c.args.number) v) i;
       calls = calls i;
     }
-
-pub returns-clause-rises : goal.returns-clause-rises
-returns-clause-rises g c rising = c.in_ok-merge.ensures.rises (subst (λ n. IsRising n.changes) (sym c.self.view_is) rising)
-
-pub returns-clause-recorded : goal.returns-clause-recorded
-returns-clause-recorded g c = g.met.S.Replica.recorded c.merge.new.self

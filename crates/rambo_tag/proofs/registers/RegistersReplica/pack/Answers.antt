@@ -1,32 +1,25 @@
-use Rattle.std.proofs.Common.{ap, ◌∙◌, arith}
-use Rattle.rambo_tag.specs.Changes.{latest_of}
-use Rattle.rambo_tag.proofs.Packing.{Packs-start, Packs-place, Packs-next, Packs-end}
+use Rattle.std.proofs.Common.{◌∙◌}
+use Rattle.rambo_tag.proofs.Tables.{Packs-start, Packs-next, Packs-end}
 use Rattle.rambo_tag.proofs.registers.RegistersReplica.pack.Goals as goal
 
-pub index-requires : goal.index-requires
-index-requires g c =
-    let within = Packs-place c.self.inside.log.items c.loop-place.changes.items c.loop-place.place-iterator c.next.new.self c.in-Some.place.now c.loop-place.invariant.2 c.in-Some.ensures.steps in
-    omega (arith, c.self.inside.log.ok.0, within)
-
-pub loop-place-init : goal.loop-place-init
-loop-place-init g c = (
+pub loop-copy-init : goal.loop-copy-init
+loop-copy-init g c = (
   tt,
   tt,
-  Packs-start c.self.inside.log.items c.in_ok-changes.changes.items c.self.inside.index.entries c.into_iter-place-iterator.result
-      c.self.invariant c.len.ensures.unique c.in_ok-changes.ensures.items
-      (c.into_iter-place-iterator.ensures.into_iter_gives ∙ c.values-place-items.ensures.rest),
+  Packs-start c.args.self.now c.self.inside.table.entries c.in_ok-copies.copies.items c.into_iter-copy-iterator.result
+      c.self.invariant c.len.ensures.unique c.self.view_is
+      c.in_ok-copies.ensures.items (c.into_iter-copy-iterator.ensures.into_iter_gives ∙ c.values-copy-items.ensures.rest),
 )
 
-pub loop-place-preserved : goal.loop-place-preserved
-loop-place-preserved g c = (
+pub loop-copy-preserved : goal.loop-copy-preserved
+loop-copy-preserved g c = (
   tt,
   tt,
-  Packs-next c.self.inside.log.items c.loop-place.changes.items c.push.new.self.items c.loop-place.place-iterator c.next.new.self c.in-Some.place.now c.index.result.now c.in_ok-clone.field-0
-      c.loop-place.invariant.2 c.in-Some.ensures.steps c.index.ensures c.in_ok-clone.ensures.cases c.in_ok-push.ensures.items,
+  Packs-next c.args.self.now c.loop-copy.copies.items c.push.new.self.items c.loop-copy.copy-iterator c.next.new.self c.in-Some.copy.now c.in_ok-clone.field-0
+      c.loop-copy.invariant.2 c.in-Some.ensures.steps c.in_ok-clone.ensures.cases c.in_ok-push.ensures.items,
 )
 
 pub returns-clause-all : goal.returns-clause-all
 returns-clause-all g c =
     c.new.ensures
-    ∙ Packs-end c.self.inside.log.items c.loop-place.changes.items c.loop-place.place-iterator c.loop-place.invariant.2 c.in-None.ensures.steps.0
-    ∙ ap latest_of c.self.view_is
+    ∙ Packs-end c.args.self.now c.loop-copy.copies.items c.loop-copy.copy-iterator c.loop-copy.invariant.2 c.in-None.ensures.steps.0

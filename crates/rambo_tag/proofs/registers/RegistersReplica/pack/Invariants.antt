@@ -1,8 +1,8 @@
-use Rattle.rambo_tag.proofs.Packing.{Packs}
+use Rattle.rambo_tag.proofs.Tables.{Packs}
 use Rattle.rambo_tag.proofs.registers.RegistersReplica.pack.Given as goal
 
-abbrev pub invariant-loop-place : goal.invariant-loop-place
-invariant-loop-place g l =
-    (goal.iterator-loop-place g).can_next l.place-iterator ×
-    (goal.iterator-loop-place g).is_finite l.place-iterator ×
-    Packs l.self-inside.log.items l.place-iterator l.changes.items
+abbrev pub invariant-loop-copy : goal.invariant-loop-copy
+invariant-loop-copy g l =
+    (goal.iterator-loop-copy g).can_next l.copy-iterator ×
+    (goal.iterator-loop-copy g).is_finite l.copy-iterator ×
+    Packs l.self l.copies.items l.copy-iterator

@@ -1,8 +1,9 @@
 use Rattle.std.proofs.Common.{◌≡◌, ◌<◌, length, None, Some, sym, subst, OnOk, IfErr}
 use Rattle.rambo_names.specs.Refusals.{least}
-use Rattle.rambo_node.specs.Refusals.{call_causes}
-use Rattle.rambo_run.specs.Steps.{causes_of}
+use Rattle.rambo_node.specs.declared.change.Change.TheVariants as change
+use Rattle.rambo_run.specs.Steps.{causes_at}
 use Rattle.rambo_world.specs.Kept.{state_at}
+use Rattle.rambo_world.proofs.Sizes.{up_fits, back_fits}
 use Rattle.rambo_world.proofs.Growth.{state_here}
 use Rattle.rambo_world.proofs.nodes.Nodes.may_call.Goals as goal
 
@@ -12,7 +13,7 @@ returns-clause-ok g c =
     let x = c.index.result.now in
     let below : c.place_of.result < length ks = subst (λ n. c.place_of.result < n) (sym c.self.invariant) c.place_of.ensures.within in
     let here = subst (λ now. state_at now c.args.name ≡ Some x.state) c.self.view_is (state_here ks c.place_of.result c.args.name x x c.place_of.ensures.place c.place_of.ensures.named.0 below c.index.ensures) in
-    subst (λ o. OnOk c.may_call.result (least (causes_of o (λ s. call_causes s c.args.op.now)) ≡ None)) (sym here) c.may_call.ensures.ok
+    subst (λ o. OnOk c.may_call.result (least (causes_at g.Q.Quorums.system o (change.Call c.args.op.now)) ≡ None)) (sym here) c.may_call.ensures.ok
 
 pub returns-clause-refused : goal.returns-clause-refused
 returns-clause-refused g c =
@@ -20,4 +21,7 @@ returns-clause-refused g c =
     let x = c.index.result.now in
     let below : c.place_of.result < length ks = subst (λ n. c.place_of.result < n) (sym c.self.invariant) c.place_of.ensures.within in
     let here = subst (λ now. state_at now c.args.name ≡ Some x.state) c.self.view_is (state_here ks c.place_of.result c.args.name x x c.place_of.ensures.place c.place_of.ensures.named.0 below c.index.ensures) in
-    subst (λ o. IfErr c.may_call.result (λ r. least (causes_of o (λ s. call_causes s c.args.op.now)) ≡ Some r)) (sym here) c.may_call.ensures.refused
+    subst (λ o. IfErr c.may_call.result (λ r. least (causes_at g.Q.Quorums.system o (change.Call c.args.op.now)) ≡ Some r)) (sym here) c.may_call.ensures.refused
+
+pub may_call-requires : goal.may_call-requires
+may_call-requires g c = back_fits _ _ _ (up_fits _ _ _ c.requires-raw.1.1)

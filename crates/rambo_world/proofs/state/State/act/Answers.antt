@@ -1,52 +1,90 @@
-use Rattle.std.proofs.Common.{◌≡◌, None, sym, subst, IfOk}
+use Rattle.std.proofs.Common.{◌≡◌, ◌∙◌, None, refl, sym, ap, subst, IfOk}
+use Rattle.std.proofs.lemmas.Result.{IfOk-weaker}
+use Rattle.rambo_node.specs.declared.change.Change.TheVariants as change
+use Rattle.rambo_run.specs.declared.step.Step.TheVariants as step
 use Rattle.rambo_run.specs.Steps.{refusal, turn}
+use Rattle.rambo_world.proofs.Sizes.{up_fits, back_fits, variant_fits}
+use Rattle.rambo_world.proofs.Turns.{step_refusal, step_turn, step_fits}
 use Rattle.rambo_world.proofs.state.State.act.Goals as goal
 
-pub join-requires : goal.join-requires
-join-requires g c = (c.requires-raw.1.1.0, subst (λ st. refusal g.Q.Quorums.system c.args.self.now st ≡ None) c.in-Join.is c.requires.accepted)
+pub change-requires : goal.change-requires
+change-requires g c =
+    let s = g.Q.Quorums.system in
+    let w = c.args.self.now in
+    let st = (step.Join c.in-Join.name c.in-Join.contacts) in
+    let accepted : refusal s w st ≡ None = subst (λ st. refusal s w st ≡ None) c.in-Join.is c.requires.accepted in
+    (c.requires-raw.1.1.0, (variant_fits _ _ _ _ (back_fits _ _ _ (up_fits _ _ _ c.requires-raw.1.1.0)), (sym (step_refusal w st c.in-Join.name (change.Join c.in-Join.contacts) refl s) ∙ accepted, (step_fits w st c.in-Join.name (change.Join c.in-Join.contacts) refl s c.requires.fits accepted, refl))))
 
 pub returns-in-Join-clause-ok : goal.returns-in-Join-clause-ok
 returns-in-Join-clause-ok g c =
-    subst (λ st. IfOk c.join.result (λ e. turn c.args.self.now st ≡ record { world = c.join.new.self; effect = e })) (sym c.in-Join.is) c.join.ensures.ok
+    let w = c.args.self.now in
+    let st = (step.Join c.in-Join.name c.in-Join.contacts) in
+    IfOk-weaker c.change.result _ _ (λ e done. ap (turn w) c.in-Join.is ∙ step_turn w st c.in-Join.name (change.Join c.in-Join.contacts) refl ∙ done) c.change.ensures.ok
 
-pub call-requires : goal.call-requires
-call-requires g c = (c.requires-raw.1.1.0, (subst (λ st. refusal g.Q.Quorums.system c.args.self.now st ≡ None) c.in-Call.is c.requires.accepted, c.requires.fits))
+pub change-requires-in-Call : goal.change-requires-in-Call
+change-requires-in-Call g c =
+    let s = g.Q.Quorums.system in
+    let w = c.args.self.now in
+    let st = (step.Call c.in-Call.name c.in_ok-clone-in-Call.field-0) in
+    let accepted : refusal s w st ≡ None = subst (λ st. refusal s w st ≡ None) (c.in-Call.is ∙ ap (step.Call c.in-Call.name) (sym c.in_ok-clone-in-Call.ensures.same)) c.requires.accepted in
+    (c.requires-raw.1.1.0, (variant_fits _ _ _ _ (back_fits _ _ _ (up_fits _ _ _ c.requires-raw.1.1.0)), (sym (step_refusal w st c.in-Call.name (change.Call c.in_ok-clone-in-Call.field-0) refl s) ∙ accepted, (step_fits w st c.in-Call.name (change.Call c.in_ok-clone-in-Call.field-0) refl s c.requires.fits accepted, refl))))
 
-pub returns-in-Call-clause-ok : goal.returns-in-Call-clause-ok
-returns-in-Call-clause-ok g c =
-    subst (λ st. IfOk c.call.result (λ e. turn c.args.self.now st ≡ record { world = c.call.new.self; effect = e })) (sym c.in-Call.is) c.call.ensures.ok
+pub returns-in_ok-clone-in-Call-clause-ok : goal.returns-in_ok-clone-in-Call-clause-ok
+returns-in_ok-clone-in-Call-clause-ok g c =
+    let w = c.args.self.now in
+    let st = (step.Call c.in-Call.name c.in_ok-clone-in-Call.field-0) in
+    IfOk-weaker c.change-in-Call.result _ _ (λ e done. ap (turn w) (c.in-Call.is ∙ ap (step.Call c.in-Call.name) (sym c.in_ok-clone-in-Call.ensures.same)) ∙ step_turn w st c.in-Call.name (change.Call c.in_ok-clone-in-Call.field-0) refl ∙ done) c.change-in-Call.ensures.ok
+
+pub change-requires-in-Advance : goal.change-requires-in-Advance
+change-requires-in-Advance g c =
+    let s = g.Q.Quorums.system in
+    let w = c.args.self.now in
+    let st = (step.Advance c.in-Advance.id) in
+    let accepted : refusal s w st ≡ None = subst (λ st. refusal s w st ≡ None) c.in-Advance.is c.requires.accepted in
+    (c.requires-raw.1.1.0, (variant_fits _ _ _ _ (back_fits _ _ _ (up_fits _ _ _ c.requires-raw.1.1.0)), (sym (step_refusal w st c.in-Advance.id.name (change.Advance c.in-Advance.id) refl s) ∙ accepted, (step_fits w st c.in-Advance.id.name (change.Advance c.in-Advance.id) refl s c.requires.fits accepted, refl))))
+
+pub returns-in-Advance-clause-ok : goal.returns-in-Advance-clause-ok
+returns-in-Advance-clause-ok g c =
+    let w = c.args.self.now in
+    let st = (step.Advance c.in-Advance.id) in
+    IfOk-weaker c.change-in-Advance.result _ _ (λ e done. ap (turn w) c.in-Advance.is ∙ step_turn w st c.in-Advance.id.name (change.Advance c.in-Advance.id) refl ∙ done) c.change-in-Advance.ensures.ok
+
+pub change-requires-in-Again : goal.change-requires-in-Again
+change-requires-in-Again g c =
+    let s = g.Q.Quorums.system in
+    let w = c.args.self.now in
+    let st = (step.Again c.in-Again.id) in
+    let accepted : refusal s w st ≡ None = subst (λ st. refusal s w st ≡ None) c.in-Again.is c.requires.accepted in
+    (c.requires-raw.1.1.0, (variant_fits _ _ _ _ (back_fits _ _ _ (up_fits _ _ _ c.requires-raw.1.1.0)), (sym (step_refusal w st c.in-Again.id.name (change.Again c.in-Again.id) refl s) ∙ accepted, (step_fits w st c.in-Again.id.name (change.Again c.in-Again.id) refl s c.requires.fits accepted, refl))))
+
+pub returns-in-Again-clause-ok : goal.returns-in-Again-clause-ok
+returns-in-Again-clause-ok g c =
+    let w = c.args.self.now in
+    let st = (step.Again c.in-Again.id) in
+    IfOk-weaker c.change-in-Again.result _ _ (λ e done. ap (turn w) c.in-Again.is ∙ step_turn w st c.in-Again.id.name (change.Again c.in-Again.id) refl ∙ done) c.change-in-Again.ensures.ok
+
+pub change-requires-in-Stop : goal.change-requires-in-Stop
+change-requires-in-Stop g c =
+    let s = g.Q.Quorums.system in
+    let w = c.args.self.now in
+    let st = (step.Stop c.in-Stop.name) in
+    let accepted : refusal s w st ≡ None = subst (λ st. refusal s w st ≡ None) c.in-Stop.is c.requires.accepted in
+    (c.requires-raw.1.1.0, (variant_fits _ _ _ _ (back_fits _ _ _ (up_fits _ _ _ c.requires-raw.1.1.0)), (sym (step_refusal w st c.in-Stop.name change.Stop refl s) ∙ accepted, (step_fits w st c.in-Stop.name change.Stop refl s c.requires.fits accepted, refl))))
+
+pub returns-in-Stop-clause-ok : goal.returns-in-Stop-clause-ok
+returns-in-Stop-clause-ok g c =
+    let w = c.args.self.now in
+    let st = (step.Stop c.in-Stop.name) in
+    IfOk-weaker c.change-in-Stop.result _ _ (λ e done. ap (turn w) c.in-Stop.is ∙ step_turn w st c.in-Stop.name change.Stop refl ∙ done) c.change-in-Stop.ensures.ok
 
 pub send-requires : goal.send-requires
 send-requires g c = (c.requires-raw.1.1.0, subst (λ st. refusal g.Q.Quorums.system c.args.self.now st ≡ None) c.in-Send.is c.requires.accepted)
 
-pub returns-in-Send-clause-ok : goal.returns-in-Send-clause-ok
-returns-in-Send-clause-ok g c =
-    subst (λ st. IfOk c.send.result (λ e. turn c.args.self.now st ≡ record { world = c.send.new.self; effect = e })) (sym c.in-Send.is) c.send.ensures.ok
-
 pub deliver-requires : goal.deliver-requires
 deliver-requires g c = (c.requires-raw.1.1.0, subst (λ st. refusal g.Q.Quorums.system c.args.self.now st ≡ None) c.in-Deliver.is c.requires.accepted)
 
+pub returns-in-Send-clause-ok : goal.returns-in-Send-clause-ok
+returns-in-Send-clause-ok g c = subst (λ st. IfOk c.send.result (λ e. turn c.args.self.now st ≡ record { world = c.send.new.self; effect = e })) (sym c.in-Send.is) c.send.ensures.ok
+
 pub returns-in-Deliver-clause-ok : goal.returns-in-Deliver-clause-ok
-returns-in-Deliver-clause-ok g c =
-    subst (λ st. IfOk c.deliver.result (λ e. turn c.args.self.now st ≡ record { world = c.deliver.new.self; effect = e })) (sym c.in-Deliver.is) c.deliver.ensures.ok
-
-pub advance-requires : goal.advance-requires
-advance-requires g c = (c.requires-raw.1.1.0, (subst (λ st. refusal g.Q.Quorums.system c.args.self.now st ≡ None) c.in-Advance.is c.requires.accepted, c.requires.fits))
-
-pub returns-in-Advance-clause-ok : goal.returns-in-Advance-clause-ok
-returns-in-Advance-clause-ok g c =
-    subst (λ st. IfOk c.advance.result (λ e. turn c.args.self.now st ≡ record { world = c.advance.new.self; effect = e })) (sym c.in-Advance.is) c.advance.ensures.ok
-
-pub again-requires : goal.again-requires
-again-requires g c = (c.requires-raw.1.1.0, subst (λ st. refusal g.Q.Quorums.system c.args.self.now st ≡ None) c.in-Again.is c.requires.accepted)
-
-pub returns-in-Again-clause-ok : goal.returns-in-Again-clause-ok
-returns-in-Again-clause-ok g c =
-    subst (λ st. IfOk c.again.result (λ e. turn c.args.self.now st ≡ record { world = c.again.new.self; effect = e })) (sym c.in-Again.is) c.again.ensures.ok
-
-pub stop-requires : goal.stop-requires
-stop-requires g c = (c.requires-raw.1.1.0, subst (λ st. refusal g.Q.Quorums.system c.args.self.now st ≡ None) c.in-Stop.is c.requires.accepted)
-
-pub returns-in-Stop-clause-ok : goal.returns-in-Stop-clause-ok
-returns-in-Stop-clause-ok g c =
-    subst (λ st. IfOk c.stop.result (λ e. turn c.args.self.now st ≡ record { world = c.stop.new.self; effect = e })) (sym c.in-Stop.is) c.stop.ensures.ok
+returns-in-Deliver-clause-ok g c = subst (λ st. IfOk c.deliver.result (λ e. turn c.args.self.now st ≡ record { world = c.deliver.new.self; effect = e })) (sym c.in-Deliver.is) c.deliver.ensures.ok

@@ -4,7 +4,7 @@ use Rattle.rambo_world.proofs.Sizes.{up_fits, back_fits, next}
 use Rattle.rambo_world.proofs.state.State.map.Goals as goal
 
 pub map-requires : goal.map-requires
-map-requires g c = (back_fits _ _ _ (next _ _ _ _ (next _ _ _ _ (next _ _ _ _ (next _ _ _ _ (up_fits _ _ _ c.requires-raw.1.1.0))))), c.requires-raw.1.1.1)
+map-requires g c = (back_fits _ _ _ (next _ _ _ _ (next _ _ _ _ (next _ _ _ _ (next _ _ _ _ (next _ _ _ _ (up_fits _ _ _ c.requires-raw.1.1.0)))))), c.requires-raw.1.1.1)
 
 pub returns : goal.returns
 returns g c x found = c.map.ensures x (subst (λ w. node_at w c.args.name ≡ Some x) (sym c.self.view_is) found)

@@ -2,10 +2,14 @@ use Rattle.std.proofs.Common.{◌≡◌, ◌∙◌, Some, sym, ap, subst}
 use Rattle.rambo_run.specs.Worlds.{node_at}
 use Rattle.rambo_world.specs.Worlds.{state}
 use Rattle.rambo_world.proofs.Sizes.{up_fits, back_fits}
+use Rattle.rambo_run.proofs.EveryRun.{agrees}
 use Rattle.rambo_world.proofs.world.World.map.Goals as goal
 
 pub map-requires : goal.map-requires
 map-requires g c = (back_fits _ _ _ (up_fits _ _ _ c.requires-raw.1.1.0), c.requires-raw.1.1.1)
 
-pub returns : goal.returns
-returns g c x found = c.map.ensures x (subst (λ w. node_at w c.args.name ≡ Some x) (sym (c.self.invariant ∙ ap (state g.Q.Quorums.system) c.self.view_is)) found)
+pub returns-clause-map : goal.returns-clause-map
+returns-clause-map g c x found = c.map.ensures x (subst (λ w. node_at w c.args.name ≡ Some x) (sym (c.self.invariant.0 ∙ ap (state g.Q.Quorums.system) c.self.view_is)) found)
+
+pub returns-clause-agreed : goal.returns-clause-agreed
+returns-clause-agreed g c = agrees g.Q.Quorums.system c.args.self.now.founders c.args.self.now.steps

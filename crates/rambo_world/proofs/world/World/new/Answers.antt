@@ -1,11 +1,16 @@
-use Rattle.std.proofs.Common.{◌∙◌, sym, ap}
+use Rattle.std.proofs.Common.{◌∙◌, sym, ap, subst}
 use Rattle.rambo_run.specs.Runs.{run}
 use Rattle.rambo_world.proofs.Sizes.{up_fits, back_fits}
-use Rattle.rambo_world.proofs.Longer.{run_none}
+use Rattle.rambo_world.specs.Worlds.{AreAccepted}
+use Rattle.rambo_world.proofs.Longer.{run_none, accepted_none}
 use Rattle.rambo_world.proofs.world.World.new.Goals as goal
 
 pub new-requires-2 : goal.new-requires-2
 new-requires-2 g c = back_fits _ _ _ (up_fits _ _ _ c.requires-raw.1.1)
 
 pub invariant_of-result : goal.invariant_of-result
-invariant_of-result g c = c.in_ok-new.ensures.first ∙ sym (run_none g.Q.Quorums.system c.args.founders) ∙ sym (ap (run g.Q.Quorums.system c.args.founders) c.new.ensures.items)
+invariant_of-result g c =
+    let s = g.Q.Quorums.system in (
+      c.in_ok-new.ensures.first ∙ sym (run_none s c.args.founders) ∙ sym (ap (run s c.args.founders) c.new.ensures.items),
+      subst (AreAccepted s c.args.founders) (sym c.new.ensures.items) (accepted_none s c.args.founders),
+    )

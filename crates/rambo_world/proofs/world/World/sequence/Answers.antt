@@ -1,7 +1,10 @@
-use Rattle.std.proofs.Common.{◌≡◌, ◌∙◌, ap, subst, IfOk}
+use Rattle.std.proofs.Common.{◌≡◌, ◌∙◌, sym, ap, subst, IfOk}
 use Rattle.rambo_sequence.specs.Sequences.{sequence_of}
 use Rattle.rambo_world.specs.Worlds.{state}
 use Rattle.rambo_world.proofs.Sizes.{up_fits, back_fits}
+use Rattle.std.proofs.lemmas.Result.{IfOk-weaker}
+use Rattle.rambo_atomic.specs.Proper.{IsProper}
+use Rattle.rambo_run.proofs.EveryRun.{is_atomic}
 use Rattle.rambo_world.proofs.world.World.sequence.Goals as goal
 
 pub sequence-requires : goal.sequence-requires
@@ -9,4 +12,9 @@ sequence-requires g c = back_fits _ _ _ (up_fits _ _ _ c.requires-raw.1.1)
 
 pub returns-clause-calls : goal.returns-clause-calls
 returns-clause-calls g c =
-    subst (λ w. IfOk c.sequence.result (λ calls. calls.items ≡ sequence_of w.history w.marks c.args.key.now)) (c.self.invariant ∙ ap (state g.Q.Quorums.system) c.self.view_is) c.sequence.ensures.calls
+    subst (λ w. IfOk c.sequence.result (λ calls. calls.items ≡ sequence_of w.history w.marks c.args.key.now)) (c.self.invariant.0 ∙ ap (state g.Q.Quorums.system) c.self.view_is) c.sequence.ensures.calls
+
+pub returns-clause-proper : goal.returns-clause-proper
+returns-clause-proper g c =
+    let w = state g.Q.Quorums.system c.args.self.now in
+    IfOk-weaker c.sequence.result _ _ (λ calls e. subst (IsProper w.history c.args.key.now) (sym e) (is_atomic g.Q.Quorums.system g.met.Q.Quorums.sound c.args.self.now.founders c.args.self.now.steps c.args.key.now)) (returns-clause-calls g c)

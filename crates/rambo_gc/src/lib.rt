@@ -1,0 +1,18 @@
+//! Collections: how a node has the oldest configuration removed, once the next one is in use (Lynch and Shvartsman,
+//! "RAMBO", DISC 2002).
+//!
+//! Nothing here takes memory.
+#![tactic(auto)]
+
+mod collection;
+mod gc_move;
+mod laws;
+mod stage;
+
+pub use collection::Collection;
+pub use gc_move::GcMove;
+pub use laws::collecting_laws;
+pub use stage::Stage;
+
+#[cfg(test)]
+mod tests;

@@ -1,0 +1,18 @@
+use Rattle.std.proofs.Common.{◌≡◌, Some, sym, ap, ◌∙◌, rules}
+use Rattle.std.specs.Option.{option_copied}
+use Rattle.rambo_node.specs.Nodes.{open_call}
+use Rattle.rambo_node.specs.Operations.{query_in}
+use Rattle.rambo_node.specs.Refusals.{query_spent}
+use Rattle.rambo_node.proofs.Judged.{advance_next}
+use Rattle.rambo_node.proofs.node.Node.do_advance.Goals as goal
+
+pub close-requires : goal.close-requires
+close-requires g c =
+    let x = c.args.self.now in
+    (search rules, ((advance_next x g.Q.Quorums.system c.args.id c.requires).0, sym c.query.ensures ∙ ap option_copied c.in-None.is))
+
+pub answer_query-requires : goal.answer_query-requires
+answer_query-requires g c =
+    let x = c.args.self.now in
+    let asked : query_in (open_call x c.args.id) ≡ Some c.in_ok-asked-in-Some.asked = sym c.query.ensures ∙ ap option_copied c.in-Some.is ∙ ap Some (sym c.in_ok-asked-in-Some.ensures.same) in
+    (search rules, (asked, sym (ap (query_spent x) asked) ∙ (advance_next x g.Q.Quorums.system c.args.id c.requires).1))

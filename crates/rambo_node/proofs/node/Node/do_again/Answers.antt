@@ -1,0 +1,23 @@
+use Rattle.std.proofs.Common.{◌+◌, ap, ◌∙◌, rules}
+use Rattle.rambo_node.specs.Calls.{place_of, find_call}
+use Rattle.rambo_node.specs.Changes.{made_by}
+use Rattle.rambo_node.specs.Hearing.{restarted}
+use Rattle.rambo_node.specs.Kept.{calls_of, with_call}
+use Rattle.rambo_node.specs.Refusals.{is_last}
+use Rattle.rambo_node.proofs.Advances.{begins_again, next_calls}
+use Rattle.rambo_node.proofs.Judged.{again_next, has_next}
+use Rattle.rambo_node.proofs.node.Node.do_again.Goals as goal
+
+pub overflow_add-self : goal.overflow_add-self
+overflow_add-self g c =
+    has_next c.self.inside.number (search rules) (ap (λ n. is_last n.number) c.self.view_is ∙ (again_next c.args.self.now c.args.id c.requires).1)
+
+pub returns : goal.returns
+unfolding made_by
+returns g c =
+    let x = c.args.self.now in
+    let m = c.args.id.number in
+    ap (next_calls (calls_of c.restart.new.self)) c.self.view_is
+    ∙ ap (λ cs. next_calls cs x)
+    (c.restart.ensures ∙ ap (λ n. with_call (place_of m n.calls) (find_call m n.calls) (restarted (n.number + 1) n.map n.name) n.calls) c.self.view_is)
+    ∙ begins_again x c.args.id (again_next x c.args.id c.requires).0

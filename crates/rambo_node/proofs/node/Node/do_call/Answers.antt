@@ -1,0 +1,13 @@
+use Rattle.std.proofs.Common.{◌∙◌, ap, rules}
+use Rattle.rambo_node.specs.Refusals.{is_last}
+use Rattle.rambo_node.proofs.Judged.{call_next, has_next}
+use Rattle.rambo_node.proofs.node.Node.do_call.Goals as goal
+
+pub overflow_add-id : goal.overflow_add-id
+overflow_add-id g c = has_next c.self.inside.made (search rules) (ap (λ x. is_last x.made) c.self.view_is ∙ (call_next c.args.self.now c.args.op c.requires).1)
+
+pub overflow_add-self-inside : goal.overflow_add-self-inside
+overflow_add-self-inside g c = has_next c.self.inside.number (search rules) (ap (λ x. is_last x.number) c.self.view_is ∙ (call_next c.args.self.now c.args.op c.requires).0)
+
+pub overflow_add-self : goal.overflow_add-self
+overflow_add-self g c = has_next c.self.inside.number (search rules) (ap (λ x. is_last x.number) c.self.view_is ∙ (call_next c.args.self.now c.args.op c.requires).0)

@@ -1,0 +1,28 @@
+use Rattle.std.proofs.Common.{◌≡◌, Some, IfErr, sym, subst, rules}
+use Rattle.rambo_node.specs.Changes.{refusal_of}
+use Rattle.rambo_node.proofs.Sizes.{deliver_fits}
+use Rattle.rambo_node.proofs.node.Node.judge.Goals as goal
+
+pub returns-in-Join-clause-refused : goal.returns-in-Join-clause-refused
+returns-in-Join-clause-refused g c = subst (λ ch. IfErr c.may_join.result (λ r. refusal_of g.Q.Quorums.system c.args.self.now ch ≡ Some r)) (sym c.in-Join.is) c.may_join.ensures.refused
+
+pub returns-in-Call-clause-refused : goal.returns-in-Call-clause-refused
+returns-in-Call-clause-refused g c = subst (λ ch. IfErr c.may_call.result (λ r. refusal_of g.Q.Quorums.system c.args.self.now ch ≡ Some r)) (sym c.in-Call.is) c.may_call.ensures.refused
+
+pub returns-in-Send-clause-refused : goal.returns-in-Send-clause-refused
+returns-in-Send-clause-refused g c = subst (λ ch. IfErr c.may_send.result (λ r. refusal_of g.Q.Quorums.system c.args.self.now ch ≡ Some r)) (sym c.in-Send.is) c.may_send.ensures.refused
+
+pub returns-in-Deliver-clause-refused : goal.returns-in-Deliver-clause-refused
+returns-in-Deliver-clause-refused g c = subst (λ ch. IfErr c.may_hear.result (λ r. refusal_of g.Q.Quorums.system c.args.self.now ch ≡ Some r)) (sym c.in-Deliver.is) c.may_hear.ensures.refused
+
+pub returns-in-Advance-clause-refused : goal.returns-in-Advance-clause-refused
+returns-in-Advance-clause-refused g c = subst (λ ch. IfErr c.may_advance.result (λ r. refusal_of g.Q.Quorums.system c.args.self.now ch ≡ Some r)) (sym c.in-Advance.is) c.may_advance.ensures.refused
+
+pub returns-in-Again-clause-refused : goal.returns-in-Again-clause-refused
+returns-in-Again-clause-refused g c = subst (λ ch. IfErr c.may_restart.result (λ r. refusal_of g.Q.Quorums.system c.args.self.now ch ≡ Some r)) (sym c.in-Again.is) c.may_restart.ensures.refused
+
+pub returns-in-Stop-clause-refused : goal.returns-in-Stop-clause-refused
+returns-in-Stop-clause-refused g c = subst (λ ch. IfErr c.may_stop.result (λ r. refusal_of g.Q.Quorums.system c.args.self.now ch ≡ Some r)) (sym c.in-Stop.is) c.may_stop.ensures.refused
+
+pub may_hear-requires : goal.may_hear-requires
+may_hear-requires g c = (search rules, deliver_fits _ _ _ _ c.requires-raw.1.1.1)

@@ -1,0 +1,118 @@
+-- A change of one node: why it is refused, and what it makes of the node and of the rest. Each step of a world is one
+use Rattle.std.specs.Prelude.{◌+◌, List, [], ◌∷◌, Option, None, Some}
+use Rattle.rambo_names.specs.declared.refusal.Refusal.{Refusal}
+use Rattle.rambo_names.specs.Quorums.{QuorumSystem}
+use Rattle.rambo_names.specs.Refusals.{Cause, least}
+use Rattle.rambo_tag.specs.declared.keyed_version.KeyedVersion.{KeyedVersion}
+use Rattle.rambo_tag.specs.declared.version.Version.{Version}
+use Rattle.rambo_atomic.specs.declared.event.CallId.{CallId}
+use Rattle.rambo_atomic.specs.declared.event.Event.TheVariants as event
+use Rattle.rambo_atomic.specs.declared.operation.Answer.{Answer}
+use Rattle.rambo_atomic.specs.declared.operation.Op.{Op}
+use Rattle.rambo_atomic.specs.declared.operation.Op.TheVariants as op
+use Rattle.rambo_gossip.specs.declared.letter.Letter.{Letter}
+use Rattle.rambo_sequence.specs.declared.mark.Mark.{Mark}
+use Rattle.rambo_node.specs.declared.change.Change.{Change}
+use Rattle.rambo_node.specs.declared.change.Change.TheVariants as change
+use Rattle.rambo_node.specs.declared.deed.Deed.{Deed}
+use Rattle.rambo_node.specs.declared.effect.Effect.{Effect}
+use Rattle.rambo_node.specs.declared.effect.Effect.TheVariants as effect
+use Rattle.rambo_node.specs.declared.stage.Stage.{Stage}
+use Rattle.rambo_node.specs.declared.stage.Stage.TheVariants.{Query, Propagation}
+use Rattle.rambo_node.specs.Calls.{CallState}
+use Rattle.rambo_node.specs.Nodes.{NodeState, open_call}
+use Rattle.rambo_node.specs.Letters.{letter_for}
+use Rattle.rambo_node.specs.Hearing.{heard_letter}
+use Rattle.rambo_node.specs.Operations.{called, taken, query_answered, call_closed, answer_of, called_again, joined_by, stopped}
+use Rattle.rambo_node.specs.Refusals.{join_causes, call_causes, send_causes, hear_causes, advance_causes, again_causes, stop_causes}
+
+-- the causes of refusal of a change, by rising numbers
+abbrev pub causes : {Q : Type 0} → QuorumSystem Q → NodeState Q → Change Q → List Cause
+causes s x (change.Join contacts) = join_causes x contacts
+causes s x (change.Call o) = call_causes x o
+causes s x (change.Send to) = send_causes x to
+causes s x (change.Deliver l) = hear_causes x l.kind
+causes s x (change.Advance id) = advance_causes s x id
+causes s x (change.Again id) = again_causes x id
+causes s x change.Stop = stop_causes x
+
+-- the least refusal whose cause holds
+abbrev pub refusal_of : {Q : Type 0} → QuorumSystem Q → NodeState Q → Change Q → Option Refusal
+refusal_of s x c = least (causes s x c)
+
+-- a node after a change, what the change did, and the letter that was sent
+pub record Made (Q : Type 0) : Type 0 where
+  pub node : NodeState Q
+  pub deed : Deed
+  pub letter : Option (Letter Q)
+
+abbrev pub quiet_deed : Deed
+quiet_deed = record { effect = effect.Done; event = None; mark = None; copy = None }
+
+-- a change of the node alone
+abbrev pub quiet : {Q : Type 0} → NodeState Q → Made Q
+quiet x = record { node = x; deed = quiet_deed; letter = None }
+
+-- a call stands in the history
+abbrev pub call_made : {Q : Type 0} → NodeState Q → CallId → Op → Made Q
+call_made x id o = record { node = called x o; deed = record { effect = effect.Called id; event = Some (event.Call id o); mark = None; copy = None }; letter = None }
+
+-- a set is marked when it takes its tag
+abbrev pub set_mark : CallId → Op → Option Version → Option Mark
+set_mark id (op.Get key) kept = None
+set_mark id (op.Set key value) kept = Some (record { id = id; op = op.Set key value; kept = kept })
+
+-- and a get when it is answered
+abbrev pub get_mark : CallId → Op → Option Version → Option Mark
+get_mark id (op.Set key value) kept = None
+get_mark id (op.Get key) kept = Some (record { id = id; op = op.Get key; kept = kept })
+
+-- the copy that a set puts
+abbrev pub copy_put : Op → Option Version → Option KeyedVersion
+copy_put (op.Get key) kept = None
+copy_put (op.Set key value) None = None
+copy_put (op.Set key value) (Some v) = Some (record { key = key; version = v })
+
+-- a met phase: of a query the propagation begins, and of a propagation the answer stands in the history
+abbrev pub stage_met : {Q : Type 0} → NodeState Q → CallId → CallState Q → Stage → Made Q
+stage_met x id c Query = record {
+  node = query_answered x c;
+  deed = record { effect = effect.Moved; event = None; mark = set_mark id c.op (taken x c.op); copy = copy_put c.op (taken x c.op) };
+  letter = None;
+}
+stage_met x id c (Propagation kept) = record {
+  node = call_closed x c;
+  deed = record { effect = effect.Answered id (answer_of c.op kept); event = Some (event.Answer id (answer_of c.op kept)); mark = get_mark id c.op kept; copy = None };
+  letter = None;
+}
+
+abbrev pub advanced : {Q : Type 0} → NodeState Q → CallId → Option (CallState Q) → Made Q
+advanced x id None = quiet x
+advanced x id (Some c) = stage_met x id c c.stage
+
+-- the answer that a call got
+abbrev pub answer_in : Effect → Option Answer
+answer_in (effect.Answered id answer) = Some answer
+answer_in effect.Done = None
+answer_in (effect.Called id) = None
+answer_in (effect.Sent number) = None
+answer_in effect.Moved = None
+
+abbrev pub begun_again : {Q : Type 0} → NodeState Q → Option (CallState Q) → Made Q
+begun_again x None = quiet x
+begun_again x (Some c) = quiet (called_again x c)
+
+-- what a change makes that isn't refused: who sends a letter stays as it is
+unfoldable pub made_by : {Q : Type 0} → NodeState Q → Change Q → Made Q
+made_by x (change.Join contacts) = quiet (joined_by x contacts)
+made_by x (change.Call o) = call_made x (record { name = x.name; number = x.made + 1 }) o
+made_by x (change.Send to) = record { node = x; deed = quiet_deed; letter = Some (letter_for x to) }
+made_by x (change.Deliver l) = quiet (heard_letter x l)
+made_by x (change.Advance id) = advanced x id (open_call x id)
+made_by x (change.Again id) = begun_again x (open_call x id)
+made_by x change.Stop = quiet (stopped x)
+
+-- a node after a list of changes, none of which was refused
+abbrev pub replayed : {Q : Type 0} → NodeState Q → List (Change Q) → NodeState Q
+replayed x [] = x
+replayed x (c ∷ cs) = replayed (made_by x c).node cs

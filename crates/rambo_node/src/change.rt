@@ -1,0 +1,24 @@
+//! Changes of a node.
+
+use rambo_atomic::{CallId, Op};
+use rambo_gossip::Letter;
+use rambo_names::{Members, Name, Quorums};
+
+/// One change of one node.
+#[derive(Drop)]
+pub enum Change<Q: Quorums> {
+    /// It begins to join, with these contacts.
+    Join(Members),
+    /// A client asks it for an operation.
+    Call(Op),
+    /// It sends a letter to this name.
+    Send(Name),
+    /// This letter comes to it.
+    Deliver(Letter<Q>),
+    /// Its call whose phase is met goes on.
+    Advance(CallId),
+    /// The present phase of its call begins anew.
+    Again(CallId),
+    /// It stops for ever.
+    Stop,
+}

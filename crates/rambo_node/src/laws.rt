@@ -1,0 +1,18 @@
+//! What holds of every change.
+ghost use Rattle.rambo_node.specs.Claims.{CausesRise, FirstIsLeast, ShortLettersAreHeardAlike, LettersAreHeardByKey};
+
+use rambo_names::Quorums;
+
+/// The causes of refusal of each change stand by rising numbers. So of those that hold the first has the
+/// least number, and it is the one that is told.
+pub fn causes_rise<Q: Quorums>()
+    ensures rise { CausesRise Q }
+    ensures least { FirstIsLeast }
+{}
+
+/// A letter with other copies is heard alike where they come to the same in the registers of its addressee:
+/// as a whole, or key by key. It may leave out what the addressee already holds.
+pub fn short_letters_are_heard_alike<Q: Quorums>()
+    ensures joined { ShortLettersAreHeardAlike Q }
+    ensures keys { LettersAreHeardByKey Q }
+{}

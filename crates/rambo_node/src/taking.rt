@@ -1,0 +1,156 @@
+//! The changes that a node takes.
+ghost use Rattle.std.specs.Prelude.{◌≡◌, ◌+◌, None, OnOk, OnErr, IfOk, IfErr};
+ghost use Rattle.rambo_names.specs.Refusals.{IsRefusal};
+ghost use Rattle.rambo_node.specs.Changes.{refusal_of, made_by, answer_in};
+ghost use Rattle.rambo_node.specs.Operations.{joined_by, stopped};
+ghost use Rattle.rambo_node.specs.declared.change.Change.TheVariants as change;
+
+use crate::change::Change;
+use crate::deed::Deed;
+use crate::node::Node;
+use rambo_atomic::{Answer, CallId, Op};
+use rambo_joiner::Status;
+use rambo_names::{Members, Quorums, Refusal};
+use rambo_tag::Replica;
+
+impl<Q: Quorums, S: Replica> Node<Q, S> {
+    /// Takes a change, and tells what it did.
+    ///
+    /// Refused are those of `judge`, and 22 where there is no room for what is new.
+    #[tactic(auto, unfolding(crate::specs::Changes::made_by))]
+    pub fn take(&mut self, change: Change<Q>) -> Result<Deed, Refusal>
+        ensures judged { OnOk result (refusal_of Q.system self.old change ≡ None) }
+        ensures node { OnOk result (self.new ≡ (made_by self.old change).node) }
+        ensures deed { IfOk result (λ d. d ≡ (made_by self.old change).deed) }
+        ensures refused { IfErr result (IsRefusal (refusal_of Q.system self.old change)) }
+        ensures err { OnErr result (self.new ≡ self.old) }
+    {
+        self.judge(&change)?;
+        match change {
+            Change::Join(contacts) => {
+                self.do_join(contacts);
+                Ok(Deed::quiet())
+            }
+            Change::Call(op) => self.do_call(op),
+            Change::Send(_) => Ok(Deed::quiet()),
+            Change::Deliver(letter) => {
+                self.do_hear(&letter)?;
+                Ok(Deed::quiet())
+            }
+            Change::Advance(id) => self.do_advance(id),
+            Change::Again(id) => {
+                self.do_again(id);
+                Ok(Deed::quiet())
+            }
+            Change::Stop => {
+                self.do_stop();
+                Ok(Deed::quiet())
+            }
+        }
+    }
+
+    /// An idle node begins to join, with these contacts: it knows them and itself.
+    ///
+    /// Refused are 2 where it isn't idle, 18 where there is no contact.
+    #[tactic(auto, unfolding(crate::specs::Changes::made_by))]
+    pub fn join(&mut self, contacts: Members) -> Result<(), Refusal>
+        ensures judged { OnOk result (refusal_of Q.system self.old (change.Join contacts) ≡ None) }
+        ensures node { OnOk result (self.new ≡ (made_by self.old (change.Join contacts)).node) }
+        ensures refused { IfErr result (IsRefusal (refusal_of Q.system self.old (change.Join contacts))) }
+        ensures err { OnErr result (self.new ≡ self.old) }
+    {
+        self.may_join(contacts)?;
+        self.do_join(contacts);
+        Ok(())
+    }
+
+    /// A client asks for an operation: a query phase begins. The answer is the id of the call.
+    ///
+    /// Refused are 3 where the node is idle or joining, 4 where it has stopped, 9 where it has 64 open calls,
+    /// 19 where the key has over 256 bytes, 20 where the value has over 4,096 bytes, 21 where its phase number
+    /// or its last call number is the greatest one, 22 where there is no room for the call.
+    #[tactic(auto, unfolding(crate::specs::Changes::made_by, crate::specs::Operations::called))]
+    pub fn call(&mut self, op: Op) -> Result<CallId, Refusal>
+        ensures judged { OnOk result (refusal_of Q.system self.old (change.Call op) ≡ None) }
+        ensures node { OnOk result (self.new ≡ (made_by self.old (change.Call op)).node) }
+        ensures id { IfOk result (λ id. id ≡ record { name = self.old.name; number = self.old.made + 1 }) }
+        ensures refused { IfErr result (IsRefusal (refusal_of Q.system self.old (change.Call op))) }
+        ensures err { OnErr result (self.new ≡ self.old) }
+    {
+        self.may_call(&op)?;
+        self.do_call(op)?;
+        Ok(CallId {
+            name: self.name,
+            number: self.made,
+        })
+    }
+
+    /// The open call of this id goes on, whose phase is met. In its query a get finds the copy that it will
+    /// answer, a set makes a new copy under the next tag of its key, and the propagation begins: there is no
+    /// answer yet. In its propagation the call is answered.
+    ///
+    /// Refused are 3 where the node is idle or joining, 4 where it has stopped, 7 where there is no such open
+    /// call, 8 where its phase isn't met, 21 where it is in its query and the phase number, or for a set the
+    /// sequence number of the key's tag, is the greatest one, 22 where there is no room for the copy.
+    pub fn advance(&mut self, id: CallId) -> Result<Option<Answer>, Refusal>
+        ensures judged { OnOk result (refusal_of Q.system self.old (change.Advance id) ≡ None) }
+        ensures node { OnOk result (self.new ≡ (made_by self.old (change.Advance id)).node) }
+        ensures answer { IfOk result (λ a. a ≡ answer_in (made_by self.old (change.Advance id)).deed.effect) }
+        ensures refused { IfErr result (IsRefusal (refusal_of Q.system self.old (change.Advance id))) }
+        ensures err { OnErr result (self.new ≡ self.old) }
+    {
+        self.may_advance(&id)?;
+        let deed = self.do_advance(id)?;
+        Ok(deed.effect.into_answer())
+    }
+
+    /// The present phase of the open call of this id begins anew, under a new number, with the node's present
+    /// map, and with the node alone as a replier.
+    ///
+    /// Refused are 3 where the node is idle or joining, 4 where it has stopped, 7 where there is no such open
+    /// call, 21 where the phase number is the greatest one.
+    pub fn again(&mut self, id: CallId) -> Result<(), Refusal>
+        ensures judged { OnOk result (refusal_of Q.system self.old (change.Again id) ≡ None) }
+        ensures node { OnOk result (self.new ≡ (made_by self.old (change.Again id)).node) }
+        ensures refused { IfErr result (IsRefusal (refusal_of Q.system self.old (change.Again id))) }
+        ensures err { OnErr result (self.new ≡ self.old) }
+    {
+        self.may_restart(&id)?;
+        self.do_again(id);
+        Ok(())
+    }
+
+    /// The node stops for ever.
+    ///
+    /// Refused are 3 where it is idle, 4 where it has stopped.
+    #[tactic(auto, unfolding(crate::specs::Changes::made_by))]
+    pub fn stop(&mut self) -> Result<(), Refusal>
+        ensures judged { OnOk result (refusal_of Q.system self.old change.Stop ≡ None) }
+        ensures node { OnOk result (self.new ≡ (made_by self.old change.Stop).node) }
+        ensures refused { IfErr result (IsRefusal (refusal_of Q.system self.old change.Stop)) }
+        ensures err { OnErr result (self.new ≡ self.old) }
+    {
+        self.may_stop()?;
+        self.do_stop();
+        Ok(())
+    }
+}
+
+impl<Q: Quorums, S: Replica> Node<Q, S> {
+    // Begins to join.
+    #[tactic(auto, unfolding(crate::specs::Operations::joined_by))]
+    fn do_join(&mut self, contacts: Members)
+        ensures { self.new ≡ joined_by self.old contacts }
+    {
+        self.status = Status::Joining;
+        self.known = contacts.with(self.name);
+    }
+
+    // Stops.
+    #[tactic(auto, unfolding(crate::specs::Operations::stopped))]
+    fn do_stop(&mut self)
+        ensures { self.new ≡ stopped self.old }
+    {
+        self.status = Status::Stopped;
+    }
+}

@@ -1,0 +1,43 @@
+//! Letters as a town keeps them.
+
+use rambo_gossip::{Gossip, Kind, Letter};
+use rambo_names::{Majority, Name, Refusal};
+
+// A letter, taken apart. One of a joining node has no gossip.
+#[derive(Drop)]
+pub(crate) struct Mail {
+    pub(crate) sender: Name,
+    pub(crate) addressee: Name,
+    pub(crate) gossip: Option<Gossip<Majority>>,
+}
+
+impl Mail {
+    pub(crate) fn of(letter: Letter<Majority>) -> Mail {
+        let Letter {
+            sender,
+            addressee,
+            kind,
+        } = letter;
+        let gossip = match kind {
+            Kind::Join => None,
+            Kind::Gossip(gossip) => Some(gossip),
+        };
+        Mail {
+            sender,
+            addressee,
+            gossip,
+        }
+    }
+
+    pub(crate) fn letter(&self) -> Result<Letter<Majority>, Refusal> {
+        let kind = match &self.gossip {
+            None => Kind::Join,
+            Some(gossip) => Kind::Gossip(gossip.clone()?),
+        };
+        Ok(Letter {
+            sender: self.sender,
+            addressee: self.addressee,
+            kind,
+        })
+    }
+}

@@ -1,0 +1,398 @@
+//! Runs of three nodes.
+
+use crate::seen::Seen;
+use crate::step::{Forged, Step};
+use crate::twins::{Row, Twins, run};
+use rambo_joiner::Status;
+use rambo_names::Refusal;
+use std::test::Fail;
+
+// A founder that is alone answers each call by itself.
+const ALONE: [Row; 10] = [
+    (Step::Get(1, 107), Ok(Seen::Made(1))),
+    (Step::Advance(1, 1), Ok(Seen::Moved)),
+    (Step::Advance(1, 1), Ok(Seen::Nil)),
+    (Step::Set(1, 107, 118), Ok(Seen::Made(2))),
+    (Step::Advance(1, 2), Ok(Seen::Moved)),
+    (Step::Advance(1, 2), Ok(Seen::Ok)),
+    (Step::Get(1, 107), Ok(Seen::Made(3))),
+    (Step::Advance(1, 3), Ok(Seen::Moved)),
+    (Step::Advance(1, 3), Ok(Seen::Value(118))),
+    (Step::Look(1), Ok(Seen::Looks(Status::Active, 0, 0))),
+];
+
+#[test]
+fn alone(rt: HostRuntime) -> Result<(), Fail> {
+    run(&rt, rt.alloc(), &[1], &ALONE)
+}
+
+// A set waits for a majority of three. A letter that comes again does nothing more.
+const WAITS: [Row; 14] = [
+    (Step::Set(1, 107, 118), Ok(Seen::Made(1))),
+    (Step::Advance(1, 1), Err(Refusal::NotYet)),
+    (Step::Send(2, 1), Ok(Seen::Done)),
+    (Step::Deliver(0), Ok(Seen::Done)),
+    (Step::Advance(1, 1), Err(Refusal::NotYet)),
+    (Step::Send(1, 2), Ok(Seen::Done)),
+    (Step::Deliver(1), Ok(Seen::Done)),
+    (Step::Send(2, 1), Ok(Seen::Done)),
+    (Step::Read(2), Ok(Seen::Tells(3, 0, 0, 1))),
+    (Step::Deliver(2), Ok(Seen::Done)),
+    (Step::Advance(1, 1), Ok(Seen::Moved)),
+    (Step::Deliver(2), Ok(Seen::Done)),
+    (Step::Deliver(99), Err(Refusal::NoSuchLetter)),
+    (Step::Advance(1, 1), Err(Refusal::NotYet)),
+];
+
+#[test]
+fn waits_for_majority(rt: HostRuntime) -> Result<(), Fail> {
+    run(&rt, rt.alloc(), &[1, 2, 3], &WAITS)
+}
+
+// The writer stops after its copy reached node 2. Both gets that follow answer it.
+const STOPPED_WRITER: [Row; 31] = [
+    (Step::Set(1, 107, 118), Ok(Seen::Made(1))),
+    (Step::Send(1, 2), Ok(Seen::Done)),
+    (Step::Deliver(0), Ok(Seen::Done)),
+    (Step::Send(2, 1), Ok(Seen::Done)),
+    (Step::Deliver(1), Ok(Seen::Done)),
+    (Step::Advance(1, 1), Ok(Seen::Moved)),
+    (Step::Send(1, 2), Ok(Seen::Done)),
+    (Step::Deliver(2), Ok(Seen::Done)),
+    (Step::Stop(1), Ok(Seen::Done)),
+    (Step::Get(3, 107), Ok(Seen::Made(1))),
+    (Step::Send(3, 2), Ok(Seen::Done)),
+    (Step::Deliver(3), Ok(Seen::Done)),
+    (Step::Send(2, 3), Ok(Seen::Done)),
+    (Step::Deliver(4), Ok(Seen::Done)),
+    (Step::Advance(3, 1), Ok(Seen::Moved)),
+    (Step::Send(3, 2), Ok(Seen::Done)),
+    (Step::Deliver(5), Ok(Seen::Done)),
+    (Step::Send(2, 3), Ok(Seen::Done)),
+    (Step::Deliver(6), Ok(Seen::Done)),
+    (Step::Advance(3, 1), Ok(Seen::Value(118))),
+    (Step::Get(2, 107), Ok(Seen::Made(1))),
+    (Step::Send(2, 3), Ok(Seen::Done)),
+    (Step::Deliver(7), Ok(Seen::Done)),
+    (Step::Send(3, 2), Ok(Seen::Done)),
+    (Step::Deliver(8), Ok(Seen::Done)),
+    (Step::Advance(2, 1), Ok(Seen::Moved)),
+    (Step::Send(2, 3), Ok(Seen::Done)),
+    (Step::Deliver(9), Ok(Seen::Done)),
+    (Step::Send(3, 2), Ok(Seen::Done)),
+    (Step::Deliver(10), Ok(Seen::Done)),
+    (Step::Advance(2, 1), Ok(Seen::Value(118))),
+];
+
+#[test]
+fn stopped_writer(rt: HostRuntime) -> Result<(), Fail> {
+    run(&rt, rt.alloc(), &[1, 2, 3], &STOPPED_WRITER)
+}
+
+// Two sets at once take the tags (1, 1) and (1, 2), and a later get answers the greater one's value.
+const TWO_WRITERS: [Row; 34] = [
+    (Step::Set(1, 107, 98), Ok(Seen::Made(1))),
+    (Step::Set(2, 107, 97), Ok(Seen::Made(1))),
+    (Step::Send(1, 2), Ok(Seen::Done)),
+    (Step::Send(2, 1), Ok(Seen::Done)),
+    (Step::Deliver(0), Ok(Seen::Done)),
+    (Step::Deliver(1), Ok(Seen::Done)),
+    (Step::Send(1, 2), Ok(Seen::Done)),
+    (Step::Send(2, 1), Ok(Seen::Done)),
+    (Step::Deliver(2), Ok(Seen::Done)),
+    (Step::Deliver(3), Ok(Seen::Done)),
+    (Step::Advance(1, 1), Ok(Seen::Moved)),
+    (Step::Advance(2, 1), Ok(Seen::Moved)),
+    (Step::Send(1, 2), Ok(Seen::Done)),
+    (Step::Send(2, 1), Ok(Seen::Done)),
+    (Step::Deliver(4), Ok(Seen::Done)),
+    (Step::Deliver(5), Ok(Seen::Done)),
+    (Step::Send(1, 2), Ok(Seen::Done)),
+    (Step::Send(2, 1), Ok(Seen::Done)),
+    (Step::Deliver(6), Ok(Seen::Done)),
+    (Step::Deliver(7), Ok(Seen::Done)),
+    (Step::Advance(1, 1), Ok(Seen::Ok)),
+    (Step::Advance(2, 1), Ok(Seen::Ok)),
+    (Step::Get(1, 107), Ok(Seen::Made(2))),
+    (Step::Send(1, 2), Ok(Seen::Done)),
+    (Step::Deliver(8), Ok(Seen::Done)),
+    (Step::Send(2, 1), Ok(Seen::Done)),
+    (Step::Deliver(9), Ok(Seen::Done)),
+    (Step::Advance(1, 2), Ok(Seen::Moved)),
+    (Step::Send(1, 2), Ok(Seen::Done)),
+    (Step::Deliver(10), Ok(Seen::Done)),
+    (Step::Advance(1, 2), Err(Refusal::NotYet)),
+    (Step::Send(2, 1), Ok(Seen::Done)),
+    (Step::Deliver(11), Ok(Seen::Done)),
+    (Step::Advance(1, 2), Ok(Seen::Value(97))),
+];
+
+#[test]
+fn two_writers(rt: HostRuntime) -> Result<(), Fail> {
+    run(&rt, rt.alloc(), &[1, 2], &TWO_WRITERS)
+}
+
+// Nodes 2 and 3 join. What a joining node says makes it known, and wakes none.
+const JOINS: [Row; 20] = [
+    (Step::Send(2, 1), Err(Refusal::NotActive)),
+    (Step::JoinAlone(2), Err(Refusal::EmptyMembers)),
+    (Step::Join(2, 3), Ok(Seen::Done)),
+    (Step::Join(2, 1), Err(Refusal::NameUsed)),
+    (Step::Join(1, 2), Err(Refusal::NameUsed)),
+    (Step::Join(3, 1), Ok(Seen::Done)),
+    (Step::Send(3, 2), Err(Refusal::NotKnown)),
+    (Step::Send(2, 2), Err(Refusal::NotKnown)),
+    (Step::Send(2, 3), Ok(Seen::Done)),
+    (Step::Read(0), Ok(Seen::Pleads)),
+    (Step::Deliver(0), Ok(Seen::Done)),
+    (Step::Look(3), Ok(Seen::Looks(Status::Joining, 0, 0))),
+    (Step::Send(3, 2), Ok(Seen::Done)),
+    (Step::Send(3, 1), Ok(Seen::Done)),
+    (Step::Deliver(2), Ok(Seen::Done)),
+    (Step::Send(1, 3), Ok(Seen::Done)),
+    (Step::Deliver(3), Ok(Seen::Done)),
+    (Step::Look(3), Ok(Seen::Looks(Status::Active, 0, 0))),
+    (Step::Send(3, 2), Ok(Seen::Done)),
+    (Step::Read(4), Ok(Seen::Tells(3, 0, 0, 0))),
+];
+
+#[test]
+fn joins(rt: HostRuntime) -> Result<(), Fail> {
+    run(&rt, rt.alloc(), &[1], &JOINS)
+}
+
+// What an idle, a joining and a stopped node refuse, and a call that isn't there.
+const REFUSALS: [Row; 22] = [
+    (Step::Send(1, 1), Err(Refusal::NotKnown)),
+    (Step::Advance(1, 1), Err(Refusal::NoSuchCall)),
+    (Step::Again(1, 1), Err(Refusal::NoSuchCall)),
+    (Step::Get(3, 107), Err(Refusal::NotActive)),
+    (Step::Stop(3), Err(Refusal::NotActive)),
+    (Step::Outline(1, 3), Err(Refusal::NotActive)),
+    (Step::Send(1, 2), Ok(Seen::Done)),
+    (Step::Join(3, 1), Ok(Seen::Done)),
+    (Step::Get(3, 107), Err(Refusal::NotActive)),
+    (Step::Advance(3, 1), Err(Refusal::NotActive)),
+    (Step::Again(3, 1), Err(Refusal::NotActive)),
+    (Step::Stop(3), Ok(Seen::Done)),
+    (Step::Join(3, 1), Err(Refusal::NameUsed)),
+    (Step::Stop(3), Err(Refusal::Stopped)),
+    (Step::Stop(2), Ok(Seen::Done)),
+    (Step::Get(2, 107), Err(Refusal::Stopped)),
+    (Step::Advance(2, 1), Err(Refusal::Stopped)),
+    (Step::Again(2, 1), Err(Refusal::Stopped)),
+    (Step::Send(2, 1), Err(Refusal::Stopped)),
+    (Step::Deliver(0), Err(Refusal::Stopped)),
+    (Step::Outline(1, 2), Err(Refusal::Stopped)),
+    (Step::Look(2), Ok(Seen::Looks(Status::Stopped, 0, 0))),
+];
+
+#[test]
+fn refusals(rt: HostRuntime) -> Result<(), Fail> {
+    run(&rt, rt.alloc(), &[1, 2], &REFUSALS)
+}
+
+// A letter of node 1 to node 2.
+const FROM_ONE: Forged = Forged {
+    from: 1,
+    to: 2,
+    active: 1,
+    member: 1,
+    copies: [(122, 1, 1, 0); 5],
+};
+
+// A reply whose floor is two above the phase's top begins the phase anew, and counts no more.
+const GAP: [Row; 21] = [
+    (Step::Join(2, 1), Ok(Seen::Done)),
+    (Step::Send(2, 1), Ok(Seen::Done)),
+    (Step::Deliver(0), Ok(Seen::Done)),
+    (Step::Send(1, 2), Ok(Seen::Done)),
+    (Step::Deliver(1), Ok(Seen::Done)),
+    (Step::Get(2, 107), Ok(Seen::Made(1))),
+    (Step::Forge(0, 0, 2, FROM_ONE), Ok(Seen::Done)),
+    (Step::Forge(0, 1, 2, FROM_ONE), Ok(Seen::Done)),
+    (Step::Forge(0, 2, 2, FROM_ONE), Ok(Seen::Done)),
+    (Step::Forge(0, 3, 2, FROM_ONE), Ok(Seen::Done)),
+    (Step::Look(2), Ok(Seen::Looks(Status::Active, 0, 0))),
+    (Step::Deliver(3), Ok(Seen::Done)),
+    (Step::Look(2), Ok(Seen::Looks(Status::Active, 2, 2))),
+    (Step::Advance(2, 1), Err(Refusal::NotYet)),
+    (Step::Deliver(3), Ok(Seen::Done)),
+    (Step::Advance(2, 1), Err(Refusal::NotYet)),
+    (Step::Deliver(4), Ok(Seen::Done)),
+    (Step::Advance(2, 1), Ok(Seen::Moved)),
+    (Step::Advance(2, 1), Err(Refusal::NotYet)),
+    (Step::Deliver(5), Ok(Seen::Done)),
+    (Step::Advance(2, 1), Ok(Seen::Nil)),
+];
+
+#[test]
+fn gap(rt: HostRuntime) -> Result<(), Fail> {
+    run(&rt, rt.alloc(), &[1], &GAP)
+}
+
+// A call that begins its phase anew forgets who replied, and counts only letters that heard of the new number.
+const BEGINS_ANEW: [Row; 15] = [
+    (Step::Set(1, 107, 118), Ok(Seen::Made(1))),
+    (Step::Send(1, 2), Ok(Seen::Done)),
+    (Step::Deliver(0), Ok(Seen::Done)),
+    (Step::Send(2, 1), Ok(Seen::Done)),
+    (Step::Deliver(1), Ok(Seen::Done)),
+    (Step::Again(1, 1), Ok(Seen::Done)),
+    (Step::Advance(1, 1), Err(Refusal::NotYet)),
+    (Step::Deliver(1), Ok(Seen::Done)),
+    (Step::Advance(1, 1), Err(Refusal::NotYet)),
+    (Step::Send(1, 2), Ok(Seen::Done)),
+    (Step::Deliver(2), Ok(Seen::Done)),
+    (Step::Send(2, 1), Ok(Seen::Done)),
+    (Step::Deliver(3), Ok(Seen::Done)),
+    (Step::Advance(1, 1), Ok(Seen::Moved)),
+    (Step::Again(1, 1), Ok(Seen::Done)),
+];
+
+#[test]
+fn begins_anew(rt: HostRuntime) -> Result<(), Fail> {
+    run(&rt, rt.alloc(), &[1, 2], &BEGINS_ANEW)
+}
+
+// An outline brings all but the copies.
+const OUTLINES: [Row; 13] = [
+    (Step::Set(1, 107, 118), Ok(Seen::Made(1))),
+    (Step::Advance(1, 1), Ok(Seen::Moved)),
+    (Step::Join(2, 1), Ok(Seen::Done)),
+    (Step::Send(2, 1), Ok(Seen::Done)),
+    (Step::Deliver(0), Ok(Seen::Done)),
+    (Step::Outline(1, 2), Ok(Seen::Done)),
+    (Step::Look(2), Ok(Seen::Looks(Status::Active, 0, 0))),
+    (Step::Copy(2, 107), Ok(Seen::Absent)),
+    (Step::Send(1, 2), Ok(Seen::Done)),
+    (Step::Deliver(1), Ok(Seen::Done)),
+    (Step::Copy(2, 107), Ok(Seen::Holds(1, 1, Some(118)))),
+    (Step::Send(2, 1), Ok(Seen::Done)),
+    (Step::Read(2), Ok(Seen::Tells(2, 1, 0, 2))),
+];
+
+#[test]
+fn outlines(rt: HostRuntime) -> Result<(), Fail> {
+    run(&rt, rt.alloc(), &[1], &OUTLINES)
+}
+
+// Letters of node 2 to node 1: two copies, and then two newer ones and three new ones.
+const HELD: Forged = Forged {
+    from: 2,
+    to: 1,
+    active: 8,
+    member: 2,
+    copies: [
+        (97, 1, 2, 49),
+        (98, 1, 2, 50),
+        (98, 1, 2, 50),
+        (98, 1, 2, 50),
+        (98, 1, 2, 50),
+    ],
+};
+
+const BROUGHT: Forged = Forged {
+    from: 2,
+    to: 1,
+    active: 8,
+    member: 2,
+    copies: [
+        (99, 4, 2, 53),
+        (97, 2, 2, 51),
+        (100, 1, 2, 54),
+        (98, 3, 2, 52),
+        (101, 1, 2, 55),
+    ],
+};
+
+// A letter with five copies replies to two open calls, whose phases get four places more.
+const HEARS: [Row; 15] = [
+    (Step::Forge(5, 0, 0, HELD), Ok(Seen::Done)),
+    (Step::Deliver(0), Ok(Seen::Done)),
+    (Step::Look(1), Ok(Seen::Looks(Status::Active, 0, 7))),
+    (Step::Get(1, 97), Ok(Seen::Made(1))),
+    (Step::Get(1, 97), Ok(Seen::Made(2))),
+    (Step::Advance(1, 2), Err(Refusal::NotYet)),
+    (Step::Forge(7, 2, 4, BROUGHT), Ok(Seen::Done)),
+    (Step::Deliver(1), Ok(Seen::Done)),
+    (Step::Look(1), Ok(Seen::Looks(Status::Active, 4, 11))),
+    (Step::Send(1, 2), Ok(Seen::Done)),
+    (Step::Read(2), Ok(Seen::Tells(3, 5, 2, 7))),
+    (Step::Advance(1, 1), Ok(Seen::Moved)),
+    (Step::Copy(1, 97), Ok(Seen::Holds(2, 2, Some(51)))),
+    (Step::Send(1, 3), Ok(Seen::Done)),
+    (Step::Read(3), Ok(Seen::Tells(3, 5, 3, 0))),
+];
+
+#[test]
+fn hears_all_or_nothing(rt: HostRuntime) -> Result<(), Fail> {
+    run(&rt, rt.alloc(), &[1, 2], &HEARS)
+}
+
+// Sets of more and more keys by a founder that is alone, and one that is the second of its key.
+#[test]
+fn sets_of_keys(rt: HostRuntime) -> Result<(), Fail> {
+    let mut twins = Twins::new(rt.alloc(), &[1])?;
+    for (place, key) in [97, 98, 99, 100, 101, 97].iter().enumerate() {
+        let number = place as u64 + 1;
+        let sequence = if number == 6 { 2 } else { 1 };
+        let rows = [
+            (Step::Set(1, *key, 118), Seen::Made(number)),
+            (Step::Advance(1, number), Seen::Moved),
+            (Step::Copy(1, *key), Seen::Holds(sequence, 1, Some(118))),
+            (Step::Advance(1, number), Seen::Ok),
+        ];
+        for (step, wanted) in rows {
+            let seen = twins.take(&rt, step)?;
+            assert_eq!(rt; seen, Ok(wanted));
+        }
+    }
+    Ok(())
+}
+
+// The longest key and value, as often as calls may be open.
+#[test]
+fn limits(rt: HostRuntime) -> Result<(), Fail> {
+    let mut twins = Twins::new(rt.alloc(), &[1, 2])?;
+    for number in 1..65 {
+        let step = Step::SetLong(1, 256, 4096);
+        let seen = twins.take(&rt, step)?;
+        assert_eq!(rt; seen, Ok(Seen::Made(number)));
+    }
+    let seen = twins.take(&rt, Step::SetLong(1, 257, 4097))?;
+    assert_eq!(rt; seen, Err(Refusal::Busy));
+    Ok(())
+}
+
+// What is too long, and a tag that can't rise any more.
+const SPENT: [Row; 14] = [
+    (Step::SetLong(1, 257, 4097), Err(Refusal::KeyTooLong)),
+    (Step::SetLong(1, 256, 4097), Err(Refusal::ValueTooLong)),
+    (Step::Get(1, 107), Ok(Seen::Made(1))),
+    (Step::Forge(0, 0, 0, LAST_TAG), Ok(Seen::Done)),
+    (Step::Deliver(0), Ok(Seen::Done)),
+    (Step::Set(1, 107, 118), Ok(Seen::Made(2))),
+    (Step::Advance(1, 2), Err(Refusal::NumbersSpent)),
+    (Step::Set(1, 108, 118), Ok(Seen::Made(3))),
+    (Step::AdvanceOf(1, 2, 3), Err(Refusal::NoSuchCall)),
+    (Step::Advance(1, 3), Ok(Seen::Moved)),
+    (Step::Copy(1, 108), Ok(Seen::Holds(1, 1, Some(118)))),
+    (Step::Advance(1, 1), Ok(Seen::Moved)),
+    (Step::Advance(1, 1), Ok(Seen::Value(1))),
+    (Step::Advance(1, 1), Err(Refusal::NoSuchCall)),
+];
+
+// A letter with a copy of the greatest sequence number.
+const LAST_TAG: Forged = Forged {
+    from: 2,
+    to: 1,
+    active: 1,
+    member: 1,
+    copies: [(107, u64::MAX, 2, 1); 5],
+};
+
+#[test]
+fn spent(rt: HostRuntime) -> Result<(), Fail> {
+    run(&rt, rt.alloc(), &[1], &SPENT)
+}

@@ -1,0 +1,2 @@
+pub mod OnePlace
+pub mod Rows

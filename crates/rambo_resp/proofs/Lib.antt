@@ -1,0 +1,9 @@
+pub mod ByteTests
+pub mod Steps
+pub mod Opens
+pub mod Drives
+pub mod Readings
+pub mod Unique
+pub mod Runs
+pub mod Giving
+pub mod Feeding

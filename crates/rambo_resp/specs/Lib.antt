@@ -1,0 +1,10 @@
+pub mod Decoders
+pub mod Endings
+pub mod Faults
+pub mod Items
+pub mod Laws
+pub mod Progresses
+pub mod Replies
+pub mod Rests
+pub mod Spellings
+pub mod Streams

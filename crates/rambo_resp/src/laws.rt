@@ -1,0 +1,27 @@
+//! What is true of every stream.
+ghost use Rattle.rambo_resp.specs.Laws.{EachIsRead, OneReading, AnyCutting, CommandsStay, WithinLimits};
+
+/// Each stream of bytes tells its commands and how it ends: with an open rest, or with a fault and its place.
+pub fn each_stream_is_read()
+    ensures { EachIsRead }
+{}
+
+/// A stream tells nothing else.
+pub fn one_reading()
+    ensures { OneReading }
+{}
+
+/// What a decoder gives depends on the stream and on how many commands it has given, and not on how the stream was cut.
+pub fn any_cutting()
+    ensures { AnyCutting }
+{}
+
+/// The commands of a stream stay when more bytes come.
+pub fn commands_stay()
+    ensures { CommandsStay }
+{}
+
+/// Each command of a stream has 1 to 128 items of at most 4,096 bytes.
+pub fn within_limits()
+    ensures { WithinLimits }
+{}

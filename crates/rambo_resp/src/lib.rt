@@ -1,0 +1,24 @@
+//! RESP2, which redis clients speak: commands are read from a stream however it is cut, and replies are written.
+//!
+//! - `Decoder`: takes a stream piece by piece, and gives its commands.
+//! - `Command`: the items of a command.
+//! - `Fault`: what is wrong with a stream.
+//! - `Reply`, `write_reply`: what a command is answered.
+//!
+//! RESP is told at <https://redis.io/docs/latest/develop/reference/protocol-spec/>. Commands are arrays of bulk strings;
+//! inline commands aren't taken.
+#![tactic(auto)]
+
+mod awaited;
+mod command;
+mod decoder;
+mod fault;
+mod laws;
+mod progress;
+mod reply;
+
+pub use command::Command;
+pub use decoder::Decoder;
+pub use fault::Fault;
+pub use laws::{any_cutting, commands_stay, each_stream_is_read, one_reading, within_limits};
+pub use reply::{Reply, write_reply};

@@ -1,0 +1,160 @@
+//! How far a stream was read.
+ghost use Rattle.std.specs.Prelude.{◌≡◌, ◌≤◌, ◌++◌, false, OnErr, ◌∷◌, [], ℕ, List, length, take, drop, OnOk, IfOk, IfErr};
+ghost use Rattle.std.specs.Option.{option_to_list};
+ghost use Rattle.rambo_resp.specs.Progresses.{ProgressState, running, run, step, fresh, are_bytes, with_item, Extends, Stops};
+
+use crate::awaited::{Awaited, after, fault_of};
+use crate::command::Command;
+use crate::fault::Fault;
+use std::alloc::Global;
+use std::collections::VecDeque;
+use std::marker::Model;
+use std::mem;
+
+/// The commands of a stream that are whole and weren't given yet, and the command that has begun.
+#[derive(Drop)]
+pub struct Progress {
+    alloc: Global,
+    waiting: VecDeque<Command>,
+    // How many bytes of the stream have come, or 2^64 - 1.
+    place: u64,
+    awaited: Awaited,
+    // The whole items of the command that has begun, and the bytes of the next one.
+    items: Command,
+    item: Vec<u8>,
+}
+
+impl Model for Progress {
+    ghost use Rattle.rambo_resp.specs.Progresses.{ProgressState};
+
+    ghost Value = { ProgressState };
+
+    ghost view = { λ p. record { waiting = p.waiting.items; place = p.place; rest = record { awaited = p.awaited; items = p.items; item = p.item.items } } };
+}
+
+impl Progress {
+    /// Nothing has come.
+    pub fn new(alloc: Global) -> Self
+        ensures { result ≡ record { waiting = []; place = 0; rest = fresh } }
+    {
+        Progress {
+            alloc,
+            waiting: VecDeque::new(alloc),
+            place: 0,
+            awaited: Awaited::Star,
+            items: Command::new(alloc),
+            item: Vec::new(alloc),
+        }
+    }
+
+    /// The oldest whole command, which is taken out.
+    pub fn take_oldest(&mut self) -> Option<Command>
+        ensures oldest { self.old.waiting ≡ option_to_list result ++ self.new.waiting }
+        ensures kept { self.new ≡ record self.old { waiting = drop 1 self.old.waiting } }
+    {
+        self.waiting.pop_front()
+    }
+
+    /// How many whole commands there are.
+    pub fn count(&self) -> usize
+        ensures { result ≡ length self.now.waiting }
+    {
+        self.waiting.len()
+    }
+
+    /// Forgets all but the first whole commands, and the command that has begun.
+    pub fn cut_back(&mut self, count: usize)
+        ensures { self.new ≡ record self.old { waiting = take count self.old.waiting; rest = fresh } }
+    {
+        self.waiting.truncate(count);
+        self.awaited = Awaited::Star;
+        self.items = Command::new(self.alloc);
+        self.item = Vec::new(self.alloc);
+    }
+
+    /// Reads a piece of the stream, until it breaks or memory runs out.
+    pub fn read(&mut self, piece: &[u8]) -> Result<(), Fault>
+        ensures ok { OnOk result (run (running self.old) piece.now ≡ running self.new) }
+        ensures kept { Extends self.old.waiting self.new.waiting }
+        ensures stopped { IfErr result (Stops self.old piece.now self.new) }
+    {
+        let mut rest = piece;
+        while !rest.is_empty() {
+            let count = self.read_some(rest)?;
+            rest = &rest[count..];
+        }
+        Ok(())
+    }
+
+    // Reads the first of some bytes, or as many as belong to one item, and tells how many these were.
+    fn read_some(&mut self, bytes: &[u8]) -> Result<usize, Fault>
+        requires { 1 ≤ length bytes.now }
+        ensures some { IfOk result (λ n. (1 ≤ n) × (n ≤ length bytes.now)) }
+        ensures ok { IfOk result (λ n. run (running self.old) bytes.now ≡ run (running self.new) (drop n bytes.now)) }
+        ensures kept { Extends self.old.waiting self.new.waiting }
+        ensures stopped { IfErr result (Stops self.old bytes.now self.new) }
+    {
+        match self.awaited {
+            Awaited::Bytes(left, more) if more > 0 => self.read_bytes(left, more, bytes),
+            _ => {
+                self.read_sign(bytes[0])?;
+                Ok(1)
+            }
+        }
+    }
+
+    // Reads as many of some bytes as belong to an item, of which so many are still to come.
+    fn read_bytes(&mut self, left: u16, more: u16, bytes: &[u8]) -> Result<usize, Fault>
+        requires awaited { self.old.rest.awaited ≡ Awaited.Bytes left more }
+        requires more { 1 ≤ more }
+        requires some { 1 ≤ length bytes.now }
+        ensures some { IfOk result (λ n. (1 ≤ n) × (n ≤ length bytes.now)) }
+        ensures ok { IfOk result (λ n. run (running self.old) bytes.now ≡ run (running self.new) (drop n bytes.now)) }
+        ensures kept { self.new.waiting ≡ self.old.waiting }
+        ensures refused { IfErr result (λ f. f ≡ Fault.OutOfMemory) }
+    {
+        let count = bytes.len().min(usize::from(more));
+        self.item.extend_from_slice(&bytes[..count])?;
+        self.awaited = Awaited::Bytes(left, more - count as u16);
+        self.place = self.place.saturating_add(count as u64);
+        Ok(count)
+    }
+
+    // Reads one byte that belongs to no item.
+    fn read_sign(&mut self, byte: u8) -> Result<(), Fault>
+        requires { are_bytes self.old.rest.awaited ≡ false }
+        ensures ok { OnOk result (step self.old byte ≡ running self.new) }
+        ensures kept { Extends self.old.waiting self.new.waiting }
+        ensures stopped { IfErr result (Stops self.old (byte ∷ []) self.new) }
+    {
+        let Some(next) = after(self.awaited, byte) else {
+            return Err(fault_of(self.awaited, byte, self.place));
+        };
+        match self.awaited {
+            Awaited::CountFeed(n) => self.items = Command::with_capacity(self.alloc, n)?,
+            Awaited::LengthFeed(_, n) => {
+                self.item = Vec::with_capacity(self.alloc, usize::from(n))?;
+            }
+            Awaited::ItemFeed(left) => self.end_item(left)?,
+            _ => {}
+        }
+        self.awaited = next;
+        self.place = self.place.saturating_add(1);
+        Ok(())
+    }
+
+    // Puts the item that has come to the others, and where none is left, the command to those that are whole.
+    fn end_item(&mut self, left: u16) -> Result<(), Fault>
+        ensures ok { OnOk result (self.new ≡ with_item self.old left) }
+        ensures err { OnErr result (self.new.waiting ≡ self.old.waiting) }
+        ensures refused { IfErr result (λ f. f ≡ Fault.OutOfMemory) }
+    {
+        let item = mem::replace(&mut self.item, Vec::new(self.alloc));
+        self.items.push(item)?;
+        if left <= 1 {
+            let command = mem::replace(&mut self.items, Command::new(self.alloc));
+            self.waiting.push_back(command)?;
+        }
+        Ok(())
+    }
+}

@@ -1,0 +1,88 @@
+//! Whether a row came out as it is wanted.
+ghost use Rattle.std.specs.Prelude.{◌≡◌, true, false, codes, IfOk, IsTrue, OnOk, Ok as AnOk};
+ghost use Rattle.rambo_outcome.specs.Checks.{IsChecked};
+ghost use Rattle.rambo_script.specs.Replays.{IsReplay, Replays};
+
+use crate::row::Row;
+use rambo_atomic::{Sink, Source, Tape};
+use rambo_script::{ReplayFault, check_text, replay};
+use std::alloc::{AllocError, Global};
+
+/// Runs a row, and answers whether it wrote and ended as the row wants. A row of any other word is wrong.
+pub fn is_right(alloc: Global, row: Row) -> Result<bool, AllocError> {
+    match row.word {
+        b"replay" => is_right_replay(alloc, row),
+        b"check" => is_right_check(alloc, row),
+        _ => Ok(false),
+    }
+}
+
+// Where it is done and right, the wanted output is the text of the run of the script.
+fn is_right_replay(alloc: Global, row: Row) -> Result<bool, AllocError>
+    ensures done { IfOk result (λ right. IsTrue right → row.entry.ending.now ≡ codes "done" → IsReplay row.entry.input.items row.entry.output.items) }
+{
+    let mut reader = Tape::new(row.input);
+    let mut writer = Tape::new(Vec::new(alloc));
+    let ended = replay_all(alloc, &mut reader, &mut writer);
+    is_wanted(
+        alloc,
+        ended,
+        row.ending,
+        writer.bytes(),
+        row.output.as_slice(),
+    )
+}
+
+// A replay that answers yes where it is done.
+fn replay_all<R: Source, W: Sink>(
+    alloc: Global,
+    reader: &mut R,
+    writer: &mut W,
+) -> Result<bool, ReplayFault>
+    ensures { OnOk result (Replays (R.left reader.old) (W.taken writer.old) (W.taken writer.new)) }
+{
+    replay(alloc, reader, writer)?;
+    Ok(true)
+}
+
+// Where it is done or said no, and right, the wanted output is the verdicts on the text.
+fn is_right_check(alloc: Global, row: Row) -> Result<bool, AllocError>
+    ensures done { IfOk result (λ right. IsTrue right → row.entry.ending.now ≡ codes "done" → IsChecked row.entry.input.items row.entry.output.items true) }
+    ensures no { IfOk result (λ right. IsTrue right → row.entry.ending.now ≡ codes "no" → IsChecked row.entry.input.items row.entry.output.items false) }
+{
+    let mut reader = Tape::new(row.input);
+    let mut writer = Tape::new(Vec::new(alloc));
+    let ended = check_text(alloc, &mut reader, &mut writer);
+    is_wanted(
+        alloc,
+        ended,
+        row.ending,
+        writer.bytes(),
+        row.output.as_slice(),
+    )
+}
+
+// Whether a run ended in these words, and wrote what is wanted.
+fn is_wanted(
+    alloc: Global,
+    ended: Result<bool, ReplayFault>,
+    words: &[u8],
+    written: &[u8],
+    wanted: &[u8],
+) -> Result<bool, AllocError>
+    ensures done { IfOk result (λ is. IsTrue is → words.now ≡ codes "done" → ended ≡ AnOk true) }
+    ensures no { IfOk result (λ is. IsTrue is → words.now ≡ codes "no" → ended ≡ AnOk false) }
+    ensures same { IfOk result (λ is. IsTrue is → written.now ≡ wanted.now) }
+{
+    if written != wanted {
+        return Ok(false);
+    }
+    match words {
+        b"done" => Ok(ended == Ok(true)),
+        b"no" => Ok(ended == Ok(false)),
+        words => match ended {
+            Ok(_) => Ok(false),
+            Err(fault) => Ok(format!(in alloc; "{fault}")?.as_bytes() == words),
+        },
+    }
+}

@@ -1,0 +1,35 @@
+//! Worked rows: scripts and outcome texts, each with what must come of it.
+//!
+//! Standard input holds the rows, with an empty line between two. The first line of a row is its name, and each
+//! further line begins with a mark:
+//!
+//! - `:replay` or `:check` is what is done with the input;
+//! - `>` a line of the input, `~` a last line of it that lacks its line feed;
+//! - `<` a line of the output that is wanted;
+//! - `=` how it must end: `done`, `no` where a check says no of some key, or the fault in the words that
+//!   the program tells it with.
+//!
+//! A row whose first line begins with `#` is a note. The program runs each row through the functions that
+//! `rambo replay` and `rambo check` are, over a reader and a writer in memory. It writes the name of each row
+//! that came out wrong, and last `N rows, M wrong`. The exit status is 0 where none was wrong.
+#![tactic(auto)]
+
+mod judging;
+mod row;
+mod rows;
+
+use rambo_atomic::Wrapped;
+use rows::judge_rows;
+use std::process::ExitCode;
+
+fn main(rt: HostRuntime) -> ExitCode {
+    let mut reader = Wrapped::new(rt.stdin());
+    let mut writer = Wrapped::new(rt.stdout());
+    match judge_rows(rt.alloc(), &mut reader, &mut writer) {
+        Ok(true) => ExitCode::SUCCESS,
+        _ => ExitCode::FAILURE,
+    }
+}
+
+#[cfg(test)]
+mod tests;

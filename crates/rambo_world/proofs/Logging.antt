@@ -1,0 +1,154 @@
+-- The logs of nodes: what a change puts into a log, and what stays of logs, letters and counts as logs grow
+use Rattle.std.proofs.Common.{◌≡◌, ◌≢◌, ℕ, ◌+◌, ◌<◌, true, false, List, [], ◌∷◌, ◌++◌, Option, Some, None, refl, sym, ap, ◌∙◌, inl, arith}
+use Rattle.rambo_names.specs.Quorums.{QuorumSystem}
+use Rattle.std.specs.Prelude.{if◌then◌else◌}
+use Rattle.std.specs.FinMap as copies
+use Rattle.std.specs.FinMap.{get, insert}
+use Rattle.rambo_tag.specs.declared.version.Version.{Version}
+use Rattle.rambo_tag.specs.declared.keyed_version.KeyedVersion.{KeyedVersion}
+use Rattle.rambo_tag.specs.Tags.{is_newer, tag_of}
+use Rattle.rambo_tag.specs.Copies.{Copies, with_newer, joined}
+use Rattle.rambo_tag.specs.Logs.{greatest_after, greatest_of}
+use Rattle.rambo_tag.proofs.CopyOrder.{is_newer-from_lt}
+use Rattle.rambo_tag.proofs.Joins.{joined-assoc, joined-comm, joined-empty}
+use Rattle.rambo_tag.proofs.Logged.{greatest_after-append, greatest_of-nil, greatest_of-append, joined-greatest_of}
+use Rattle.rambo_atomic.specs.declared.event.CallId.{CallId}
+use Rattle.rambo_atomic.specs.declared.operation.Op.{Op}
+use Rattle.rambo_atomic.specs.declared.operation.Op.TheVariants as op
+use Rattle.rambo_gossip.specs.declared.letter.Letter.{Letter}
+use Rattle.rambo_gossip.specs.declared.letter.Kind.{Kind}
+use Rattle.rambo_gossip.specs.declared.letter.Kind.TheVariants as kind
+use Rattle.rambo_node.specs.declared.change.Change.{Change}
+use Rattle.rambo_node.specs.declared.change.Change.TheVariants as change
+use Rattle.rambo_node.specs.declared.stage.Stage.{Stage}
+use Rattle.rambo_node.specs.declared.stage.Stage.TheVariants.{Query, Propagation}
+use Rattle.rambo_node.specs.Calls.{CallState}
+use Rattle.rambo_node.specs.Nodes.{NodeState, open_call, first_node}
+use Rattle.rambo_node.specs.Hearing.{heard_kind, heard_join, heard_gossip}
+use Rattle.rambo_node.specs.Operations.{called, joined_by, stopped, called_again, query_answered, call_closed, with_copy, taken, new_copy}
+use Rattle.rambo_node.specs.Changes.{made_by, stage_met, advanced, begun_again, copy_put}
+use Rattle.rambo_world.specs.Logging.{copies_in, copies_brought, listed}
+
+-- a new node holds nothing
+pub first_recorded : {Q : Type 0} (s : QuorumSystem Q) (founders : Q) (n : ℕ) → (first_node s founders n).registers ≡ greatest_of []
+unfolding first_node
+first_recorded s founders n = sym greatest_of-nil
+
+-- the copy that a set makes is newer than the present one
+newer_tag : (held : Option Version) (name : ℕ) (value : Option (List ℕ)) → is_newer held (record { tag = record { sequence = (tag_of held).sequence + 1; name = name }; value = value }) ≡ true
+newer_tag held name value = let more : (tag_of held).sequence < (tag_of held).sequence + 1 = omega arith in is_newer-from_lt held _ (inl more)
+
+put_newer : (r : Copies) (key : List ℕ) (v : Version) → is_newer (get r key) v ≡ true → insert r key v ≡ with_newer r key v
+put_newer r key v newer = ap (λ t. if t then insert r key v else r) (sym newer)
+
+module _ {Q : Type 0} (x : NodeState Q) where
+  copy_logged : (o : Op) → with_copy x.registers o (taken x o) ≡ greatest_after x.registers (listed (copy_put o (taken x o)))
+  copy_logged (op.Get key) = refl
+  copy_logged (op.Set key value) = put_newer x.registers key (new_copy x key value) (newer_tag (get x.registers key) x.name (Some value))
+
+  stage_name : (id : CallId) (c : CallState Q) (stage : Stage) → (stage_met x id c stage).node.name ≡ x.name
+  unfolding query_answered call_closed
+  stage_name id c Query = refl
+  stage_name id c (Propagation kept) = refl
+
+  stage_logged : (id : CallId) (c : CallState Q) (stage : Stage) → (stage_met x id c stage).node.registers ≡ greatest_after x.registers (listed (stage_met x id c stage).deed.copy)
+  unfolding query_answered call_closed
+  stage_logged id c Query = copy_logged c.op
+  stage_logged id c (Propagation kept) = refl
+
+  advanced_name : (id : CallId) (c : Option (CallState Q)) → (advanced x id c).node.name ≡ x.name
+  advanced_name id None = refl
+  advanced_name id (Some c) = stage_name id c c.stage
+
+  advanced_logged : (id : CallId) (c : Option (CallState Q)) → (advanced x id c).node.registers ≡ greatest_after x.registers (listed (advanced x id c).deed.copy)
+  advanced_logged id None = refl
+  advanced_logged id (Some c) = stage_logged id c c.stage
+
+  again_name : (c : Option (CallState Q)) → (begun_again x c).node.name ≡ x.name
+  unfolding called_again
+  again_name None = refl
+  again_name (Some c) = refl
+
+  again_logged : (c : Option (CallState Q)) → (begun_again x c).node.registers ≡ greatest_after x.registers (listed (begun_again x c).deed.copy)
+  unfolding called_again
+  again_logged None = refl
+  again_logged (Some c) = refl
+
+  heard_name : (j : ℕ) (k : Kind Q) → (heard_kind x j k).name ≡ x.name
+  unfolding heard_join heard_gossip
+  heard_name j kind.Join = refl
+  heard_name j (kind.Gossip g) = refl
+
+  heard_joined : (j : ℕ) (k : Kind Q) → (heard_kind x j k).registers ≡ joined x.registers (copies_in k)
+  unfolding heard_join heard_gossip
+  heard_joined j kind.Join = sym (joined-empty x.registers)
+  heard_joined j (kind.Gossip g) = refl
+
+  -- a node keeps its name
+  pub made_name : (c : Change Q) → (made_by x c).node.name ≡ x.name
+  unfolding made_by joined_by called stopped
+  made_name (change.Join contacts) = refl
+  made_name (change.Call o) = refl
+  made_name (change.Send to) = refl
+  made_name (change.Deliver l) = heard_name l.sender l.kind
+  made_name (change.Advance id) = advanced_name id (open_call x id)
+  made_name (change.Again id) = again_name (open_call x id)
+  made_name change.Stop = refl
+
+  -- it takes on the copies that are brought to it, and the one that it puts
+  pub made_registers : (c : Change Q) → (made_by x c).node.registers ≡ greatest_after (joined x.registers (copies_brought c)) (listed (made_by x c).deed.copy)
+  unfolding made_by joined_by called stopped
+  made_registers (change.Join contacts) = sym (joined-empty x.registers)
+  made_registers (change.Call o) = sym (joined-empty x.registers)
+  made_registers (change.Send to) = sym (joined-empty x.registers)
+  made_registers (change.Deliver l) = heard_joined l.sender l.kind
+  made_registers (change.Advance id) =
+      advanced_logged id (open_call x id) ∙ ap (λ r. greatest_after r (listed (advanced x id (open_call x id)).deed.copy)) (sym (joined-empty x.registers))
+  made_registers (change.Again id) =
+      again_logged (open_call x id) ∙ ap (λ r. greatest_after r (listed (begun_again x (open_call x id)).deed.copy)) (sym (joined-empty x.registers))
+  made_registers change.Stop = sym (joined-empty x.registers)
+
+greatest_of-more : (log more : List KeyedVersion) → greatest_of (log ++ more) ≡ greatest_after (greatest_of log) more
+greatest_of-more log more = greatest_of-append log more ∙ joined-greatest_of (greatest_of log) more
+
+-- what is logged with a change: what it brings that was lacking, and the copy that was put
+pub made_recorded : {Q : Type 0} (x : NodeState Q) (log more : List KeyedVersion) (c : Change Q)
+    → x.registers ≡ greatest_of log → joined x.registers (greatest_of more) ≡ joined x.registers (copies_brought c)
+    → (made_by x c).node.registers ≡ greatest_of (log ++ (more ++ listed (made_by x c).deed.copy))
+made_recorded x log more c recorded brought =
+    let own = listed (made_by x c).deed.copy in
+    made_registers x c
+    ∙ ap (λ r. greatest_after r own) (sym brought ∙ joined-greatest_of x.registers more)
+    ∙ sym (greatest_after-append x.registers more own)
+    ∙ ap (λ r. greatest_after r (more ++ own)) recorded
+    ∙ sym (greatest_of-more log (more ++ own))
+
+-- a list of lacking copies, with one more that is newer than what is held
+pub lacking_more : (r : Copies) (lacked seen : List KeyedVersion) (c : KeyedVersion) → joined r (greatest_of lacked) ≡ joined r (greatest_of seen)
+    → joined r (greatest_of (lacked ++ c ∷ [])) ≡ joined r (greatest_of (seen ++ c ∷ []))
+lacking_more r lacked seen c e =
+    ap (joined r) (greatest_of-append lacked (c ∷ [])) ∙ sym (joined-assoc r (greatest_of lacked) (greatest_of (c ∷ [])))
+    ∙ ap (λ a. joined a (greatest_of (c ∷ []))) e
+    ∙ joined-assoc r (greatest_of seen) (greatest_of (c ∷ [])) ∙ sym (ap (joined r) (greatest_of-append seen (c ∷ [])))
+
+-- one that isn't newer changes nothing
+old_copy : (r : Copies) (c : KeyedVersion) → is_newer (get r c.key) c.version ≡ false → joined r (greatest_of (c ∷ [])) ≡ r
+old_copy r c older = joined-greatest_of r (c ∷ []) ∙ ap (λ t. if t then insert r c.key c.version else r) older
+
+pub lacking_same : (r : Copies) (lacked seen : List KeyedVersion) (c : KeyedVersion) → is_newer (get r c.key) c.version ≡ false
+    → joined r (greatest_of lacked) ≡ joined r (greatest_of seen) → joined r (greatest_of lacked) ≡ joined r (greatest_of (seen ++ c ∷ []))
+lacking_same r lacked seen c older e =
+    let one = greatest_of (c ∷ []) in
+    e
+    ∙ ap (λ a. joined a (greatest_of seen)) (sym (old_copy r c older))
+    ∙ joined-assoc r one (greatest_of seen) ∙ ap (joined r) (joined-comm one (greatest_of seen))
+    ∙ sym (ap (joined r) (greatest_of-append seen (c ∷ [])))
+
+pub none_brought : {Q : Type 0} (c : Change Q) → ((l : Letter Q) → c ≢ change.Deliver l) → copies_brought c ≡ copies.empty
+none_brought (change.Join contacts) other = refl
+none_brought (change.Call o) other = refl
+none_brought (change.Send to) other = refl
+none_brought (change.Deliver l) other = absurd (other l refl)
+none_brought (change.Advance id) other = refl
+none_brought (change.Again id) other = refl
+none_brought change.Stop other = refl

@@ -1,0 +1,49 @@
+use Rattle.std.proofs.Common.{◌∙◌, ◌++◌, map, length, slice_get, sym, ap, subst}
+use Rattle.rambo_world.specs.Kept.{bare}
+use Rattle.rambo_world.specs.Shared.{sent_in, IsHeld, AreHeld}
+use Rattle.rambo_world.proofs.Growth.{on_err_all}
+use Rattle.rambo_world.proofs.Sendings.{sent_push}
+use Rattle.rambo_world.proofs.Sharing.{all_held, all_stay, pushed_view}
+use Rattle.rambo_world.proofs.Sizes.{up_fits, back_fits, next, variant_fits}
+use Rattle.rambo_world.proofs.letters.Letters.push.Goals as goal
+
+pub invariant_of-self : goal.invariant_of-self
+invariant_of-self g c = subst (AreHeld (length c.self.inside.maps.items)) (sym c.reserve.ensures.items) c.self.invariant
+
+pub keep-requires : goal.keep-requires
+keep-requires g c = (
+  variant_fits _ _ _ _ (back_fits _ _ _ (next _ _ _ _ (up_fits _ _ _ c.requires-raw.1.0))),
+  back_fits _ _ _ (up_fits _ _ _ (back_fits _ _ _ (next _ _ _ _ (up_fits _ _ _ c.requires-raw.1.1)))),
+)
+
+pub invariant_of-self-in_err-gossip : goal.invariant_of-self-in_err-gossip
+invariant_of-self-in_err-gossip g c =
+    let maps = c.self.inside.maps.items in
+    let grows = c.keep.ensures.grows in
+    subst (λ ms. AreHeld (length ms) c.reserve.new.self.items) (sym grows.1)
+    (subst (AreHeld (length (maps ++ grows.0))) (sym c.reserve.ensures.items) (all_held maps grows.0 c.self.inside.list.items c.self.invariant))
+
+pub returns-in_err-gossip-clause-err : goal.returns-in_err-gossip-clause-err
+returns-in_err-gossip-clause-err g c =
+    let maps = c.self.inside.maps.items in
+    let grows = c.keep.ensures.grows in
+    on_err_all c.from_residual-in_err-gossip.result
+    ((λ i. map (sent_in (grows.1 i)) (c.reserve.ensures.items i)) ∙ all_stay maps grows.0 c.self.inside.list.items c.self.invariant ∙ c.self.view_is)
+
+pub invariant_of-self-2 : goal.invariant_of-self-2
+invariant_of-self-2 g c place s found =
+    let maps = c.self.inside.maps.items in
+    let grows = c.keep.ensures.grows in
+    let held : AreHeld (length c.keep.new.maps.items) c.reserve.new.self.items = subst (λ ms. AreHeld (length ms) c.reserve.new.self.items) (sym grows.1)
+    (subst (AreHeld (length (maps ++ grows.0))) (sym c.reserve.ensures.items) (all_held maps grows.0 c.self.inside.list.items c.self.invariant)) in
+    sent_push (λ s. IsHeld (length c.keep.new.maps.items) s.gossip) c.reserve.new.self.items _ held c.in_ok-gossip.ensures.held place s
+    (ap (λ l. slice_get l place) (sym c.push_reserved.ensures.items) ∙ found)
+
+pub returns-clause-ok : goal.returns-clause-ok
+returns-clause-ok g c =
+    let maps = c.self.inside.maps.items in
+    let grows = c.keep.ensures.grows in
+    let o = c.outline.inside in
+    pushed_view c.keep.new.maps.items c.reserve.new.self.items c.push_reserved.new.self.items _ c.args.self.now (bare c.args.outline) c.push_reserved.ensures.items
+    ((λ i. map (sent_in (grows.1 i)) (c.reserve.ensures.items i)) ∙ all_stay maps grows.0 c.self.inside.list.items c.self.invariant ∙ c.self.view_is)
+    ((λ i. record { letter = record { sender = o.letter.sender; addressee = o.letter.addressee; kind = c.in_ok-gossip.ensures.kept i }; told = o.told }) ∙ ap bare c.outline.view_is)

@@ -1,0 +1,26 @@
+use Rattle.std.proofs.Common.{◌≡◌, ◌<◌, length, None, Some, sym, subst, OnOk, IfErr}
+use Rattle.rambo_names.specs.Refusals.{least}
+use Rattle.rambo_run.specs.Steps.{causes_at}
+use Rattle.rambo_world.specs.Kept.{state_at}
+use Rattle.rambo_world.proofs.Sizes.{up_fits, back_fits}
+use Rattle.rambo_world.proofs.Growth.{state_here}
+use Rattle.rambo_world.proofs.nodes.Nodes.judge.Goals as goal
+
+pub returns-clause-ok : goal.returns-clause-ok
+returns-clause-ok g c =
+    let ks = c.self.inside.list.items in
+    let x = c.index.result.now in
+    let below : c.place_of.result < length ks = subst (λ n. c.place_of.result < n) (sym c.self.invariant) c.place_of.ensures.within in
+    let here = subst (λ now. state_at now c.args.name ≡ Some x.state) c.self.view_is (state_here ks c.place_of.result c.args.name x x c.place_of.ensures.place c.place_of.ensures.named.0 below c.index.ensures) in
+    subst (λ o. OnOk c.judge.result (least (causes_at g.Q.Quorums.system o c.args.change.now) ≡ None)) (sym here) c.judge.ensures.ok
+
+pub returns-clause-refused : goal.returns-clause-refused
+returns-clause-refused g c =
+    let ks = c.self.inside.list.items in
+    let x = c.index.result.now in
+    let below : c.place_of.result < length ks = subst (λ n. c.place_of.result < n) (sym c.self.invariant) c.place_of.ensures.within in
+    let here = subst (λ now. state_at now c.args.name ≡ Some x.state) c.self.view_is (state_here ks c.place_of.result c.args.name x x c.place_of.ensures.place c.place_of.ensures.named.0 below c.index.ensures) in
+    subst (λ o. IfErr c.judge.result (λ r. least (causes_at g.Q.Quorums.system o c.args.change.now) ≡ Some r)) (sym here) c.judge.ensures.refused
+
+pub judge-requires : goal.judge-requires
+judge-requires g c = (back_fits _ _ _ (up_fits _ _ _ c.requires-raw.1.1.0), c.requires-raw.1.1.1)

@@ -1,0 +1,29 @@
+-- The copies that a change brings to a node from another
+use Rattle.std.specs.Prelude.{List, [], ◌∷◌, Option, None, Some}
+use Rattle.std.specs.FinMap as copies
+use Rattle.rambo_tag.specs.declared.keyed_version.KeyedVersion.{KeyedVersion}
+use Rattle.rambo_tag.specs.Copies.{Copies}
+use Rattle.rambo_gossip.specs.declared.letter.Kind.{Kind}
+use Rattle.rambo_gossip.specs.declared.letter.Kind.TheVariants as kind
+use Rattle.rambo_node.specs.declared.change.Change.{Change}
+use Rattle.rambo_node.specs.declared.change.Change.TheVariants as change
+
+-- the copies of gossip
+abbrev pub copies_in : {Q : Type 0} → Kind Q → Copies
+copies_in kind.Join = copies.empty
+copies_in (kind.Gossip g) = g.copies
+
+-- no change but a letter brings any
+abbrev pub copies_brought : {Q : Type 0} → Change Q → Copies
+copies_brought (change.Join contacts) = copies.empty
+copies_brought (change.Call o) = copies.empty
+copies_brought (change.Send to) = copies.empty
+copies_brought (change.Deliver l) = copies_in l.kind
+copies_brought (change.Advance id) = copies.empty
+copies_brought (change.Again id) = copies.empty
+copies_brought change.Stop = copies.empty
+
+-- a copy, if there is one, as a list
+abbrev pub listed : Option KeyedVersion → List KeyedVersion
+listed None = []
+listed (Some c) = c ∷ []

@@ -1,0 +1,61 @@
+//! Steps of one node.
+ghost use Rattle.std.specs.Prelude.{◌≡◌, ◌<◌, false, None, Some, OnErr, IfOk, IfErr};
+ghost use Rattle.std.specs.Vec.{vec_capacity, vec_len};
+ghost use Rattle.rambo_names.specs.Refusals.{least};
+ghost use Rattle.rambo_atomic.specs.Faults.{fault_of};
+ghost use Rattle.rambo_run.specs.Steps.{causes_at, turn_at, with_event, with_mark};
+ghost use Rattle.rambo_run.specs.Worlds.{node_at};
+ghost use Rattle.rambo_world.specs.Worlds.{EventFits, sends};
+
+use crate::state::State;
+use rambo_atomic::{Event, History};
+use rambo_names::{Name, Quorums, Refusal};
+use rambo_node::{Change, Deed, Effect};
+use rambo_sequence::Mark;
+use rambo_tag::Replica;
+
+impl<Q: Quorums, S: Replica> State<Q, S> {
+    // A node takes a change that isn't refused and that sends no letter.
+    pub(crate) fn change(&mut self, name: Name, change: Change<Q>) -> Result<Effect, Refusal>
+        requires accepted { least (causes_at Q.system (node_at self.old name) change) ≡ None }
+        requires fits { EventFits self.old name change }
+        requires quiet { sends change ≡ false }
+        ensures ok { IfOk result (λ e. turn_at self.old name (node_at self.old name) change ≡ record { world = self.new; effect = e }) }
+        ensures err { OnErr result (self.new ≡ self.old) }
+        ensures refused { IfErr result (λ r. r ≡ Refusal.OutOfMemory) }
+    {
+        self.history.reserve(1)?;
+        self.marks.reserve(1)?;
+        let deed = self.nodes.take(name, change)?;
+        let Deed {
+            effect,
+            event,
+            mark,
+            copy: _,
+        } = deed;
+        push_event(&mut self.history, event);
+        push_mark(&mut self.marks, mark);
+        Ok(effect)
+    }
+}
+
+// The event of a deed, if it has one, goes to the end, where there is room for it.
+fn push_event(history: &mut History, event: Option<Event>)
+    requires room { 0 < history.old.room }
+    requires fits { (e : Event) → event ≡ Some e → fault_of history.old.events e ≡ None }
+    ensures { history.new.events ≡ with_event history.old.events event }
+{
+    if let Some(event) = event {
+        history.push_reserved(event);
+    }
+}
+
+// And so does its mark.
+fn push_mark(marks: &mut Vec<Mark>, mark: Option<Mark>)
+    requires { vec_len marks.old < vec_capacity marks.old }
+    ensures { marks.new.items ≡ with_mark marks.old.items mark }
+{
+    if let Some(mark) = mark {
+        marks.push_reserved(mark);
+    }
+}

@@ -1,0 +1,25 @@
+//! A letter before it is kept.
+
+use rambo_gossip::Letter;
+use rambo_names::Quorums;
+use std::marker::Model;
+
+/// A letter with no copies in it: those that it tells of are the first so many of its sender's log.
+#[derive(Drop)]
+pub(crate) struct Outline<Q: Quorums> {
+    pub(crate) letter: Letter<Q>,
+    pub(crate) told: usize,
+}
+
+impl<Q: Quorums> Model for Outline<Q> {
+    ghost use Rattle.std.specs.Coded.{codes};
+    ghost use Rattle.rambo_names.specs.Names.{names_code};
+    ghost use Rattle.rambo_tag.specs.Copies.{copies_code};
+    ghost use Rattle.rambo_world.specs.Kept.{SentState};
+
+    ghost Value = { SentState Q };
+
+    ghost coded = { Prim.hlevel (codes, names_code, copies_code, Q.code) };
+
+    ghost view = { λ o. record { letter = o.letter; told = o.told } };
+}

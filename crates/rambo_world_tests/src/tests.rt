@@ -1,0 +1,227 @@
+use rambo_atomic::{CallId, Op};
+use rambo_names::{Bytes, Majority, Members, Name, Refusal};
+use rambo_node::Effect;
+use rambo_tag::Registers;
+use rambo_world::{Outcome, Step, World, run};
+use std::alloc::Global;
+use std::hash::{BuildHasherDefault, FoldHasher};
+use std::process::Abort;
+use std::test::Fail;
+
+type Host = World<Majority, Registers<BuildHasherDefault<FoldHasher>>>;
+
+// The value of a call, which is made once more where it is refused.
+macro_rules! again {
+    ($call:expr) => {
+        match $call {
+            Ok(value) => value,
+            Err(_) => $call?,
+        }
+    };
+}
+
+fn set_of(numbers: &[u64]) -> Result<Members, Refusal> {
+    let mut members = Members::empty();
+    for number in numbers {
+        members = members.with(Name::new(*number)?);
+    }
+    Ok(members)
+}
+
+fn new_world(alloc: Global, founders: &[u64]) -> Result<Host, Refusal> {
+    let registers = Registers::new(alloc, BuildHasherDefault::new());
+    World::new(alloc, Majority::of(set_of(founders)?), &registers)
+}
+
+fn id(name: u64, number: u64) -> Result<CallId, Refusal> {
+    Ok(CallId {
+        name: Name::new(name)?,
+        number,
+    })
+}
+
+// A step by numbers. Each call is of the key k, and a set is to v.
+#[derive(Clone, Copy)]
+enum Move {
+    Get(u64),
+    Set(u64),
+    Advance(u64, u64),
+    Again(u64, u64),
+    Send(u64, u64),
+    Deliver(u64),
+    Join(u64, u64),
+    Stop(u64),
+}
+
+fn step(alloc: Global, by: Move) -> Result<Step, Refusal> {
+    match by {
+        Move::Get(name) => {
+            let key = again!(Bytes::from_slice(alloc, b"k"));
+            Ok(Step::Call(Name::new(name)?, Op::Get(key)))
+        }
+        Move::Set(name) => {
+            let key = again!(Bytes::from_slice(alloc, b"k"));
+            let value = again!(Bytes::from_slice(alloc, b"v"));
+            Ok(Step::Call(Name::new(name)?, Op::Set(key, value)))
+        }
+        Move::Advance(name, number) => Ok(Step::Advance(id(name, number)?)),
+        Move::Again(name, number) => Ok(Step::Again(id(name, number)?)),
+        Move::Send(from, to) => Ok(Step::Send(Name::new(from)?, Name::new(to)?)),
+        Move::Deliver(letter) => Ok(Step::Deliver(letter)),
+        Move::Join(name, contact) => Ok(Step::Join(
+            Name::new(name)?,
+            Members::empty().with(Name::new(contact)?),
+        )),
+        Move::Stop(name) => Ok(Step::Stop(Name::new(name)?)),
+    }
+}
+
+// The writer tells one other node of its set and stops; a reader learns the value from that node.
+const LOST_WRITER: [Move; 20] = [
+    Move::Set(1),
+    Move::Send(1, 2),
+    Move::Deliver(1),
+    Move::Send(2, 1),
+    Move::Deliver(2),
+    Move::Advance(1, 1),
+    Move::Send(1, 2),
+    Move::Deliver(3),
+    Move::Stop(1),
+    Move::Get(3),
+    Move::Send(3, 2),
+    Move::Deliver(4),
+    Move::Send(2, 3),
+    Move::Deliver(5),
+    Move::Advance(3, 1),
+    Move::Send(3, 2),
+    Move::Deliver(6),
+    Move::Send(2, 3),
+    Move::Deliver(7),
+    Move::Advance(3, 1),
+];
+
+// What a step came to.
+#[derive(Clone, Copy, PartialEq, Eq, Debug)]
+enum Came {
+    Done,
+    Sent(u64),
+    Other,
+}
+
+fn told_by(effect: &Effect) -> Came {
+    match effect {
+        Effect::Done => Came::Done,
+        Effect::Sent(letter) => Came::Sent(*letter),
+        _ => Came::Other,
+    }
+}
+
+// Takes a step once.
+fn take_once(world: &mut Host, alloc: Global, by: Move) -> Result<Came, Refusal> {
+    let effect = world.step(step(alloc, by)?)?;
+    Ok(told_by(&effect))
+}
+
+// Takes a step. Where memory is wanting the world is as it was, and takes the step again.
+fn take(rt: &impl Abort, world: &mut Host, alloc: Global, by: Move) -> Result<Came, Refusal> {
+    let (steps, events) = (world.steps().len(), world.history().events().len());
+    let first = take_once(world, alloc, by);
+    if first != Err(Refusal::OutOfMemory) {
+        return first;
+    }
+    assert_eq!(rt; world.steps().len(), steps);
+    assert_eq!(rt; world.history().events().len(), events);
+    take_once(world, alloc, by)
+}
+
+// Takes all steps of the writer that stops.
+fn stops(rt: &impl Abort, alloc: Global, world: &mut Host) {
+    for by in LOST_WRITER {
+        assert!(rt; take(rt, world, alloc, by).is_ok());
+    }
+    assert_eq!(rt; world.steps().len(), 20);
+    assert_eq!(rt; world.history().events().len(), 3);
+}
+
+// Finds its set in the sequence.
+fn is_seen(rt: &impl Abort, alloc: Global, world: &Host) -> Result<(), Fail> {
+    let calls = again!(world.sequence(alloc, b"k"));
+    assert_eq!(rt; calls.as_slice(), [id(1, 1)?, id(3, 1)?].as_slice());
+    assert_eq!(rt; again!(world.sequence(alloc, b"l")).len(), 0);
+    assert_eq!(rt; world.map(Name::new(3)?).top(), 0);
+    Ok(())
+}
+
+fn stops_and_is_seen(rt: &impl Abort, alloc: Global, world: &mut Host) -> Result<(), Fail> {
+    stops(rt, alloc, world);
+    is_seen(rt, alloc, world)
+}
+
+#[test]
+fn writer_that_stops(rt: HostRuntime) -> Result<(), Fail> {
+    let mut world = again!(new_world(rt.alloc(), &[1, 2, 3]));
+    stops_and_is_seen(&rt, rt.alloc(), &mut world)
+}
+
+// The outcome of the writer that stops.
+fn is_whole(outcome: &Outcome<Majority>) -> bool {
+    outcome.effects.len() == 20
+        && outcome.history.events().len() == 3
+        && outcome.sequences.len() == 1
+        && outcome.maps.len() == 3
+}
+
+fn steps_of(alloc: Global, moves: &[Move]) -> Result<Vec<Step>, Fail> {
+    let mut steps = again!(Vec::with_capacity(alloc, moves.len()));
+    for by in moves {
+        steps.push(step(alloc, *by)?)?;
+    }
+    Ok(steps)
+}
+
+#[test]
+fn run_of_writer_that_stops(rt: HostRuntime) -> Result<(), Fail> {
+    let steps = steps_of(rt.alloc(), LOST_WRITER.as_slice())?;
+    let founders = Majority::of(set_of(&[1, 2, 3])?);
+    let outcome = again!(run(rt.alloc(), founders, steps.as_slice()));
+    let whole = is_whole(&outcome);
+    assert!(rt; whole);
+    Ok(())
+}
+
+// Steps that are refused, and that leave the world as it was.
+fn refuses(rt: &impl Abort, alloc: Global, world: &mut Host) {
+    let rows = [
+        (Move::Advance(1, 1), Err(Refusal::NoSuchCall)),
+        (Move::Again(1, 1), Err(Refusal::NoSuchCall)),
+        (Move::Deliver(1), Err(Refusal::NoSuchLetter)),
+        (Move::Send(1, 3), Err(Refusal::NotKnown)),
+        (Move::Stop(2), Ok(Came::Done)),
+        (Move::Join(2, 1), Err(Refusal::NameUsed)),
+        (Move::Join(3, 1), Ok(Came::Done)),
+        (Move::Send(3, 1), Ok(Came::Sent(1))),
+        (Move::Deliver(1), Ok(Came::Done)),
+        (Move::Get(3), Err(Refusal::NotActive)),
+    ];
+    for (by, outcome) in rows {
+        assert_eq!(rt; take(rt, world, alloc, by), outcome);
+    }
+    assert_eq!(rt; world.steps().len(), 4);
+}
+
+#[test]
+fn refused_steps(rt: HostRuntime) -> Result<(), Fail> {
+    let mut world = again!(new_world(rt.alloc(), &[1, 2]));
+    refuses(&rt, rt.alloc(), &mut world);
+    Ok(())
+}
+
+#[test]
+fn no_founders(rt: HostRuntime) -> Result<(), Fail> {
+    let refused = match run(rt.alloc(), Majority::of(Members::empty()), &[]) {
+        Ok(_) => false,
+        Err(refusal) => matches!(refusal, Refusal::EmptyMembers),
+    };
+    assert!(rt; refused);
+    Ok(())
+}
