@@ -1,14 +1,11 @@
+use crate::host::{Host, begins_empty, new_world, set_of};
 use rambo_atomic::{CallId, Op};
 use rambo_names::{Bytes, Majority, Members, Name, Refusal};
 use rambo_node::Effect;
-use rambo_tag::Registers;
-use rambo_world::{Outcome, Step, World, run};
+use rambo_world::{Outcome, Step, run};
 use std::alloc::Global;
-use std::hash::{BuildHasherDefault, FoldHasher};
 use std::process::Abort;
 use std::test::Fail;
-
-type Host = World<Majority, Registers<BuildHasherDefault<FoldHasher>>>;
 
 // The value of a call, which is made once more where it is refused.
 macro_rules! again {
@@ -18,19 +15,6 @@ macro_rules! again {
             Err(_) => $call?,
         }
     };
-}
-
-fn set_of(numbers: &[u64]) -> Result<Members, Refusal> {
-    let mut members = Members::empty();
-    for number in numbers {
-        members = members.with(Name::new(*number)?);
-    }
-    Ok(members)
-}
-
-fn new_world(alloc: Global, founders: &[u64]) -> Result<Host, Refusal> {
-    let registers = Registers::new(alloc, BuildHasherDefault::new());
-    World::new(alloc, Majority::of(set_of(founders)?), &registers)
 }
 
 fn id(name: u64, number: u64) -> Result<CallId, Refusal> {
@@ -213,6 +197,13 @@ fn refuses(rt: &impl Abort, alloc: Global, world: &mut Host) {
 fn refused_steps(rt: HostRuntime) -> Result<(), Fail> {
     let mut world = again!(new_world(rt.alloc(), &[1, 2]));
     refuses(&rt, rt.alloc(), &mut world);
+    Ok(())
+}
+
+#[test]
+fn first_world(rt: HostRuntime) -> Result<(), Fail> {
+    let empty = again!(begins_empty(rt.alloc(), &[1, 2]));
+    assert!(rt; empty);
     Ok(())
 }
 
