@@ -3,6 +3,7 @@ ghost use Rattle.std.specs.Prelude.{◌≡◌, ◌&&◌, None, Some, false, if�
 ghost use Rattle.std.specs.FinMap as map;
 ghost use Rattle.rambo_names.specs.Refusals.{IsRefusal};
 ghost use Rattle.rambo_gossip.specs.Letters.{letter_with, kind_with};
+ghost use Rattle.rambo_gossip.specs.Outlines.{outlined};
 ghost use Rattle.rambo_node.specs.Changes.{refusal_of, made_by};
 ghost use Rattle.rambo_node.specs.Hearing.{any_gap, heard_gossip, heard_join, heard_letter};
 ghost use Rattle.rambo_node.specs.Letters.{letter_for};
@@ -11,7 +12,7 @@ ghost use Rattle.rambo_node.specs.declared.change.Change.TheVariants as change;
 
 use crate::node::Node;
 use rambo_config_map::ConfigMap;
-use rambo_gossip::{Gossip, Kind, Letter};
+use rambo_gossip::{Gossip, GossipOutline, Kind, Letter, LetterOutline};
 use rambo_names::{Members, Name, Quorums, Refusal};
 use rambo_tag::{Pack, Replica};
 
@@ -30,14 +31,15 @@ impl<Q: Quorums, S: Replica> Node<Q, S> {
         Ok(self.letter_with(to, self.registers.pack()?))
     }
 
-    /// The letter for a name, with no copies in it.
-    ///
-    /// It takes no memory, and answers no refusal.
-    pub fn outline_for(&self, to: Name) -> Result<Letter<Q>, Refusal>
-        ensures ok { IfOk result (λ letter. letter ≡ letter_with (letter_for self.now to) map.empty) }
-        ensures succeeds { IsOk result }
+    /// The letter for a name, without its copies. It takes no memory.
+    pub fn outline_for(&self, to: Name) -> LetterOutline<'_, Q>
+        ensures { result ≡ letter_with (letter_for self.now to) map.empty }
     {
-        Ok(self.letter_with(to, Pack::new(Vec::new(self.calls.alloc()))))
+        LetterOutline {
+            sender: self.name,
+            addressee: to,
+            gossip: self.gossip_outline(to),
+        }
     }
 
     /// Hears a letter. One of a joining node makes its sender known. One of an active node wakes a joining
@@ -55,6 +57,36 @@ impl<Q: Quorums, S: Replica> Node<Q, S> {
     {
         self.may_hear(letter)?;
         self.do_hear(letter)
+    }
+
+    /// Hears a letter that isn't refused, which is told by its outline and its copies.
+    ///
+    /// `OutOfMemory` where there is no room for what is new; the node is then as it was.
+    #[tactic(auto, unfolding(crate::specs::Changes::made_by))]
+    pub fn hear_outlined(
+        &mut self,
+        outline: &LetterOutline<'_, Q>,
+        copies: &Pack,
+    ) -> Result<(), Refusal>
+        requires { refusal_of Q.system self.old (change.Deliver outline.now) ≡ None }
+        ensures node { OnOk result (self.new ≡ (made_by self.old (change.Deliver (letter_with outline.now copies.now))).node) }
+        ensures refused { IfErr result (λ r. r ≡ Refusal.OutOfMemory) }
+        ensures err { OnErr result (self.new ≡ self.old) }
+    {
+        match &outline.gossip {
+            None => {
+                self.meet(outline.sender);
+                Ok(())
+            }
+            Some(gossip) => self.merge(
+                outline.sender,
+                gossip.known,
+                copies,
+                gossip.map,
+                gossip.number,
+                gossip.heard,
+            ),
+        }
     }
 }
 
@@ -103,6 +135,21 @@ impl<Q: Quorums, S: Replica> Node<Q, S> {
             known: self.known,
             copies,
             map: self.map.copy(),
+            number: self.number,
+            heard: self.heard.of(to),
+        })
+    }
+
+    // What the node tells a name besides copies, if it is active.
+    fn gossip_outline(&self, to: Name) -> Option<GossipOutline<'_, Q>>
+        ensures { outlined result ≡ kind_with (letter_for self.now to).kind map.empty }
+    {
+        if !self.status.is_active() {
+            return None;
+        }
+        Some(GossipOutline {
+            known: self.known,
+            map: &self.map,
             number: self.number,
             heard: self.heard.of(to),
         })

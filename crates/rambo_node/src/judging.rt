@@ -10,7 +10,7 @@ ghost use Rattle.rambo_node.specs.declared.change.Change.TheVariants as change;
 use crate::change::Change;
 use crate::node::Node;
 use rambo_atomic::{CallId, Op};
-use rambo_gossip::{Kind, Letter};
+use rambo_gossip::{Kind, Letter, LetterOutline};
 use rambo_names::{Members, Name, Quorums, Refusal};
 use rambo_tag::Replica;
 
@@ -68,6 +68,26 @@ impl<Q: Quorums, S: Replica> Node<Q, S> {
             return Err(Refusal::Stopped);
         }
         if self.restarts(&letter.kind) && is_last(self.number) {
+            return Err(Refusal::NumbersSpent);
+        }
+        Ok(())
+    }
+
+    /// Why a letter is refused, if it is: what `may_hear` says, of its outline, since its copies don't matter.
+    pub fn may_hear_outlined(&self, outline: &LetterOutline<'_, Q>) -> Result<(), Refusal>
+        ensures ok { OnOk result (refusal_of Q.system self.now (change.Deliver outline.now) ≡ None) }
+        ensures refused { IfErr result (λ r. refusal_of Q.system self.now (change.Deliver outline.now) ≡ Some r) }
+    {
+        if self.status.is_idle() {
+            return Err(Refusal::NotActive);
+        }
+        if self.status.is_stopped() {
+            return Err(Refusal::Stopped);
+        }
+        let Some(gossip) = &outline.gossip else {
+            return Ok(());
+        };
+        if self.calls.any_gap(gossip.heard, gossip.map) && is_last(self.number) {
             return Err(Refusal::NumbersSpent);
         }
         Ok(())

@@ -26,20 +26,34 @@ impl<Q: Quorums, S: Replica> Node<Q, S> {
         ensures err { OnErr result (self.new ≡ self.old) }
     {
         self.judge(&change)?;
+        self.act(&change)
+    }
+
+    /// Takes a change that isn't refused, and tells what it did.
+    ///
+    /// `OutOfMemory` where there is no room for what is new; the node is then as it was.
+    #[tactic(auto, unfolding(crate::specs::Changes::made_by))]
+    pub fn act(&mut self, change: &Change<Q>) -> Result<Deed, Refusal>
+        requires { refusal_of Q.system self.old change.now ≡ None }
+        ensures node { OnOk result (self.new ≡ (made_by self.old change.now).node) }
+        ensures deed { IfOk result (λ d. d ≡ (made_by self.old change.now).deed) }
+        ensures refused { IfErr result (λ r. r ≡ Refusal.OutOfMemory) }
+        ensures err { OnErr result (self.new ≡ self.old) }
+    {
         match change {
             Change::Join(contacts) => {
-                self.do_join(contacts);
+                self.do_join(*contacts);
                 Ok(Deed::quiet())
             }
-            Change::Call(op) => self.do_call(op),
+            Change::Call(op) => self.do_call(op.clone()?),
             Change::Send(_) => Ok(Deed::quiet()),
             Change::Deliver(letter) => {
-                self.do_hear(&letter)?;
+                self.do_hear(letter)?;
                 Ok(Deed::quiet())
             }
-            Change::Advance(id) => self.do_advance(id),
+            Change::Advance(id) => self.do_advance(*id),
             Change::Again(id) => {
-                self.do_again(id);
+                self.do_again(*id);
                 Ok(Deed::quiet())
             }
             Change::Stop => {

@@ -15,7 +15,7 @@ use Rattle.rambo_sequence.specs.declared.mark.Mark.{Mark}
 use Rattle.rambo_run.specs.Steps.{turn_at, with_letter, with_event, with_mark, effect_in}
 use Rattle.rambo_world.specs.Kept.{KeptNode, SentState, states_of, whole_letters, moved, moved_in, state_at}
 use Rattle.rambo_world.specs.Worlds.{sends}
-use Rattle.rambo_world.proofs.Turns.{world_of}
+use Rattle.rambo_world.specs.Deliveries.{world_of}
 
 module _ {Q : Type 0} (x : NodeState Q) where
   stage_quiet : (id : CallId) (c : CallState Q) (stage : Stage) → (stage_met x id c stage).letter ≡ None

@@ -27,7 +27,8 @@ use Rattle.rambo_world.proofs.Growth.{some_is}
 use Rattle.rambo_world.proofs.Merging.{merge_told, merged_told}
 use Rattle.rambo_world.proofs.Delivering.{letter_at-sent, causes_with, heard_alike, heard_registers, raised_same, raised_other, own_place, place_below}
 use Rattle.rambo_world.proofs.Stepping.{told_stays}
-use Rattle.rambo_world.proofs.Turns.{world_of, step_turn}
+use Rattle.rambo_world.proofs.Turns.{step_turn}
+use Rattle.rambo_world.specs.Deliveries.{world_of}
 
 module _ {Q : Type 0} (ks : List (KeptNode Q)) (ss : List (SentState Q)) (h : List Event) (ms : List Mark) (number : ℕ) where
   pub sent_letter : (m : SentState Q) → sent_at ss number ≡ Some m → letter_at (whole_letters ks ss) number ≡ Some (whole_letter ks m)

@@ -1,5 +1,8 @@
 -- The logs of nodes: what a change puts into a log, and what stays of logs, letters and counts as logs grow
 use Rattle.std.proofs.Common.{◌≡◌, ◌≢◌, ℕ, ◌+◌, ◌<◌, true, false, List, [], ◌∷◌, ◌++◌, Option, Some, None, refl, sym, ap, ◌∙◌, inl, arith}
+use Rattle.std.proofs.Common.{append-nil}
+use Rattle.std.proofs.lemmas.Bool.{false≢true, true≢false}
+use Rattle.std.specs.Option.{is_some}
 use Rattle.rambo_names.specs.Quorums.{QuorumSystem}
 use Rattle.std.specs.Prelude.{if◌then◌else◌}
 use Rattle.std.specs.FinMap as copies
@@ -18,6 +21,9 @@ use Rattle.rambo_atomic.specs.declared.operation.Op.TheVariants as op
 use Rattle.rambo_gossip.specs.declared.letter.Letter.{Letter}
 use Rattle.rambo_gossip.specs.declared.letter.Kind.{Kind}
 use Rattle.rambo_gossip.specs.declared.letter.Kind.TheVariants as kind
+use Rattle.rambo_gossip.specs.declared.outline.GossipOutline.{GossipOutline}
+use Rattle.rambo_gossip.specs.Letters.{kind_with}
+use Rattle.rambo_gossip.specs.Outlines.{outlined}
 use Rattle.rambo_node.specs.declared.change.Change.{Change}
 use Rattle.rambo_node.specs.declared.change.Change.TheVariants as change
 use Rattle.rambo_node.specs.declared.stage.Stage.{Stage}
@@ -152,3 +158,19 @@ none_brought (change.Deliver l) other = absurd (other l refl)
 none_brought (change.Advance id) other = refl
 none_brought (change.Again id) other = refl
 none_brought change.Stop other = refl
+
+-- a letter that is told by its outline brings the copies that it is given, if it gossips
+pub told_copies : {Q : Type 0} (o : Option (GossipOutline Q)) (k : Kind Q) (c : Copies) → outlined o ≡ k → is_some o ≡ true → copies_in (kind_with k c) ≡ c
+told_copies None k c e gossips = absurd (false≢true gossips)
+told_copies (Some g) k c e gossips = ap (λ k. copies_in (kind_with k c)) (sym e)
+
+pub untold_copies : {Q : Type 0} (o : Option (GossipOutline Q)) (k : Kind Q) (c : Copies) → outlined o ≡ k → is_some o ≡ false → copies_in (kind_with k c) ≡ copies.empty
+untold_copies None k c e joins = ap (λ k. copies_in (kind_with k c)) (sym e)
+untold_copies (Some g) k c e joins = absurd (true≢false joins)
+
+-- what is logged with a letter
+pub heard_recorded : {Q : Type 0} (x : NodeState Q) (log more : List KeyedVersion) (l : Letter Q)
+    → x.registers ≡ greatest_of log → joined x.registers (greatest_of more) ≡ joined x.registers (copies_in l.kind)
+    → (made_by x (change.Deliver l)).node.registers ≡ greatest_of (log ++ more)
+unfolding made_by
+heard_recorded x log more l recorded brought = made_recorded x log more (change.Deliver l) recorded brought ∙ ap (λ m. greatest_of (log ++ m)) (append-nil more)

@@ -22,7 +22,8 @@ use Rattle.rambo_run.specs.declared.step.Step.TheVariants as step
 use Rattle.rambo_run.specs.Steps.{turn, turn_at}
 use Rattle.rambo_world.specs.Kept.{KeptNode, SentState, states_of, whole_letter, whole_letters, log_in, log_at, kept_at, state_at, outline, IsRecorded, IsSent, IsKept}
 use Rattle.rambo_world.proofs.Growth.{some_is}
-use Rattle.rambo_world.proofs.Turns.{world_of, step_turn}
+use Rattle.rambo_world.proofs.Turns.{step_turn}
+use Rattle.rambo_world.specs.Deliveries.{world_of}
 
 -- the name of a node
 pub name_of : {Q : Type 0} (ks : List (KeptNode Q)) (n : ℕ) (k : KeptNode Q) → k.state.name ≡ n - 1 + 1 → 1 ≤ n → k.state.name ≡ n

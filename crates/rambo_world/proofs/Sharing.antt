@@ -1,16 +1,12 @@
 -- Letters as they are kept, when maps are added
 use Rattle.std.proofs.Common.{◌≡◌, ℕ, zero, suc, ◌<◌, ◌≤◌, List, [], ◌∷◌, ◌++◌, map, length, Option, None, Some, slice_get, refl, sym, ap, ◌∙◌, arith}
-use Rattle.std.specs.FinMap as copies
 use Rattle.std.specs.Option.{option_map}
 use Rattle.std.proofs.lemmas.List.{length-append, map-append}
 use Rattle.rambo_config_map.specs.Maps.{MapState}
-use Rattle.rambo_gossip.specs.declared.letter.Kind.{Kind}
 use Rattle.rambo_gossip.specs.declared.letter.Kind.TheVariants as kind
-use Rattle.rambo_gossip.specs.Letters.{kind_with}
-use Rattle.rambo_node.specs.Letters.{letter_for}
 use Rattle.rambo_world.specs.declared.sent.Sent.{Sent}
 use Rattle.rambo_world.specs.declared.sent.SentGossip.{SentGossip}
-use Rattle.rambo_world.specs.Kept.{KeptNode, SentState, bare, kind_of, outline}
+use Rattle.rambo_world.specs.Kept.{SentState, kind_of}
 use Rattle.rambo_world.specs.Shared.{gossip_with, gossip_in, sent_in, IsHeld, AreHeld}
 
 pub get_before : {X : Type 0} (xs more : List X) (i : ℕ) → i < length xs → slice_get (xs ++ more) i ≡ slice_get xs i
@@ -55,14 +51,3 @@ read_found maps o g m e found = sym (ap (λ o. kind_of (gossip_in maps o)) e ∙
 
 pub read_none : {Q : Type 0} (maps : List (MapState Q)) (o : Option SentGossip) (g : SentGossip) → o ≡ Some g → slice_get maps g.map ≡ None → kind.Join ≡ kind_of (gossip_in maps o)
 read_none maps o g e found = sym (ap (λ o. kind_of (gossip_in maps o)) e ∙ ap (λ m. kind_of (option_map (gossip_with g) m)) found)
-
--- a letter without copies loses none
-kind_bare : {Q : Type 0} (k : Kind Q) → kind_with (kind_with k copies.empty) copies.empty ≡ kind_with k copies.empty
-kind_bare kind.Join = refl
-kind_bare (kind.Gossip g) = refl
-
-pub outline_bare : {Q : Type 0} (k : KeptNode Q) (to : ℕ) → bare (outline k to) ≡ outline k to
-outline_bare k to = λ i. record (outline k to) { letter = record (letter_for k.state to) { kind = kind_bare (letter_for k.state to).kind i } }
-
-pub bare_same : {Q : Type 0} (s : SentState Q) (k : KeptNode Q) (to : ℕ) → s ≡ outline k to → bare s ≡ s
-bare_same s k to e = ap bare e ∙ outline_bare k to ∙ sym e

@@ -18,7 +18,7 @@ use Rattle.rambo_run.specs.Runs.{maps_of}
 use Rattle.rambo_run.specs.Worlds.{first_nodes, first_world}
 use Rattle.rambo_world.specs.Kept.{KeptNode, SentState, state_of, states_of, whole_letters, log_at, merged_at, fresh_nodes, IsRecorded, HasMerged, IsKept}
 use Rattle.rambo_world.proofs.Growth.{some_is}
-use Rattle.rambo_world.proofs.Turns.{world_of}
+use Rattle.rambo_world.specs.Deliveries.{world_of}
 
 -- the map of one node more
 more_maps : {X : Type 0} (b : Bool) (m : X) (all bs cs : List X) → all ≡ bs ++ cs → (if b then all else m ∷ all) ≡ (if b then bs else m ∷ bs) ++ cs

@@ -49,10 +49,6 @@ pub kept_there : {Q : Type 0} (ks : List (KeptNode Q)) (n : ℕ) (x : NodeState 
 kept_there ks zero x e = absurd (false≢true (ap is_some e))
 kept_there ks (suc i) x e = kept_some (kept_at ks (suc i)) x (sym (state_at-kept ks (suc i) (omega arith)) ∙ e)
 
--- a world as it is kept
-abbrev pub world_of : {Q : Type 0} → List (KeptNode Q) → List (SentState Q) → List Event → List Mark → WorldState Q
-world_of ks ss h ms = record { nodes = states_of ks; letters = whole_letters ks ss; history = h; marks = ms }
-
 -- a step that means a change of a node
 module _ {Q : Type 0} (w : WorldState Q) (st : Step) (n : ℕ) (c : Change Q) (means : meant w st ≡ Some (record { name = n; change = c })) where
   pub step_turn : turn w st ≡ turn_at w n (node_at w n) c

@@ -28,10 +28,6 @@ pub record SentState (Q : Type 0) : Type 0 where
   pub letter : Letter Q
   pub told : ℕ
 
--- a letter without its copies
-abbrev pub bare : {Q : Type 0} → SentState Q → SentState Q
-bare s = record s { letter = letter_with s.letter copies.empty }
-
 -- what a letter says: what an active node knows, or that its sender wants to join
 abbrev pub kind_of : {Q : Type 0} → Option (Gossip Q) → Kind Q
 kind_of None = kind.Join

@@ -2,3 +2,4 @@ pub mod Kept
 pub mod Logging
 pub mod Shared
 pub mod Worlds
+pub mod Deliveries

@@ -1,17 +1,20 @@
 //! Letters are sent and delivered.
 ghost use Rattle.std.specs.Prelude.{◌≡◌, None, Some, OnOk, OnErr, IfOk, IfErr};
 ghost use Rattle.rambo_names.specs.Refusals.{least};
-ghost use Rattle.rambo_gossip.specs.Letters.{letter_with};
 ghost use Rattle.rambo_run.specs.Worlds.{letter_at};
 ghost use Rattle.rambo_run.specs.Steps.{causes_of, delivery, refusal, turn};
 ghost use Rattle.rambo_run.specs.declared.step.Step.TheVariants as step;
+ghost use Rattle.rambo_world.specs.Kept.{IsKept};
+ghost use Rattle.rambo_world.specs.Deliveries.{MayHear, IsDelivered};
 
+use crate::letters::Letters;
+use crate::merged_counts::MergedCounts;
+use crate::nodes::Nodes;
 use crate::outline::Outline;
 use crate::state::State;
-use rambo_gossip::{Gossip, Kind, Letter};
 use rambo_names::{Name, Quorums, Refusal};
-use rambo_node::{Change, Effect};
-use rambo_tag::{Pack, Replica};
+use rambo_node::Effect;
+use rambo_tag::Replica;
 
 impl<Q: Quorums, S: Replica> State<Q, S> {
     // Whether the letter of a number may come to its addressee.
@@ -32,54 +35,45 @@ impl<Q: Quorums, S: Replica> State<Q, S> {
         ensures err { OnErr result (self.new ≡ self.old) }
         ensures refused { IfErr result (λ r. r ≡ Refusal.OutOfMemory) }
     {
-        let sent = self.nodes.outline(from, to)?;
-        self.letters.push(sent)?;
+        self.letters.push(&self.nodes.outline(from, to))?;
         Ok(Effect::Sent(self.letters.len() as u64))
     }
 
-    // The letter of a number comes to its addressee, which hears of its sender's log what it hasn't merged before.
+    // The letter of a number comes to its addressee.
     pub(crate) fn deliver(&mut self, number: u64) -> Result<Effect, Refusal>
         requires accepted { refusal Q.system self.old (step.Deliver number) ≡ None }
         ensures ok { IfOk result (λ e. turn self.old (step.Deliver number) ≡ record { world = self.new; effect = e }) }
         ensures err { OnErr result (self.new ≡ self.old) }
         ensures refused { IfErr result (λ r. r ≡ Refusal.OutOfMemory) }
     {
-        let sent = match self.letters.get(number) {
-            Some(sent) => sent,
-            None => return Ok(Effect::Done),
-        };
-        let Outline { letter, told } = sent;
-        let (from, to) = (letter.sender, letter.addressee);
-        let merged = self.merged.of(to, from);
-        let copies = self.nodes.lacking(to, from, merged, merged.max(told))?;
-        self.nodes.take(to, Change::Deliver(with_copies(letter, Pack::new(copies))))?;
-        self.merged.raise(to, from, told);
+        hear(&mut self.nodes, &self.letters, &mut self.merged, number)?;
         Ok(Effect::Done)
     }
 }
 
-// A letter with these copies in place of its own.
-fn with_copies<Q: Quorums>(letter: Letter<Q>, copies: Pack) -> Letter<Q>
-    ensures { result ≡ letter_with letter copies }
+// The addressee of the letter of a number, if it was sent, hears it: of its sender's log what it hasn't merged before.
+fn hear<Q: Quorums, S: Replica>(
+    nodes: &mut Nodes<Q, S>,
+    letters: &Letters<Q>,
+    merged: &mut MergedCounts,
+    number: u64,
+) -> Result<(), Refusal>
+    requires accepted { MayHear Q.system nodes.old letters.now number }
+    requires kept { IsKept nodes.old letters.now merged.old }
+    ensures kept { IsKept nodes.new letters.now merged.new }
+    ensures ok { OnOk result (IsDelivered nodes.old nodes.new letters.now number) }
+    ensures err { OnErr result (nodes.new ≡ nodes.old) }
+    ensures refused { IfErr result (λ r. r ≡ Refusal.OutOfMemory) }
 {
-    let Letter {
-        sender,
-        addressee,
-        kind,
-    } = letter;
-    let kind = match kind {
-        Kind::Join => Kind::Join,
-        Kind::Gossip(gossip) => Kind::Gossip(Gossip {
-            known: gossip.known,
-            copies,
-            map: gossip.map,
-            number: gossip.number,
-            heard: gossip.heard,
-        }),
+    let sent = match letters.get(number) {
+        Some(sent) => sent,
+        None => return Ok(()),
     };
-    Letter {
-        sender,
-        addressee,
-        kind,
-    }
+    let Outline { letter, told } = sent;
+    let (from, to) = (letter.sender, letter.addressee);
+    let before = merged.of(to, from);
+    let copies = nodes.lacking(to, from, before, before.max(told))?;
+    nodes.hear(&letter, copies)?;
+    merged.raise(to, from, told);
+    Ok(())
 }

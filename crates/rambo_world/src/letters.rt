@@ -1,17 +1,15 @@
 //! All letters that were ever sent.
 ghost use Rattle.std.specs.Prelude.{◌≡◌, ◌++◌, ◌∷◌, [], List, Some, length, slice_get, OnOk, OnErr, IfErr, IfOk};
-ghost use Rattle.std.specs.FinMap as copies;
 ghost use Rattle.rambo_config_map.specs.Maps.{MapState};
-ghost use Rattle.rambo_gossip.specs.Letters.{kind_with};
-ghost use Rattle.rambo_world.specs.Kept.{bare, kind_of, sent_at};
+ghost use Rattle.rambo_gossip.specs.Outlines.{outlined};
+ghost use Rattle.rambo_world.specs.Kept.{kind_of, sent_at};
 ghost use Rattle.rambo_world.specs.Shared.{gossip_in, sent_in, IsHeld};
 
 use crate::outline::Outline;
 use crate::sent::{Sent, SentGossip};
 use rambo_config_map::ConfigMap;
-use rambo_gossip::{Gossip, Kind, Letter};
+use rambo_gossip::{GossipOutline, LetterOutline};
 use rambo_names::{Quorums, Refusal};
-use rambo_tag::Pack;
 use std::alloc::Global;
 use std::marker::Model;
 
@@ -20,9 +18,8 @@ use std::marker::Model;
 pub(crate) struct Letters<Q: Quorums> {
     list: Vec<Sent>,
     maps: Vec<ConfigMap<Q>>,
-    // Never filled: they tell the prover that a map and a letter have a size, which it doesn't see behind a `Vec`.
-    spare_map: Option<ConfigMap<Q>>,
-    spare: Option<Outline<Q>>,
+    // Never filled: it tells the prover that a map has a size, which it doesn't see behind a `Vec`.
+    spare: Option<ConfigMap<Q>>,
 }
 
 impl<Q: Quorums> Model for Letters<Q> {
@@ -49,7 +46,6 @@ impl<Q: Quorums> Letters<Q> {
         Letters {
             list: Vec::new(alloc),
             maps: Vec::new(alloc),
-            spare_map: None,
             spare: None,
         }
     }
@@ -61,7 +57,7 @@ impl<Q: Quorums> Letters<Q> {
     }
 
     // The letter of a number, if it was sent. It takes no memory.
-    pub(crate) fn get(&self, number: u64) -> Option<Outline<Q>>
+    pub(crate) fn get(&self, number: u64) -> Option<Outline<'_, Q>>
         ensures { result ≡ sent_at self.now number }
     {
         if number == 0 {
@@ -71,28 +67,21 @@ impl<Q: Quorums> Letters<Q> {
         if place >= self.list.len() {
             return None;
         }
-        let alloc = *self.list.allocator();
-        Some(read(alloc, self.maps.as_slice(), self.list[place]))
+        Some(read(self.maps.as_slice(), self.list[place]))
     }
 
-    // Keeps a letter, without its copies.
-    pub(crate) fn push(&mut self, outline: Outline<Q>) -> Result<(), Refusal>
-        ensures ok { OnOk result (self.new ≡ self.old ++ bare outline ∷ []) }
+    // Keeps a letter.
+    pub(crate) fn push(&mut self, outline: &Outline<'_, Q>) -> Result<(), Refusal>
+        ensures ok { OnOk result (self.new ≡ self.old ++ outline.now ∷ []) }
         ensures err { OnErr result (self.new ≡ self.old) }
         ensures refused { IfErr result (λ r. r ≡ Refusal.OutOfMemory) }
     {
         self.list.reserve(1)?;
-        let Outline { letter, told } = outline;
-        let Letter {
-            sender,
-            addressee,
-            kind,
-        } = letter;
-        let gossip = keep(&mut self.maps, kind)?;
+        let gossip = keep(&mut self.maps, &outline.letter.gossip)?;
         self.list.push_reserved(Sent {
-            sender,
-            addressee,
-            told,
+            sender: outline.letter.sender,
+            addressee: outline.letter.addressee,
+            told: outline.told,
             gossip,
         });
         Ok(())
@@ -100,89 +89,67 @@ impl<Q: Quorums> Letters<Q> {
 }
 
 // A letter that is kept.
-fn read<Q: Quorums>(alloc: Global, maps: &[ConfigMap<Q>], sent: Sent) -> Outline<Q>
+fn read<Q: Quorums>(maps: &[ConfigMap<Q>], sent: Sent) -> Outline<'_, Q>
     ensures { result ≡ sent_in maps.now sent }
 {
-    let Sent {
-        sender,
-        addressee,
-        told,
-        gossip,
-    } = sent;
     Outline {
-        letter: Letter {
-            sender,
-            addressee,
-            kind: read_kind(alloc, maps, gossip),
+        letter: LetterOutline {
+            sender: sent.sender,
+            addressee: sent.addressee,
+            gossip: read_gossip(maps, sent.gossip),
         },
-        told,
+        told: sent.told,
     }
 }
 
 // What a letter that is kept says.
-fn read_kind<Q: Quorums>(
-    alloc: Global,
+fn read_gossip<Q: Quorums>(
     maps: &[ConfigMap<Q>],
     gossip: Option<SentGossip>,
-) -> Kind<Q>
-    ensures { result ≡ kind_of (gossip_in maps.now gossip) }
+) -> Option<GossipOutline<'_, Q>>
+    ensures { outlined result ≡ kind_of (gossip_in maps.now gossip) }
 {
-    let Some(gossip) = gossip else {
-        return Kind::Join;
-    };
-    match maps.get(gossip.map) {
-        Some(map) => Kind::Gossip(Gossip {
-            known: gossip.known,
-            copies: Pack::new(Vec::new(alloc)),
-            map: map.copy(),
-            number: gossip.number,
-            heard: gossip.heard,
-        }),
-        None => Kind::Join,
-    }
+    let gossip = gossip?;
+    let map = maps.get(gossip.map)?;
+    Some(GossipOutline {
+        known: gossip.known,
+        map,
+        number: gossip.number,
+        heard: gossip.heard,
+    })
 }
 
 // What a letter says, as it is kept.
 fn keep<Q: Quorums>(
     maps: &mut Vec<ConfigMap<Q>>,
-    kind: Kind<Q>,
+    gossip: &Option<GossipOutline<'_, Q>>,
 ) -> Result<Option<SentGossip>, Refusal>
-    ensures kept { IfOk result (λ g. kind_of (gossip_in maps.new.items g) ≡ kind_with kind copies.empty) }
+    ensures kept { IfOk result (λ g. kind_of (gossip_in maps.new.items g) ≡ outlined gossip.now) }
     ensures held { IfOk result (IsHeld (length maps.new.items)) }
     ensures grows { (more : List (MapState _)) × (maps.new.items ≡ maps.old.items ++ more) }
     ensures refused { IfErr result (λ r. r ≡ Refusal.OutOfMemory) }
 {
-    match kind {
-        Kind::Join => Ok(None),
-        Kind::Gossip(gossip) => {
-            let Gossip {
-                known,
-                copies: _,
-                map,
-                number,
-                heard,
-            } = gossip;
-            let map = shared(maps, map)?;
-            Ok(Some(SentGossip {
-                known,
-                map,
-                number,
-                heard,
-            }))
-        }
+    match gossip {
+        None => Ok(None),
+        Some(gossip) => Ok(Some(SentGossip {
+            known: gossip.known,
+            map: shared(maps, gossip.map)?,
+            number: gossip.number,
+            heard: gossip.heard,
+        })),
     }
 }
 
 // The place of a map: the last one where that is the same, and else a new one.
-fn shared<Q: Quorums>(maps: &mut Vec<ConfigMap<Q>>, map: ConfigMap<Q>) -> Result<usize, Refusal>
-    ensures at { IfOk result (λ place. slice_get maps.new.items place ≡ Some map) }
+fn shared<Q: Quorums>(maps: &mut Vec<ConfigMap<Q>>, map: &ConfigMap<Q>) -> Result<usize, Refusal>
+    ensures at { IfOk result (λ place. slice_get maps.new.items place ≡ Some map.now) }
     ensures grows { (more : List (MapState _)) × (maps.new.items ≡ maps.old.items ++ more) }
     ensures refused { IfErr result (λ r. r ≡ Refusal.OutOfMemory) }
 {
     let count = maps.len();
-    if count > 0 && maps[count - 1].same(&map) {
+    if count > 0 && maps[count - 1].same(map) {
         return Ok(count - 1);
     }
-    maps.push(map)?;
+    maps.push(map.copy())?;
     Ok(count)
 }

@@ -1,25 +1,27 @@
 //! Nodes with logs.
-ghost use Rattle.std.specs.Prelude.{◌≡◌, ◌+◌, ◌≤◌, ◌++◌, None, Some, [], OnOk, OnErr, IfOk, IfErr, IsOk};
+ghost use Rattle.std.specs.Prelude.{◌≡◌, ◌+◌, ◌≤◌, ◌++◌, None, Some, [], OnOk, OnErr, IfOk, IfErr};
 ghost use Rattle.std.specs.Option.{option_copied};
 ghost use Rattle.std.specs.Vec.{vec_len, vec_capacity};
-ghost use Rattle.rambo_names.specs.Refusals.{least, IsRefusal};
+ghost use Rattle.rambo_names.specs.Refusals.{least};
 ghost use Rattle.rambo_tag.specs.Tags.{is_newer};
 ghost use Rattle.rambo_tag.specs.Copies.{joined};
 ghost use Rattle.rambo_tag.specs.Logs.{greatest_of};
 ghost use Rattle.rambo_node.specs.Nodes.{first_node};
 ghost use Rattle.rambo_node.specs.Refusals.{hear_causes, call_causes};
+ghost use Rattle.rambo_gossip.specs.Letters.{letter_with};
 ghost use Rattle.rambo_node.specs.Changes.{refusal_of, made_by};
+ghost use Rattle.rambo_node.specs.declared.change.Change.TheVariants as change;
 ghost use Rattle.rambo_world.specs.Kept.{Grows, outline};
 ghost use Rattle.rambo_world.specs.Logging.{copies_brought, listed};
 
 use crate::outline::Outline;
 use rambo_atomic::Op;
 use rambo_config_map::ConfigMap;
-use rambo_gossip::{Kind, Letter};
+use rambo_gossip::{Kind, LetterOutline};
 use rambo_joiner::Status;
 use rambo_names::{Name, Quorums, Refusal};
 use rambo_node::{Change, Deed, Node};
-use rambo_tag::{KeyedVersion, Replica, Version};
+use rambo_tag::{KeyedVersion, Pack, Replica, Version};
 use std::alloc::Global;
 use std::marker::Model;
 
@@ -68,11 +70,11 @@ impl<Q: Quorums, S: Replica> LoggedNode<Q, S> {
     }
 
     // Why a letter is refused, if it is.
-    pub(crate) fn may_hear(&self, letter: &Letter<Q>) -> Result<(), Refusal>
+    pub(crate) fn may_hear(&self, letter: &LetterOutline<'_, Q>) -> Result<(), Refusal>
         ensures ok { OnOk result (least (hear_causes self.now.state letter.now.kind) ≡ None) }
         ensures refused { IfErr result (λ r. least (hear_causes self.now.state letter.now.kind) ≡ Some r) }
     {
-        self.node.may_hear(letter)
+        self.node.may_hear_outlined(letter)
     }
 
     // Why a client may not ask this, if it may not.
@@ -83,24 +85,24 @@ impl<Q: Quorums, S: Replica> LoggedNode<Q, S> {
         self.node.may_call(op)
     }
 
-    // Takes a change, and logs the copies that its registers take on. The deed is told without the copy.
-    pub(crate) fn take(&mut self, change: Change<Q>) -> Result<Deed, Refusal>
-        ensures judged { OnOk result (refusal_of Q.system self.old.state change ≡ None) }
-        ensures node { OnOk result (self.new.state ≡ (made_by self.old.state change).node) }
-        ensures deed { IfOk result (λ d. (d.effect ≡ (made_by self.old.state change).deed.effect) × (d.event ≡ (made_by self.old.state change).deed.event) × (d.mark ≡ (made_by self.old.state change).deed.mark)) }
-        ensures refused { IfErr result (IsRefusal (refusal_of Q.system self.old.state change)) }
+    // Takes a change that isn't refused, and logs the copies that its registers take on. The deed is told without the
+    // copy.
+    pub(crate) fn act(&mut self, change: &Change<Q>) -> Result<Deed, Refusal>
+        requires { refusal_of Q.system self.old.state change.now ≡ None }
+        ensures node { OnOk result (self.new.state ≡ (made_by self.old.state change.now).node) }
+        ensures deed { IfOk result (λ d. (d.effect ≡ (made_by self.old.state change.now).deed.effect) × (d.event ≡ (made_by self.old.state change.now).deed.event) × (d.mark ≡ (made_by self.old.state change.now).deed.mark)) }
+        ensures refused { IfErr result (λ r. r ≡ Refusal.OutOfMemory) }
         ensures err { OnErr result (self.new ≡ self.old) }
         ensures grows { Grows self.old self.new }
     {
-        self.node.judge(&change)?;
-        let more = lacking_of(&self.node, *self.log.allocator(), &change)?;
+        let more = lacking_of(&self.node, *self.log.allocator(), change)?;
         self.log.reserve(more.len() + 1)?;
         let Deed {
             effect,
             event,
             mark,
             copy,
-        } = self.node.take(change)?;
+        } = self.node.act(change)?;
         log_all(&mut self.log, more, copy);
         Ok(Deed {
             effect,
@@ -108,6 +110,27 @@ impl<Q: Quorums, S: Replica> LoggedNode<Q, S> {
             mark,
             copy: None,
         })
+    }
+
+    // Hears a letter that isn't refused, which has these copies, and logs them.
+    pub(crate) fn hear(
+        &mut self,
+        letter: &LetterOutline<'_, Q>,
+        copies: Vec<KeyedVersion>,
+    ) -> Result<(), Refusal>
+        requires { refusal_of Q.system self.old.state (change.Deliver letter.now) ≡ None }
+        ensures node { OnOk result (self.new.state ≡ (made_by self.old.state (change.Deliver (letter_with letter.now (greatest_of copies.items)))).node) }
+        ensures refused { IfErr result (λ r. r ≡ Refusal.OutOfMemory) }
+        ensures err { OnErr result (self.new ≡ self.old) }
+        ensures grows { Grows self.old self.new }
+    {
+        self.log.reserve(copies.len() + 1)?;
+        let pack = Pack::new(copy_of(&copies)?);
+        self.node.hear_outlined(letter, &pack)?;
+        if letter.gossip.is_some() {
+            log_all(&mut self.log, copies, None);
+        }
+        Ok(())
     }
 
     // Those of some copies that it lacks: it makes the same of them as of all.
@@ -119,19 +142,18 @@ impl<Q: Quorums, S: Replica> LoggedNode<Q, S> {
     }
 
     // The letter of the node to another, as it is kept: a joining node tells of no copy.
-    pub(crate) fn outline_for(&self, to: Name) -> Result<Outline<Q>, Refusal>
-        ensures sent { IfOk result (λ s. s ≡ outline self.now to) }
-        ensures succeeds { IsOk result }
+    pub(crate) fn outline_for(&self, to: Name) -> Outline<'_, Q>
+        ensures { result ≡ outline self.now to }
     {
         let told = if self.node.status().is_active() {
             self.log.len()
         } else {
             0
         };
-        Ok(Outline {
-            letter: self.node.outline_for(to)?,
+        Outline {
+            letter: self.node.outline_for(to),
             told,
-        })
+        }
     }
 
     // The log, the oldest copies first.
@@ -161,6 +183,14 @@ impl<Q: Quorums, S: Replica> LoggedNode<Q, S> {
     {
         self.node.status()
     }
+}
+
+// The same copies once more.
+fn copy_of(copies: &Vec<KeyedVersion>) -> Result<Vec<KeyedVersion>, Refusal>
+    ensures same { IfOk result (λ more. more.items ≡ copies.now.items) }
+    ensures refused { IfErr result (λ r. r ≡ Refusal.OutOfMemory) }
+{
+    Ok(copies.clone()?)
 }
 
 // Puts copies and one more at the end of a log that has room for them.

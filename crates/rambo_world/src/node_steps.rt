@@ -16,17 +16,17 @@ use rambo_tag::Replica;
 
 impl<Q: Quorums, S: Replica> State<Q, S> {
     // A node takes a change that isn't refused and that sends no letter.
-    pub(crate) fn change(&mut self, name: Name, change: Change<Q>) -> Result<Effect, Refusal>
-        requires accepted { least (causes_at Q.system (node_at self.old name) change) ≡ None }
-        requires fits { EventFits self.old name change }
-        requires quiet { sends change ≡ false }
-        ensures ok { IfOk result (λ e. turn_at self.old name (node_at self.old name) change ≡ record { world = self.new; effect = e }) }
+    pub(crate) fn change(&mut self, name: Name, change: &Change<Q>) -> Result<Effect, Refusal>
+        requires accepted { least (causes_at Q.system (node_at self.old name) change.now) ≡ None }
+        requires fits { EventFits self.old name change.now }
+        requires quiet { sends change.now ≡ false }
+        ensures ok { IfOk result (λ e. turn_at self.old name (node_at self.old name) change.now ≡ record { world = self.new; effect = e }) }
         ensures err { OnErr result (self.new ≡ self.old) }
         ensures refused { IfErr result (λ r. r ≡ Refusal.OutOfMemory) }
     {
         self.history.reserve(1)?;
         self.marks.reserve(1)?;
-        let deed = self.nodes.take(name, change)?;
+        let deed = self.nodes.act(name, change)?;
         let Deed {
             effect,
             event,

@@ -4,6 +4,7 @@ ghost use Rattle.rambo_names.specs.Names.{IsName, rising};
 ghost use Rattle.rambo_names.specs.Refusals.{least};
 ghost use Rattle.rambo_tag.specs.Copies.{joined};
 ghost use Rattle.rambo_tag.specs.Logs.{greatest_of};
+ghost use Rattle.rambo_gossip.specs.Letters.{letter_with};
 ghost use Rattle.rambo_node.specs.Changes.{made_by};
 ghost use Rattle.rambo_node.specs.Nodes.{NodeState};
 ghost use Rattle.rambo_run.specs.Runs.{maps_of};
@@ -14,7 +15,7 @@ use crate::logged_node::LoggedNode;
 use crate::outline::Outline;
 use rambo_atomic::Op;
 use rambo_config_map::{ConfigMap, Places};
-use rambo_gossip::Letter;
+use rambo_gossip::LetterOutline;
 use rambo_names::{Name, Quorums, Refusal};
 use rambo_node::{Change, Deed};
 use rambo_run::NodeMap;
@@ -94,22 +95,38 @@ impl<Q: Quorums, S: Replica> Nodes<Q, S> {
     }
 
     // Whether a letter may come to its addressee.
-    pub(crate) fn may_hear(&self, letter: &Letter<Q>) -> Result<(), Refusal>
+    pub(crate) fn may_hear(&self, letter: &LetterOutline<'_, Q>) -> Result<(), Refusal>
         ensures ok { OnOk result (least (causes_at Q.system (state_at self.now letter.now.addressee) (Change.Deliver letter.now)) ≡ None) }
         ensures refused { IfErr result (λ r. least (causes_at Q.system (state_at self.now letter.now.addressee) (Change.Deliver letter.now)) ≡ Some r) }
     {
         self.list[place_of(letter.addressee)].may_hear(letter)
     }
 
-    // A node takes a change.
-    pub(crate) fn take(&mut self, name: Name, change: Change<Q>) -> Result<Deed, Refusal>
-        ensures nodes { OnOk result (states_of self.new ≡ moved self.old name (λ x. (made_by x change).node)) }
-        ensures deed { IfOk result (λ d. (x : NodeState Q) → state_at self.old name ≡ Some x → (d.effect ≡ (made_by x change).deed.effect) × (d.event ≡ (made_by x change).deed.event) × (d.mark ≡ (made_by x change).deed.mark)) }
-        ensures refused { least (causes_at Q.system (state_at self.old name) change) ≡ None → IfErr result (λ r. r ≡ Refusal.OutOfMemory) }
+    // A node takes a change that isn't refused.
+    pub(crate) fn act(&mut self, name: Name, change: &Change<Q>) -> Result<Deed, Refusal>
+        requires { least (causes_at Q.system (state_at self.old name) change.now) ≡ None }
+        ensures nodes { OnOk result (states_of self.new ≡ moved self.old name (λ x. (made_by x change.now).node)) }
+        ensures deed { IfOk result (λ d. (x : NodeState Q) → state_at self.old name ≡ Some x → (d.effect ≡ (made_by x change.now).deed.effect) × (d.event ≡ (made_by x change.now).deed.event) × (d.mark ≡ (made_by x change.now).deed.mark)) }
+        ensures refused { IfErr result (λ r. r ≡ Refusal.OutOfMemory) }
         ensures err { OnErr result (self.new ≡ self.old) }
         ensures grow { AllGrow self.old self.new }
     {
-        self.list[place_of(name)].take(change)
+        self.list[place_of(name)].act(change)
+    }
+
+    // The addressee of a letter that isn't refused hears it, with these copies.
+    pub(crate) fn hear(
+        &mut self,
+        letter: &LetterOutline<'_, Q>,
+        copies: Vec<KeyedVersion>,
+    ) -> Result<(), Refusal>
+        requires { least (causes_at Q.system (state_at self.old letter.now.addressee) (Change.Deliver letter.now)) ≡ None }
+        ensures nodes { OnOk result (states_of self.new ≡ moved self.old letter.now.addressee (λ x. (made_by x (Change.Deliver (letter_with letter.now (greatest_of copies.items)))).node)) }
+        ensures refused { IfErr result (λ r. r ≡ Refusal.OutOfMemory) }
+        ensures err { OnErr result (self.new ≡ self.old) }
+        ensures grow { AllGrow self.old self.new }
+    {
+        self.list[place_of(letter.addressee)].hear(letter, copies)
     }
 
     // Of the copies of one node's log from one place up to another, as far as there are any, those that another lacks:
@@ -129,10 +146,9 @@ impl<Q: Quorums, S: Replica> Nodes<Q, S> {
     }
 
     // The letter of a node to another, as it is kept.
-    pub(crate) fn outline(&self, from: Name, to: Name) -> Result<Outline<Q>, Refusal>
-        ensures sent { IfOk result (λ s. (k : KeptNode Q) → kept_at self.now from ≡ Some k → s ≡ outline k to) }
+    pub(crate) fn outline(&self, from: Name, to: Name) -> Outline<'_, Q>
+        ensures sent { (k : KeptNode Q) → kept_at self.now from ≡ Some k → result ≡ outline k to }
         ensures named { IsName from }
-        ensures refused { IfErr result (λ r. r ≡ Refusal.OutOfMemory) }
     {
         self.list[place_of(from)].outline_for(to)
     }

@@ -1,17 +1,17 @@
 //! A letter before it is kept.
 
-use rambo_gossip::Letter;
+use rambo_gossip::LetterOutline;
 use rambo_names::Quorums;
 use std::marker::Model;
 
 /// A letter with no copies in it: those that it tells of are the first so many of its sender's log.
 #[derive(Drop)]
-pub(crate) struct Outline<Q: Quorums> {
-    pub(crate) letter: Letter<Q>,
+pub(crate) struct Outline<'a, Q: Quorums> {
+    pub(crate) letter: LetterOutline<'a, Q>,
     pub(crate) told: usize,
 }
 
-impl<Q: Quorums> Model for Outline<Q> {
+impl<'a, Q: Quorums> Model for Outline<'a, Q> {
     ghost use Rattle.std.specs.Coded.{codes};
     ghost use Rattle.rambo_names.specs.Names.{names_code};
     ghost use Rattle.rambo_tag.specs.Copies.{copies_code};

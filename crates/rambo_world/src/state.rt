@@ -94,13 +94,13 @@ impl<Q: Quorums, S: Replica> State<Q, S> {
         ensures refused { IfErr result (λ r. r ≡ Refusal.OutOfMemory) }
     {
         match step {
-            Step::Join(name, contacts) => self.change(*name, Change::Join(*contacts)),
-            Step::Call(name, op) => self.change(*name, Change::Call(op.clone()?)),
+            Step::Join(name, contacts) => self.change(*name, &Change::Join(*contacts)),
+            Step::Call(name, op) => self.change(*name, &Change::Call(op.clone()?)),
             Step::Send(from, to) => self.send(*from, *to),
             Step::Deliver(number) => self.deliver(*number),
-            Step::Advance(id) => self.change(id.name, Change::Advance(*id)),
-            Step::Again(id) => self.change(id.name, Change::Again(*id)),
-            Step::Stop(name) => self.change(*name, Change::Stop),
+            Step::Advance(id) => self.change(id.name, &Change::Advance(*id)),
+            Step::Again(id) => self.change(id.name, &Change::Again(*id)),
+            Step::Stop(name) => self.change(*name, &Change::Stop),
         }
     }
 

@@ -8,5 +8,5 @@ returns-in_err-push-clause-grows g c = ([], c.in_err-push.ensures.items ∙ sym 
 pub returns-clause-at : goal.returns-clause-at
 returns-clause-at g c =
     let old = c.args.maps.now.items in
-    ap (λ ms. slice_get ms c.len-count.result) c.in_ok-push.ensures.items
-    ∙ ap (slice_get (old ++ c.args.map ∷ [])) (c.len-count.ensures ∙ c.args.maps.now.ok.0) ∙ get_last old c.args.map
+    ap (λ ms. slice_get ms c.len-count.result) (c.in_ok-push.ensures.items ∙ ap (λ m. old ++ m ∷ []) c.copy.ensures)
+    ∙ ap (slice_get (old ++ c.args.map.now ∷ [])) (c.len-count.ensures ∙ c.args.maps.now.ok.0) ∙ get_last old c.args.map.now

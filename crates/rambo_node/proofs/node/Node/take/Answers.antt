@@ -1,53 +1,10 @@
-use Rattle.std.proofs.Common.{◌≡◌, None, IfOk, sym, ap, ◌∙◌, subst, rules}
+use Rattle.std.proofs.Common.{sym, subst}
 use Rattle.std.proofs.lemmas.Result.{on_ok_weaker, IfErr-weaker}
 use Rattle.rambo_names.specs.Refusals.{IsRefusal}
-use Rattle.rambo_node.specs.Changes.{refusal_of, made_by}
-use Rattle.rambo_node.specs.Nodes.{open_call}
-use Rattle.rambo_node.proofs.Advances.{quiet_again}
-use Rattle.rambo_node.proofs.Sizes.{deliver_fits}
 use Rattle.rambo_node.proofs.node.Node.take.Goals as goal
 
-pub do_hear-requires : goal.do_hear-requires
-do_hear-requires g c = (search rules, deliver_fits _ _ _ _ c.requires-raw.1.1.1)
+pub returns-clause-judged : goal.returns-clause-judged
+returns-clause-judged g c = on_ok_weaker c.act.result (λ _. c.in_ok-judge.ensures.ok) c.act.ensures.node
 
-pub do_call-requires : goal.do_call-requires
-do_call-requires g c = (search rules, subst (λ ch. refusal_of g.Q.Quorums.system c.args.self.now ch ≡ None) c.in-Call.is c.in_ok-judge.ensures.ok)
-
-pub do_advance-requires : goal.do_advance-requires
-do_advance-requires g c = (search rules, subst (λ ch. refusal_of g.Q.Quorums.system c.args.self.now ch ≡ None) c.in-Advance.is c.in_ok-judge.ensures.ok)
-
-pub do_again-requires : goal.do_again-requires
-do_again-requires g c = (search rules, subst (λ ch. refusal_of g.Q.Quorums.system c.args.self.now ch ≡ None) c.in-Again.is c.in_ok-judge.ensures.ok)
-
-pub returns-in-Call-clause-judged : goal.returns-in-Call-clause-judged
-returns-in-Call-clause-judged g c = on_ok_weaker c.do_call.result (λ _. c.in_ok-judge.ensures.ok) c.do_call.ensures.node
-
-pub returns-in-Call-clause-deed : goal.returns-in-Call-clause-deed
-returns-in-Call-clause-deed g c = subst (λ ch. IfOk c.do_call.result (λ d. d ≡ (made_by c.args.self.now ch).deed)) (sym c.in-Call.is) c.do_call.ensures.deed
-
-pub returns-in-Call-clause-refused : goal.returns-in-Call-clause-refused
-returns-in-Call-clause-refused g c =
-    IfErr-weaker c.do_call.result _ _ (λ r e. subst (λ o. IsRefusal o r) (sym c.in_ok-judge.ensures.ok) e) c.do_call.ensures.refused
-
-pub returns-in-Advance-clause-judged : goal.returns-in-Advance-clause-judged
-returns-in-Advance-clause-judged g c = on_ok_weaker c.do_advance.result (λ _. c.in_ok-judge.ensures.ok) c.do_advance.ensures.node
-
-pub returns-in-Advance-clause-deed : goal.returns-in-Advance-clause-deed
-returns-in-Advance-clause-deed g c = subst (λ ch. IfOk c.do_advance.result (λ d. d ≡ (made_by c.args.self.now ch).deed)) (sym c.in-Advance.is) c.do_advance.ensures.deed
-
-pub returns-in-Advance-clause-refused : goal.returns-in-Advance-clause-refused
-returns-in-Advance-clause-refused g c =
-    IfErr-weaker c.do_advance.result _ _ (λ r e. subst (λ o. IsRefusal o r) (sym c.in_ok-judge.ensures.ok) e) c.do_advance.ensures.refused
-
-pub returns-in_ok-do_hear-in-Deliver-clause-node : goal.returns-in_ok-do_hear-in-Deliver-clause-node
-unfolding made_by
-returns-in_ok-do_hear-in-Deliver-clause-node g c =
-    let x = c.args.self.now in
-    c.in_ok-do_hear-in-Deliver.ensures.ok (subst (λ ch. refusal_of g.Q.Quorums.system x ch ≡ None) c.in-Deliver.is c.in_ok-judge.ensures.ok)
-    ∙ sym (ap (λ ch. (made_by x ch).node) c.in-Deliver.is)
-
-pub returns-in-Again-clause-deed : goal.returns-in-Again-clause-deed
-unfolding made_by
-returns-in-Again-clause-deed g c =
-    let x = c.args.self.now in
-    c.quiet-in-Again.ensures ∙ quiet_again x (open_call x c.in-Again.id) ∙ sym (ap (λ ch. (made_by x ch).deed) c.in-Again.is)
+pub returns-clause-refused : goal.returns-clause-refused
+returns-clause-refused g c = IfErr-weaker c.act.result _ _ (λ r e. subst (λ o. IsRefusal o r) (sym c.in_ok-judge.ensures.ok) e) c.act.ensures.refused

@@ -3,14 +3,7 @@ use Rattle.std.specs.Option.{option_map}
 use Rattle.std.proofs.lemmas.Option.{slice_get_past, slice_get_read, slice_get-map}
 use Rattle.rambo_world.specs.Shared.{sent_in}
 use Rattle.rambo_world.proofs.Delivering.{sent_here}
-use Rattle.rambo_world.proofs.Sizes.{up_fits, back_fits, next, variant_fits}
 use Rattle.rambo_world.proofs.letters.Letters.get.Goals as goal
-
-pub read-requires : goal.read-requires
-read-requires g c = (
-  variant_fits _ _ _ _ (back_fits _ _ _ (next _ _ _ _ (up_fits _ _ _ c.requires-raw.1.0))),
-  variant_fits _ _ _ _ (back_fits _ _ _ (up_fits _ _ _ c.requires-raw.1.0)),
-)
 
 pub returns-then-place-len : goal.returns-then-place-len
 returns-then-place-len g c =

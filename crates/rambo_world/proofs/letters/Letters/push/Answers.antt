@@ -1,20 +1,12 @@
 use Rattle.std.proofs.Common.{◌∙◌, ◌++◌, map, length, slice_get, sym, ap, subst}
-use Rattle.rambo_world.specs.Kept.{bare}
 use Rattle.rambo_world.specs.Shared.{sent_in, IsHeld, AreHeld}
 use Rattle.rambo_world.proofs.Growth.{on_err_all}
 use Rattle.rambo_world.proofs.Sendings.{sent_push}
 use Rattle.rambo_world.proofs.Sharing.{all_held, all_stay, pushed_view}
-use Rattle.rambo_world.proofs.Sizes.{up_fits, back_fits, next, variant_fits}
 use Rattle.rambo_world.proofs.letters.Letters.push.Goals as goal
 
 pub invariant_of-self : goal.invariant_of-self
 invariant_of-self g c = subst (AreHeld (length c.self.inside.maps.items)) (sym c.reserve.ensures.items) c.self.invariant
-
-pub keep-requires : goal.keep-requires
-keep-requires g c = (
-  variant_fits _ _ _ _ (back_fits _ _ _ (next _ _ _ _ (up_fits _ _ _ c.requires-raw.1.0))),
-  back_fits _ _ _ (up_fits _ _ _ (back_fits _ _ _ (next _ _ _ _ (up_fits _ _ _ c.requires-raw.1.1)))),
-)
 
 pub invariant_of-self-in_err-gossip : goal.invariant_of-self-in_err-gossip
 invariant_of-self-in_err-gossip g c =
@@ -43,7 +35,9 @@ pub returns-clause-ok : goal.returns-clause-ok
 returns-clause-ok g c =
     let maps = c.self.inside.maps.items in
     let grows = c.keep.ensures.grows in
-    let o = c.outline.inside in
-    pushed_view c.keep.new.maps.items c.reserve.new.self.items c.push_reserved.new.self.items _ c.args.self.now (bare c.args.outline) c.push_reserved.ensures.items
+    let l = c.outline-inside.inside.0.0 in
+    let told = c.outline-inside.inside.0.1.0 in
+    pushed_view c.keep.new.maps.items c.reserve.new.self.items c.push_reserved.new.self.items _ c.args.self.now c.args.outline.now c.push_reserved.ensures.items
     ((λ i. map (sent_in (grows.1 i)) (c.reserve.ensures.items i)) ∙ all_stay maps grows.0 c.self.inside.list.items c.self.invariant ∙ c.self.view_is)
-    ((λ i. record { letter = record { sender = o.letter.sender; addressee = o.letter.addressee; kind = c.in_ok-gossip.ensures.kept i }; told = o.told }) ∙ ap bare c.outline.view_is)
+    ((λ i. record { letter = record { sender = l.sender; addressee = l.addressee; kind = c.in_ok-gossip.ensures.kept i }; told = told })
+    ∙ (λ i. record { letter = (c.outline-inside.view_is i).letter; told = (c.outline-inside.view_is i).told }) ∙ c.outline.view_is)

@@ -1,5 +1,4 @@
 use Rattle.std.proofs.Common.{◌≡◌, ◌∙◌, None, sym, ap, subst, arith}
-use Rattle.rambo_names.specs.declared.refusal.Refusal.TheVariants.{OutOfMemory}
 use Rattle.rambo_names.specs.Refusals.{least}
 use Rattle.rambo_atomic.specs.Faults.{fault_of}
 use Rattle.rambo_run.specs.Steps.{causes_at, turn_at, with_event, with_mark}
@@ -8,23 +7,16 @@ use Rattle.rambo_world.specs.Kept.{state_at}
 use Rattle.rambo_world.specs.Worlds.{EventFits}
 use Rattle.rambo_world.proofs.Sizes.{up_fits, back_fits, next}
 use Rattle.rambo_world.proofs.Stepping.{kept_stays, letters_stay}
-use Rattle.rambo_world.proofs.Growth.{err_is}
-use Rattle.rambo_world.proofs.Turns.{there, world_of}
+use Rattle.rambo_world.proofs.Turns.{there}
+use Rattle.rambo_world.specs.Deliveries.{world_of}
 use Rattle.rambo_world.proofs.Changing.{changed_world}
 use Rattle.rambo_world.proofs.state.State.change.Goals as goal
 
-pub take-requires : goal.take-requires
-take-requires g c = (back_fits _ _ _ (next _ _ _ _ (next _ _ _ _ (next _ _ _ _ (next _ _ _ _ (next _ _ _ _ (up_fits _ _ _ c.requires-raw.1.1.0)))))), c.requires-raw.1.1.1.0)
-
-pub returns-in_err-deed-clause-refused : goal.returns-in_err-deed-clause-refused
-returns-in_err-deed-clause-refused g c =
-    let s = g.Q.Quorums.system in
-    let ks = c.self.inside.nodes in
-    let n = c.args.name in
-    let w = world_of ks c.self.inside.letters c.self.inside.history.events c.self.inside.marks.items in
-    let accepted : least (causes_at s (state_at ks n) c.args.change) ≡ None = subst (λ w. least (causes_at s (node_at w n) c.args.change) ≡ None) (sym c.self.view_is) c.requires.accepted in
-    let wanting : c.in_err-deed.field-0.0 ≡ OutOfMemory = c.in_err-deed.ensures.refused accepted in
-    err_is c.from_residual-in_err-deed.result _ (λ f. f ≡ OutOfMemory) c.from_residual-in_err-deed.ensures.1 (λ f gives. gives ∙ wanting)
+pub act-requires : goal.act-requires
+act-requires g c = (
+  back_fits _ _ _ (next _ _ _ _ (next _ _ _ _ (next _ _ _ _ (next _ _ _ _ (next _ _ _ _ (up_fits _ _ _ c.requires-raw.1.1.0)))))),
+  (c.requires-raw.1.1.1.0, subst (λ w. least (causes_at g.Q.Quorums.system (node_at w c.args.name) c.args.change.now) ≡ None) (sym c.self.view_is) c.requires.accepted),
+)
 
 pub push_event-requires : goal.push_event-requires
 push_event-requires g c =
@@ -32,9 +24,9 @@ push_event-requires g c =
     let ks = c.self.inside.nodes in
     let n = c.args.name in
     let w = world_of ks c.self.inside.letters c.self.inside.history.events c.self.inside.marks.items in
-    let accepted : least (causes_at s (state_at ks n) c.args.change) ≡ None = subst (λ w. least (causes_at s (node_at w n) c.args.change) ≡ None) (sym c.self.view_is) c.requires.accepted in
-    let x = there s (state_at ks n) c.args.change accepted in
-    let fits = subst (λ w. EventFits w n c.args.change) (sym c.self.view_is) c.requires.fits in
+    let accepted : least (causes_at s (state_at ks n) c.args.change.now) ≡ None = subst (λ w. least (causes_at s (node_at w n) c.args.change.now) ≡ None) (sym c.self.view_is) c.requires.accepted in
+    let x = there s (state_at ks n) c.args.change.now accepted in
+    let fits = subst (λ w. EventFits w n c.args.change.now) (sym c.self.view_is) c.requires.fits in
     let room = c.in_ok-reserve.ensures.ok in
     record {
       room = omega (arith, room);
@@ -42,7 +34,7 @@ push_event-requires g c =
     }
 
 pub invariant_of-self-2 : goal.invariant_of-self-2
-invariant_of-self-2 g c = kept_stays c.self.inside.nodes c.take.new.self c.take.ensures.grow c.self.inside.letters c.self.inside.merged c.self.invariant
+invariant_of-self-2 g c = kept_stays c.self.inside.nodes c.act.new.self c.act.ensures.grow c.self.inside.letters c.self.inside.merged c.self.invariant
 
 pub returns-clause-ok : goal.returns-clause-ok
 returns-clause-ok g c =
@@ -50,10 +42,10 @@ returns-clause-ok g c =
     let ks = c.self.inside.nodes in
     let n = c.args.name in
     let w = world_of ks c.self.inside.letters c.self.inside.history.events c.self.inside.marks.items in
-    let accepted : least (causes_at s (state_at ks n) c.args.change) ≡ None = subst (λ w. least (causes_at s (node_at w n) c.args.change) ≡ None) (sym c.self.view_is) c.requires.accepted in
-    let x = there s (state_at ks n) c.args.change accepted in
+    let accepted : least (causes_at s (state_at ks n) c.args.change.now) ≡ None = subst (λ w. least (causes_at s (node_at w n) c.args.change.now) ≡ None) (sym c.self.view_is) c.requires.accepted in
+    let x = there s (state_at ks n) c.args.change.now accepted in
     let deed = c.in_ok-deed.ensures.deed x.0 x.1 in
-    ap (λ w. turn_at w n (node_at w n) c.args.change) (sym c.self.view_is)
-    ∙ changed_world ks c.take.new.self c.self.inside.letters c.self.inside.history.events c.push_event.new.history.events c.self.inside.marks.items c.push_mark.new.marks.items n c.args.change
-    c.in_ok-deed.deed.effect x.0 c.in_ok-deed.ensures.nodes (letters_stay ks c.take.new.self c.take.ensures.grow c.self.inside.letters c.self.invariant.sent) x.1 c.requires.quiet deed.0
+    ap (λ w. turn_at w n (node_at w n) c.args.change.now) (sym c.self.view_is)
+    ∙ changed_world ks c.act.new.self c.self.inside.letters c.self.inside.history.events c.push_event.new.history.events c.self.inside.marks.items c.push_mark.new.marks.items n c.args.change.now
+    c.in_ok-deed.deed.effect x.0 c.in_ok-deed.ensures.nodes (letters_stay ks c.act.new.self c.act.ensures.grow c.self.inside.letters c.self.invariant.sent) x.1 c.requires.quiet deed.0
     (c.push_event.ensures ∙ (λ i. with_event (c.in_ok-reserve.ensures.events i) (deed.1 i))) (c.push_mark.ensures ∙ (λ i. with_mark (c.in_ok-reserve-2.ensures.items i) (deed.2 i)))

@@ -3,7 +3,8 @@ use Rattle.rambo_node.specs.declared.change.Change.TheVariants as change
 use Rattle.rambo_run.specs.declared.step.Step.TheVariants as step
 use Rattle.rambo_run.specs.Steps.{refusal}
 use Rattle.rambo_world.proofs.Sizes.{up_fits, back_fits, next, variant_fits}
-use Rattle.rambo_world.proofs.Turns.{world_of, step_refusal, deliver_refusal}
+use Rattle.rambo_world.proofs.Turns.{step_refusal, deliver_refusal}
+use Rattle.rambo_world.specs.Deliveries.{world_of}
 use Rattle.rambo_world.proofs.state.State.judge.Goals as goal
 
 pub may_call-requires : goal.may_call-requires

@@ -3,15 +3,15 @@ use Rattle.rambo_names.specs.Refusals.{least}
 use Rattle.rambo_run.specs.Worlds.{letter_at}
 use Rattle.rambo_run.specs.Steps.{causes_of, delivery}
 use Rattle.rambo_world.specs.Kept.{SentState, sent_at}
-use Rattle.rambo_world.proofs.Sizes.{up_fits, back_fits, next, variant_fits}
+use Rattle.rambo_world.proofs.Sizes.{up_fits, back_fits, next}
 use Rattle.rambo_world.proofs.Deliveries.{sent_causes, no_causes}
 use Rattle.rambo_world.proofs.state.State.may_deliver.Goals as goal
 
 pub get-requires : goal.get-requires
-get-requires g c = (back_fits _ _ _ (next _ _ _ _ (next _ _ _ _ (next _ _ _ _ (next _ _ _ _ (up_fits _ _ _ c.requires-raw.1.1))))), variant_fits _ _ _ _ (back_fits _ _ _ (up_fits _ _ _ (back_fits _ _ _ (next _ _ _ _ (next _ _ _ _ (next _ _ _ _ (next _ _ _ _ (up_fits _ _ _ c.requires-raw.1.1)))))))))
+get-requires g c = back_fits _ _ _ (next _ _ _ _ (next _ _ _ _ (next _ _ _ _ (next _ _ _ _ (up_fits _ _ _ c.requires-raw.1.1)))))
 
 pub may_hear-requires : goal.may_hear-requires
-may_hear-requires g c = (back_fits _ _ _ (next _ _ _ _ (next _ _ _ _ (next _ _ _ _ (next _ _ _ _ (next _ _ _ _ (up_fits _ _ _ c.requires-raw.1.1)))))), back_fits _ _ _ (next _ _ _ _ (up_fits _ _ _ (variant_fits _ _ _ _ (back_fits _ _ _ (up_fits _ _ _ (back_fits _ _ _ (next _ _ _ _ (next _ _ _ _ (next _ _ _ _ (next _ _ _ _ (up_fits _ _ _ c.requires-raw.1.1))))))))))))
+may_hear-requires g c = back_fits _ _ _ (next _ _ _ _ (next _ _ _ _ (next _ _ _ _ (next _ _ _ _ (next _ _ _ _ (up_fits _ _ _ c.requires-raw.1.1))))))
 
 pub returns-in-Some-clause-ok : goal.returns-in-Some-clause-ok
 returns-in-Some-clause-ok g c =
