@@ -1,11 +1,9 @@
 -- Letters as they are kept, when maps are added
-use Rattle.std.proofs.Common.{◌≡◌, ℕ, zero, suc, ◌<◌, ◌≤◌, List, [], ◌∷◌, ◌++◌, map, length, Option, None, Some, slice_get, refl, sym, ap, ◌∙◌, arith}
+use Rattle.std.proofs.Common.{◌≡◌, ℕ, Bool, true, false, if◌then◌else◌, zero, suc, ◌<◌, ◌≤◌, List, [], ◌∷◌, ◌++◌, map, length, Option, None, Some, slice_get, refl, sym, ap, ◌∙◌, arith}
 use Rattle.std.specs.Option.{option_map}
 use Rattle.std.proofs.lemmas.List.{length-append, map-append}
 use Rattle.rambo_config_map.specs.Maps.{MapState}
-use Rattle.rambo_gossip.specs.declared.letter.Kind.TheVariants as kind
 use Rattle.rambo_world.specs.declared.sent.Sent.{Sent}
-use Rattle.rambo_world.specs.declared.sent.SentGossip.{SentGossip}
 use Rattle.rambo_world.specs.Kept.{SentState, kind_of}
 use Rattle.rambo_world.specs.Shared.{gossip_with, gossip_in, sent_in, IsHeld, AreHeld}
 
@@ -18,17 +16,20 @@ pub get_last : {X : Type 0} (xs : List X) (x : X) → slice_get (xs ++ x ∷ [])
 get_last [] x = refl
 get_last (y ∷ ys) x = get_last ys x
 
-pub held_more : (n m : ℕ) (o : Option SentGossip) → n ≤ m → IsHeld n o → IsHeld m o
-held_more n m None le held = held
-held_more n m (Some g) le held = omega (arith, le, held)
+pub held_more : (n m : ℕ) (s : Sent) → n ≤ m → IsHeld n s → IsHeld m s
+held_more n m s le held gossips = let below : s.map < n = held gossips in omega (arith, le, below)
 
 module _ {Q : Type 0} (maps more : List (MapState Q)) where
-  pub gossip_stays : (o : Option SentGossip) → IsHeld (length maps) o → gossip_in (maps ++ more) o ≡ gossip_in maps o
-  gossip_stays None held = refl
-  gossip_stays (Some g) held = ap (option_map (gossip_with g)) (get_before maps more g.map held)
+  stays_if : (s : Sent) (t : Bool) → (t ≡ true → s.map < length maps)
+      → (if t then option_map (gossip_with s) (slice_get (maps ++ more) s.map) else None) ≡ (if t then option_map (gossip_with s) (slice_get maps s.map) else None)
+  stays_if s true held = ap (option_map (gossip_with s)) (get_before maps more s.map (held refl))
+  stays_if s false held = refl
 
-  pub sent_stays : (s : Sent) → IsHeld (length maps) s.gossip → sent_in (maps ++ more) s ≡ sent_in maps s
-  sent_stays s held = λ i. record { letter = record { sender = s.sender; addressee = s.addressee; kind = kind_of (gossip_stays s.gossip held i) }; told = s.told }
+  pub gossip_stays : (s : Sent) → IsHeld (length maps) s → gossip_in (maps ++ more) s ≡ gossip_in maps s
+  gossip_stays s held = stays_if s s.gossips held
+
+  pub sent_stays : (s : Sent) → IsHeld (length maps) s → sent_in (maps ++ more) s ≡ sent_in maps s
+  sent_stays s held = λ i. record { letter = record { sender = s.sender; addressee = s.addressee; kind = kind_of (gossip_stays s held i) }; told = s.told }
 
   pub all_stay : (ss : List Sent) → AreHeld (length maps) ss → map (sent_in (maps ++ more)) ss ≡ map (sent_in maps) ss
   all_stay [] held = refl
@@ -38,16 +39,9 @@ module _ {Q : Type 0} (maps more : List (MapState Q)) where
   count_grows = let e = length-append maps more in omega (arith, e)
 
   pub all_held : (ss : List Sent) → AreHeld (length maps) ss → AreHeld (length (maps ++ more)) ss
-  all_held ss held place s found = held_more (length maps) (length (maps ++ more)) s.gossip count_grows (held place s found)
+  all_held ss held place s found = held_more (length maps) (length (maps ++ more)) s count_grows (held place s found)
 
 -- a letter at the end of those that are kept
 pub pushed_view : {Q : Type 0} (maps : List (MapState Q)) (before after : List Sent) (s : Sent) (now : List (SentState Q)) (b : SentState Q)
     → after ≡ before ++ s ∷ [] → map (sent_in maps) before ≡ now → sent_in maps s ≡ b → map (sent_in maps) after ≡ now ++ b ∷ []
 pushed_view maps before after s now b pushed same last = ap (map (sent_in maps)) pushed ∙ map-append (sent_in maps) before (s ∷ []) ∙ λ i. same i ++ last i ∷ []
-
--- what is found at a place, and that there is nothing
-pub read_found : {Q : Type 0} (maps : List (MapState Q)) (o : Option SentGossip) (g : SentGossip) (m : MapState Q) → o ≡ Some g → slice_get maps g.map ≡ Some m → kind.Gossip (gossip_with g m) ≡ kind_of (gossip_in maps o)
-read_found maps o g m e found = sym (ap (λ o. kind_of (gossip_in maps o)) e ∙ ap (λ m. kind_of (option_map (gossip_with g) m)) found)
-
-pub read_none : {Q : Type 0} (maps : List (MapState Q)) (o : Option SentGossip) (g : SentGossip) → o ≡ Some g → slice_get maps g.map ≡ None → kind.Join ≡ kind_of (gossip_in maps o)
-read_none maps o g e found = sym (ap (λ o. kind_of (gossip_in maps o)) e ∙ ap (λ m. kind_of (option_map (gossip_with g) m)) found)

@@ -6,10 +6,10 @@ ghost use Rattle.rambo_world.specs.Kept.{kind_of, sent_at};
 ghost use Rattle.rambo_world.specs.Shared.{gossip_in, sent_in, IsHeld};
 
 use crate::outline::Outline;
-use crate::sent::{Sent, SentGossip};
+use crate::sent::Sent;
 use rambo_config_map::ConfigMap;
 use rambo_gossip::{GossipOutline, LetterOutline};
-use rambo_names::{Quorums, Refusal};
+use rambo_names::{Members, Quorums, Refusal};
 use std::alloc::Global;
 use std::marker::Model;
 
@@ -77,13 +77,8 @@ impl<Q: Quorums> Letters<Q> {
         ensures refused { IfErr result (λ r. r ≡ Refusal.OutOfMemory) }
     {
         self.list.reserve(1)?;
-        let gossip = keep(&mut self.maps, &outline.letter.gossip)?;
-        self.list.push_reserved(Sent {
-            sender: outline.letter.sender,
-            addressee: outline.letter.addressee,
-            told: outline.told,
-            gossip,
-        });
+        let sent = keep(&mut self.maps, outline)?;
+        self.list.push_reserved(sent);
         Ok(())
     }
 }
@@ -92,51 +87,61 @@ impl<Q: Quorums> Letters<Q> {
 fn read<Q: Quorums>(maps: &[ConfigMap<Q>], sent: Sent) -> Outline<'_, Q>
     ensures { result ≡ sent_in maps.now sent }
 {
-    Outline {
-        letter: LetterOutline {
-            sender: sent.sender,
-            addressee: sent.addressee,
-            gossip: read_gossip(maps, sent.gossip),
-        },
-        told: sent.told,
-    }
+    let (sender, addressee, told) = (sent.sender, sent.addressee, sent.told);
+    let gossip = read_gossip(maps, sent);
+    let letter = LetterOutline {
+        sender,
+        addressee,
+        gossip,
+    };
+    Outline { letter, told }
 }
 
 // What a letter that is kept says.
-fn read_gossip<Q: Quorums>(
-    maps: &[ConfigMap<Q>],
-    gossip: Option<SentGossip>,
-) -> Option<GossipOutline<'_, Q>>
-    ensures { outlined result ≡ kind_of (gossip_in maps.now gossip) }
+fn read_gossip<Q: Quorums>(maps: &[ConfigMap<Q>], sent: Sent) -> Option<GossipOutline<'_, Q>>
+    ensures { outlined result ≡ kind_of (gossip_in maps.now sent) }
 {
-    let gossip = gossip?;
-    let map = maps.get(gossip.map)?;
+    if !sent.gossips {
+        return None;
+    }
+    let map = maps.get(sent.map)?;
     Some(GossipOutline {
-        known: gossip.known,
+        known: sent.known,
         map,
-        number: gossip.number,
-        heard: gossip.heard,
+        number: sent.number,
+        heard: sent.heard,
     })
 }
 
-// What a letter says, as it is kept.
-fn keep<Q: Quorums>(
-    maps: &mut Vec<ConfigMap<Q>>,
-    gossip: &Option<GossipOutline<'_, Q>>,
-) -> Result<Option<SentGossip>, Refusal>
-    ensures kept { IfOk result (λ g. kind_of (gossip_in maps.new.items g) ≡ outlined gossip.now) }
+// A letter as it is kept.
+fn keep<Q: Quorums>(maps: &mut Vec<ConfigMap<Q>>, outline: &Outline<'_, Q>) -> Result<Sent, Refusal>
+    ensures kept { IfOk result (λ s. sent_in maps.new.items s ≡ outline.now) }
     ensures held { IfOk result (IsHeld (length maps.new.items)) }
     ensures grows { (more : List (MapState _)) × (maps.new.items ≡ maps.old.items ++ more) }
     ensures refused { IfErr result (λ r. r ≡ Refusal.OutOfMemory) }
 {
-    match gossip {
-        None => Ok(None),
-        Some(gossip) => Ok(Some(SentGossip {
+    let letter = &outline.letter;
+    match &letter.gossip {
+        None => Ok(Sent {
+            told: outline.told,
+            known: Members::empty(),
+            map: 0,
+            number: 0,
+            heard: 0,
+            sender: letter.sender,
+            addressee: letter.addressee,
+            gossips: false,
+        }),
+        Some(gossip) => Ok(Sent {
+            told: outline.told,
             known: gossip.known,
             map: shared(maps, gossip.map)?,
             number: gossip.number,
             heard: gossip.heard,
-        })),
+            sender: letter.sender,
+            addressee: letter.addressee,
+            gossips: true,
+        }),
     }
 }
 

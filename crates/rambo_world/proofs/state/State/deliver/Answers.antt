@@ -17,13 +17,15 @@ hear-requires g c =
     let h = c.self.inside.history.events in
     let ms = c.self.inside.marks.items in
     let w = world_of ks ss h ms in
-    let refused = subst (λ w. refusal s w (step.Deliver c.args.number) ≡ None) (sym c.self.view_is) c.requires.accepted in
-    (
+    let refused = subst (λ w. refusal s w (step.Deliver c.args.number) ≡ None) (sym c.self.view_is) c.requires.accepted in (
       back_fits _ _ _ (next _ _ _ _ (next _ _ _ _ (next _ _ _ _ (next _ _ _ _ (next _ _ _ _ (up_fits _ _ _ c.requires-raw.1.1.0)))))),
-      (back_fits _ _ _ (next _ _ _ _ (next _ _ _ _ (next _ _ _ _ (next _ _ _ _ (up_fits _ _ _ c.requires-raw.1.1.0))))), (
-        λ m found. ap least (sym (sent_causes ks ss h ms c.args.number s m found)) ∙ sym (deliver_refusal s w c.args.number) ∙ refused,
-        c.self.invariant,
-      )),
+      (
+        back_fits _ _ _ (next _ _ _ _ (next _ _ _ _ (next _ _ _ _ (next _ _ _ _ (up_fits _ _ _ c.requires-raw.1.1.0))))),
+        (
+          λ m found. ap least (sym (sent_causes ks ss h ms c.args.number s m found)) ∙ sym (deliver_refusal s w c.args.number) ∙ refused,
+          c.self.invariant,
+        ),
+      ),
     )
 
 pub returns-clause-ok : goal.returns-clause-ok
