@@ -1,38 +1,20 @@
 //! Whether two nodes tell the same.
 
-use crate::mail::Mail;
 use crate::town::Host;
 use rambo_atomic::CallId;
-use rambo_gossip::Gossip;
+use rambo_gossip::GossipOutline;
 use rambo_names::{Majority, Members, Name, Refusal};
 use rambo_node::Change;
-use rambo_tag::{KeyedVersion, Pack};
 
-fn has_copy(copies: &[KeyedVersion], wanted: &KeyedVersion) -> bool {
-    for copy in copies {
-        if copy.key == wanted.key && copy.version == wanted.version {
-            return true;
-        }
-    }
-    false
-}
-
-fn are_packs_alike(pack: &Pack, other: &Pack) -> bool {
-    for copy in pack.copies() {
-        if !has_copy(other.copies(), copy) {
-            return false;
-        }
-    }
-    pack.copies().len() == other.copies().len()
-}
-
-fn is_gossip_alike(gossip: &Option<Gossip<Majority>>, other: &Option<Gossip<Majority>>) -> bool {
+fn is_gossip_alike(
+    gossip: &Option<GossipOutline<'_, Majority>>,
+    other: &Option<GossipOutline<'_, Majority>>,
+) -> bool {
     match (gossip, other) {
         (None, None) => true,
         (Some(gossip), Some(others)) => {
             gossip.known == others.known
-                && are_packs_alike(&gossip.copies, &others.copies)
-                && gossip.map.same(&others.map)
+                && gossip.map.same(others.map)
                 && gossip.number == others.number
                 && gossip.heard == others.heard
         }
@@ -43,8 +25,8 @@ fn is_gossip_alike(gossip: &Option<Gossip<Majority>>, other: &Option<Gossip<Majo
 // Whether they tell a name the same.
 fn tell_alike(host: &Host, twin: &Host, number: u64) -> Result<bool, Refusal> {
     let to = Name::new(number)?;
-    let told = Mail::of(host.outline_for(to)?);
-    let told_by_twin = Mail::of(twin.outline_for(to)?);
+    let told = host.outline_for(to);
+    let told_by_twin = twin.outline_for(to);
     Ok(
         host.judge(&Change::Send(to)) == twin.judge(&Change::Send(to))
             && told.sender == told_by_twin.sender

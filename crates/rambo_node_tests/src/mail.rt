@@ -1,7 +1,9 @@
 //! Letters as a town keeps them.
 
-use rambo_gossip::{Gossip, Kind, Letter};
+use rambo_gossip::{Gossip, Kind, Letter, LetterOutline};
 use rambo_names::{Majority, Name, Refusal};
+use rambo_tag::Pack;
+use std::alloc::Global;
 
 // A letter, taken apart. One of a joining node has no gossip.
 #[derive(Drop)]
@@ -25,6 +27,25 @@ impl Mail {
         Mail {
             sender,
             addressee,
+            gossip,
+        }
+    }
+
+    // An outline, with no copies.
+    pub(crate) fn outlined(alloc: Global, outline: &LetterOutline<'_, Majority>) -> Mail {
+        let gossip = match &outline.gossip {
+            None => None,
+            Some(gossip) => Some(Gossip {
+                known: gossip.known,
+                copies: Pack::new(Vec::new(alloc)),
+                map: gossip.map.copy(),
+                number: gossip.number,
+                heard: gossip.heard,
+            }),
+        };
+        Mail {
+            sender: outline.sender,
+            addressee: outline.addressee,
             gossip,
         }
     }

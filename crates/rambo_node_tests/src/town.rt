@@ -227,8 +227,9 @@ impl Town {
     }
 
     fn outline(&mut self, from: u64, to: u64) -> Result<Seen, Refusal> {
-        let letter = host_of(self.hosts.as_slice(), from)?.outline_for(Name::new(to)?)?;
-        self.change(to, Change::Deliver(letter))
+        let host = host_of(self.hosts.as_slice(), from)?;
+        let mail = Mail::outlined(self.alloc, &host.outline_for(Name::new(to)?));
+        self.change(to, Change::Deliver(mail.letter()?))
     }
 
     fn advance(&mut self, of: u64, name: u64, number: u64) -> Result<Seen, Refusal> {
