@@ -1,8 +1,6 @@
 -- What a node tells, and what is made of it
-use Rattle.std.proofs.Common.{◌≡◌, ℕ, Bool, true, false, if◌then◌else◌, [], refl, sym, ap, ◌∙◌}
-use Rattle.std.specs.FinMap as map
+use Rattle.std.proofs.Common.{◌≡◌, ℕ, Bool, true, false, if◌then◌else◌, refl, sym, ap, ◌∙◌}
 use Rattle.rambo_tag.specs.Copies.{Copies, joined}
-use Rattle.rambo_tag.specs.Logs.{greatest_of}
 use Rattle.rambo_tag.proofs.Joins.{same_copies, get-joined}
 use Rattle.rambo_gossip.specs.declared.letter.Kind.{Kind}
 use Rattle.rambo_gossip.specs.declared.letter.Kind.TheVariants as kind
@@ -24,10 +22,10 @@ own_kind g false = refl
 pub with_own : {Q : Type 0} (x : NodeState Q) (to : ℕ) → letter_with (letter_for x to) x.registers ≡ letter_for x to
 with_own x to = ap (λ k. record { sender = x.name; addressee = to; kind = k }) (own_kind (gossip_for x to) (is_active x.status))
 
--- of no copy
-pub no_copies : greatest_of [] ≡ map.empty
-unfolding greatest_of
-no_copies = refl
+-- of two lots of copies the later one stands
+pub kind_twice : {Q : Type 0} (k : Kind Q) (a b : Copies) → kind_with (kind_with k a) b ≡ kind_with k b
+kind_twice kind.Join a b = refl
+kind_twice (kind.Gossip g) a b = refl
 
 kind_alike : {Q : Type 0} (x : NodeState Q) (j : ℕ) (k : Kind Q) (a b : Copies) → joined x.registers a ≡ joined x.registers b
     → (heard_kind x j (kind_with k a) ≡ heard_kind x j (kind_with k b)) × (hear_causes x (kind_with k a) ≡ hear_causes x (kind_with k b))

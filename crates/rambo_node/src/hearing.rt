@@ -120,24 +120,8 @@ impl<Q: Quorums, S: Replica> Node<Q, S> {
         Letter {
             sender: self.name,
             addressee: to,
-            kind: self.kind_with(to, copies),
+            kind: kind_of(&self.gossip_outline(to), copies),
         }
-    }
-
-    // An active node gossips, and a joining one says that it wants to join.
-    fn kind_with(&self, to: Name, copies: Pack) -> Kind<Q>
-        ensures { result ≡ kind_with (letter_for self.now to).kind copies }
-    {
-        if !self.status.is_active() {
-            return Kind::Join;
-        }
-        Kind::Gossip(Gossip {
-            known: self.known,
-            copies,
-            map: self.map.copy(),
-            number: self.number,
-            heard: self.heard.of(to),
-        })
     }
 
     // What the node tells a name besides copies, if it is active.
@@ -199,5 +183,21 @@ impl<Q: Quorums, S: Replica> Node<Q, S> {
         self.heard.raise(from, number);
         self.number = own;
         Ok(())
+    }
+}
+
+// Gossip, where a letter is some, with these copies.
+fn kind_of<Q: Quorums>(gossip: &Option<GossipOutline<'_, Q>>, copies: Pack) -> Kind<Q>
+    ensures { result ≡ kind_with (outlined gossip.now) copies }
+{
+    match gossip {
+        None => Kind::Join,
+        Some(gossip) => Kind::Gossip(Gossip {
+            known: gossip.known,
+            copies,
+            map: gossip.map.copy(),
+            number: gossip.number,
+            heard: gossip.heard,
+        }),
     }
 }
