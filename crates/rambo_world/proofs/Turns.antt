@@ -6,15 +6,13 @@ use Rattle.rambo_names.specs.declared.refusal.Refusal.{Refusal}
 use Rattle.rambo_names.specs.declared.refusal.Refusal.TheVariants.{OutOfMemory}
 use Rattle.rambo_names.specs.Quorums.{QuorumSystem}
 use Rattle.rambo_names.specs.Refusals.{least, IsRefusal}
-use Rattle.rambo_atomic.specs.declared.event.Event.{Event}
 use Rattle.rambo_node.specs.declared.change.Change.{Change}
 use Rattle.rambo_node.specs.Nodes.{NodeState}
-use Rattle.rambo_sequence.specs.declared.mark.Mark.{Mark}
 use Rattle.rambo_run.specs.declared.step.Step.{Step}
 use Rattle.rambo_run.specs.declared.step.Step.TheVariants as step
 use Rattle.rambo_run.specs.Worlds.{WorldState, node_at, letter_at}
 use Rattle.rambo_run.specs.Steps.{meant, causes, causes_at, causes_of, delivery, refusal, turn, turn_at, turn_of, with_event}
-use Rattle.rambo_world.specs.Kept.{KeptNode, SentState, state_of, states_of, kept_at, whole_letters, state_at}
+use Rattle.rambo_world.specs.Kept.{KeptNode, state_of, kept_at, state_at}
 use Rattle.rambo_world.specs.Worlds.{EventsFit, EventFits}
 use Rattle.rambo_world.proofs.Growth.{some_is, state_at-kept}
 

@@ -1,5 +1,4 @@
-use Rattle.std.proofs.Common.{◌≡◌, ◌∙◌, ◌-◌, max, take, drop, None, Some, refl, sym, ap, subst}
-use Rattle.rambo_names.specs.Refusals.{least}
+use Rattle.std.proofs.Common.{◌≡◌, ◌∙◌, ◌-◌, max, take, drop, Some, refl, sym, ap, subst}
 use Rattle.rambo_tag.specs.Copies.{joined}
 use Rattle.rambo_tag.specs.Logs.{greatest_of}
 use Rattle.rambo_gossip.specs.declared.letter.Letter.{Letter}
@@ -8,9 +7,7 @@ use Rattle.rambo_gossip.specs.Outlines.{outlined}
 use Rattle.rambo_node.specs.declared.change.Change.TheVariants as change
 use Rattle.rambo_node.specs.Changes.{made_by}
 use Rattle.rambo_node.specs.Hearing.{heard_letter}
-use Rattle.rambo_run.specs.Steps.{causes_at}
 use Rattle.rambo_world.specs.Kept.{SentState, states_of, state_at, log_at, sent_at, merged_at, moved, IsKept}
-use Rattle.rambo_world.proofs.Sizes.{up_fits, back_fits, next}
 use Rattle.rambo_world.proofs.Stepping.{kept_stays, letters_stay}
 use Rattle.rambo_world.proofs.Turns.{there, kept_there}
 use Rattle.rambo_world.proofs.Deliveries.{delivered_moved, no_delivery, sent_before, moved_state, kept_raised, deliver_world}

@@ -8,7 +8,7 @@ use Rattle.rambo_node.specs.declared.change.Change.TheVariants as change
 use Rattle.rambo_run.specs.Steps.{causes_at}
 use Rattle.rambo_world.specs.Kept.{states_of, state_at, moved, AllGrow}
 use Rattle.rambo_world.proofs.Sizes.{up_fits, back_fits}
-use Rattle.rambo_world.proofs.Growth.{put, state_here, unchanged, grow, some_is}
+use Rattle.rambo_world.proofs.Growth.{put, state_here, unchanged, grow}
 use Rattle.rambo_world.proofs.nodes.Nodes.hear.Goals as goal
 
 pub returns-clause-nodes : goal.returns-clause-nodes
