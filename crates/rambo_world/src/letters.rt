@@ -56,6 +56,14 @@ impl<Q: Quorums> Letters<Q> {
         self.list.len()
     }
 
+    // Makes room for so many more letters.
+    pub(crate) fn reserve(&mut self, count: usize) -> Result<(), Refusal>
+        ensures same { self.new ≡ self.old }
+        ensures refused { IfErr result (λ r. r ≡ Refusal.OutOfMemory) }
+    {
+        Ok(self.list.reserve(count)?)
+    }
+
     // The letter of a number, if it was sent. It takes no memory.
     pub(crate) fn get(&self, number: u64) -> Option<Outline<'_, Q>>
         ensures { result ≡ sent_at self.now number }

@@ -131,11 +131,31 @@ impl<Q: Quorums, S: Replica> State<Q, S> {
     {
         let mut results = Vec::new(alloc);
         results.reserve(steps.len())?;
+        self.reserve(steps)?;
         for step in steps {
             let result = self.take(step)?;
             results.push(result)?;
         }
         Ok(results)
+    }
+
+    // Makes room for what steps may send, call and answer, at once: lists that grow bit by bit leave holes behind.
+    fn reserve(&mut self, steps: &[Step]) -> Result<(), Refusal>
+        ensures same { self.new ≡ self.old }
+        ensures refused { IfErr result (λ r. r ≡ Refusal.OutOfMemory) }
+    {
+        let (mut letters, mut calls) = (0usize, 0usize);
+        for step in steps {
+            match step {
+                Step::Send(_, _) => letters = letters.saturating_add(1),
+                Step::Call(_, _) => calls = calls.saturating_add(1),
+                _ => {}
+            }
+        }
+        self.letters.reserve(letters)?;
+        self.history.reserve(calls.saturating_mul(2))?;
+        self.marks.reserve(calls)?;
+        Ok(())
     }
 
     // The given sequence of a key.

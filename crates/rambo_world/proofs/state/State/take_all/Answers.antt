@@ -6,7 +6,7 @@ use Rattle.rambo_world.proofs.Longer.{run_from-none, results_from-none, next_sta
 use Rattle.rambo_world.proofs.state.State.take_all.Goals as goal
 
 pub loop-step-init : goal.loop-step-init
-loop-step-init g c = (c.in_ok-reserve.ensures.items ∙ c.new-results.ensures.items ∙ sym (results_from-none g.Q.Quorums.system c.args.self.now), sym (run_from-none g.Q.Quorums.system c.args.self.now))
+loop-step-init g c = (c.in_ok-reserve.ensures.items ∙ c.new-results.ensures.items ∙ sym (results_from-none g.Q.Quorums.system c.args.self.now), c.reserve-2.ensures.same ∙ sym (run_from-none g.Q.Quorums.system c.args.self.now))
 
 pub take-requires : goal.take-requires
 take-requires g c = (c.requires-raw.1.1.0, subst (EventsFit g.Q.Quorums.system) (sym c.loop-step.invariant.1) (c.requires.fits (take c.loop-step.step-index c.args.steps.now)))
