@@ -91,16 +91,16 @@ latest name key m (Does (op.Set k v) ∷ qs) es h =
           elim (bytes_eq k key) as (λ t. bytes_eq k key ≡ t → after_all (after m (op.Set k v)) qs key ≡ cond t (Some v) (m key)
           → (Quiet key es × (after_all (after m (op.Set k v)) qs key ≡ m key)) ⊎ LastSet name key m (after_all (after m (op.Set k v)) qs key) es) [
             | true ↦ λ same e. inr (record {
-                before = [];
-                front = [];
-                calls = refl;
-                id = id_at name h.0;
-                value = v;
-                back = h.1;
-                split = h.2 ∙ ap (λ x. event.Call (id_at name h.0) (op.Set x v) ∷ event.Answer (id_at name h.0) answer.Ok ∷ h.1) ((bytes_eq-Decides k key).0 same);
-                quiet = q.0;
-                holds = e;
-              })
+              before = [];
+              front = [];
+              calls = refl;
+              id = id_at name h.0;
+              value = v;
+              back = h.1;
+              split = h.2 ∙ ap (λ x. event.Call (id_at name h.0) (op.Set x v) ∷ event.Answer (id_at name h.0) answer.Ok ∷ h.1) ((bytes_eq-Decides k key).0 same);
+              quiet = q.0;
+              holds = e;
+            })
             | false ↦ λ other e. inl (subst (Quiet key) (sym h.2) (other, (refl, q.0)), e)
           ] refl q.1
     ]

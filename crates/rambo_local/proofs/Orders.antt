@@ -1,5 +1,5 @@
 -- A client that asks one thing after another is told what an ordinary map answers
-use Rattle.std.proofs.Common.{◌≡◌, ℕ, List, [], ◌∷◌, ◌++◌, Bool, true, false, cond, Option, None, Some, is_some, IsSome, refl, sym, ap, ◌∙◌, subst, ◌⊎◌, inl, inr, fold, append_assoc}
+use Rattle.std.proofs.Common.{◌≡◌, ℕ, List, [], ◌∷◌, ◌++◌, Bool, true, false, cond, Option, None, Some, is_some, refl, sym, ap, ◌∙◌, subst, ◌⊎◌, inl, inr, fold, append_assoc}
 use Rattle.std.specs.Option.{IsSomeAnd}
 use Rattle.std.specs.Str.{bytes_eq}
 use Rattle.std.proofs.lemmas.Slice.Eq.{bytes_eq-Decides}
@@ -15,8 +15,8 @@ use Rattle.rambo_atomic.specs.Forms.{CallsOnce, IsWellFormed}
 use Rattle.rambo_atomic.specs.Histories.{call_in, answer_in, answered_before}
 use Rattle.rambo_atomic.specs.Proper.{Stands, IsProper, after_op, held_after}
 use Rattle.rambo_atomic.proofs.LookUps.{either, call_in-append, answer_in-append}
-use Rattle.rambo_atomic.proofs.Pushes.{same_call-path, same_call-refl}
-use Rattle.rambo_atomic.proofs.Splits.{stands-here, stands-later, stands-nil, stands-cases}
+use Rattle.rambo_atomic.proofs.Pushes.{same_call-refl}
+use Rattle.rambo_atomic.proofs.Splits.{stands-here, stands-later, stands-cases}
 use Rattle.rambo_local.specs.declared.request.Request.{Request}
 use Rattle.rambo_local.specs.Maps.{no_values, answer_of}
 use Rattle.rambo_local.specs.Replies.{after_all}

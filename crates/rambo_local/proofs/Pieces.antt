@@ -1,5 +1,5 @@
 -- A client that is served piece by piece
-use Rattle.std.proofs.Common.{◌≡◌, ℕ, ◌≤◌, Bool, true, false, List, [], ◌∷◌, ◌++◌, length, drop, take, Option, None, Some, Result, Ok, Err, refl, sym, ap, ◌∙◌, subst, append_assoc, append-nil, arith}
+use Rattle.std.proofs.Common.{◌≡◌, ℕ, ◌≤◌, true, false, List, [], ◌∷◌, ◌++◌, length, drop, take, Option, None, Some, Ok, refl, sym, ap, ◌∙◌, subst, append_assoc, append-nil, arith}
 use Rattle.std.proofs.Math.Seq.{drop-append_seam}
 use Rattle.std.proofs.lemmas.List.{take-append-le, take-take}
 use Rattle.std.proofs.KnownBytes.{Appends-trans, Consumes-trans, Consumes-kept, Consumes-nil, Appends-nil}
@@ -15,8 +15,8 @@ use Rattle.rambo_local.specs.declared.request.Request.{Request}
 use Rattle.rambo_local.specs.Maps.{Map, no_values}
 use Rattle.rambo_local.specs.Requests.{request_of}
 use Rattle.rambo_local.specs.Replies.{reply_to, after_all, replies, requests, text_of, last_reply, fault_reply}
-use Rattle.rambo_local.specs.Calls.{Calls, IsHistory, BeginsHistory}
-use Rattle.rambo_local.specs.Talks.{IsTalk, Answers, BreaksOff, IsOver, Serves, Stops, Served, Stopped, ServesAt, StopsAt, fault_in, is_faulty}
+use Rattle.rambo_local.specs.Calls.{IsHistory, BeginsHistory}
+use Rattle.rambo_local.specs.Talks.{IsTalk, Answers, BreaksOff, IsOver, Served, Stopped, ServesAt, StopsAt, fault_in, is_faulty}
 use Rattle.rambo_local.proofs.Gains.{after_all-append, replies-append, requests-append, begins-more, begins-whole, begins-kept}
 
 -- what was written and read so far
@@ -151,9 +151,9 @@ module _ (name : ℕ) (first now next : DecoderState) (h0 h : List Event) (out0 
         let spelt = λ (m : Map). reply_spelling (reply_to m q) in (
           subst (λ rs. IsHistory name rs new) (requests_now qs) (calls (qs ++ done) r.0),
           written (qs ++ done) r.0
-          ∙ (λ i. r.1 i ++ spelt (after_all-append no_values qs done i))
-          ∙ append_assoc out0 (replies m done) (spelt (after_all m done))
-          ∙ ap (λ l. out0 ++ l) (ap (λ l. replies m done ++ l) (sym (append-nil (spelt (after_all m done)))) ∙ sym (replies-append m done (q ∷ [])) ∙ ap (replies m) (sym (requests-append carried.done (c ∷ [])))),
+              ∙ (λ i. r.1 i ++ spelt (after_all-append no_values qs done i))
+              ∙ append_assoc out0 (replies m done) (spelt (after_all m done))
+              ∙ ap (λ l. out0 ++ l) (ap (λ l. replies m done ++ l) (sym (append-nil (spelt (after_all m done)))) ∙ sym (replies-append m done (q ∷ [])) ∙ ap (replies m) (sym (requests-append carried.done (c ∷ [])))),
         );
   }
 

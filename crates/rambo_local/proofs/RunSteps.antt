@@ -1,5 +1,5 @@
 -- Runs of one step more
-use Rattle.std.proofs.Common.{◌≡◌, List, [], ◌∷◌, ◌++◌, None, Some, refl, sym, ap, ◌∙◌}
+use Rattle.std.proofs.Common.{◌≡◌, List, [], ◌∷◌, ◌++◌, None, Some, refl, ◌∙◌}
 use Rattle.rambo_names.specs.declared.refusal.Refusal.{Refusal}
 use Rattle.rambo_names.specs.Quorums.{QuorumSystem}
 use Rattle.rambo_run.specs.declared.step.Step.{Step}

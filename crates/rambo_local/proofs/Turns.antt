@@ -1,22 +1,19 @@
 -- What steps do to the history
-use Rattle.std.proofs.Common.{◌≡◌, ℕ, ◌+◌, List, [], ◌∷◌, ◌++◌, Option, None, Some, refl, sym, ap, ◌∙◌, append-nil}
+use Rattle.std.proofs.Common.{◌≡◌, ℕ, ◌+◌, [], ◌∷◌, ◌++◌, Option, None, Some, refl, sym, ap, ◌∙◌, append-nil}
 use Rattle.rambo_atomic.specs.declared.operation.Op.{Op}
 use Rattle.rambo_atomic.specs.declared.event.CallId.{CallId}
-use Rattle.rambo_atomic.specs.declared.event.Event.{Event}
 use Rattle.rambo_atomic.specs.declared.event.Event.TheVariants as event
 use Rattle.rambo_gossip.specs.declared.letter.Letter.{Letter}
 use Rattle.rambo_node.specs.declared.change.Change.TheVariants as change
-use Rattle.rambo_node.specs.declared.effect.Effect.{Effect}
 use Rattle.rambo_node.specs.declared.effect.Effect.TheVariants as effect
 use Rattle.rambo_node.specs.declared.stage.Stage.{Stage}
 use Rattle.rambo_node.specs.declared.stage.Stage.TheVariants.{Query, Propagation}
 use Rattle.rambo_node.specs.Calls.{CallState}
 use Rattle.rambo_node.specs.Changes.{stage_met, advanced, made_by}
 use Rattle.rambo_node.specs.Nodes.{NodeState, open_call}
-use Rattle.rambo_run.specs.declared.step.Step.{Step}
 use Rattle.rambo_run.specs.declared.step.Step.TheVariants as step
 use Rattle.rambo_run.specs.Worlds.{WorldState, node_at, letter_at}
-use Rattle.rambo_run.specs.Steps.{Meant, delivery, turn_by, turn_at, turn_of, turn}
+use Rattle.rambo_run.specs.Steps.{delivery, turn_by, turn_at, turn_of, turn}
 use Rattle.rambo_local.specs.Calls.{id_at, answered}
 
 module _ {Q : Type 0} (w : WorldState Q) where

@@ -1,7 +1,6 @@
 -- The history of each run is well formed
 use Rattle.std.proofs.Common.{◌≡◌, List, [], ◌∷◌, ◌++◌, None, Some, true, sym, ap, ◌∙◌, subst, append_assoc, append-nil, inl, inr}
 use Rattle.rambo_names.specs.Quorums.{QuorumSystem}
-use Rattle.rambo_atomic.specs.declared.event.Event.{Event}
 use Rattle.rambo_atomic.specs.declared.event.Event.TheVariants as event
 use Rattle.rambo_atomic.specs.declared.event.CallId.{CallId}
 use Rattle.rambo_atomic.specs.declared.operation.Op.{Op}
@@ -14,8 +13,8 @@ use Rattle.rambo_atomic.proofs.Splits.{splits-nil}
 use Rattle.rambo_atomic.proofs.Pushes.{well_formed-push}
 use Rattle.rambo_run.specs.declared.step.Step.{Step}
 use Rattle.rambo_run.specs.Worlds.{WorldState, first_world}
-use Rattle.rambo_run.specs.Steps.{refusal, turn}
-use Rattle.rambo_run.specs.Runs.{run, after}
+use Rattle.rambo_run.specs.Steps.{refusal}
+use Rattle.rambo_run.specs.Runs.{run}
 use Rattle.rambo_run.proofs.Fitting.{events_fit}
 use Rattle.rambo_local.proofs.RunSteps.{run-more, run-none, run-after, after-refused}
 

@@ -30,8 +30,8 @@ const PIECE: usize = 64 * 1024;
 /// Serves one client of a store of its own: the commands that a source gives, in RESP2, are answered into a sink.
 ///
 /// `PING` answers `PONG`, or its word; `GET` the value of a key, or nil; `SET` sets a key to a value. What is written is
-/// what an ordinary map replies, and behind a fault of the input the reply to it, after which no more is read. An input
-/// that ends within a command gets no reply to that. The commands that are whole are answered before more is read.
+/// what an ordinary map replies, and behind a fault of the input the reply to it, after which no more is read. A
+/// command that the end of the input cuts short is not answered. Those that are whole are answered before more is read.
 ///
 /// `Read` and `Write` where a call of that stream fails; `Memory` where there is no room for what is to be kept. Then a
 /// beginning of the replies was written.
@@ -108,7 +108,14 @@ fn serve<R: Source, W: Sink>(
         if count == 0 {
             return Ok(());
         }
-        let over = take(client, alloc, world, &mut decoder, &piece[..count], &mut out)?;
+        let over = take(
+            client,
+            alloc,
+            world,
+            &mut decoder,
+            &piece[..count],
+            &mut out,
+        )?;
         write_all(writer, out.as_slice())?;
         if over {
             return Ok(());

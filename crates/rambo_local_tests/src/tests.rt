@@ -64,6 +64,16 @@ fn end_of(rt: &HostRuntime, setup: Setup) -> Result<Ended, Refusal> {
     attempt(rt.alloc(), setup)
 }
 
+// The value of a call, which is made once more where it is refused.
+macro_rules! again {
+    ($call:expr) => {
+        match $call {
+            Ok(value) => value,
+            Err(_) => $call?,
+        }
+    };
+}
+
 // What is replied to each input.
 #[test]
 fn each_reply(rt: HostRuntime) -> Result<(), Fail> {
@@ -148,7 +158,7 @@ fn long_keys(rt: HostRuntime) -> Result<(), Fail> {
         ),
     ];
     for (front, count, back, replies) in rows {
-        let input = of_long_key(rt.alloc(), front, count, back)?;
+        let input = again!(of_long_key(rt.alloc(), front, count, back));
         let setup = Setup {
             founders: 3,
             input: input.as_slice(),

@@ -111,10 +111,10 @@ fn served<R: Source, W: Sink, E: Sink>(
         (stream E.taken E.failures errors.old errors.new) }
     ensures quiet { (result ≡ 0) ⊎ (result ≡ 3) → errors.new ≡ errors.old }
 {
-    match local(alloc, Majority::of(founders), reader, writer) {
-        Ok(()) => DONE,
-        Err(fault) => tell(told_as(fault), errors),
+    if let Err(fault) = local(alloc, Majority::of(founders), reader, writer) {
+        return tell(told_as(fault), errors);
     }
+    DONE
 }
 
 // The same fault, in the words of a replay.

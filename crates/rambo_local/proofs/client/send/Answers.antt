@@ -1,4 +1,4 @@
-use Rattle.std.proofs.Common.{◌≡◌, ap, ◌∙◌}
+use Rattle.std.proofs.Common.{ap, ◌∙◌}
 use Rattle.rambo_local.specs.Calls.{history_of}
 use Rattle.rambo_local.proofs.Histories.{sent, delivered}
 use Rattle.rambo_local.proofs.client.send.Goals as goal

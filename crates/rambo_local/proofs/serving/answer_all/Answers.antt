@@ -1,4 +1,4 @@
-use Rattle.std.proofs.Common.{◌≡◌, ◌∙◌, sym, ap, Ok}
+use Rattle.std.proofs.Common.{◌∙◌, sym, ap, Ok}
 use Rattle.rambo_local.specs.Calls.{history_of}
 use Rattle.rambo_local.proofs.Gains.{on_err}
 use Rattle.rambo_local.proofs.Pieces.{oldest_some, one_carried, one_begun}

@@ -1,4 +1,3 @@
-use Rattle.std.proofs.Common.{◌≡◌}
 use Rattle.rambo_local.specs.Calls.{history_of, lowest}
 use Rattle.rambo_local.proofs.Gains.{on_err}
 use Rattle.rambo_local.proofs.Histories.{fresh_history}

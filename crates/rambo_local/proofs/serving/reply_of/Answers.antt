@@ -1,4 +1,4 @@
-use Rattle.std.proofs.Common.{◌≡◌, ◌∷◌, [], sym, ◌∙◌}
+use Rattle.std.proofs.Common.{◌∷◌, [], sym, ◌∙◌}
 use Rattle.rambo_local.specs.Calls.{history_of}
 use Rattle.rambo_local.specs.Requests.{request_of}
 use Rattle.rambo_local.proofs.Gains.{begins-kept, says-kept, on_err}

@@ -1,4 +1,4 @@
-use Rattle.std.proofs.Common.{◌≡◌, ◌++◌, take, sym, ap, ◌∙◌, subst, arith}
+use Rattle.std.proofs.Common.{take, sym, ◌∙◌, subst, arith}
 use Rattle.std.proofs.lemmas.List.{length-take, length-append}
 use Rattle.std.specs.Io.KnownBytes.{Consumes, Appends}
 use Rattle.rambo_atomic.specs.Streams.{Begins}
@@ -47,8 +47,11 @@ loop-count-preserved g c =
     let going = l.invariant.0 in
     let piece = take c.in-Ok.count c.deref.result.now in
     let same = piece_is c.deref.result.now c.read.new.into l.piece.items c.in-Ok.count l.piece.len c.deref.ensures.value c.in-Ok.ensures.count (omega (arith, c.in-Ok.ensures.count)) in
-    let read = subst (Consumes (g.R.Source.left l.reader) (g.R.Source.left c.read.new.self)) (sym same) c.in-Ok.ensures.bytes in
-    (goes_on c.args.client.now.name l.decoder (history_of l.world) (g.R.Source.left c.args.reader.now) (g.R.Source.left l.reader) (g.W.Sink.taken c.args.writer.now) (g.W.Sink.taken l.writer) going (g.R.Source.left c.read.new.self) piece read
-    c.take.new.decoder (history_of c.take.new.world) c.take.new.out.items (c.in_ok-over.ensures.ok going.stream going.commands going.talk) (g.W.Sink.taken c.write_all.new.writer)
-    (subst (Appends (g.W.Sink.taken l.writer) (g.W.Sink.taken c.write_all.new.writer)) c.as_slice.ensures c.in_ok-write_all.ensures.ok) (sym c.in_ok-over.ensures.over ∙ c.if-over.false),
-    c.in-Ok.ensures.fine ∙ l.invariant.1, c.in_ok-write_all.ensures.fine ∙ l.invariant.2, simp (length-take, length-append) (omega (arith, l.invariant.3)))
+    let read = subst (Consumes (g.R.Source.left l.reader) (g.R.Source.left c.read.new.self)) (sym same) c.in-Ok.ensures.bytes in (
+      goes_on c.args.client.now.name l.decoder (history_of l.world) (g.R.Source.left c.args.reader.now) (g.R.Source.left l.reader) (g.W.Sink.taken c.args.writer.now) (g.W.Sink.taken l.writer) going (g.R.Source.left c.read.new.self) piece read
+          c.take.new.decoder (history_of c.take.new.world) c.take.new.out.items (c.in_ok-over.ensures.ok going.stream going.commands going.talk) (g.W.Sink.taken c.write_all.new.writer)
+          (subst (Appends (g.W.Sink.taken l.writer) (g.W.Sink.taken c.write_all.new.writer)) c.as_slice.ensures c.in_ok-write_all.ensures.ok) (sym c.in_ok-over.ensures.over ∙ c.if-over.false),
+      c.in-Ok.ensures.fine ∙ l.invariant.1,
+      c.in_ok-write_all.ensures.fine ∙ l.invariant.2,
+      simp (length-take, length-append) (omega (arith, l.invariant.3)),
+    )

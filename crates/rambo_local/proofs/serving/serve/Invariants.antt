@@ -1,4 +1,4 @@
-use Rattle.std.proofs.Common.{◌≡◌, ◌<◌, length, ℕ}
+use Rattle.std.proofs.Common.{◌≡◌, ◌<◌, length}
 use Rattle.rambo_local.specs.Calls.{history_of}
 use Rattle.rambo_local.proofs.Pieces.{Going}
 use Rattle.rambo_local.proofs.serving.serve.Given as goal

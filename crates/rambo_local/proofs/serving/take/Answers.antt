@@ -1,4 +1,4 @@
-use Rattle.std.proofs.Common.{◌≡◌, ◌++◌, length, sym, ap, ◌∙◌, subst, append-nil}
+use Rattle.std.proofs.Common.{◌++◌, length, sym, ap, ◌∙◌, subst, append-nil}
 use Rattle.rambo_local.specs.Calls.{history_of}
 use Rattle.rambo_local.specs.Replies.{requests, replies, after_all}
 use Rattle.rambo_local.specs.Maps.{no_values}

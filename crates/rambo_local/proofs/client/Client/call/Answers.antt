@@ -1,4 +1,3 @@
-use Rattle.std.proofs.Common.{◌≡◌}
 use Rattle.rambo_local.proofs.Histories.{called, uncalled}
 use Rattle.rambo_local.proofs.client.Client.call.Goals as goal
 
