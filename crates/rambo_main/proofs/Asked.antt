@@ -19,7 +19,7 @@ use Rattle.clap.specs.declared.error.kind.ErrorKind.{ErrorKind}
 use Rattle.clap.specs.declared.error.kind.ErrorKind.TheVariants.{UnknownArgument, InvalidSubcommand, OutOfMemory}
 use Rattle.clap.proofs.OnLiterals.{clap_on_literals}
 use Rattle.clap.proofs.WalkLemmas.{first_value-rows, walk_stopped}
-use Rattle.rambo_main.specs.Lines.{AsksByName, AsksLocal, founders_word, plain as plain_shape, rambo, with_founders}
+use Rattle.rambo_main.specs.Lines.{AsksByName, AsksLocal, founders_word, plain as plain_shape, rambo}
 
 -- the tasks that have no arguments
 pub data Task : Type 0 where

@@ -1,5 +1,5 @@
 -- The sign of the empty set
-use Rattle.std.proofs.Common.{◌≡◌, ℕ, ◌+◌, Bool, true, false, cond, List, [], ◌∷◌, codes, filter, refl, ap, ◌∙◌, arith}
+use Rattle.std.proofs.Common.{◌≡◌, ℕ, ◌+◌, Bool, true, false, cond, List, [], ◌∷◌, codes, filter, refl, ap, arith}
 use Rattle.rambo_names.specs.Names.{NameSet, rising, names, how_many, count_of}
 use Rattle.rambo_names.specs.Signs.{names_text, set_text}
 use Rattle.std.specs.FinSet.{contains}

@@ -167,7 +167,9 @@ fn rambo_command<'a>(alloc: Global) -> Result<Command<'a>, AllocError>
     let program = Command::new(alloc, "rambo")
         .bin_name("rambo")?
         .version("0.1.0")
-        .about("Runs scripts of a replicated key-value store, checks what they give, and serves one client")
+        .about(
+            "Runs scripts of a replicated key-value store, checks what they give, and serves one client",
+        )
         .after_help(STATUSES)
         .no_binary_name(true)
         .subcommand_required(true);

@@ -2,7 +2,7 @@ use Rattle.std.proofs.Common.{◌≡◌, ◌∙◌, ◌||◌, ap, codes, false, 
 use Rattle.std.proofs.lemmas.Result.{IfOk-weaker}
 use Rattle.clap.specs.declared.builder.action.ArgAction.TheVariants.{Set}
 use Rattle.clap.specs.declared.builder.arg.Arg.{Arg}
-use Rattle.clap.specs.Simple.{App, app_of, app_of_fields, new_rule, with_rule}
+use Rattle.clap.specs.Simple.{App, app_of, app_of_fields, with_rule}
 use Rattle.clap.specs.Walk.{Rule, rule_of}
 use Rattle.clap.specs.Words.{new_app}
 use Rattle.clap.specs.declared.builder.command.Command.TheViews.{out-Command as fields_of}
