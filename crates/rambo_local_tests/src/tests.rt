@@ -15,6 +15,9 @@ const FOUR: &[u8] =
     b"*3\r\n$3\r\nset\r\n$1\r\nk\r\n$1\r\nv\r\n*3\r\n$3\r\nSet\r\n$1\r\nk\r\n$0\r\n\r\n*2\r\n$3\r\nGET\r\n$1\r\nk\r\n*2\r\n$3\r\nGET\r\n$1\r\nl\r\n";
 const FOUR_REPLIES: &[u8] = b"+OK\r\n+OK\r\n$0\r\n\r\n$-1\r\n";
 
+// Room for all replies of a client.
+const ROOM: usize = 200;
+
 // A client: the founders of its store, what it sends, and the calls of the two streams that fail, 0 for none.
 #[derive(Clone, Copy)]
 struct Setup<'a> {
@@ -48,7 +51,7 @@ fn attempt(alloc: Global, setup: Setup) -> Result<Ended, Refusal> {
     let mut reader = Tape::new(setup.input.to_vec(alloc)?)
         .in_pieces(20)
         .failing_at(setup.read);
-    let mut writer = Tape::new(Vec::new(alloc))
+    let mut writer = Tape::new(Vec::with_capacity(alloc, ROOM)?)
         .in_pieces(8)
         .failing_at(setup.write);
     let result = local(alloc, Majority::of(founders), &mut reader, &mut writer);
