@@ -2,15 +2,15 @@
 use Rattle.std.proofs.Common.{◌≡◌, ◌∙◌, ◌⊎◌, ℕ, zero, suc, Bool, true, false, cond, refl, sym, ap, ap₂, subst, inl, inr, List, [], ◌∷◌, length, codes, true≢false}
 use Rattle.std.specs.Prelude.{Option, Some, None, IfSome, option_map, slice_get}
 use Rattle.std.specs.List.{find}
-use Rattle.std.specs.Option.{option_map_or}
+use Rattle.std.specs.Option.{option_and_then, option_map_or, unwrap_or}
 use Rattle.std.specs.Str.{bytes_eq, chars}
 use Rattle.std.proofs.lemmas.Slice.Eq.{bytes_eq-Decides}
 use Rattle.clap.specs.Lexer.{long_of, short_of}
 use Rattle.clap.specs.Kinds.{HasKind, Kinds, or_else}
-use Rattle.clap.specs.Walk.{Held, Names, Outcome, Row, Rule, Step, Text, Walk, after_flag, arg_by_index, arg_by_long, arg_by_short, bundle_met, bundle_step, idle, long_or_other, nothing_held, plain, short_or_plain, subcommand_met, takes_values, value, walk_from, walked}
-use Rattle.clap.specs.Simple.{App, Shape, built, built_leaf, inherited, marked_built, HasMatchesOf, is_simple, names_of, subcommand_of, subcommand_rows_of, with_leaf_noted}
+use Rattle.clap.specs.Walk.{Held, Names, Outcome, Row, Rule, Step, Text, Walk, after_flag, arg_by_index, arg_by_long, arg_by_short, bundle_met, bundle_step, first_of, idle, rows_of, long_or_other, nothing_held, plain, short_or_plain, subcommand_met, takes_values, value, walk_from, walked}
+use Rattle.clap.specs.Simple.{App, Shape, built, entered, built_leaf, inherited, marked_built, HasMatchesOf, is_simple, names_of, subcommand_of, subcommand_rows_of, with_leaf_noted}
 use Rattle.clap.specs.Faults.{bundle_fault, bundle_step_fault, entered_fault, fault_of, is_simple_and_free, flag_word_fault, flags_fault, long_fault, short_fault, step_fault, stray_fault, turn_fault, use_fault, walk_fault}
-use Rattle.clap.specs.Matches.{subcommand_name_of}
+use Rattle.clap.specs.Matches.{first_value, found_of, subcommand_name_of}
 use Rattle.clap.specs.Values.{kind_of}
 use Rattle.clap.specs.declared.error.Error.{Error}
 use Rattle.clap.specs.declared.parser.matches.ArgMatches.{ArgMatches}
@@ -18,10 +18,23 @@ use Rattle.clap.specs.declared.parser.matches.ArgMatches.TheViews.{out-ArgMatche
 use Rattle.clap.specs.declared.error.kind.ErrorKind.{ErrorKind}
 use Rattle.clap.specs.declared.error.kind.ErrorKind.TheVariants.{UnknownArgument, InvalidSubcommand, OutOfMemory}
 use Rattle.clap.proofs.OnLiterals.{clap_on_literals}
-use Rattle.clap.proofs.WalkLemmas.{walk_stopped}
-use Rattle.rambo_main.specs.Lines.{Asks, name_of, rambo, subcommand}
-use Rattle.rambo_main.specs.declared.line.Task.{Task}
-use Rattle.rambo_main.specs.declared.line.Task.TheVariants.{Replay, Check}
+use Rattle.clap.proofs.WalkLemmas.{first_value-rows, walk_stopped}
+use Rattle.rambo_main.specs.Lines.{AsksByName, AsksLocal, founders_word, plain as plain_shape, rambo}
+
+-- the tasks that have no arguments
+pub data Task : Type 0 where
+  Replay : Task
+  Check : Task
+
+abbrev name_of : Task → Text
+name_of Replay = codes "replay"
+name_of Check = codes "check"
+
+abbrev Asks : List Text → Task → Type 0
+Asks words t = AsksByName words (name_of t)
+
+abbrev subcommand : Task → Shape
+subcommand t = plain_shape (name_of t)
 
 -- ---- lists of kinds
 
@@ -210,20 +223,32 @@ other_at true word words is unmet e =
     mark_fails (subst (λ (ws : List Text). fault_of rambo ws ≡ []) (ap₂ (λ (w : Text) (ws : List Text). w ∷ ws) mark none) e)
 other_at false word words is unmet e = other_fails top names top_requests refl refl word unmet is (first_none _ _ (first_none _ _ e))
 
--- the first word is one of the three names, or none
-first_at : (r c h : Bool) (word : Text) (words : List Text) → bytes_eq (codes "replay") word ≡ r → bytes_eq (codes "check") word ≡ c → bytes_eq (codes "help") word ≡ h
-    → fault_of rambo (word ∷ words) ≡ [] → (t : Task) × Asks (word ∷ words) t
-first_at true c h word words is_r is_c is_h e = (Replay, named_at Replay word words ((bytes_eq-Decides (codes "replay") word).0 is_r) e)
-first_at false true h word words is_r is_c is_h e = (Check, named_at Check word words ((bytes_eq-Decides (codes "check") word).0 is_c) e)
-first_at false false true word words is_r is_c is_h e =
+-- the words behind `local` are left to it
+pub local_named : (words : List Text) → option_map (λ p. p.0) (subcommand_of rambo (codes "local" ∷ words)) ≡ Some (codes "local")
+unfolding walked
+local_named words =
+    subst (λ (w : Walk). option_map (λ p. p.0) (entered (built rambo) w.stopped) ≡ Some (codes "local"))
+    (walk_stopped top.rules names (walk_from nothing_held) (codes "local") [] words) refl
+
+-- the first word is one of the four names, or none
+abbrev Found : List Text → Type 0
+Found words = ((t : Task) × Asks words t) ⊎ (option_map (λ p. p.0) (subcommand_of rambo words) ≡ Some (codes "local"))
+
+first_at : (r c l h : Bool) (word : Text) (words : List Text) → bytes_eq (codes "replay") word ≡ r → bytes_eq (codes "check") word ≡ c → bytes_eq (codes "local") word ≡ l → bytes_eq (codes "help") word ≡ h
+    → fault_of rambo (word ∷ words) ≡ [] → Found (word ∷ words)
+first_at true c l h word words is_r is_c is_l is_h e = inl (Replay, named_at Replay word words ((bytes_eq-Decides (codes "replay") word).0 is_r) e)
+first_at false true l h word words is_r is_c is_l is_h e = inl (Check, named_at Check word words ((bytes_eq-Decides (codes "check") word).0 is_c) e)
+first_at false false true h word words is_r is_c is_l is_h e =
+    inr (subst (λ (w : Text). option_map (λ p. p.0) (subcommand_of rambo (w ∷ words)) ≡ Some (codes "local")) ((bytes_eq-Decides (codes "local") word).0 is_l) (local_named words))
+first_at false false false true word words is_r is_c is_l is_h e =
     absurd (help_fails words (subst (λ (w : Text). fault_of rambo (w ∷ words) ≡ []) (sym ((bytes_eq-Decides (codes "help") word).0 is_h)) e))
-first_at false false false word words is_r is_c is_h e =
-    let unmet : subcommand_met names idle word ≡ None = rw (is_r, is_c, is_h) refl in
+first_at false false false false word words is_r is_c is_l is_h e =
+    let unmet : subcommand_met names idle word ≡ None = rw (is_r, is_c, is_l, is_h) refl in
     absurd (other_at (bytes_eq word (codes "--")) word words refl unmet e)
 
-pub faultless_asks : (words : List Text) → fault_of rambo words ≡ [] → (t : Task) × Asks words t
+pub faultless_asks : (words : List Text) → fault_of rambo words ≡ [] → Found words
 faultless_asks [] e = absurd (no_words_fail e)
-faultless_asks (word ∷ words) e = first_at (bytes_eq (codes "replay") word) (bytes_eq (codes "check") word) (bytes_eq (codes "help") word) word words refl refl refl e
+faultless_asks (word ∷ words) e = first_at (bytes_eq (codes "replay") word) (bytes_eq (codes "check") word) (bytes_eq (codes "local") word) (bytes_eq (codes "help") word) word words refl refl refl refl e
 
 -- ---- words that ask for a task
 
@@ -259,6 +284,10 @@ name_read : {A B C : Type 0} (f : B → C) (g : A → B) (o : Option A) → opti
 name_read f g None = refl
 name_read f g (Some x) = refl
 
+rows_read : (f : List Row → Option Text) (o : Option (Text × List Row)) → option_and_then (λ p. f p.1) o ≡ option_and_then f (option_map (λ p. p.1) o)
+rows_read f None = refl
+rows_read f (Some p) = refl
+
 replay_at : (words : List Text) (t : Task) → Asks words t → option_map (λ p. p.0) (subcommand_of rambo words) ≡ Some (codes "replay") → Asks words Replay
 replay_at words Replay asks is = asks
 replay_at words Check asks is = absurd (true≢false (ap (λ (o : Option Text). option_map_or (bytes_eq (codes "replay")) o true) (sym is ∙ asks_named words Check asks)))
@@ -275,17 +304,48 @@ module _ (a : App) (words : List Text) (m : ArgMatches) (is : a ≡ rambo) (kind
   faultless : fault_of rambo words ≡ []
   faultless = subst (λ (b : App). fault_of b words ≡ []) is (kinds (ap is_simple_and_free is ∙ rambo_is_free))
 
+  rows_are : subcommand_rows_of m ≡ subcommand_of rambo words
+  rows_are = (matches (ap is_simple is ∙ rambo_is_simple)).1 ∙ ap (λ (b : App). subcommand_of b words) is
+
+  -- what stands behind `--founders`
+  pub word_is : (local : ArgMatches) → option_map (λ p. p.1) (subcommand_rows_of m) ≡ Some (rows_of (found_of local))
+      → founders_word words ≡ unwrap_or (first_value (found_of local) (codes "founders")) (codes "1")
+  word_is local e =
+      ap (λ o. unwrap_or (option_and_then (λ p. first_of (codes "founders") p.1) o) (codes "1")) (sym rows_are)
+      ∙ ap (λ o. unwrap_or o (codes "1"))
+      (rows_read (first_of (codes "founders")) (subcommand_rows_of m) ∙ ap (option_and_then (first_of (codes "founders"))) e ∙ sym (first_value-rows (found_of local) (codes "founders")))
+
   named : option_map (λ p. p.0) (subcommand_of rambo words) ≡ subcommand_name_of m
   named =
       let rows : subcommand_rows_of m ≡ subcommand_of rambo words = (matches (ap is_simple is ∙ rambo_is_simple)).1 ∙ ap (λ (b : App). subcommand_of b words) is in
       ap (option_map (λ p. p.0)) (sym rows) ∙ name_read (λ p. p.0) _ (out-ArgMatches m).subcommand
 
-  pub met_replay : subcommand_name_of m ≡ Some (codes "replay") → Asks words Replay
-  met_replay met = let asks = faultless_asks words faultless in replay_at words asks.0 asks.1 (named ∙ met)
+  pub met_replay : subcommand_name_of m ≡ Some (codes "replay") → AsksByName words (codes "replay")
+  met_replay met = elim (faultless_asks words faultless) [
+    | inl asks ↦ replay_at words asks.0 asks.1 (named ∙ met)
+    | inr local ↦ absurd (true≢false (ap (λ (o : Option Text). option_map_or (bytes_eq (codes "local")) o true) (sym local ∙ named ∙ met)))
+  ]
 
-  pub met_check : ¬ (subcommand_name_of m ≡ Some (codes "replay")) → Asks words Check
-  met_check unmet = let asks = faultless_asks words faultless in check_at words asks.0 asks.1 (λ met. unmet (sym named ∙ met))
+  pub met_check : ¬ (subcommand_name_of m ≡ Some (codes "replay")) → ¬ (subcommand_name_of m ≡ Some (codes "local")) → AsksByName words (codes "check")
+  met_check unmet not_local = elim (faultless_asks words faultless) [
+    | inl asks ↦ check_at words asks.0 asks.1 (λ met. unmet (sym named ∙ met))
+    | inr local ↦ absurd (not_local (sym named ∙ local))
+  ]
+
+  pub met_local : subcommand_name_of m ≡ Some (codes "local") → AsksLocal words
+  met_local met = (faultless, named ∙ met)
 
 -- the kind of an error that such words give
-pub asks_memory : (words : List Text) (t : Task) (e : Error) → Asks words t → HasKind (fault_of rambo words) e → kind_of e ≡ OutOfMemory
-asks_memory words t e asks kind = memory_alone e (subst (λ (kinds : Kinds). HasKind kinds e) (asks_faultless words t asks) kind)
+pub asks_memory : (words : List Text) (name : Text) (e : Error) → (name ≡ codes "replay") ⊎ (name ≡ codes "check") → AsksByName words name → HasKind (fault_of rambo words) e → kind_of e ≡ OutOfMemory
+asks_memory words name e (inl is) asks kind = memory_alone e (subst (λ (kinds : Kinds). HasKind kinds e) (asks_faultless words Replay (subst (AsksByName words) is asks)) kind)
+asks_memory words name e (inr is) asks kind = memory_alone e (subst (λ (kinds : Kinds). HasKind kinds e) (asks_faultless words Check (subst (AsksByName words) is asks)) kind)
+
+pub local_memory : (words : List Text) (e : Error) → AsksLocal words → HasKind (fault_of rambo words) e → kind_of e ≡ OutOfMemory
+local_memory words e asks kind = memory_alone e (subst (λ (kinds : Kinds). HasKind kinds e) asks.0 kind)
+
+-- no words ask for two of them
+pub replay_or_local : (words : List Text) → AsksByName words (codes "replay") → AsksLocal words → ⊥
+replay_or_local words asks local = true≢false (ap (λ (o : Option Text). option_map_or (bytes_eq (codes "local")) o true) (sym local.1 ∙ asks_named words Replay asks))
+
+pub check_or_local : (words : List Text) → AsksByName words (codes "check") → AsksLocal words → ⊥
+check_or_local words asks local = true≢false (ap (λ (o : Option Text). option_map_or (bytes_eq (codes "local")) o true) (sym local.1 ∙ asks_named words Check asks))

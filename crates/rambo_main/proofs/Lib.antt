@@ -2,3 +2,4 @@ mod Answered
 mod Asked
 mod Told
 mod Untouched
+pub mod NoNames

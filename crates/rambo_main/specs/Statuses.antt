@@ -1,5 +1,5 @@
 -- Exit statuses, what was told, and what was written before a command ended
-use Rattle.std.specs.Prelude.{◌≡◌, ◌⊎◌, ℕ, Bool, List, [], ◌∷◌, ◌++◌, Option, codes, if◌then◌else◌}
+use Rattle.std.specs.Prelude.{◌≡◌, ◌⊎◌, ℕ, Bool, List, [], ◌∷◌, ◌++◌, Option, None, Some, codes, if◌then◌else◌}
 use Rattle.std.specs.Io.KnownBytes.{Appends, IsAtEnd, Keeps}
 use Rattle.clap.specs.declared.error.kind.ErrorKind.{ErrorKind}
 use Rattle.clap.specs.declared.error.kind.ErrorKind.TheVariants.{DisplayHelp, DisplayVersion}
@@ -12,7 +12,11 @@ use Rattle.rambo_text.specs.declared.fault.ReplayFault.TheVariants.{Script, Read
 use Rattle.rambo_outcome.specs.Checks.{IsLeft, IsChecked}
 use Rattle.rambo_outcome.specs.Texts.{IsTextFault}
 use Rattle.rambo_script.specs.Replays.{Replays, Leaves, reads_failed, writes_failed}
-use Rattle.rambo_main.specs.Lines.{rambo}
+use Rattle.rambo_names.specs.Names.{NameSet}
+use Rattle.rambo_local.specs.declared.fault.LocalFault.{LocalFault}
+use Rattle.rambo_local.specs.declared.fault.LocalFault.TheVariants as local
+use Rattle.rambo_local.specs.Talks.{Served, Stopped}
+use Rattle.rambo_main.specs.Lines.{rambo, founders_word, IsFounders}
 
 -- a stream before and after: the bytes that it has left or has taken, where these are known, and how many of its
 -- calls failed
@@ -123,6 +127,42 @@ abbrev pub ChecksTo : ℕ → Stream → Stream → Stream → Type 0
 ChecksTo status read write told =
     IsCheckedTo status read write
     ⊎ ((f : ReplayFault) × EndsBy f status read write told × LeavesCheck f read.old write.old write.new)
+
+-- the same fault, in the words of a replay
+abbrev pub of_local : LocalFault → ReplayFault
+of_local local.Read = Read
+of_local local.Write = Write
+of_local local.Memory = Memory
+
+-- a client that was served
+pub record IsServed (status : ℕ) (read write : Stream) : Type 0 where
+  pub done : status ≡ 0
+  pub reads : IsFine read
+  pub writes : IsFine write
+  pub served : Served read.old read.new write.old write.new
+
+-- how serving a client ends: done, or by a fault, after which a beginning of the replies was written
+abbrev pub ServesTo : ℕ → Stream → Stream → Stream → Type 0
+ServesTo status read write told =
+    IsServed status read write
+    ⊎ ((f : LocalFault) × EndsBy (of_local f) status read write told × Stopped read.old read.new write.old write.new)
+
+-- founders that are none: nothing was read or written
+pub record IsRejected (status : ℕ) (read write told : Stream) : Type 0 where
+  pub status_is : status ≡ 2
+  pub unread : (read.new ≡ read.old) × IsFine read
+  pub unwritten : Takes [] write
+  pub line : Tells (codes "bad founders" ++ 10 ∷ []) told
+
+abbrev pub LocalEnds : Option NameSet → ℕ → Stream → Stream → Stream → Type 0
+LocalEnds (Some founders) status read write told = ServesTo status read write told
+LocalEnds None status read write told = IsRejected status read write told
+
+-- how words end that ask for a client to be served, unless there was no room to read them
+abbrev pub LocalTo : List Text → ℕ → Stream → Stream → Stream → Type 0
+LocalTo words status read write told =
+    (EndsBy Memory status read write told × Keeps write.old write.new)
+    ⊎ ((founders : Option NameSet) × IsFounders (founders_word words) founders × LocalEnds founders status read write told)
 
 -- clap answers with a text that was asked for, and not with a mistake
 abbrev pub IsShown : ErrorKind → Type 0

@@ -1,13 +1,17 @@
 //! The program's work over any streams.
-ghost use Rattle.std.specs.Prelude.{◌≡◌, ◌⊎◌, map};
-ghost use Rattle.rambo_main.specs.Lines.{Asks};
-ghost use Rattle.rambo_main.specs.Statuses.{AnswersTo, ChecksTo, ReplaysTo, stream};
+ghost use Rattle.std.specs.Prelude.{◌≡◌, ◌≤◌, ◌⊎◌, map};
+ghost use Rattle.rambo_names.specs.Names.{count_of};
+ghost use Rattle.rambo_main.specs.Lines.{Asks, AsksLocal};
+ghost use Rattle.rambo_main.specs.Statuses.{AnswersTo, ChecksTo, LocalTo, ReplaysTo, ServesTo, of_local, stream};
 ghost use Rattle.rambo_main.specs.declared.line.Task.{Task as AnyTask};
 
 use crate::line::{Task, task_of};
-use crate::telling::{DONE, answer, tell};
+use crate::telling::{DONE, answer, tell, tell_bad_founders};
 use rambo_atomic::{Sink, Source};
+use rambo_local::{LocalFault, local};
+use rambo_names::{Majority, Members};
 use rambo_script::{check_text, replay};
+use rambo_text::ReplayFault;
 use std::alloc::Global;
 use std::convert::AsStr;
 
@@ -18,7 +22,7 @@ const SAID_NO: u8 = 3;
 ///
 /// - 0: done. Of words that ask for no task, help or the version was written.
 /// - 1: the reader or the writer failed or memory ran out.
-/// - 2: the words ask for nothing that there is, or the input is faulty.
+/// - 2: the words ask for nothing that there is, the founders are none, or the input is faulty.
 /// - 3: the check said no of some key.
 ///
 /// After 1 and 2 the cause was told to `errors`, as far as these took it. A failure of `errors` themselves changes no
@@ -38,6 +42,10 @@ pub fn command<S: AsStr, R: Source, W: Sink, E: Sink>(
         → ChecksTo result (stream R.left R.failures reader.old reader.new)
         (stream W.taken W.failures writer.old writer.new)
         (stream E.taken E.failures errors.old errors.new) }
+    ensures local { AsksLocal (map S.text words.now)
+        → LocalTo (map S.text words.now) result (stream R.left R.failures reader.old reader.new)
+        (stream W.taken W.failures writer.old writer.new)
+        (stream E.taken E.failures errors.old errors.new) }
     ensures other { ((t : AnyTask) → ¬ (Asks (map S.text words.now) t))
         → AnswersTo (map S.text words.now) result (stream W.taken W.failures writer.old writer.new)
         (stream E.taken E.failures errors.old errors.new) × (reader.new ≡ reader.old) }
@@ -46,6 +54,8 @@ pub fn command<S: AsStr, R: Source, W: Sink, E: Sink>(
     match task_of(alloc, words) {
         Ok(Task::Replay) => replayed(alloc, reader, writer, errors),
         Ok(Task::Check) => checked(alloc, reader, writer, errors),
+        Ok(Task::Local(Some(founders))) => served(alloc, founders, reader, writer, errors),
+        Ok(Task::Local(None)) => tell_bad_founders(errors),
         Err(error) => answer(alloc, &error, writer, errors),
     }
 }
@@ -84,5 +94,36 @@ fn checked<R: Source, W: Sink, E: Sink>(
         Ok(true) => DONE,
         Ok(false) => SAID_NO,
         Err(fault) => tell(fault, errors),
+    }
+}
+
+// A client is served by a store of its own.
+fn served<R: Source, W: Sink, E: Sink>(
+    alloc: Global,
+    founders: Members,
+    reader: &mut R,
+    writer: &mut W,
+    errors: &mut E,
+) -> u8
+    requires { 1 ≤ count_of founders }
+    ensures ends { ServesTo result (stream R.left R.failures reader.old reader.new)
+        (stream W.taken W.failures writer.old writer.new)
+        (stream E.taken E.failures errors.old errors.new) }
+    ensures quiet { (result ≡ 0) ⊎ (result ≡ 3) → errors.new ≡ errors.old }
+{
+    if let Err(fault) = local(alloc, Majority::of(founders), reader, writer) {
+        return tell(told_as(fault), errors);
+    }
+    DONE
+}
+
+// The same fault, in the words of a replay.
+fn told_as(fault: LocalFault) -> ReplayFault
+    ensures { result ≡ of_local fault }
+{
+    match fault {
+        LocalFault::Read => ReplayFault::Read,
+        LocalFault::Write => ReplayFault::Write,
+        LocalFault::Memory => ReplayFault::Memory,
     }
 }

@@ -1,9 +1,10 @@
 //! The command line.
 ghost use Rattle.std.specs.Prelude.{◌≡◌, map, IfOk, IfErr};
 ghost use Rattle.clap.specs.Words.{HasKind, app_of, fault_of};
-ghost use Rattle.rambo_main.specs.Lines.{Asks, rambo};
+ghost use Rattle.rambo_main.specs.Lines.{Asks, IsFounders, IsLocal, rambo};
 
-use clap::{Command, Error};
+use clap::{Arg, ArgAction, Command, Error};
+use rambo_names::{Members, read_set};
 use std::alloc::{AllocError, Global};
 use std::convert::AsStr;
 
@@ -80,13 +81,45 @@ Exit statuses:
   2  the command line or the outcome text is faulty
   3  no of some key";
 
+const COMMANDS: &str =
+    "Commands are RESP2 arrays of bulk strings, as redis clients send them. Names of
+commands are read in small and capital letters. Keys have at most 256 bytes.
+
+  PING         replies PONG
+  PING WORD    replies the word
+  GET KEY      replies the value of the key, or nil
+  SET KEY VAL  sets the key to the value, and replies OK
+
+A command is an error that is none of these, has another number of words, or
+has too long a key. Behind bytes that spell no command the fault is replied,
+and the end is as at the end of the input:
+  P1  a command does not begin with *, or an item with $
+  P2  a number is not in plain decimal
+  P3  a command has over 128 items
+  P4  an item has over 4,096 bytes
+  P5  a line or an item does not end in CR LF
+
+Example:
+  printf '*2\\r\\n$4\\r\\nPING\\r\\n$2\\r\\nhi\\r\\n' | rambo local --founders 1,2,3
+
+Exit statuses:
+  0  done
+  1  a stream failed or memory ran out (fault read, fault write, fault memory)
+  2  the command line is faulty, or the founders are none (bad founders)";
+
+/// The founders of a store where no others are told.
+const FOUNDERS: &str = "1";
+
 /// What a command line asks for.
-#[derive(Clone, Copy, PartialEq, Eq, Debug)]
+#[derive(Clone, Copy, Debug)]
 pub enum Task {
     /// From a script to the text of what its run gives.
     Replay,
     /// From an outcome text to a verdict on each key.
     Check,
+    /// A client is served by a store of these founders, of which there is one at least; none where a word is no sign of
+    /// such a set.
+    Local(Option<Members>),
 }
 
 /// What the words behind the program's name ask for.
@@ -98,6 +131,10 @@ pub fn task_of<S: AsStr>(alloc: Global, words: &[S]) -> Result<Task, Error>
 {
     let command = rambo_command(alloc)?;
     let matches = command.try_get_matches_from(words)?;
+    if let Some(local) = matches.subcommand_matches("local") {
+        let word = local.get_str("founders").unwrap_or(FOUNDERS);
+        return Ok(Task::Local(founders_of(word)));
+    }
     if matches.subcommand_matches("replay").is_some() {
         Ok(Task::Replay)
     } else {
@@ -105,7 +142,18 @@ pub fn task_of<S: AsStr>(alloc: Global, words: &[S]) -> Result<Task, Error>
     }
 }
 
-// The program and its two commands.
+// The founders that a word tells, where it is the sign of some.
+fn founders_of(word: &str) -> Option<Members>
+    ensures { IsFounders word.now result }
+{
+    let founders = read_set(word.as_bytes())?;
+    if founders.count() == 0 {
+        return None;
+    }
+    Some(founders)
+}
+
+// The program and its three commands.
 fn rambo_command<'a>(alloc: Global) -> Result<Command<'a>, AllocError>
     ensures { IfOk result (λ c. app_of c ≡ rambo) }
 {
@@ -115,12 +163,33 @@ fn rambo_command<'a>(alloc: Global) -> Result<Command<'a>, AllocError>
     let check = Command::new(alloc, "check")
         .about("Reads the outcome text on standard input and writes yes or no for each of its keys")
         .after_help(OUTCOMES);
+    let local = local_command(alloc)?;
     let program = Command::new(alloc, "rambo")
         .bin_name("rambo")?
         .version("0.1.0")
-        .about("Runs scripts of a replicated key-value store, and checks what they give")
+        .about(
+            "Runs scripts of a replicated key-value store, checks what they give, and serves one client",
+        )
         .after_help(STATUSES)
         .no_binary_name(true)
         .subcommand_required(true);
-    program.subcommand(replay)?.subcommand(check)
+    program
+        .subcommand(replay)?
+        .subcommand(check)?
+        .subcommand(local)
+}
+
+// The command that serves a client.
+fn local_command<'a>(alloc: Global) -> Result<Command<'a>, AllocError>
+    ensures { IfOk result IsLocal }
+{
+    let founders = Arg::new(alloc, "founders")
+        .long("founders")
+        .action(ArgAction::Set)
+        .value_name("SET")
+        .help("The nodes of the store, names in rising order with commas between [default: 1]");
+    Command::new(alloc, "local")
+        .about("Serves one client in RESP2: commands on standard input, replies on standard output")
+        .after_help(COMMANDS)
+        .arg(founders)
 }

@@ -1,4 +1,5 @@
-//! The program `rambo`: from scripts to outcome texts, and from outcome texts to verdicts.
+//! The program `rambo`: from scripts to outcome texts, from outcome texts to verdicts, and from a client's commands to
+//! replies.
 #![tactic(auto)]
 
 mod command;

@@ -1,5 +1,5 @@
 //! What is told to the user.
-ghost use Rattle.std.specs.Prelude.{◌≡◌, ◌⊎◌, ◌++◌, [], ◌∷◌, OnOk, OnErr};
+ghost use Rattle.std.specs.Prelude.{◌≡◌, ◌⊎◌, ◌++◌, [], ◌∷◌, codes, OnOk, OnErr};
 ghost use Rattle.clap.specs.Words.{kind_of};
 ghost use Rattle.rambo_text.specs.Faults.{told};
 ghost use Rattle.rambo_main.specs.Statuses.{Breaks, EndsAs, GivesUp, Takes, Tells, fault_line, status_of, stream};
@@ -107,5 +107,14 @@ pub fn tell_no_text<E: Sink>(errors: &mut E) -> u8
     ensures line { Tells NO_TEXT.now (stream E.taken E.failures errors.old errors.new) }
 {
     let _ = write_all(errors, NO_TEXT);
+    FAULTY
+}
+
+/// Tells that the founders on the command line are none, and answers the exit status for it.
+pub fn tell_bad_founders<E: Sink>(errors: &mut E) -> u8
+    ensures status { result ≡ 2 }
+    ensures line { Tells (codes "bad founders" ++ 10 ∷ []) (stream E.taken E.failures errors.old errors.new) }
+{
+    let _ = write_all(errors, b"bad founders\n");
     FAULTY
 }

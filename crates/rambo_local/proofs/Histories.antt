@@ -1,0 +1,88 @@
+-- The history of a world, after its steps
+use Rattle.std.proofs.Common.{◌≡◌, ℕ, List, [], ◌∷◌, ◌++◌, None, Result, Ok, Err, IfOk, OnOk, refl, sym, ap, ◌∙◌}
+use Rattle.rambo_names.specs.declared.refusal.Refusal.{Refusal}
+use Rattle.rambo_names.specs.Names.{NameSet}
+use Rattle.rambo_names.specs.Quorums.{majorities}
+use Rattle.rambo_names.specs.Majorities.{majorities_sound}
+use Rattle.rambo_atomic.specs.declared.operation.Op.{Op}
+use Rattle.rambo_atomic.specs.declared.operation.Answer.{Answer}
+use Rattle.rambo_atomic.specs.declared.event.CallId.{CallId}
+use Rattle.rambo_atomic.specs.declared.event.Event.{Event}
+use Rattle.rambo_atomic.specs.declared.event.Event.TheVariants as event
+use Rattle.rambo_node.specs.declared.effect.Effect.{Effect}
+use Rattle.rambo_node.specs.declared.effect.Effect.TheVariants as effect
+use Rattle.rambo_run.specs.declared.step.Step.{Step}
+use Rattle.rambo_run.specs.declared.step.Step.TheVariants as step
+use Rattle.rambo_run.specs.Worlds.{WorldState}
+use Rattle.rambo_run.specs.Steps.{refusal, turn}
+use Rattle.rambo_run.proofs.EveryRun.{is_atomic}
+use Rattle.rambo_run.proofs.NodeLists.{node_named}
+use Rattle.rambo_sequence.specs.Sequences.{sequence_of}
+use Rattle.rambo_world.specs.Worlds.{WorldOf, state}
+use Rattle.rambo_local.proofs.RunSteps.{run-more}
+use Rattle.rambo_local.specs.declared.request.Request.{Request}
+use Rattle.rambo_local.specs.Maps.{no_values, answer_of}
+use Rattle.rambo_local.specs.Replies.{after_all}
+use Rattle.rambo_local.specs.Calls.{id_at, answered, history_of, IsHistory}
+use Rattle.rambo_local.proofs.Turns.{send_quiet, deliver_quiet, call_told, uncalled_told, advance_told}
+use Rattle.rambo_local.proofs.WellFormed.{run_well_formed, no_history}
+use Rattle.rambo_local.proofs.Orders.{answer_right}
+
+-- a step that wasn't refused
+pub stepped : (old new : WorldOf NameSet) (st : Step) → refusal majorities (state majorities old) st ≡ None → new ≡ record old { steps = old.steps ++ st ∷ [] }
+    → history_of new ≡ (turn (state majorities old) st).world.history
+stepped old new st accepted e =
+    ap history_of e ∙ ap (λ (w : WorldState NameSet). w.history) (run-more majorities old.founders old.steps st accepted)
+
+pub sent : (old new : WorldOf NameSet) (n to : ℕ) → refusal majorities (state majorities old) (step.Send n to) ≡ None → new ≡ record old { steps = old.steps ++ step.Send n to ∷ [] }
+    → history_of new ≡ history_of old
+sent old new n to accepted e = stepped old new (step.Send n to) accepted e ∙ send_quiet (state majorities old) n to
+
+pub delivered : (old new : WorldOf NameSet) (number : ℕ) → refusal majorities (state majorities old) (step.Deliver number) ≡ None → new ≡ record old { steps = old.steps ++ step.Deliver number ∷ [] }
+    → history_of new ≡ history_of old
+delivered old new number accepted e = stepped old new (step.Deliver number) accepted e ∙ deliver_quiet (state majorities old) number
+
+pub called : (old new : WorldOf NameSet) (n : ℕ) (o : Op) (id : CallId) (told : Effect) → refusal majorities (state majorities old) (step.Call n o) ≡ None
+    → new ≡ record old { steps = old.steps ++ step.Call n o ∷ [] } → told ≡ (turn (state majorities old) (step.Call n o)).effect → told ≡ effect.Called id
+    → (history_of new ≡ history_of old ++ event.Call id o ∷ []) × (id ≡ id_at n id.number)
+called old new n o id told accepted e is f =
+    let r = call_told (state majorities old) n o id (node_named majorities old.founders old.steps n) (sym is ∙ f) in
+    (stepped old new (step.Call n o) accepted e ∙ r.0, r.1)
+
+pub uncalled : (old new : WorldOf NameSet) (n : ℕ) (o : Op) (told : Effect) → refusal majorities (state majorities old) (step.Call n o) ≡ None
+    → new ≡ record old { steps = old.steps ++ step.Call n o ∷ [] } → told ≡ (turn (state majorities old) (step.Call n o)).effect → ((id : CallId) → told ≡ effect.Called id → ⊥)
+    → history_of new ≡ history_of old
+uncalled old new n o told accepted e is none =
+    stepped old new (step.Call n o) accepted e ∙ uncalled_told (state majorities old) n o (λ id f. none id (is ∙ f))
+
+pub went_on : (old new : WorldOf NameSet) (id : CallId) (told : Effect) → refusal majorities (state majorities old) (step.Advance id) ≡ None
+    → new ≡ record old { steps = old.steps ++ step.Advance id ∷ [] } → told ≡ (turn (state majorities old) (step.Advance id)).effect
+    → history_of new ≡ history_of old ++ answered id told
+went_on old new id told accepted e is =
+    stepped old new (step.Advance id) accepted e ∙ advance_told (state majorities old) id ∙ ap (λ x. history_of old ++ answered id x) (sym is)
+
+-- where it is done
+pub went_on_told : (first old new : WorldOf NameSet) (id : CallId) (r : Result Effect Refusal) → history_of old ≡ history_of first
+    → OnOk r (refusal majorities (state majorities old) (step.Advance id) ≡ None) → OnOk r (new ≡ record old { steps = old.steps ++ step.Advance id ∷ [] })
+    → IfOk r (λ e. e ≡ (turn (state majorities old) (step.Advance id)).effect) → IfOk r (λ e. history_of new ≡ history_of first ++ answered id e)
+went_on_told first old new id (Ok told) same accepted e is = went_on old new id told accepted e is ∙ ap (λ h. h ++ answered id told) same
+went_on_told first old new id (Err f) same accepted e is = tt
+
+-- no answer
+pub unanswered : (id : CallId) (e : Effect) → ((d : CallId) (a : Answer) → e ≡ effect.Answered d a → ⊥) → answered id e ≡ []
+unanswered id (effect.Answered d a) none = absurd (none d a refl)
+unanswered id effect.Done none = refl
+unanswered id (effect.Called d) none = refl
+unanswered id (effect.Sent number) none = refl
+unanswered id effect.Moved none = refl
+
+-- a world just made has no history
+pub fresh_history : (w : WorldOf NameSet) → w.steps ≡ [] → history_of w ≡ []
+fresh_history w e = ap (λ ss. history_of (record { founders = w.founders; steps = ss })) e ∙ no_history majorities w.founders
+
+-- each answer is an ordinary map's
+pub right : (w : WorldOf NameSet) (name : ℕ) (qs : List Request) (h0 : List Event) (id : CallId) (o : Op) (a : Answer) → IsHistory name qs h0
+    → history_of w ≡ h0 ++ event.Call id o ∷ event.Answer id a ∷ [] → a ≡ answer_of (after_all no_values qs) o
+right w name qs h0 id o a calls is =
+    answer_right name qs h0 id o a (history_of w) calls is (run_well_formed majorities w.founders w.steps)
+    (λ key. (sequence_of (history_of w) (state majorities w).marks key, is_atomic majorities majorities_sound w.founders w.steps key))

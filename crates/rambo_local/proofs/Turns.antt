@@ -1,0 +1,89 @@
+-- What steps do to the history
+use Rattle.std.proofs.Common.{◌≡◌, ℕ, ◌+◌, [], ◌∷◌, ◌++◌, Option, None, Some, refl, sym, ap, ◌∙◌, append-nil}
+use Rattle.rambo_atomic.specs.declared.operation.Op.{Op}
+use Rattle.rambo_atomic.specs.declared.event.CallId.{CallId}
+use Rattle.rambo_atomic.specs.declared.event.Event.TheVariants as event
+use Rattle.rambo_gossip.specs.declared.letter.Letter.{Letter}
+use Rattle.rambo_node.specs.declared.change.Change.TheVariants as change
+use Rattle.rambo_node.specs.declared.effect.Effect.TheVariants as effect
+use Rattle.rambo_node.specs.declared.stage.Stage.{Stage}
+use Rattle.rambo_node.specs.declared.stage.Stage.TheVariants.{Query, Propagation}
+use Rattle.rambo_node.specs.Calls.{CallState}
+use Rattle.rambo_node.specs.Changes.{stage_met, advanced, made_by}
+use Rattle.rambo_node.specs.Nodes.{NodeState, open_call}
+use Rattle.rambo_run.specs.declared.step.Step.TheVariants as step
+use Rattle.rambo_run.specs.Worlds.{WorldState, node_at, letter_at}
+use Rattle.rambo_run.specs.Steps.{delivery, turn_by, turn_at, turn_of, turn}
+use Rattle.rambo_local.specs.Calls.{id_at, answered}
+
+module _ {Q : Type 0} (w : WorldState Q) where
+  sent_by : (n to : ℕ) (x : Option (NodeState Q)) → (turn_at w n x (change.Send to)).world.history ≡ w.history
+  unfolding made_by
+  sent_by n to None = refl
+  sent_by n to (Some x) = refl
+
+  -- a letter that is sent
+  pub send_quiet : (n to : ℕ) → (turn w (step.Send n to)).world.history ≡ w.history
+  unfolding turn
+  send_quiet n to = sent_by n to (node_at w n)
+
+  heard_by : (n : ℕ) (l : Letter Q) (x : Option (NodeState Q)) → (turn_at w n x (change.Deliver l)).world.history ≡ w.history
+  unfolding made_by
+  heard_by n l None = refl
+  heard_by n l (Some x) = refl
+
+  came : (l : Option (Letter Q)) → (turn_of w (delivery l)).world.history ≡ w.history
+  came None = refl
+  came (Some l) = heard_by l.addressee l (node_at w l.addressee)
+
+  -- and one that comes
+  pub deliver_quiet : (number : ℕ) → (turn w (step.Deliver number)).world.history ≡ w.history
+  unfolding turn
+  deliver_quiet number = came (letter_at w.letters number)
+
+  called_by : (n : ℕ) (o : Op) (id : CallId) (x : Option (NodeState Q)) → node_at w n ≡ x → ((y : NodeState Q) → node_at w n ≡ Some y → y.name ≡ n)
+      → (turn_at w n x (change.Call o)).effect ≡ effect.Called id
+      → ((turn_at w n x (change.Call o)).world.history ≡ w.history ++ event.Call id o ∷ []) × (id ≡ id_at n id.number)
+  unfolding made_by
+  called_by n o id None at named e = cc
+  called_by n o id (Some x) at named e =
+      let same : id_at x.name (x.made + 1) ≡ id = cc in
+      (ap (λ i. w.history ++ event.Call i o ∷ []) same, ap (λ k. id_at k id.number) (ap (λ (i : CallId). i.name) (sym same) ∙ named x at))
+
+  -- a call that is made
+  pub call_told : (n : ℕ) (o : Op) (id : CallId) → ((y : NodeState Q) → node_at w n ≡ Some y → y.name ≡ n) → (turn w (step.Call n o)).effect ≡ effect.Called id
+      → ((turn w (step.Call n o)).world.history ≡ w.history ++ event.Call id o ∷ []) × (id ≡ id_at n id.number)
+  unfolding turn
+  call_told n o id named e = called_by n o id (node_at w n) refl named e
+
+  uncalled_by : (n : ℕ) (o : Op) (x : Option (NodeState Q)) → ((id : CallId) → (turn_at w n x (change.Call o)).effect ≡ effect.Called id → ⊥)
+      → (turn_at w n x (change.Call o)).world.history ≡ w.history
+  unfolding made_by
+  uncalled_by n o None none = refl
+  uncalled_by n o (Some x) none = absurd (none (id_at x.name (x.made + 1)) refl)
+
+  -- and one that isn't
+  pub uncalled_told : (n : ℕ) (o : Op) → ((id : CallId) → (turn w (step.Call n o)).effect ≡ effect.Called id → ⊥) → (turn w (step.Call n o)).world.history ≡ w.history
+  unfolding turn
+  uncalled_told n o none = uncalled_by n o (node_at w n) none
+
+  stage_told : (n : ℕ) (x : NodeState Q) (id : CallId) (c : CallState Q) (g : Stage)
+      → (turn_by w n (stage_met x id c g)).world.history ≡ w.history ++ answered id (turn_by w n (stage_met x id c g)).effect
+  stage_told n x id c Query = sym (append-nil w.history)
+  stage_told n x id c (Propagation kept) = refl
+
+  open_told : (n : ℕ) (x : NodeState Q) (id : CallId) (c : Option (CallState Q))
+      → (turn_by w n (advanced x id c)).world.history ≡ w.history ++ answered id (turn_by w n (advanced x id c)).effect
+  open_told n x id None = sym (append-nil w.history)
+  open_told n x id (Some c) = stage_told n x id c c.stage
+
+  advanced_by : (id : CallId) (x : Option (NodeState Q))
+      → (turn_at w id.name x (change.Advance id)).world.history ≡ w.history ++ answered id (turn_at w id.name x (change.Advance id)).effect
+  unfolding made_by
+  advanced_by id None = sym (append-nil w.history)
+  advanced_by id (Some x) = open_told id.name x id (open_call x id)
+
+  -- a call that goes on: its answer, if it has one
+  pub advance_told : (id : CallId) → (turn w (step.Advance id)).world.history ≡ w.history ++ answered id (turn w (step.Advance id)).effect
+  unfolding turn
+  advance_told id = advanced_by id (node_at w id.name)

@@ -1,0 +1,16 @@
+//! One client of a whole store in one process: its commands are read, and answered by the node that it asks.
+//!
+//! - `local`: serves a client over a world of its own.
+//! - `local_on`: the same over a world just made, which then tells its history.
+//! - `Host`: the worlds that this is done on.
+//! - `LocalFault`: why a client wasn't served to the end.
+#![tactic(auto)]
+
+mod client;
+mod fault;
+mod request;
+mod serving;
+
+pub use client::Host;
+pub use fault::LocalFault;
+pub use serving::{local, local_on};
