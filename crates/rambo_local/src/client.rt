@@ -1,5 +1,5 @@
 //! A client, and what it asks of the nodes of a world.
-ghost use Rattle.std.specs.Prelude.{◌≡◌, ◌++◌, ◌∷◌, [], ℕ, List, IfOk, OnOk, OnErr, IfSome, ◌⊎◌};
+ghost use Rattle.std.specs.Prelude.{◌≡◌, ◌++◌, ◌∷◌, [], ℕ, List, IfOk, OnOk, OnErr, IfSome};
 ghost use Rattle.rambo_atomic.specs.declared.event.Event.TheVariants as event;
 ghost use Rattle.rambo_local.specs.declared.request.Request.{Request as AnyRequest};
 ghost use Rattle.rambo_local.specs.declared.request.Request.TheVariants.{Does};

@@ -44,7 +44,7 @@ impl From<AllocError> for LocalFault {
     }
 }
 
-// A step of a client's world is refused only for want of memory.
+// No step of a client's world should be refused but for want of memory: its nodes never stop, and are asked in form.
 impl From<Refusal> for LocalFault {
     ghost use Rattle.rambo_local.specs.declared.fault.LocalFault.TheVariants.{Memory};
 

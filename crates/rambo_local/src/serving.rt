@@ -1,5 +1,5 @@
 //! Serving a client.
-ghost use Rattle.std.specs.Prelude.{◌≡◌, ◌≤◌, ◌<◌, ◌++◌, ◌∷◌, [], ℕ, List, length, IfOk, IfErr, OnOk, OnErr};
+ghost use Rattle.std.specs.Prelude.{◌≡◌, ◌≤◌, ◌++◌, ◌∷◌, [], ℕ, List, IfOk, IfErr, OnOk, OnErr};
 ghost use Rattle.rambo_names.specs.Names.{count_of};
 ghost use Rattle.rambo_resp.specs.Decoders.{HasTaken};
 ghost use Rattle.rambo_resp.specs.Replies.{reply_spelling};

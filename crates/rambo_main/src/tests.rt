@@ -80,13 +80,18 @@ fn each_ending(rt: HostRuntime) -> Result<(), Fail> {
     let replay = on("replay", b"founders 1\n");
     let check = on("check", OUTCOME);
     let many = on("check", MANY_KEYS);
+    let local = on("local", b"*1\r\n$4\r\nPING\r\n");
     let version = on("--version", b"");
     let faulty = on("replay", b"founders 1\nget 1 6b\nget 1 6B\n");
-    let rows: [(Setup, u8, &[u8], &[u8]); 15] = [
+    let rows: [(Setup, u8, &[u8], &[u8]); 19] = [
         (replay, 0, b"map 1 0 1\n", b""),
         (check, 0, b"yes 6b\n", b""),
         (on("check", TURNED), 3, b"no 6b 4\n", b""),
         (version, 0, b"rambo 0.1.0\n", b""),
+        (local, 0, b"+PONG\r\n", b""),
+        (on("local", b"PING"), 0, b"-ERR protocol fault P1\r\n", b""),
+        (Setup { read: 2, ..local }, 1, b"+PONG\r\n", b"fault read\n"),
+        (Setup { write: 1, ..local }, 1, b"", b"fault write\n"),
         (faulty, 2, b"", b"script fault S5 at line 3\n"),
         (Setup { tell: 1, ..faulty }, 2, b"", b""),
         (Setup { tell: 3, ..faulty }, 2, b"", b"script fault S5"),
