@@ -8,11 +8,13 @@ use std::test::Fail;
 // A set, a get of its key in small letters, and a ping.
 const THREE: &[u8] =
     b"*3\r\n$3\r\nSET\r\n$1\r\nk\r\n$1\r\nv\r\n*2\r\n$3\r\nget\r\n$1\r\nk\r\n*1\r\n$4\r\nPING\r\n";
+
 const THREE_REPLIES: &[u8] = b"+OK\r\n$1\r\nv\r\n+PONG\r\n";
 
 // Two sets of a key, a get of it, and one of another key.
 const FOUR: &[u8] =
     b"*3\r\n$3\r\nset\r\n$1\r\nk\r\n$1\r\nv\r\n*3\r\n$3\r\nSet\r\n$1\r\nk\r\n$0\r\n\r\n*2\r\n$3\r\nGET\r\n$1\r\nk\r\n*2\r\n$3\r\nGET\r\n$1\r\nl\r\n";
+
 const FOUR_REPLIES: &[u8] = b"+OK\r\n+OK\r\n$0\r\n\r\n$-1\r\n";
 
 // Room for all replies of a client.
@@ -136,12 +138,7 @@ fn each_reply(rt: HostRuntime) -> Result<(), Fail> {
 }
 
 // A command of this name for a key of so many bytes.
-fn of_long_key(
-    alloc: Global,
-    front: &[u8],
-    count: usize,
-    back: &[u8],
-) -> Result<Vec<u8>, Refusal> {
+fn of_long_key(alloc: Global, front: &[u8], count: usize, back: &[u8]) -> Result<Vec<u8>, Refusal> {
     let mut input = Vec::new(alloc);
     input.extend_from_slice(front)?;
     for _ in 0..count {
