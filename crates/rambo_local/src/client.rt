@@ -1,5 +1,6 @@
 //! A client, and what it asks of the nodes of a world.
-ghost use Rattle.std.specs.Prelude.{◌≡◌, ◌++◌, ◌∷◌, [], ℕ, List, IfOk, OnOk, OnErr, IfSome};
+ghost use Rattle.std.specs.Prelude.{◌≡◌, ◌++◌, ◌∷◌, [], ℕ, List, IfOk, OnOk, OnErr, IfNone, IfSome};
+ghost use Rattle.rambo_names.specs.Names.{names};
 ghost use Rattle.rambo_atomic.specs.declared.event.Event.TheVariants as event;
 ghost use Rattle.rambo_local.specs.declared.request.Request.{Request as AnyRequest};
 ghost use Rattle.rambo_local.specs.declared.request.Request.TheVariants.{Does};
@@ -28,7 +29,8 @@ pub struct Client {
 impl Client {
     /// The client of these founders, or none where there is no founder.
     pub fn new(founders: Members) -> Option<Client>
-        ensures { IfSome result (λ c. c.name ≡ lowest founders) }
+        ensures lowest { IfSome result (λ c. c.name ≡ lowest founders) }
+        ensures none { IfNone result (names founders ≡ []) }
     {
         let name = founders.iter().next()?;
         Some(Client { name, founders })
