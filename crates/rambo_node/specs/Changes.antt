@@ -118,6 +118,26 @@ answer_in effect.Moved = None
 answer_in (effect.Collected n place) = None
 answer_in (effect.Decided n d) = None
 
+-- the place whose collection ended
+abbrev pub collected_in : {Q : Type 0} → Effect Q → Option ℕ
+collected_in (effect.Collected n place) = Some place
+collected_in effect.Done = None
+collected_in (effect.Called id) = None
+collected_in (effect.Sent number) = None
+collected_in effect.Moved = None
+collected_in (effect.Answered id answer) = None
+collected_in (effect.Decided n d) = None
+
+-- what an attempt that ended came to
+abbrev pub decided_in : {Q : Type 0} → Effect Q → Option (Decided Q)
+decided_in (effect.Decided n d) = Some d
+decided_in effect.Done = None
+decided_in (effect.Called id) = None
+decided_in (effect.Sent number) = None
+decided_in effect.Moved = None
+decided_in (effect.Answered id answer) = None
+decided_in (effect.Collected n place) = None
+
 abbrev pub begun_again : {Q : Type 0} → NodeState Q → Option (CallState Q) → Made Q
 begun_again x None = quiet x
 begun_again x (Some c) = quiet (called_again x c)

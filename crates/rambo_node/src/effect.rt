@@ -1,7 +1,7 @@
 //! What a step does.
 
 ghost use Rattle.std.specs.Prelude.{◌≡◌};
-ghost use Rattle.rambo_node.specs.Changes.{answer_in};
+ghost use Rattle.rambo_node.specs.Changes.{answer_in, collected_in, decided_in};
 
 use crate::decided::Decided;
 use rambo_atomic::{Answer, CallId};
@@ -27,13 +27,33 @@ pub enum Effect<Q> {
     Decided(Name, Decided<Q>),
 }
 
-impl<Q> Effect<Q> {
+impl<Q: Copy> Effect<Q> {
     // The answer that a call got, if it did.
     pub(crate) fn into_answer(self) -> Option<Answer>
         ensures { result ≡ answer_in self }
     {
         match self {
             Effect::Answered(_, answer) => Some(answer),
+            _ => None,
+        }
+    }
+
+    // The place whose collection ended, if one did.
+    pub(crate) fn collected(&self) -> Option<u64>
+        ensures { result ≡ collected_in self.now }
+    {
+        match self {
+            Effect::Collected(_, place) => Some(*place),
+            _ => None,
+        }
+    }
+
+    // What an attempt that ended came to, if one did.
+    pub(crate) fn decided(&self) -> Option<Decided<Q>>
+        ensures { result ≡ decided_in self.now }
+    {
+        match self {
+            Effect::Decided(_, decided) => Some(*decided),
             _ => None,
         }
     }

@@ -12,7 +12,7 @@ ghost use Rattle.rambo_node.specs.declared.change.Change.TheVariants as change;
 use crate::node::Node;
 use rambo_config_map::ConfigMap;
 use rambo_gossip::{Gossip, Kind, Letter};
-use rambo_names::{Members, Name, Quorums, Refusal};
+use rambo_names::{Name, Quorums, Refusal};
 use rambo_tag::{Pack, Replica};
 
 impl<Q: Quorums, S: Replica> Node<Q, S> {
@@ -70,14 +70,7 @@ impl<Q: Quorums, S: Replica> Node<Q, S> {
                 self.meet(letter.sender);
                 Ok(())
             }
-            Kind::Gossip(gossip) => self.merge(
-                letter.sender,
-                gossip.known,
-                &gossip.copies,
-                &gossip.map,
-                gossip.number,
-                gossip.heard,
-            ),
+            Kind::Gossip(gossip) => self.merge(letter.sender, gossip),
         }
     }
 
@@ -105,6 +98,8 @@ impl<Q: Quorums, S: Replica> Node<Q, S> {
             map: self.map.copy(),
             number: self.number,
             heard: self.heard.of(to),
+            vote: self.vote,
+            offer: self.offer(),
         })
     }
 
@@ -128,29 +123,28 @@ impl<Q: Quorums, S: Replica> Node<Q, S> {
     }
 
     // Merges gossip, if there is a phase number for it.
-    fn merge(
-        &mut self,
-        from: Name,
-        known: Members,
-        copies: &Pack,
-        map: &ConfigMap<Q>,
-        number: u64,
-        heard: u64,
-    ) -> Result<(), Refusal>
-        ensures ok { OnOk result ((any_gap heard map.now self.old.calls && is_last self.old.number) ≡ false
-            → self.new ≡ heard_gossip self.old from (record { known = known; copies = copies.now; map = map.now; number = number; heard = heard })) }
+    fn merge(&mut self, from: Name, gossip: &Gossip<Q>) -> Result<(), Refusal>
+        ensures ok { OnOk result ((any_gap gossip.now.heard gossip.now.map self.old.calls && is_last self.old.number) ≡ false
+            → self.new ≡ heard_gossip self.old from gossip.now) }
         ensures refused { IfErr result (λ r. r ≡ Refusal.OutOfMemory) }
         ensures err { OnErr result (self.new ≡ self.old) }
     {
-        let own = self.number_after(heard, map);
-        self.calls.make_room(map)?;
-        self.registers.merge(copies)?;
-        self.map.merge(map);
-        self.calls.hear(from, heard, map, own, &self.map, self.name);
+        let own = self.number_after(gossip.heard, &gossip.map);
+        let collection = self.collection_after(from, gossip.heard);
+        let attempt = self.attempt_after(from, gossip);
+        let vote = self.vote_after(gossip);
+        self.calls.make_room(&gossip.map)?;
+        self.registers.merge(&gossip.copies)?;
+        self.map.merge(&gossip.map);
+        self.calls
+            .hear(from, gossip.heard, &gossip.map, own, &self.map, self.name);
         self.status.wake();
-        self.known = self.known.union(known);
-        self.heard.raise(from, number);
+        self.known = self.known.union(gossip.known);
+        self.heard.raise(from, gossip.number);
         self.number = own;
+        self.collection = collection;
+        self.attempt = attempt;
+        self.vote = vote;
         Ok(())
     }
 }

@@ -1,17 +1,23 @@
 //! Why a node refuses a change.
 ghost use Rattle.std.specs.Prelude.{◌≡◌, OnOk, IfErr, None, Some};
 ghost use Rattle.rambo_names.specs.Refusals.{least};
-ghost use Rattle.rambo_node.specs.Refusals.{join_causes, call_causes, send_causes, advance_causes, again_causes, stop_causes, tags_spent, value_is_long, restarts, query_spent, is_last, is_missing, is_unmet};
+ghost use Rattle.rambo_node.specs.Refusals.{join_causes, call_causes, send_causes, advance_causes, again_causes, stop_causes, collect_causes, advance_collect_causes, recon_causes, rebid_causes, advance_recon_causes, collection_turn, needs_number, is_member, is_for, attempt_waits, tags_spent, value_is_long, restarts, query_spent, is_last, is_missing, is_unmet};
+ghost use Rattle.rambo_config_map.specs.Maps.{active_at, end_of, top_of};
+ghost use Rattle.rambo_gc.specs.Collections.{has_quorum};
 ghost use Rattle.rambo_node.specs.Nodes.{open_call};
 ghost use Rattle.rambo_node.specs.Operations.{query_in};
 ghost use Rattle.rambo_node.specs.Changes.{refusal_of};
 ghost use Rattle.rambo_node.specs.declared.change.Change.TheVariants as change;
 
+use crate::bids::{is_known, is_next};
 use crate::change::Change;
 use crate::node::Node;
 use rambo_atomic::{CallId, Op};
+use rambo_config_map::{ConfigMap, Entry};
+use rambo_gc::GcMove;
 use rambo_gossip::{Kind, Letter};
 use rambo_names::{Members, Name, Quorums, Refusal};
+use rambo_paxos::Attempt;
 use rambo_tag::Replica;
 
 // Keys have at most so many bytes.
@@ -22,6 +28,9 @@ const VALUE_LIMIT: usize = 4096;
 
 // A node has at most so many open calls.
 const CALL_LIMIT: usize = 64;
+
+// A map has at most so many active places.
+const ACTIVE_LIMIT: usize = 8;
 
 impl<Q: Quorums, S: Replica> Node<Q, S> {
     /// Why a change is refused, if it is: the least number of the causes that hold.
@@ -39,6 +48,19 @@ impl<Q: Quorums, S: Replica> Node<Q, S> {
     ///   sequence number of the key's tag, is the greatest one.
     /// - `Again`: 3 where it is idle or joining, 4 where it has stopped, 7 where there is no such open call, 21
     ///   where the phase number is the greatest one.
+    /// - `Collect`: 3 where it is idle or joining, 4 where it has stopped, 10 where only one place is active, 11
+    ///   where a collection is open, 21 where the phase number is the greatest one.
+    /// - `AdvanceCollect`: 3 where it is idle or joining, 4 where it has stopped, 8 where a collection is open
+    ///   whose place isn't removed and whose quorum isn't there, 12 where no collection is open, 21 where its first
+    ///   quorum is there, its place isn't removed and the phase number is the greatest one.
+    /// - `Recon`: 3 where it is idle or joining, 4 where it has stopped, 13 where it is no member of the
+    ///   configuration at its top, 14 where an attempt is open, 16 where eight places are active, 17 where the wish
+    ///   has a member that it doesn't know, 18 where the wish has no member, 21 where the round that its vote promised,
+    ///   or the top, is the greatest one.
+    /// - `Rebid`: 3 where it is idle or joining, 4 where it has stopped, 15 where no attempt is open for the first
+    ///   unknown place, 21 where the round that its vote promised is the greatest one.
+    /// - `AdvanceRecon`: 3 where it is idle or joining, 4 where it has stopped, 8 where an attempt is open whose place
+    ///   is unknown and whose quorum isn't there, 15 where no attempt is open.
     /// - `Stop`: 3 where it is idle, 4 where it has stopped.
     pub fn judge(&self, change: &Change<Q>) -> Result<(), Refusal>
         ensures ok { OnOk result (refusal_of Q.system self.now change.now ≡ None) }
@@ -51,6 +73,11 @@ impl<Q: Quorums, S: Replica> Node<Q, S> {
             Change::Deliver(letter) => self.may_hear(letter),
             Change::Advance(id) => self.may_advance(id),
             Change::Again(id) => self.may_restart(id),
+            Change::Collect => self.may_collect(),
+            Change::AdvanceCollect => self.may_advance_collect(),
+            Change::Recon(wish) => self.may_recon(wish),
+            Change::Rebid => self.may_rebid(),
+            Change::AdvanceRecon => self.may_advance_recon(),
             Change::Stop => self.may_stop(),
         }
     }
@@ -225,6 +252,181 @@ impl<Q: Quorums, S: Replica> Node<Q, S> {
         Ok(())
     }
 
+    // What the advance of its collection would do, if one is open and it wouldn't be refused.
+    pub(crate) fn collection_turn(&self) -> Option<GcMove>
+        ensures { result ≡ collection_turn Q.system self.now self.now.collection }
+    {
+        match &self.collection {
+            Some(collection) => collection.would_advance(&self.map),
+            None => None,
+        }
+    }
+
+    // Whether the node may begin to collect its lowest place.
+    pub(crate) fn may_collect(&self) -> Result<(), Refusal>
+        ensures ok { OnOk result (least (collect_causes self.now) ≡ None) }
+        ensures refused { IfErr result (λ r. least (collect_causes self.now) ≡ Some r) }
+    {
+        if self.status.is_early() {
+            return Err(Refusal::NotActive);
+        }
+        if self.status.is_stopped() {
+            return Err(Refusal::Stopped);
+        }
+        if self.map.places().len() <= 1 {
+            return Err(Refusal::NothingToCollect);
+        }
+        if self.collection.is_some() {
+            return Err(Refusal::CollectOpen);
+        }
+        if is_last(self.number) {
+            return Err(Refusal::NumbersSpent);
+        }
+        Ok(())
+    }
+
+    // Whether its collection may go on.
+    pub(crate) fn may_advance_collect(&self) -> Result<(), Refusal>
+        ensures ok { OnOk result (least (advance_collect_causes Q.system self.now) ≡ None) }
+        ensures refused { IfErr result (λ r. least (advance_collect_causes Q.system self.now) ≡ Some r) }
+    {
+        let turn = self.collection_turn();
+        if self.status.is_early() {
+            return Err(Refusal::NotActive);
+        }
+        if self.status.is_stopped() {
+            return Err(Refusal::Stopped);
+        }
+        if self.collection.is_some() && turn.is_none() {
+            return Err(Refusal::NotYet);
+        }
+        if self.collection.is_none() {
+            return Err(Refusal::NoCollect);
+        }
+        if needs_number(turn) && is_last(self.number) {
+            return Err(Refusal::NumbersSpent);
+        }
+        Ok(())
+    }
+
+    // Whether the node is a member of the configuration at its top.
+    fn is_member(&self) -> bool
+        ensures { result ≡ is_member Q.system self.now.name (active_at self.now.map (top_of self.now.map)) }
+    {
+        match active_at(&self.map, self.map.top()) {
+            Some(config) => config.members().has(self.name),
+            None => false,
+        }
+    }
+
+    // Whether the node may begin to have a configuration chosen.
+    pub(crate) fn may_recon(&self, wish: &Q) -> Result<(), Refusal>
+        ensures ok { OnOk result (least (recon_causes Q.system self.now wish.now) ≡ None) }
+        ensures refused { IfErr result (λ r. least (recon_causes Q.system self.now wish.now) ≡ Some r) }
+    {
+        if self.status.is_early() {
+            return Err(Refusal::NotActive);
+        }
+        if self.status.is_stopped() {
+            return Err(Refusal::Stopped);
+        }
+        if !self.is_member() {
+            return Err(Refusal::NotMember);
+        }
+        if self.attempt.is_some() {
+            return Err(Refusal::ReconOpen);
+        }
+        if self.map.places().len() >= ACTIVE_LIMIT {
+            return Err(Refusal::TooManyActive);
+        }
+        if !wish.members().is_subset(self.known) {
+            return Err(Refusal::UnknownMember);
+        }
+        if wish.members().count() == 0 {
+            return Err(Refusal::EmptyMembers);
+        }
+        if is_last(self.vote.round()) || is_last(self.map.top()) {
+            return Err(Refusal::NumbersSpent);
+        }
+        Ok(())
+    }
+
+    // Whether an attempt is open for the first unknown place.
+    fn is_bidding(&self) -> bool
+        ensures { result ≡ is_for (end_of self.now.map) self.now.attempt }
+    {
+        match &self.attempt {
+            Some(attempt) => is_next(&self.map, attempt.place()),
+            None => false,
+        }
+    }
+
+    // Whether its attempt may begin again.
+    pub(crate) fn may_rebid(&self) -> Result<(), Refusal>
+        ensures ok { OnOk result (least (rebid_causes self.now) ≡ None) }
+        ensures refused { IfErr result (λ r. least (rebid_causes self.now) ≡ Some r) }
+    {
+        if self.status.is_early() {
+            return Err(Refusal::NotActive);
+        }
+        if self.status.is_stopped() {
+            return Err(Refusal::Stopped);
+        }
+        if !self.is_bidding() {
+            return Err(Refusal::NoRecon);
+        }
+        if is_last(self.vote.round()) {
+            return Err(Refusal::NumbersSpent);
+        }
+        Ok(())
+    }
+
+    // Whether an attempt is open whose place isn't known yet and whose quorum isn't there.
+    fn is_waiting(&self) -> bool
+        ensures { result ≡ attempt_waits Q.system self.now self.now.attempt }
+    {
+        match &self.attempt {
+            Some(attempt) => {
+                !is_known(&self.map, attempt.place()) && !self.has_replies(attempt)
+            }
+            None => false,
+        }
+    }
+
+    // Whether the repliers of an attempt hold a quorum of the configuration at the top. It is tried on copies.
+    fn has_replies(&self, attempt: &Attempt<Q>) -> bool
+        ensures { result ≡ has_quorum Q.system (active_at self.now.map (top_of self.now.map)) attempt.now.repliers }
+    {
+        match active_at(&self.map, self.map.top()) {
+            Some(old) => {
+                let mut trial = *attempt;
+                let mut vote = self.vote;
+                trial.advance(&mut vote, &old).is_ok()
+            }
+            None => false,
+        }
+    }
+
+    // Whether its attempt may go on.
+    pub(crate) fn may_advance_recon(&self) -> Result<(), Refusal>
+        ensures ok { OnOk result (least (advance_recon_causes Q.system self.now) ≡ None) }
+        ensures refused { IfErr result (λ r. least (advance_recon_causes Q.system self.now) ≡ Some r) }
+    {
+        if self.status.is_early() {
+            return Err(Refusal::NotActive);
+        }
+        if self.status.is_stopped() {
+            return Err(Refusal::Stopped);
+        }
+        if self.is_waiting() {
+            return Err(Refusal::NotYet);
+        }
+        if self.attempt.is_none() {
+            return Err(Refusal::NoRecon);
+        }
+        Ok(())
+    }
+
     // Whether the node may stop.
     pub(crate) fn may_stop(&self) -> Result<(), Refusal>
         ensures ok { OnOk result (least (stop_causes self.now) ≡ None) }
@@ -245,6 +447,23 @@ fn is_last(number: u64) -> bool
     ensures { result ≡ is_last number }
 {
     number == u64::MAX
+}
+
+// Whether a collection that goes on so takes a new number.
+fn needs_number(turn: Option<GcMove>) -> bool
+    ensures { result ≡ needs_number turn }
+{
+    turn == Some(GcMove::Propagating)
+}
+
+// The configuration that is active at a place.
+pub(crate) fn active_at<Q: Quorums>(map: &ConfigMap<Q>, place: u64) -> Option<Q>
+    ensures { result ≡ active_at map.now place }
+{
+    match map.entry(place) {
+        Entry::Active(config) => Some(config),
+        Entry::Unknown | Entry::Removed => None,
+    }
 }
 
 fn value_is_long(op: &Op) -> bool

@@ -2,7 +2,9 @@
 #![tactic(auto)]
 
 mod advancing;
+mod bids;
 mod change;
+mod decided;
 mod deed;
 mod effect;
 mod heard_numbers;
@@ -12,10 +14,12 @@ mod laws;
 mod node;
 mod open_call;
 mod open_calls;
+mod reconfiguring;
 mod stage;
 mod taking;
 
 pub use change::Change;
+pub use decided::Decided;
 pub use deed::Deed;
 pub use effect::Effect;
 pub use laws::{causes_rise, short_letters_are_heard_alike};
