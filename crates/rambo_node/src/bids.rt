@@ -1,5 +1,5 @@
 //! What a node makes of the votes and offers of others, and of replies to its collection.
-ghost use Rattle.std.specs.Prelude.{◌≡◌, ◌+◌, nat_eq, nat_lt, if◌then◌else◌};
+ghost use Rattle.std.specs.Prelude.{◌≡◌, ◌≤◌, ◌+◌, nat_eq, nat_lt, if◌then◌else◌, length};
 ghost use Rattle.rambo_config_map.specs.Maps.{end_of, merged_map};
 ghost use Rattle.rambo_paxos.specs.Votes.{empty_vote, taken_if};
 ghost use Rattle.rambo_node.specs.Hearing.{collection_after, attempt_after, vote_after, heard_for};
@@ -43,10 +43,11 @@ impl<Q: Quorums, S: Replica> Node<Q, S> {
         ensures { result ≡ vote_after self.now gossip.now }
     {
         let kept = self.vote_kept(&gossip.map);
-        if is_longer(&self.map, &gossip.map) {
-            return kept;
+        if is_level(&self.map, &gossip.map) {
+            taken_if(kept, &gossip.offer)
+        } else {
+            kept
         }
-        taken_if(kept, &gossip.offer)
     }
 
     // Its vote where the first unknown place is still the same, and else an empty one.
@@ -64,10 +65,11 @@ impl<Q: Quorums, S: Replica> Node<Q, S> {
         ensures after { result ≡ attempt_after self.now from gossip.now }
         ensures fits { AttemptFits (merged_map self.now.map gossip.now.map) result }
     {
-        if is_longer(&self.map, &gossip.map) {
-            return self.attempt;
+        if is_level(&self.map, &gossip.map) {
+            heard_for(self.attempt, &gossip.map, from, &gossip.vote)
+        } else {
+            self.attempt
         }
-        heard_for(self.attempt, &gossip.map, from, &gossip.vote)
     }
 }
 
@@ -104,7 +106,8 @@ fn heard_for<Q: Quorums>(
 
 // The last place that a map knows.
 pub(crate) fn top_of<Q: Quorums>(map: &ConfigMap<Q>) -> u64
-    ensures { end_of map.now ≡ result + 1 }
+    ensures next { end_of map.now ≡ result + 1 }
+    ensures active { 1 ≤ length map.now.configs }
 {
     map.floor() + (map.places().len() as u64 - 1)
 }
@@ -122,6 +125,14 @@ pub(crate) fn is_known<Q: Quorums>(map: &ConfigMap<Q>, place: u64) -> bool
     ensures { result ≡ nat_lt place (end_of map.now) }
 {
     place <= top_of(map)
+}
+
+// Whether a map that is merged into another has as many places as they then have.
+fn is_level<Q: Quorums>(map: &ConfigMap<Q>, other: &ConfigMap<Q>) -> bool
+    ensures level { result ≡ nat_eq (end_of other.now) (end_of (merged_map map.now other.now)) }
+    ensures active { (1 ≤ length map.now.configs) × (1 ≤ length other.now.configs) }
+{
+    top_of(map) <= top_of(other)
 }
 
 // Whether a map knows more places than another.

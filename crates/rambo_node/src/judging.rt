@@ -1,5 +1,8 @@
 //! Why a node refuses a change.
-ghost use Rattle.std.specs.Prelude.{◌≡◌, OnOk, IfErr, None, Some};
+ghost use Rattle.std.specs.Prelude.{◌≡◌, ◌&&◌, ◌||◌, not, is_none, nat_eq, nat_le, nat_lt, length, OnOk, IfErr, None, Some};
+ghost use Rattle.std.specs.FinSet as set;
+ghost use Rattle.rambo_names.specs.Names.{count_of};
+ghost use Rattle.rambo_atomic.specs.Calls.{key_of};
 ghost use Rattle.rambo_names.specs.Refusals.{least};
 ghost use Rattle.rambo_node.specs.Refusals.{join_causes, call_causes, send_causes, advance_causes, again_causes, stop_causes, collect_causes, advance_collect_causes, recon_causes, rebid_causes, advance_recon_causes, collection_turn, needs_number, is_member, is_for, attempt_waits, tags_spent, value_is_long, restarts, query_spent, is_last, is_missing, is_unmet};
 ghost use Rattle.rambo_config_map.specs.Maps.{active_at, end_of, top_of};
@@ -14,10 +17,10 @@ use crate::change::Change;
 use crate::node::Node;
 use rambo_atomic::{CallId, Op};
 use rambo_config_map::{ConfigMap, Entry};
-use rambo_gc::GcMove;
+use rambo_gc::{Collection, GcMove};
 use rambo_gossip::{Kind, Letter};
 use rambo_names::{Members, Name, Quorums, Refusal};
-use rambo_paxos::Attempt;
+use rambo_paxos::{Attempt, Vote};
 use rambo_tag::Replica;
 
 // Keys have at most so many bytes.
@@ -94,7 +97,7 @@ impl<Q: Quorums, S: Replica> Node<Q, S> {
         if self.status.is_stopped() {
             return Err(Refusal::Stopped);
         }
-        if self.restarts(&letter.kind) && is_last(self.number) {
+        if self.is_out_of_numbers(&letter.kind) {
             return Err(Refusal::NumbersSpent);
         }
         Ok(())
@@ -110,6 +113,13 @@ impl<Q: Quorums, S: Replica> Node<Q, S> {
             Kind::Join => false,
             Kind::Gossip(gossip) => self.calls.any_gap(gossip.heard, &gossip.map),
         }
+    }
+
+    // Whether a letter would restart a phase, and there is no number for it.
+    fn is_out_of_numbers(&self, kind: &Kind<Q>) -> bool
+        ensures { result ≡ (restarts self.now kind.now && is_last self.now.number) }
+    {
+        self.restarts(kind) && is_last(self.number)
     }
 
     // Whether a set can take no further tag.
@@ -133,10 +143,17 @@ impl<Q: Quorums, S: Replica> Node<Q, S> {
         if !self.status.is_idle() {
             return Err(Refusal::NameUsed);
         }
-        if contacts.count() == 0 {
+        if is_nobody(contacts) {
             return Err(Refusal::EmptyMembers);
         }
         Ok(())
+    }
+
+    // Whether it has as many open calls as it may have.
+    fn is_full(&self) -> bool
+        ensures { result ≡ nat_le 64 (length self.now.calls) }
+    {
+        self.calls.len() >= CALL_LIMIT
     }
 
     /// Why a client may not ask this of the node, if it may not: what `judge` says of a call, where none is made yet.
@@ -150,10 +167,10 @@ impl<Q: Quorums, S: Replica> Node<Q, S> {
         if self.status.is_stopped() {
             return Err(Refusal::Stopped);
         }
-        if self.calls.len() >= CALL_LIMIT {
+        if self.is_full() {
             return Err(Refusal::Busy);
         }
-        if op.key().len() > KEY_LIMIT {
+        if key_is_long(op) {
             return Err(Refusal::KeyTooLong);
         }
         if value_is_long(op) {
@@ -179,7 +196,7 @@ impl<Q: Quorums, S: Replica> Node<Q, S> {
         if self.status.is_stopped() {
             return Err(Refusal::Stopped);
         }
-        if to == self.name || !self.known.has(to) {
+        if is_out_of_reach(self.name, self.known, to) {
             return Err(Refusal::NotKnown);
         }
         Ok(())
@@ -273,7 +290,7 @@ impl<Q: Quorums, S: Replica> Node<Q, S> {
         if self.status.is_stopped() {
             return Err(Refusal::Stopped);
         }
-        if self.map.places().len() <= 1 {
+        if is_single(&self.map) {
             return Err(Refusal::NothingToCollect);
         }
         if self.collection.is_some() {
@@ -285,25 +302,38 @@ impl<Q: Quorums, S: Replica> Node<Q, S> {
         Ok(())
     }
 
+    // Whether a collection is open whose quorum isn't there.
+    fn is_collection_waiting(&self) -> bool
+        ensures { result ≡ (not (is_none self.now.collection) && is_none (collection_turn Q.system self.now self.now.collection)) }
+    {
+        is_open_without(&self.collection, self.collection_turn())
+    }
+
+    // Whether its collection can't go on for want of a number.
+    fn is_turn_out_of_numbers(&self) -> bool
+        ensures { result ≡ (needs_number (collection_turn Q.system self.now self.now.collection) && is_last self.now.number) }
+    {
+        needs_number(self.collection_turn()) && is_last(self.number)
+    }
+
     // Whether its collection may go on.
     pub(crate) fn may_advance_collect(&self) -> Result<(), Refusal>
         ensures ok { OnOk result (least (advance_collect_causes Q.system self.now) ≡ None) }
         ensures refused { IfErr result (λ r. least (advance_collect_causes Q.system self.now) ≡ Some r) }
     {
-        let turn = self.collection_turn();
         if self.status.is_early() {
             return Err(Refusal::NotActive);
         }
         if self.status.is_stopped() {
             return Err(Refusal::Stopped);
         }
-        if self.collection.is_some() && turn.is_none() {
+        if self.is_collection_waiting() {
             return Err(Refusal::NotYet);
         }
         if self.collection.is_none() {
             return Err(Refusal::NoCollect);
         }
-        if needs_number(turn) && is_last(self.number) {
+        if self.is_turn_out_of_numbers() {
             return Err(Refusal::NumbersSpent);
         }
         Ok(())
@@ -336,16 +366,19 @@ impl<Q: Quorums, S: Replica> Node<Q, S> {
         if self.attempt.is_some() {
             return Err(Refusal::ReconOpen);
         }
-        if self.map.places().len() >= ACTIVE_LIMIT {
+        if is_crowded(&self.map) {
             return Err(Refusal::TooManyActive);
         }
         if !wish.members().is_subset(self.known) {
             return Err(Refusal::UnknownMember);
         }
-        if wish.members().count() == 0 {
+        if is_nobody(wish.members()) {
             return Err(Refusal::EmptyMembers);
         }
-        if is_last(self.vote.round()) || is_last(self.map.top()) {
+        if is_last(self.vote.round()) {
+            return Err(Refusal::NumbersSpent);
+        }
+        if is_last(self.map.top()) {
             return Err(Refusal::NumbersSpent);
         }
         Ok(())
@@ -393,16 +426,12 @@ impl<Q: Quorums, S: Replica> Node<Q, S> {
         }
     }
 
-    // Whether the repliers of an attempt hold a quorum of the configuration at the top. It is tried on copies.
+    // Whether the repliers of an attempt hold a quorum of the configuration at the top.
     fn has_replies(&self, attempt: &Attempt<Q>) -> bool
         ensures { result ≡ has_quorum Q.system (active_at self.now.map (top_of self.now.map)) attempt.now.repliers }
     {
         match active_at(&self.map, self.map.top()) {
-            Some(old) => {
-                let mut trial = *attempt;
-                let mut vote = self.vote;
-                trial.advance(&mut vote, &old).is_ok()
-            }
+            Some(old) => is_met(attempt, &self.vote, &old),
             None => false,
         }
     }
@@ -449,11 +478,61 @@ fn is_last(number: u64) -> bool
     number == u64::MAX
 }
 
+// Whether a collection is open that has no turn.
+fn is_open_without(collection: &Option<Collection>, turn: Option<GcMove>) -> bool
+    ensures { result ≡ (not (is_none collection.now) && is_none turn) }
+{
+    collection.is_some() && turn.is_none()
+}
+
 // Whether a collection that goes on so takes a new number.
 fn needs_number(turn: Option<GcMove>) -> bool
     ensures { result ≡ needs_number turn }
 {
     turn == Some(GcMove::Propagating)
+}
+
+// Whether a set has no name.
+fn is_nobody(names: Members) -> bool
+    ensures { result ≡ nat_eq (count_of names) 0 }
+{
+    names.count() == 0
+}
+
+// Whether a name is the own one or none that is known.
+fn is_out_of_reach(me: Name, known: Members, to: Name) -> bool
+    ensures { result ≡ (nat_eq to me || not (set.contains known to)) }
+{
+    to == me || !known.has(to)
+}
+
+fn key_is_long(op: &Op) -> bool
+    ensures { result ≡ nat_lt 256 (length (key_of op.now)) }
+{
+    op.key().len() > KEY_LIMIT
+}
+
+// Whether a map has only one active place.
+fn is_single<Q: Quorums>(map: &ConfigMap<Q>) -> bool
+    ensures { result ≡ nat_le (length map.now.configs) 1 }
+{
+    map.places().len() <= 1
+}
+
+// Whether as many places of a map are active as may be.
+fn is_crowded<Q: Quorums>(map: &ConfigMap<Q>) -> bool
+    ensures { result ≡ nat_le 8 (length map.now.configs) }
+{
+    map.places().len() >= ACTIVE_LIMIT
+}
+
+// Whether the repliers of an attempt hold a quorum of a configuration. It is tried on copies.
+fn is_met<Q: Quorums>(attempt: &Attempt<Q>, vote: &Vote<Q>, old: &Q) -> bool
+    ensures { result ≡ Q.system.is_quorum old.now attempt.now.repliers }
+{
+    let mut trial = *attempt;
+    let mut vote = *vote;
+    trial.advance(&mut vote, old).is_ok()
 }
 
 // The configuration that is active at a place.

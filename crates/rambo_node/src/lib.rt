@@ -17,6 +17,7 @@ mod open_calls;
 mod reconfiguring;
 mod stage;
 mod taking;
+mod turns;
 
 pub use change::Change;
 pub use decided::Decided;

@@ -1,12 +1,10 @@
-//! How a node has the next configuration chosen, and its lowest place removed.
-//!
-//! Nothing here takes memory. What a part refuses, the node's judge has ruled out.
+//! How a node has the next configuration chosen, and its lowest place removed. Nothing here takes memory.
 ghost use Rattle.std.specs.Prelude.{◌≡◌, ◌≤◌, Some, None, true, false};
 ghost use Rattle.rambo_config_map.specs.Maps.{active_at, end_of, top_of};
 ghost use Rattle.rambo_gc.specs.Collections.{has_quorum, move_of};
-ghost use Rattle.rambo_paxos.specs.Attempts.{bid_of, advanced, vote_advanced};
+ghost use Rattle.rambo_paxos.specs.Attempts.{bid_of};
 ghost use Rattle.rambo_paxos.specs.Votes.{is_spent};
-ghost use Rattle.rambo_node.specs.Changes.{refusal_of, told, decided, collection_advanced, rebid_made, attempt_advanced, bid_made};
+ghost use Rattle.rambo_node.specs.Changes.{refusal_of, told, collection_advanced, rebid_made, attempt_advanced, bid_made};
 ghost use Rattle.rambo_node.specs.Reconfigurations.{attempt_opened, attempt_rebid, attempt_ended, collection_opened, collection_moved, collection_ended};
 ghost use Rattle.rambo_node.specs.Refusals.{is_last};
 ghost use Rattle.rambo_node.specs.declared.change.Change.TheVariants as change;
@@ -17,10 +15,10 @@ use crate::deed::Deed;
 use crate::effect::Effect;
 use crate::judging::active_at;
 use crate::node::Node;
-use rambo_config_map::ConfigMap;
+use crate::turns::{attempt_of, collection_of, go_on, learn, moved, rebid, remove};
 use rambo_gc::{Collection, GcMove};
 use rambo_names::Quorums;
-use rambo_paxos::{Attempt, Bid, Vote};
+use rambo_paxos::{Attempt, Bid};
 use rambo_tag::Replica;
 
 impl<Q: Quorums, S: Replica> Node<Q, S> {
@@ -31,10 +29,7 @@ impl<Q: Quorums, S: Replica> Node<Q, S> {
         ensures { self.new ≡ collection_opened self.old }
     {
         self.number += 1;
-        match Collection::open(&self.map, self.number, self.name) {
-            Ok(collection) => self.collection = Some(collection),
-            Err(_) => unreachable!(),
-        }
+        self.collection = Some(collection_of(&self.map, self.number, self.name));
     }
 
     // A collection that isn't refused goes on.
@@ -71,12 +66,8 @@ impl<Q: Quorums, S: Replica> Node<Q, S> {
         ensures node { self.new ≡ collection_moved self.old collection }
         ensures deed { result ≡ told Effect.Moved }
     {
-        let mut moved = collection;
         self.number += 1;
-        if moved.advance(&self.map, self.number).is_err() {
-            unreachable!();
-        }
-        self.collection = Some(moved);
+        self.collection = Some(moved(collection, &self.map, self.number));
         Deed::told(Effect::Moved)
     }
 
@@ -88,9 +79,7 @@ impl<Q: Quorums, S: Replica> Node<Q, S> {
         ensures deed { result ≡ told (Effect.Collected self.old.name collection.now.place) }
     {
         let place = collection.place();
-        if place >= self.map.floor() && self.map.remove_lowest().is_err() {
-            unreachable!();
-        }
+        remove(&mut self.map, place);
         self.collection = None;
         Deed::told(Effect::Collected(self.name, place))
     }
@@ -102,10 +91,7 @@ impl<Q: Quorums, S: Replica> Node<Q, S> {
         ensures { self.new ≡ attempt_opened self.old wish }
     {
         let place = top_of(&self.map) + 1;
-        match Attempt::open(place, wish, &mut self.vote, self.name) {
-            Ok(attempt) => self.attempt = Some(attempt),
-            Err(_) => unreachable!(),
-        }
+        self.attempt = Some(attempt_of(place, wish, &mut self.vote, self.name));
     }
 
     // An attempt that isn't refused begins again.
@@ -126,11 +112,7 @@ impl<Q: Quorums, S: Replica> Node<Q, S> {
         requires next { is_spent self.old.vote ≡ false }
         ensures { self.new ≡ attempt_rebid self.old attempt }
     {
-        let mut again = attempt;
-        if again.rebid(&mut self.vote).is_err() {
-            unreachable!();
-        }
-        self.attempt = Some(again);
+        self.attempt = Some(rebid(attempt, &mut self.vote));
     }
 
     // An attempt that isn't refused goes on.
@@ -186,32 +168,10 @@ impl<Q: Quorums, S: Replica> Node<Q, S> {
             }
             Bid::Chosen(config) => {
                 self.attempt = None;
-                if self.map.learn(config).is_err() {
-                    unreachable!();
-                }
+                learn(&mut self.map, config);
                 let config = Some(config);
                 Deed::told(Effect::Decided(self.name, Decided { place, config }))
             }
         }
-    }
-}
-
-// An attempt goes on whose repliers hold a quorum of the configuration at the top.
-fn go_on<Q: Quorums>(
-    attempt: &mut Attempt<Q>,
-    vote: &mut Vote<Q>,
-    map: &ConfigMap<Q>,
-) -> Bid<Q>
-    requires { has_quorum Q.system (active_at map.now (top_of map.now)) attempt.old.repliers ≡ true }
-    ensures bid { result ≡ bid_of attempt.old }
-    ensures attempt { attempt.new ≡ advanced attempt.old vote.old }
-    ensures vote { vote.new ≡ vote_advanced attempt.old vote.old }
-{
-    let Some(old) = active_at(map, map.top()) else {
-        unreachable!();
-    };
-    match attempt.advance(vote, &old) {
-        Ok(bid) => bid,
-        Err(_) => unreachable!(),
     }
 }
