@@ -9,7 +9,9 @@ use Rattle.rambo_config_map.specs.MapLaws.{merged_end, merged_no_longer, active_
 use Rattle.rambo_gc.specs.declared.gc_move.GcMove.TheVariants.{Done}
 use Rattle.rambo_gc.specs.Collections.{CollectionState, move_of}
 use Rattle.rambo_gc.specs.CollectionLaws.{collection_over}
-use Rattle.rambo_paxos.specs.Attempts.{AttemptState, heard_vote, replies_to, told_by}
+use Rattle.rambo_paxos.specs.declared.stage.Stage.{Stage}
+use Rattle.rambo_paxos.specs.declared.stage.Stage.TheVariants as stage
+use Rattle.rambo_paxos.specs.Attempts.{AttemptState, heard_vote, replies_to, told_by, opened, rebid, proposing, advanced, advanced_in}
 use Rattle.rambo_paxos.specs.Votes.{VoteState}
 use Rattle.rambo_node.specs.Hearing.{heard_for}
 use Rattle.rambo_node.specs.Kept.{AttemptFits}
@@ -57,13 +59,36 @@ module _ {Q : Type 0} where
       subst (λ p. (p ≤ end_of m) × (end_of m ≤ p → length m.configs ≤ 7))
       (sym (place_if (nat_eq a.place place) (heard_vote a j v) a (heard_place a j v))) f
 
-  -- and a map whose lowest place is removed
-  pub fits_removed : (m : MapState Q) (o : Option (AttemptState Q)) (b : Bool) → AttemptFits m o → 1 ≤ length m.configs
+  -- where it begins, and begins again
+  pub fits_opened : (m : MapState Q) (place me : ℕ) (wish : Q) (v : VoteState Q) → place ≡ end_of m → nat_le 8 (length m.configs) ≡ false
+      → AttemptFits m (Some (opened place wish v me))
+  unfolding opened
+  fits_opened m place me wish v e h =
+      let few = leb-false 8 (length m.configs) h in
+      (omega (arith, e), λ _. omega (arith, few))
+
+  pub fits_rebid : (m : MapState Q) (a : AttemptState Q) (v : VoteState Q) → AttemptFits m (Some a) → AttemptFits m (Some (rebid a v))
+  unfolding opened
+  fits_rebid m a v f = f
+
+  advanced_place : (a : AttemptState Q) (s : Stage Q) (v : VoteState Q) → (advanced_in s a v).place ≡ a.place
+  unfolding proposing
+  advanced_place a (stage.Prepare told) v = refl
+  advanced_place a (stage.Propose c) v = refl
+
+  -- where it goes on
+  pub fits_advanced : (m : MapState Q) (a : AttemptState Q) (v : VoteState Q) → AttemptFits m (Some a) → AttemptFits m (Some (advanced a v))
+  fits_advanced m a v f =
+      subst (λ p. (p ≤ end_of m) × (end_of m ≤ p → length m.configs ≤ 7)) (sym (advanced_place a a.stage v)) f
+
+  -- and with a map whose lowest place is removed
+  pub fits_removed : (m : MapState Q) (o : Option (AttemptState Q)) (b : Bool) → AttemptFits m o → (b ≡ false → nat_le (length m.configs) 1 ≡ false)
       → AttemptFits (if b then m else without_lowest m) o
   fits_removed m o true f h = f
   fits_removed m None false f h = f
   fits_removed m (Some a) false f h =
-      let e : end_of (without_lowest m) ≡ end_of m = omega (arith, h, length-drop 1 m.configs) in
+      let two = leb-false (length m.configs) 1 (h refl) in
+      let e : end_of (without_lowest m) ≡ end_of m = omega (arith, two, length-drop 1 m.configs) in
       let known = f.0 in
       (omega (arith, e, known), λ i.
         let own : end_of m ≤ a.place = omega (arith, e, i) in

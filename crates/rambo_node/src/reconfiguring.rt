@@ -46,7 +46,7 @@ impl<Q: Quorums, S: Replica> Node<Q, S> {
 
     // What its collection does that isn't refused.
     fn turn_collection(&mut self, collection: Collection) -> Deed<Q>
-        requires open { self.old.collection ≡ Some collection }
+        requires held { self.old.collection ≡ Some collection }
         requires judged { refusal_of Q.system self.old change.AdvanceCollect ≡ None }
         ensures node { self.new ≡ (collection_advanced self.old (Some collection)).node }
         ensures deed { result ≡ (collection_advanced self.old (Some collection)).deed }
@@ -108,7 +108,7 @@ impl<Q: Quorums, S: Replica> Node<Q, S> {
     // Its attempt begins again with a fresh ballot.
     #[tactic(auto, unfolding(crate::specs::Reconfigurations::attempt_rebid))]
     fn bid_again(&mut self, attempt: Attempt<Q>)
-        requires open { self.old.attempt ≡ Some attempt }
+        requires held { self.old.attempt ≡ Some attempt }
         requires next { is_spent self.old.vote ≡ false }
         ensures { self.new ≡ attempt_rebid self.old attempt }
     {
@@ -129,7 +129,7 @@ impl<Q: Quorums, S: Replica> Node<Q, S> {
 
     // What its attempt does that isn't refused.
     fn turn_attempt(&mut self, attempt: Attempt<Q>) -> Deed<Q>
-        requires open { self.old.attempt ≡ Some attempt }
+        requires held { self.old.attempt ≡ Some attempt }
         requires judged { refusal_of Q.system self.old change.AdvanceRecon ≡ None }
         ensures node { self.new ≡ (attempt_advanced self.old (Some attempt)).node }
         ensures deed { result ≡ (attempt_advanced self.old (Some attempt)).deed }
@@ -153,7 +153,7 @@ impl<Q: Quorums, S: Replica> Node<Q, S> {
 
     // Its attempt, whose quorum is there, proposes, or its configuration is chosen and learnt.
     fn bid(&mut self, attempt: Attempt<Q>) -> Deed<Q>
-        requires open { self.old.attempt ≡ Some attempt }
+        requires held { self.old.attempt ≡ Some attempt }
         requires unknown { end_of self.old.map ≤ attempt.place }
         requires met { has_quorum Q.system (active_at self.old.map (top_of self.old.map)) attempt.repliers ≡ true }
         ensures node { self.new ≡ (bid_made self.old attempt (bid_of attempt)).node }
