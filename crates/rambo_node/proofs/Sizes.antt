@@ -17,3 +17,7 @@ next a e s b h = omega (arith, h)
 pub deliver_fits : (a x s r b : ℕ) → up a (max 16 (max 32 (max 2 (max (x + s) r)))) < b → s < b
 deliver_fits a x s r b h =
     omega (arith, h, le-max_right 16 (max 32 (max 2 (max (x + s) r))), le-max_right 32 (max 2 (max (x + s) r)), le-max_right 2 (max (x + s) r), le-max_left (x + s) r)
+
+-- the one field of an enum's second and last variant, where the first has none
+pub variant_fits : (a x s b : ℕ) → up a (max 1 (max (up x 1 + s) 1)) < b → s < b
+variant_fits a x s b h = omega (arith, h, le-max_right 1 (max (up x 1 + s) 1), le-max_left (up x 1 + s) 1)

@@ -6,6 +6,7 @@ use Rattle.rambo_joiner.specs.Statuses.{woken}
 use Rattle.rambo_node.specs.Hearing.{heard_gossip, heard_call, collection_after, attempt_after, vote_after}
 use Rattle.rambo_node.specs.Kept.{AttemptFits}
 use Rattle.rambo_node.specs.Nodes.{raised}
+use Rattle.rambo_node.proofs.Sizes.{up_fits, back_fits, next}
 use Rattle.rambo_node.proofs.node.Node.merge.Goals as goal
 
 pub returns-clause-ok : goal.returns-clause-ok
@@ -33,3 +34,12 @@ returns-clause-ok g c next =
       attempt = c.attempt_after-attempt.ensures.after i;
       vote = c.vote_after-vote.ensures i;
     }
+
+pub number_after-own-requires : goal.number_after-own-requires
+number_after-own-requires g c = (c.requires-raw.1.1.0, back_fits _ _ _ (next _ _ _ _ (next _ _ _ _ (next _ _ _ _ (next _ _ _ _ (up_fits _ _ _ c.requires-raw.1.1.1))))))
+
+pub make_room-requires : goal.make_room-requires
+make_room-requires g c = (back_fits _ _ _ (next _ _ _ _ (up_fits _ _ _ c.requires-raw.1.1.0)), back_fits _ _ _ (next _ _ _ _ (next _ _ _ _ (next _ _ _ _ (next _ _ _ _ (up_fits _ _ _ c.requires-raw.1.1.1))))))
+
+pub hear-requires : goal.hear-requires
+hear-requires g c = (back_fits _ _ _ (next _ _ _ _ (up_fits _ _ _ c.requires-raw.1.1.0)), back_fits _ _ _ (next _ _ _ _ (next _ _ _ _ (next _ _ _ _ (next _ _ _ _ (up_fits _ _ _ c.requires-raw.1.1.1))))))

@@ -8,7 +8,7 @@ use Rattle.rambo_node.proofs.Sizes.{deliver_fits}
 use Rattle.rambo_node.proofs.node.Node.take.Goals as goal
 
 pub do_hear-requires : goal.do_hear-requires
-do_hear-requires g c = (search rules, deliver_fits _ _ _ _ c.requires-raw.1.1.1)
+do_hear-requires g c = (search rules, deliver_fits _ _ _ _ _ c.requires-raw.1.1.1.0)
 
 pub do_call-requires : goal.do_call-requires
 do_call-requires g c = (search rules, subst (λ ch. refusal_of g.Q.Quorums.system c.args.self.now ch ≡ None) c.in-Call.is c.in_ok-judge.ensures.ok)
