@@ -3,12 +3,12 @@ use Rattle.std.proofs.lemmas.Result.{on_ok_weaker, IfErr-weaker}
 use Rattle.rambo_names.specs.Refusals.{IsRefusal}
 use Rattle.rambo_node.specs.Changes.{refusal_of, made_by}
 use Rattle.rambo_node.specs.Nodes.{open_call}
-use Rattle.rambo_node.proofs.Advances.{quiet_again}
+use Rattle.rambo_node.proofs.Advances.{quiet_again, quiet_rebid}
 use Rattle.rambo_node.proofs.Sizes.{deliver_fits}
 use Rattle.rambo_node.proofs.node.Node.take.Goals as goal
 
 pub do_hear-requires : goal.do_hear-requires
-do_hear-requires g c = (search rules, deliver_fits _ _ _ _ _ c.requires-raw.1.1.1.0)
+do_hear-requires g c = (search rules, deliver_fits _ _ _ _ _ c.requires-raw.1.1.1)
 
 pub do_call-requires : goal.do_call-requires
 do_call-requires g c = (search rules, subst (λ ch. refusal_of g.Q.Quorums.system c.args.self.now ch ≡ None) c.in-Call.is c.in_ok-judge.ensures.ok)
@@ -18,6 +18,21 @@ do_advance-requires g c = (search rules, subst (λ ch. refusal_of g.Q.Quorums.sy
 
 pub do_again-requires : goal.do_again-requires
 do_again-requires g c = (search rules, subst (λ ch. refusal_of g.Q.Quorums.system c.args.self.now ch ≡ None) c.in-Again.is c.in_ok-judge.ensures.ok)
+
+pub do_collect-requires : goal.do_collect-requires
+do_collect-requires g c = (search rules, subst (λ ch. refusal_of g.Q.Quorums.system c.args.self.now ch ≡ None) c.in-Collect.is c.in_ok-judge.ensures.ok)
+
+pub do_advance_collect-requires : goal.do_advance_collect-requires
+do_advance_collect-requires g c = (search rules, subst (λ ch. refusal_of g.Q.Quorums.system c.args.self.now ch ≡ None) c.in-AdvanceCollect.is c.in_ok-judge.ensures.ok)
+
+pub do_recon-requires : goal.do_recon-requires
+do_recon-requires g c = (search rules, subst (λ ch. refusal_of g.Q.Quorums.system c.args.self.now ch ≡ None) c.in-Recon.is c.in_ok-judge.ensures.ok)
+
+pub do_rebid-requires : goal.do_rebid-requires
+do_rebid-requires g c = (search rules, subst (λ ch. refusal_of g.Q.Quorums.system c.args.self.now ch ≡ None) c.in-Rebid.is c.in_ok-judge.ensures.ok)
+
+pub do_advance_recon-requires : goal.do_advance_recon-requires
+do_advance_recon-requires g c = (search rules, subst (λ ch. refusal_of g.Q.Quorums.system c.args.self.now ch ≡ None) c.in-AdvanceRecon.is c.in_ok-judge.ensures.ok)
 
 pub returns-in-Call-clause-judged : goal.returns-in-Call-clause-judged
 returns-in-Call-clause-judged g c = on_ok_weaker c.do_call.result (λ _. c.in_ok-judge.ensures.ok) c.do_call.ensures.node
@@ -51,3 +66,9 @@ unfolding made_by
 returns-in-Again-clause-deed g c =
     let x = c.args.self.now in
     c.quiet-in-Again.ensures ∙ quiet_again x (open_call x c.in-Again.id) ∙ sym (ap (λ ch. (made_by x ch).deed) c.in-Again.is)
+
+pub returns-in-Rebid-clause-deed : goal.returns-in-Rebid-clause-deed
+unfolding made_by
+returns-in-Rebid-clause-deed g c =
+    let x = c.args.self.now in
+    c.quiet-in-Rebid.ensures ∙ quiet_rebid x x.attempt ∙ sym (ap (λ ch. (made_by x ch).deed) c.in-Rebid.is)
