@@ -46,11 +46,13 @@ module _ {Q : Type 0} where
   fits_merged a b None f ha hb = f
   fits_merged a b (Some x) f ha hb =
       let e = merged_end a b ha hb in
-      let known = f.0 in
-      (omega (arith, e, known), λ h.
-        let own : end_of a ≤ x.place = omega (arith, e, h) in
-        let room = f.1 own in
-        omega (arith, e, h, known, room))
+      let known = f.0 in (
+        omega (arith, e, known),
+        λ h.
+            let own : end_of a ≤ x.place = omega (arith, e, h) in
+            let room = f.1 own in
+            omega (arith, e, h, known, room),
+      )
 
   pub fits_heard : (m : MapState Q) (o : Option (AttemptState Q)) (place j : ℕ) (v : VoteState Q) → AttemptFits m o
       → AttemptFits m (heard_for place o j v)
@@ -89,11 +91,13 @@ module _ {Q : Type 0} where
   fits_removed m (Some a) false f h =
       let two = leb-false (length m.configs) 1 (h refl) in
       let e : end_of (without_lowest m) ≡ end_of m = omega (arith, two, length-drop 1 m.configs) in
-      let known = f.0 in
-      (omega (arith, e, known), λ i.
-        let own : end_of m ≤ a.place = omega (arith, e, i) in
-        let room = f.1 own in
-        omega (arith, room, length-drop 1 m.configs))
+      let known = f.0 in (
+        omega (arith, e, known),
+        λ i.
+            let own : end_of m ≤ a.place = omega (arith, e, i) in
+            let room = f.1 own in
+            omega (arith, room, length-drop 1 m.configs),
+      )
 
   -- a collection that is done has a next place, unless its own is removed already
   pub has_next_place : (s : QuorumSystem Q) (m : MapState Q) (g : CollectionState) → move_of s m g ≡ Some Done → nat_lt g.place m.floor ≡ false

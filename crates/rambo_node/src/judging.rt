@@ -419,9 +419,7 @@ impl<Q: Quorums, S: Replica> Node<Q, S> {
         ensures { result ≡ attempt_waits Q.system self.now self.now.attempt }
     {
         match &self.attempt {
-            Some(attempt) => {
-                !is_known(&self.map, attempt.place()) && !self.has_replies(attempt)
-            }
+            Some(attempt) => { !is_known(&self.map, attempt.place()) && !self.has_replies(attempt) }
             None => false,
         }
     }

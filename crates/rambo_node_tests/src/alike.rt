@@ -35,6 +35,8 @@ fn is_gossip_alike(gossip: &Option<Gossip<Majority>>, other: &Option<Gossip<Majo
                 && gossip.map.same(&others.map)
                 && gossip.number == others.number
                 && gossip.heard == others.heard
+                && gossip.vote == others.vote
+                && gossip.offer == others.offer
         }
         _ => false,
     }
@@ -73,6 +75,14 @@ fn is_copy_alike(host: &Host, twin: &Host, key: u8) -> bool {
     host.copy(&[key]) == twin.copy(&[key])
 }
 
+// Whether what they collect and bid for is alike.
+fn turn_alike(host: &Host, twin: &Host) -> bool {
+    host.judge(&Change::Collect) == twin.judge(&Change::Collect)
+        && host.judge(&Change::AdvanceCollect) == twin.judge(&Change::AdvanceCollect)
+        && host.judge(&Change::Rebid) == twin.judge(&Change::Rebid)
+        && host.judge(&Change::AdvanceRecon) == twin.judge(&Change::AdvanceRecon)
+}
+
 fn stand_alike(host: &Host, twin: &Host) -> bool {
     let nobody = Members::empty();
     host.name() == twin.name()
@@ -99,5 +109,5 @@ pub(crate) fn are_alike(host: &Host, twin: &Host) -> Result<bool, Refusal> {
             return Ok(false);
         }
     }
-    Ok(stand_alike(host, twin))
+    Ok(stand_alike(host, twin) && turn_alike(host, twin))
 }
