@@ -1,11 +1,11 @@
 -- Maps, attempts and collections, where a letter is merged or a turn is taken
-use Rattle.std.proofs.Common.{◌≡◌, ℕ, suc, ◌+◌, ◌-◌, ◌^◌, ◌<◌, ◌≤◌, ◌≢◌, max, Bool, true, false, nat_eq, nat_le, nat_lt, if◌then◌else◌, List, length, drop, slice_get, Option, None, Some, refl, sym, ap, ◌∙◌, inl, inr, arith, subst, length-drop}
-use Rattle.std.proofs.lemmas.Bool.{cases_lt, eq-eqb, ne_eqb, le-leb, lt-leb, lt-ltb, le-ltb, ltb-true, ltb-false, leb-false, true≢false}
-use Rattle.std.proofs.lemmas.Option.{slice_get_within, none-some}
+use Rattle.std.proofs.Common.{◌≡◌, ℕ, ◌+◌, ◌-◌, ◌≤◌, ◌≢◌, Bool, true, false, nat_eq, nat_le, nat_lt, if◌then◌else◌, length, slice_get, Option, None, Some, refl, sym, ◌∙◌, inl, inr, arith, subst, length-drop}
+use Rattle.std.proofs.lemmas.Bool.{cases_lt, eq-eqb, ne_eqb, le-leb, lt-leb, lt-ltb, leb-false, true≢false}
+use Rattle.std.proofs.lemmas.Option.{slice_get_within}
 use Rattle.std.specs.FinSet as set
 use Rattle.rambo_names.specs.Quorums.{QuorumSystem}
-use Rattle.rambo_config_map.specs.Maps.{MapState, active_at, end_of, merged_map, without_lowest}
-use Rattle.rambo_config_map.specs.MapLaws.{merged_end, merged_no_longer, active_kept, top_below}
+use Rattle.rambo_config_map.specs.Maps.{MapState, end_of, merged_map, without_lowest}
+use Rattle.rambo_config_map.specs.MapLaws.{merged_end, active_kept}
 use Rattle.rambo_gc.specs.declared.gc_move.GcMove.TheVariants.{Done}
 use Rattle.rambo_gc.specs.Collections.{CollectionState, move_of}
 use Rattle.rambo_gc.specs.CollectionLaws.{collection_over}

@@ -1,6 +1,6 @@
 -- How a node has a configuration chosen for the first place that its map doesn't know (Lamport, "Paxos Made Simple",
 -- 2001), and has its lowest place removed (Lynch and Shvartsman, "RAMBO", DISC 2002)
-use Rattle.std.specs.Prelude.{ℕ, ◌+◌, nat_lt, if◌then◌else◌, Option, None, Some}
+use Rattle.std.specs.Prelude.{◌+◌, nat_lt, if◌then◌else◌, None, Some}
 use Rattle.rambo_config_map.specs.Maps.{MapState, end_of, learnt, without_lowest}
 use Rattle.rambo_gc.specs.declared.gc_move.GcMove.{GcMove}
 use Rattle.rambo_gc.specs.declared.gc_move.GcMove.TheVariants.{Propagating, Done}

@@ -1,8 +1,8 @@
 //! What a node makes of the votes and offers of others, and of replies to its collection.
-ghost use Rattle.std.specs.Prelude.{◌≡◌, ◌≤◌, ◌+◌, nat_eq, nat_lt, if◌then◌else◌, length};
+ghost use Rattle.std.specs.Prelude.{◌≡◌, ◌≤◌, ◌+◌, nat_eq, nat_lt, length};
 ghost use Rattle.rambo_config_map.specs.Maps.{end_of, merged_map};
-ghost use Rattle.rambo_paxos.specs.Votes.{empty_vote, taken_if};
-ghost use Rattle.rambo_node.specs.Hearing.{collection_after, attempt_after, vote_after, heard_for};
+ghost use Rattle.rambo_paxos.specs.Votes.{taken_if};
+ghost use Rattle.rambo_node.specs.Hearing.{collection_after, attempt_after, vote_after, vote_kept, heard_for};
 ghost use Rattle.rambo_node.specs.Kept.{AttemptFits};
 ghost use Rattle.rambo_node.specs.Letters.{offer_for};
 
@@ -42,7 +42,7 @@ impl<Q: Quorums, S: Replica> Node<Q, S> {
     pub(crate) fn vote_after(&self, gossip: &Gossip<Q>) -> Vote<Q>
         ensures { result ≡ vote_after self.now gossip.now }
     {
-        let kept = self.vote_kept(&gossip.map);
+        let kept = self.vote_kept(gossip);
         if is_level(&self.map, &gossip.map) {
             taken_if(kept, &gossip.offer)
         } else {
@@ -51,10 +51,10 @@ impl<Q: Quorums, S: Replica> Node<Q, S> {
     }
 
     // Its vote where the first unknown place is still the same, and else an empty one.
-    fn vote_kept(&self, map: &ConfigMap<Q>) -> Vote<Q>
-        ensures { result ≡ (if nat_lt (end_of self.now.map) (end_of map.now) then empty_vote else self.now.vote) }
+    fn vote_kept(&self, gossip: &Gossip<Q>) -> Vote<Q>
+        ensures { result ≡ vote_kept self.now gossip.now }
     {
-        if is_longer(map, &self.map) {
+        if is_longer(&gossip.map, &self.map) {
             return Vote::new();
         }
         self.vote

@@ -1,4 +1,3 @@
-use Rattle.std.proofs.Common.{◌≡◌, sym, ap, ◌∙◌, rules}
 use Rattle.rambo_node.proofs.Merged.{level_if}
 use Rattle.rambo_node.proofs.bids.is_level.Goals as goal
 

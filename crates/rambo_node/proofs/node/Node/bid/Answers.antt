@@ -1,4 +1,4 @@
-use Rattle.std.proofs.Common.{◌≡◌, ◌^◌, ◌<◌, ◌≤◌, Some, None, length, Fits, w64, sym, ap, ◌∙◌, subst, rules, arith}
+use Rattle.std.proofs.Common.{◌≤◌, Some, None, Fits, w64, sym, ap, ◌∙◌, subst, rules, arith}
 use Rattle.rambo_config_map.specs.Maps.{MapState, active_at, end_of, top_of, learnt}
 use Rattle.rambo_gc.specs.Collections.{has_quorum}
 use Rattle.rambo_node.specs.Changes.{bid_made}

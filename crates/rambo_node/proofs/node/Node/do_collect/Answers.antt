@@ -1,4 +1,4 @@
-use Rattle.std.proofs.Common.{◌+◌, Option, Some, nat_le, length, ap, ◌∙◌, rules}
+use Rattle.std.proofs.Common.{◌+◌, Some, nat_le, length, ap, ◌∙◌, rules}
 use Rattle.rambo_gc.specs.Collections.{CollectionState, opened}
 use Rattle.rambo_node.specs.Nodes.{NodeState}
 use Rattle.rambo_node.specs.Reconfigurations.{collection_opened}

@@ -1,5 +1,5 @@
-use Rattle.std.proofs.Common.{◌≡◌, ◌+◌, Some, nat_le, arith, length, sym, ap, ◌∙◌, subst, rules}
-use Rattle.rambo_config_map.specs.Maps.{end_of, top_of}
+use Rattle.std.proofs.Common.{◌≡◌, Some, nat_le, arith, length, sym, ap, ◌∙◌, subst, rules}
+use Rattle.rambo_config_map.specs.Maps.{top_of}
 use Rattle.rambo_config_map.specs.MapLaws.{top_below}
 use Rattle.rambo_node.specs.Kept.{AttemptFits}
 use Rattle.rambo_node.specs.Refusals.{is_last}

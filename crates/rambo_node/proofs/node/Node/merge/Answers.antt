@@ -1,10 +1,9 @@
-use Rattle.std.proofs.Common.{map, sym, ap, ◌∙◌, subst}
+use Rattle.std.proofs.Common.{map, ap, ◌∙◌}
 use Rattle.std.specs.FinSet as set
 use Rattle.rambo_tag.specs.Copies.{joined}
 use Rattle.rambo_config_map.specs.Maps.{merged_map}
 use Rattle.rambo_joiner.specs.Statuses.{woken}
-use Rattle.rambo_node.specs.Hearing.{heard_gossip, heard_call, collection_after, attempt_after, vote_after}
-use Rattle.rambo_node.specs.Kept.{AttemptFits}
+use Rattle.rambo_node.specs.Hearing.{heard_gossip, heard_call}
 use Rattle.rambo_node.specs.Nodes.{raised}
 use Rattle.rambo_node.proofs.Sizes.{up_fits, back_fits, next}
 use Rattle.rambo_node.proofs.node.Node.merge.Goals as goal

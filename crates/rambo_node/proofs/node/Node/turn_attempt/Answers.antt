@@ -1,4 +1,4 @@
-use Rattle.std.proofs.Common.{◌≡◌, ◌≤◌, false, nat_lt, sym, ap, ◌∙◌, rules}
+use Rattle.std.proofs.Common.{◌≡◌, false, nat_lt, sym, ap, ◌∙◌, rules}
 use Rattle.std.proofs.lemmas.Bool.{ltb-false}
 use Rattle.rambo_config_map.specs.Maps.{end_of}
 use Rattle.rambo_node.proofs.Judged.{bid_met}
