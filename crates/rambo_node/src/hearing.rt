@@ -42,7 +42,9 @@ impl<Q: Quorums, S: Replica> Node<Q, S> {
 
     /// Hears a letter. One of a joining node makes its sender known. One of an active node wakes a joining
     /// node, all that it knows is merged, and each open call whose phase it replies to counts the sender; a
-    /// reply that leaves a gap in the configurations of a phase begins it anew, under one new number for all.
+    /// reply that leaves a gap in the configurations of a phase begins it anew, under one new number for all. A
+    /// collection counts it too. The vote is emptied where its place has come to be known; it takes the letter's
+    /// offer, and an attempt hears the letter's vote, where these are for the same place.
     ///
     /// Refused are 3 where the node is idle, 4 where it has stopped, 21 where a phase would begin anew and the
     /// phase number is the greatest one, 22 where there is no room for what is new.

@@ -10,6 +10,7 @@ mod effect;
 mod heard_numbers;
 mod hearing;
 mod judging;
+mod judging_turns;
 mod laws;
 mod node;
 mod open_call;

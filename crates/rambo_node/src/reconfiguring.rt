@@ -13,7 +13,7 @@ use crate::bids::{is_known, top_of};
 use crate::decided::Decided;
 use crate::deed::Deed;
 use crate::effect::Effect;
-use crate::judging::active_at;
+use crate::judging_turns::active_at;
 use crate::node::Node;
 use crate::turns::{attempt_of, collection_of, go_on, learn, moved, rebid, remove};
 use rambo_gc::{Collection, GcMove};
