@@ -29,6 +29,7 @@ pub mod NodeLists
 pub mod EveryRun
 pub mod FreshReplies
 pub mod CollectionClaims
+pub mod Effects
 pub mod Replays
 pub mod Fitting
 mod Rows

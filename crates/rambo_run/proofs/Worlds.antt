@@ -118,21 +118,21 @@ module _ {Q : Type 0} (s : QuorumSystem Q) (founders : Q) (world : ℕ → World
   To m z = WorldTurn s Came at m (view m) (seen s founders z)
 
   -- each letter was made by its sender at some moment
-  record LetterFrom (m i : ℕ) (l : Letter Q) : Type 0 where
-    moment : ℕ
-    before : moment < m
-    sender : ℕ
-    addressee : ℕ
-    sent : Sent i moment sender addressee
-    content : letter_for (at moment sender) addressee ≡ l
+  pub record LetterFrom (m i : ℕ) (l : Letter Q) : Type 0 where
+    pub moment : ℕ
+    pub before : moment < m
+    pub sender : ℕ
+    pub addressee : ℕ
+    pub sent : Sent i moment sender addressee
+    pub content : letter_for (at moment sender) addressee ≡ l
 
   -- what holds of a moment, from which the step after it is seen
-  record Sound (m : ℕ) : Type 0 where
-    letters : (i : ℕ) (l : Letter Q) → letter_at (world m).letters i ≡ Some l → LetterFrom m i l
-    names : (n : ℕ) → (at m n).name ≡ n
-    numbered : (n : ℕ) → Numbered (at m n)
+  pub record Sound (m : ℕ) : Type 0 where
+    pub letters : (i : ℕ) (l : Letter Q) → letter_at (world m).letters i ≡ Some l → LetterFrom m i l
+    pub names : (n : ℕ) → (at m n).name ≡ n
+    pub numbered : (n : ℕ) → Numbered (at m n)
 
-  is_at : (m n : ℕ) (x : NodeState Q) → node_at (world m) n ≡ Some x → x ≡ at m n
+  pub is_at : (m n : ℕ) (x : NodeState Q) → node_at (world m) n ≡ Some x → x ≡ at m n
   is_at m n x e = sym (ap (node_or (first_node s founders n)) e)
 
   -- one node changed
@@ -292,7 +292,7 @@ module _ {Q : Type 0} (s : QuorumSystem Q) (founders : Q) (world : ℕ → World
   meant_done m f None d e = t_still refl
   meant_done m f (Some a) d e = at_done m a.name a.change f d (node_at (world m) a.name) refl e
 
-  kind_told : (g : Gossip Q) (x : NodeState Q) (to : ℕ) (b : Bool) → (if b then kind.Gossip (gossip_for x to) else kind.Join) ≡ kind.Gossip g → (b ≡ true) × (g ≡ gossip_for x to)
+  pub kind_told : (g : Gossip Q) (x : NodeState Q) (to : ℕ) (b : Bool) → (if b then kind.Gossip (gossip_for x to) else kind.Join) ≡ kind.Gossip g → (b ≡ true) × (g ≡ gossip_for x to)
   kind_told g x to true e = (refl, sym (ap (gossip_in g) e))
   kind_told g x to false e = absurd (true≢false (sym (ap is_gossip e)))
 
@@ -407,7 +407,7 @@ module _ {Q : Type 0} (s : QuorumSystem Q) (founders : Q) (world : ℕ → World
     numbered = λ n. numbered_turn s at m n (at m n) (at (suc m) n) (f.numbered n) (seen_turn m n (step_of m f));
   }
 
-  sound : (m : ℕ) → Sound m
+  pub sound : (m : ℕ) → Sound m
   sound zero = sound_first
   sound (suc m) = sound_next m (sound m)
 

@@ -12,10 +12,13 @@ use Rattle.rambo_gc.specs.Turns.{HasFirstQuorum, HasSecondQuorum}
 use Rattle.rambo_phase.specs.Phases.{is_met}
 use Rattle.rambo_node.specs.Calls.{CallState, propagates, kept_in}
 use Rattle.rambo_node.specs.Nodes.{NodeState}
+use Rattle.rambo_node.specs.declared.effect.Effect.TheVariants as effect
 use Rattle.rambo_run.specs.declared.step.Step.{Step}
+use Rattle.rambo_run.specs.declared.step.Step.TheVariants as step
 use Rattle.rambo_run.specs.Worlds.{node_at}
+use Rattle.rambo_run.specs.Steps.{turn}
 use Rattle.rambo_run.specs.Runs.{run}
-use Rattle.rambo_run.specs.Claims.{AtLeast, IsFresh}
+use Rattle.rambo_run.specs.Claims.{Holds, AtLeast, IsDone, IsFresh}
 
 -- each reply that an open collection counts was told after its sender had heard a letter that was sent since the
 -- present question began
@@ -87,3 +90,17 @@ LaterPhasesRead {Q} s =
     → (c : CallState Q) → Stands x.calls c → propagates c.stage ≡ true → is_met s c.phase ≡ true
     → (d : CallState Q) → Stands z.calls d → y.number < d.phase.number → is_met s d.phase ≡ true
     → tag_lt (tag_of (map.get z.registers (key_of c.op))) (tag_of (kept_in c.stage)) ≡ false
+
+-- a place that a node's map has removed was told to be collected, by an earlier step
+abbrev pub RemovedPlacesAreTold : {Q : Type 0} → QuorumSystem Q → Type 0
+RemovedPlacesAreTold {Q} s =
+    (founders : Q) (steps : List (Step Q)) (m n : ℕ) (x : NodeState Q) → node_at (run s founders (take m steps)) n ≡ Some x
+    → (p : ℕ) → p < x.map.floor → (u : ℕ) × (k : ℕ) × (u < m) × IsDone s founders steps u (step.AdvanceCollect k)
+    × ((turn (run s founders (take u steps)) (step.AdvanceCollect k)).effect ≡ effect.Collected k p)
+
+-- the configuration that a step tells to be decided for a place stands there
+abbrev pub DecisionsStand : {Q : Type 0} → QuorumSystem Q → Type 0
+DecisionsStand {Q} s =
+    (founders : Q) (steps : List (Step Q)) (m n k p : ℕ) (c : Q) → IsDone s founders steps m (step.AdvanceRecon k)
+    → (turn (run s founders (take m steps)) (step.AdvanceRecon k)).effect ≡ effect.Decided n (record { place = p; config = Some c })
+    → Holds s founders (take (m + 1) steps) n p c
