@@ -13,7 +13,7 @@ use Rattle.rambo_node.specs.Nodes.{NodeState, first_node}
 use Rattle.rambo_run.specs.declared.step.Step.{Step}
 use Rattle.rambo_run.specs.Worlds.{WorldState, node_at}
 use Rattle.rambo_run.specs.Claims.{AtLeast}
-use Rattle.rambo_run.specs.Collections.{HasTold, IsCollected, RemovedPlacesAreCollected, CollectionsNeverFall, LaterPhasesRead}
+use Rattle.rambo_run.specs.Configurations.{HasTold, IsCollected, RemovedPlacesAreCollected, CollectionsNeverFall, LaterPhasesRead}
 use Rattle.rambo_run.proofs.Lists.{Member, member_stands}
 use Rattle.rambo_run.proofs.Turn.{Moments, Telling, Run}
 use Rattle.rambo_run.proofs.Events.{none_or_some}

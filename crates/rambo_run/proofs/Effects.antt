@@ -31,7 +31,7 @@ use Rattle.rambo_run.specs.declared.step.Step.{Step}
 use Rattle.rambo_run.specs.declared.step.Step.TheVariants as step
 use Rattle.rambo_run.specs.Worlds.{WorldState, node_at, letter_at, first_world}
 use Rattle.rambo_run.specs.Steps.{delivery, effect_in, turn_by, turn_at, turn_of, turn}
-use Rattle.rambo_run.specs.Collections.{RemovedPlacesAreTold}
+use Rattle.rambo_run.specs.Configurations.{RemovedPlacesAreTold}
 use Rattle.rambo_run.proofs.Deeds.{collection_silent}
 use Rattle.rambo_run.proofs.Moments.{moment, worlds}
 use Rattle.rambo_run.proofs.Lists.{pick, none-some}

@@ -12,7 +12,7 @@ use Rattle.rambo_run.specs.declared.step.Step.{Step}
 use Rattle.rambo_run.specs.Worlds.{WorldState, node_at}
 use Rattle.rambo_run.specs.Runs.{run}
 use Rattle.rambo_run.specs.Claims.{AtLeast, IsHeard, IsFresh, RepliesAreFresh}
-use Rattle.rambo_run.specs.Collections.{CollectionRepliesAreFresh}
+use Rattle.rambo_run.specs.Configurations.{CollectionRepliesAreFresh}
 use Rattle.rambo_run.proofs.Lists.{Member, member_stands}
 use Rattle.rambo_run.proofs.Turn.{Moments}
 use Rattle.rambo_run.proofs.Events.{none_or_some}

@@ -30,6 +30,7 @@ pub mod EveryRun
 pub mod FreshReplies
 pub mod CollectionClaims
 pub mod Effects
+pub mod Decisions
 pub mod Replays
 pub mod Fitting
 mod Rows

@@ -26,7 +26,7 @@ other_stays w z (suc k) (suc n) x y d h e =
     let i : suc k - 1 ≡ k = omega arith in
     ap (λ l. slice_get l n) (e ∙ ap (λ i. slice_set w.nodes i y) i) ∙ set_there w.nodes k n y (λ r. d (ap suc (sym r)))
 
-own_put : {Q : Type 0} (w z : WorldState Q) (n : ℕ) (x y : NodeState Q) → node_at w n ≡ Some x → z.nodes ≡ slice_set w.nodes (n - 1) y → node_at z n ≡ Some y
+pub own_put : {Q : Type 0} (w z : WorldState Q) (n : ℕ) (x y : NodeState Q) → node_at w n ≡ Some x → z.nodes ≡ slice_set w.nodes (n - 1) y → node_at z n ≡ Some y
 own_put w z zero x y h e = absurd (none-some x h)
 own_put w z (suc n) x y h e =
     let i : suc n - 1 ≡ n = omega arith in

@@ -1,9 +1,11 @@
 //! What holds of every run.
 ghost use Rattle.rambo_run.specs.Claims.{EveryRunIsAtomic, EveryRunAgrees, RepliesAreFresh};
-ghost use Rattle.rambo_run.specs.Collections.{
+ghost use Rattle.rambo_run.specs.Configurations.{
   CollectionRepliesAreFresh,
   RemovedPlacesAreCollected,
   CollectionsNeverFall,
+  RemovedPlacesAreTold,
+  DecisionsStand,
   LaterPhasesRead,
 };
 ghost use Rattle.rambo_run.specs.Journals.{NodesAreReplayed};
@@ -58,4 +60,15 @@ pub fn collections_never_fall<Q: Quorums>()
 /// tag that was propagated, once it is met.
 pub fn later_phases_read<Q: Quorums>()
     ensures read { LaterPhasesRead Q.system }
+{}
+
+/// A place that a node's map has removed was told to be collected, by the advance of a collection in an earlier step.
+pub fn removed_places_are_told<Q: Quorums>()
+    ensures told { RemovedPlacesAreTold Q.system }
+{}
+
+/// The configuration that a step tells to be decided for a place stands there: the node that told it holds it, and so no
+/// node holds another one there (`nodes_agree`).
+pub fn decisions_stand<Q: Quorums>()
+    ensures stand { DecisionsStand Q.system }
 {}

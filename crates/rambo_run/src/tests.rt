@@ -1,6 +1,6 @@
 use crate::{
-    Step, collection_replies_are_fresh, collections_never_fall, given_sequences_are_proper,
-    later_phases_read, nodes_agree, nodes_are_replayed, removed_places_are_collected,
+    Step, collection_replies_are_fresh, collections_never_fall, decisions_stand, given_sequences_are_proper,
+    later_phases_read, nodes_agree, nodes_are_replayed, removed_places_are_collected, removed_places_are_told,
     replies_are_fresh,
 };
 use rambo_atomic::{CallId, Op};
@@ -94,5 +94,7 @@ fn laws(rt: HostRuntime) -> Result<(), Fail> {
     removed_places_are_collected::<Majority>();
     collections_never_fall::<Majority>();
     later_phases_read::<Majority>();
+    removed_places_are_told::<Majority>();
+    decisions_stand::<Majority>();
     Ok(())
 }

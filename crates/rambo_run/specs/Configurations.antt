@@ -1,4 +1,4 @@
--- What holds of collections, and of phases over several configurations, in every run
+-- What holds of changes of configurations in every run: of collections, of phases over several configurations, of decisions
 use Rattle.std.specs.Prelude.{◌≡◌, ℕ, ◌+◌, ◌<◌, ◌≤◌, true, false, List, take, Some}
 use Rattle.std.specs.FinSet as set
 use Rattle.std.specs.FinMap as map
