@@ -8,7 +8,6 @@ use Rattle.rambo_tag.proofs.TagOrder.{TagLe, tag_lt-false}
 use Rattle.rambo_atomic.specs.Calls.{key_of}
 use Rattle.rambo_node.specs.Calls.{kept_in}
 use Rattle.rambo_config_map.specs.Maps.{active_at}
-use Rattle.rambo_names.specs.Names.{NameSet}
 use Rattle.rambo_node.specs.Nodes.{NodeState, first_node}
 use Rattle.rambo_run.specs.declared.step.Step.{Step}
 use Rattle.rambo_run.specs.Worlds.{WorldState, node_at}

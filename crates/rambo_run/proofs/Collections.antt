@@ -21,7 +21,6 @@ use Rattle.rambo_run.proofs.Turn.{Moments, Telling, Alters, collects, seconds, f
 use Rattle.rambo_run.proofs.Altering.{MapTurn, map_merges, map_moves, map_stays, map_loses, map_gains, map_turn}
 use Rattle.rambo_run.proofs.Formed.{IsCounted, collection_heard}
 use Rattle.rambo_run.proofs.Held.{HoldsAll, up, names, active, hear_right, Fresh, fresh}
-use Rattle.rambo_run.proofs.Places.{HeldAt}
 use Rattle.rambo_run.proofs.Phases.{CountedReply, own_counted, later_counted, new_counted, only_one, or_second}
 
 -- a stage of a collection of n that began at t, as it is at m

@@ -1,5 +1,5 @@
 -- What a step tells to be decided for a place stands there
-use Rattle.std.proofs.Common.{◌≡◌, ℕ, zero, suc, ◌+◌, ◌-◌, ◌<◌, ◌≤◌, nat_lt, List, [], ◌∷◌, ◌++◌, length, take, Option, Some, None, slice_get, refl, sym, ap, ◌∙◌, subst, inl, inr, arith}
+use Rattle.std.proofs.Common.{◌≡◌, ℕ, zero, suc, ◌+◌, ◌-◌, nat_lt, List, [], ◌∷◌, length, take, Option, Some, None, slice_get, refl, sym, ap, ◌∙◌, subst, inl, inr, arith}
 use Rattle.std.proofs.lemmas.Bool.{ltb-false}
 use Rattle.rambo_names.specs.Quorums.{QuorumSystem}
 use Rattle.rambo_config_map.specs.Maps.{MapState, active_at, end_of, learnt}
@@ -8,23 +8,21 @@ use Rattle.rambo_paxos.specs.declared.bid.Bid.{Bid}
 use Rattle.rambo_paxos.specs.declared.bid.Bid.TheVariants as bid
 use Rattle.rambo_paxos.specs.Attempts.{AttemptState, bid_of}
 use Rattle.rambo_node.specs.declared.change.Change.TheVariants as change
-use Rattle.rambo_node.specs.declared.decided.Decided.{Decided}
 use Rattle.rambo_node.specs.declared.effect.Effect.{Effect}
 use Rattle.rambo_node.specs.declared.effect.Effect.TheVariants as effect
 use Rattle.rambo_node.specs.Changes.{Made, told, decided, bid_made, attempt_advanced, made_by}
 use Rattle.rambo_node.specs.Nodes.{NodeState}
-use Rattle.rambo_node.specs.Reconfigurations.{attempt_moved, config_learnt, attempt_ended}
+use Rattle.rambo_node.specs.Reconfigurations.{config_learnt, attempt_ended}
 use Rattle.rambo_run.specs.declared.step.Step.{Step}
 use Rattle.rambo_run.specs.declared.step.Step.TheVariants as step
 use Rattle.rambo_run.specs.Worlds.{WorldState, node_at}
 use Rattle.rambo_run.specs.Steps.{refusal, effect_in, turn_by, turn_at, turn}
 use Rattle.rambo_run.specs.Runs.{unless_refused, after, run_from, run}
-use Rattle.rambo_run.specs.Claims.{Holds}
 use Rattle.rambo_run.specs.Configurations.{DecisionsStand}
 use Rattle.rambo_run.proofs.Lists.{pick, some_inj, none-some}
 use Rattle.rambo_run.proofs.Deeds.{attempt_silent}
 use Rattle.rambo_run.proofs.Formed.{IsFormed, formed}
-use Rattle.rambo_run.proofs.Worlds.{Worlds, at, is_at, run_of, sound}
+use Rattle.rambo_run.proofs.Worlds.{at, is_at, run_of, sound}
 use Rattle.rambo_run.proofs.Moments.{moment, worlds}
 use Rattle.rambo_run.proofs.Replays.{own_put}
 

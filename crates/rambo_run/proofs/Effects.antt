@@ -1,5 +1,5 @@
 -- A place is removed only after a step told that it was collected, and what a step tells to be decided stands
-use Rattle.std.proofs.Common.{◌≡◌, ℕ, zero, suc, ◌+◌, ◌-◌, ◌<◌, ◌≤◌, max, ◌⊎◌, true, false, if◌then◌else◌, nat_eq, nat_lt, Option, Some, None, refl, sym, ap, ◌∙◌, subst, inl, inr, ⊎_elim, arith, eq-or-lt_of_le, eqb-true}
+use Rattle.std.proofs.Common.{◌≡◌, ℕ, zero, suc, ◌+◌, ◌<◌, ◌≤◌, ◌⊎◌, nat_eq, nat_lt, Option, Some, None, refl, sym, ap, ◌∙◌, subst, inl, inr, ⊎_elim, arith, eq-or-lt_of_le}
 use Rattle.std.proofs.lemmas.Bool.{cases_lt, ltb-false}
 use Rattle.rambo_names.specs.Quorums.{QuorumSystem}
 use Rattle.rambo_atomic.specs.declared.event.CallId.{CallId}
@@ -21,7 +21,6 @@ use Rattle.rambo_node.specs.declared.stage.Stage.{Stage}
 use Rattle.rambo_node.specs.declared.stage.Stage.TheVariants.{Query, Propagation}
 use Rattle.rambo_node.specs.Calls.{CallState}
 use Rattle.rambo_node.specs.Changes.{Made, told, stage_met, advanced, begun_again, collection_turned, collection_advanced, rebid_made, decided, bid_made, attempt_advanced, made_by}
-use Rattle.rambo_node.specs.Letters.{letter_for, gossip_for}
 use Rattle.rambo_node.specs.Hearing.{heard_kind, heard_join, heard_gossip}
 use Rattle.rambo_node.specs.Nodes.{NodeState, open_call, first_node}
 use Rattle.rambo_node.specs.Operations.{called, query_answered, call_closed, called_again, joined_by, stopped}
@@ -29,16 +28,16 @@ use Rattle.rambo_node.specs.Reconfigurations.{attempt_opened, attempt_rebid, att
 use Rattle.rambo_joiner.specs.Statuses.{is_active}
 use Rattle.rambo_run.specs.declared.step.Step.{Step}
 use Rattle.rambo_run.specs.declared.step.Step.TheVariants as step
-use Rattle.rambo_run.specs.Worlds.{WorldState, node_at, letter_at, first_world}
+use Rattle.rambo_run.specs.Worlds.{WorldState, node_at, letter_at}
 use Rattle.rambo_run.specs.Steps.{delivery, effect_in, turn_by, turn_at, turn_of, turn}
 use Rattle.rambo_run.specs.Configurations.{RemovedPlacesAreTold}
 use Rattle.rambo_run.proofs.Deeds.{collection_silent}
 use Rattle.rambo_run.proofs.Moments.{moment, worlds}
-use Rattle.rambo_run.proofs.Lists.{pick, none-some}
+use Rattle.rambo_run.proofs.Lists.{pick}
 use Rattle.rambo_run.proofs.Held.{up}
 use Rattle.rambo_run.proofs.Collections.{collection_at}
 use Rattle.rambo_run.proofs.Seen.{seen_at, seen_put}
-use Rattle.rambo_run.proofs.Worlds.{Worlds, Happens, Came, LetterFrom, sound, at, is_at, run_of, kind_told}
+use Rattle.rambo_run.proofs.Worlds.{Worlds, Happens, sound, at, is_at, run_of, kind_told}
 
 -- the floor stays
 abbrev StaysAbove : {Q : Type 0} → NodeState Q → Made Q → Type 0
