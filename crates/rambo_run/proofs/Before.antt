@@ -27,7 +27,7 @@ use Rattle.rambo_run.proofs.Phases.{calls_at}
 use Rattle.rambo_run.proofs.LaterPhases.{Done, done_at, reads}
 use Rattle.rambo_run.proofs.Events.{none_or_some, call_kept, call_still, answer_split, answer_still, before_called, before_answered, before_answer, before_call, place_there, place_kept, place_new}
 use Rattle.rambo_run.proofs.Seen.{Seen, mark_of, t_still, t_node, t_calls, t_queries, t_answers}
-use Rattle.rambo_run.proofs.Worlds.{Worlds, Came}
+use Rattle.rambo_run.proofs.Sights.{Worlds, Came}
 use Rattle.rambo_run.proofs.Books.{Book, apart_same, get_cases, get_new, next_new}
 use Rattle.rambo_run.proofs.Booked.{book}
 use Rattle.rambo_run.proofs.Tags.{node, sight, run, turns, Turning, Queried, Answers, by_query, by_answer, mark_split, mark_later, told_split, new_tag}

@@ -22,7 +22,8 @@ use Rattle.rambo_run.proofs.Agreement.{agreement}
 use Rattle.rambo_run.proofs.Phases.{CountedReply, calls_at}
 use Rattle.rambo_run.proofs.Collections.{Collected, removed}
 use Rattle.rambo_run.proofs.LaterPhases.{done_at, reads}
-use Rattle.rambo_run.proofs.Worlds.{Worlds, Came, at, run_of}
+use Rattle.rambo_run.proofs.Sights.{Worlds, Came, at}
+use Rattle.rambo_run.proofs.Worlds.{run_of}
 use Rattle.rambo_run.proofs.Moments.{moment, worlds}
 use Rattle.rambo_run.proofs.NodeLists.{node_is, node_stays, nowhere}
 use Rattle.rambo_run.proofs.FreshReplies.{at_least, holds_all, replier_there}

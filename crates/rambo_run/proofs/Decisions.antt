@@ -22,7 +22,8 @@ use Rattle.rambo_run.specs.Configurations.{DecisionsStand}
 use Rattle.rambo_run.proofs.Lists.{pick, some_inj, none-some}
 use Rattle.rambo_run.proofs.Deeds.{attempt_silent}
 use Rattle.rambo_run.proofs.Formed.{IsFormed, formed}
-use Rattle.rambo_run.proofs.Worlds.{at, is_at, run_of, sound}
+use Rattle.rambo_run.proofs.Sights.{at, is_at}
+use Rattle.rambo_run.proofs.Worlds.{run_of, sound}
 use Rattle.rambo_run.proofs.Moments.{moment, worlds}
 use Rattle.rambo_run.proofs.Replays.{own_put}
 

@@ -37,7 +37,9 @@ use Rattle.rambo_run.proofs.Lists.{pick}
 use Rattle.rambo_run.proofs.Held.{up}
 use Rattle.rambo_run.proofs.Collections.{collection_at}
 use Rattle.rambo_run.proofs.Seen.{seen_at, seen_put}
-use Rattle.rambo_run.proofs.Worlds.{Worlds, Happens, sound, at, is_at, run_of, kind_told}
+use Rattle.rambo_run.proofs.Sights.{Worlds, Happens, at, is_at}
+use Rattle.rambo_run.proofs.Worlds.{sound, run_of}
+use Rattle.rambo_run.proofs.Doings.{kind_told}
 
 -- the floor stays
 abbrev StaysAbove : {Q : Type 0} → NodeState Q → Made Q → Type 0

@@ -10,7 +10,8 @@ use Rattle.rambo_run.specs.Runs.{run}
 use Rattle.rambo_run.specs.Claims.{IsAtomic, Holds, Agrees}
 use Rattle.rambo_run.proofs.Places.{HeldAt}
 use Rattle.rambo_run.proofs.Agreement.{agreement}
-use Rattle.rambo_run.proofs.Worlds.{at, run_of}
+use Rattle.rambo_run.proofs.Sights.{at}
+use Rattle.rambo_run.proofs.Worlds.{run_of}
 use Rattle.rambo_run.proofs.Sequence.{proper}
 use Rattle.rambo_run.proofs.Moments.{moment, worlds, last_moment}
 use Rattle.rambo_run.proofs.NodeLists.{node_is}

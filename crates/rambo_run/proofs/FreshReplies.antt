@@ -19,7 +19,8 @@ use Rattle.rambo_run.proofs.Events.{none_or_some}
 use Rattle.rambo_run.proofs.Held.{HoldsAll, Fresh, get_or-replicate}
 use Rattle.rambo_run.proofs.Phases.{Replied, CountedReply, calls_at}
 use Rattle.rambo_run.proofs.Collections.{StageAt, CollectionAt, collection_at}
-use Rattle.rambo_run.proofs.Worlds.{Worlds, Came, at, run_of}
+use Rattle.rambo_run.proofs.Sights.{Worlds, Came, at}
+use Rattle.rambo_run.proofs.Worlds.{run_of}
 use Rattle.rambo_run.proofs.Moments.{moment, worlds, last_moment}
 use Rattle.rambo_run.proofs.NodeLists.{node_is, node_stays, nowhere}
 

@@ -16,6 +16,9 @@ pub mod Collections
 pub mod LaterPhases
 pub mod Seen
 pub mod Steps
+pub mod FirstWorlds
+pub mod Sights
+pub mod Doings
 pub mod Worlds
 pub mod Events
 pub mod Books

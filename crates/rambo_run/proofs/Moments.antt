@@ -6,7 +6,7 @@ use Rattle.rambo_run.specs.declared.step.Step.{Step}
 use Rattle.rambo_run.specs.Worlds.{WorldState, first_world}
 use Rattle.rambo_run.specs.Steps.{refusal, turn}
 use Rattle.rambo_run.specs.Runs.{unless_refused, after, run_from, run}
-use Rattle.rambo_run.proofs.Worlds.{Worlds}
+use Rattle.rambo_run.proofs.Sights.{Worlds}
 
 -- a step that is refused changes nothing, and another one takes its turn
 abbrev pub OneStep : {Q : Type 0} → QuorumSystem Q → Option (Step Q) → WorldState Q → WorldState Q → Type 0

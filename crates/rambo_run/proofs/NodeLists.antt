@@ -10,7 +10,9 @@ use Rattle.rambo_run.specs.Runs.{run}
 use Rattle.rambo_run.proofs.Lists.{none-some, below_there, there_below}
 use Rattle.rambo_run.proofs.Held.{names}
 use Rattle.rambo_run.proofs.Seen.{node_or}
-use Rattle.rambo_run.proofs.Worlds.{Worlds, at, first_count, run_of}
+use Rattle.rambo_run.proofs.Sights.{Worlds, at}
+use Rattle.rambo_run.proofs.FirstWorlds.{first_count}
+use Rattle.rambo_run.proofs.Worlds.{run_of}
 use Rattle.rambo_run.proofs.Moments.{moment, worlds, last_moment}
 
 -- the node of a name stands at its place

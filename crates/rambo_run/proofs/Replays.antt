@@ -12,7 +12,7 @@ use Rattle.rambo_run.specs.Steps.{Meant, meant, refusal, turn_at, turn_of, turn}
 use Rattle.rambo_run.specs.Runs.{unless_refused, after, run_from, run}
 use Rattle.rambo_run.specs.Journals.{entered, entered_unless, journal_from, journal, NodesAreReplayed}
 use Rattle.rambo_run.proofs.Lists.{pick, some_inj, none-some, set_here, set_there}
-use Rattle.rambo_run.proofs.Worlds.{first_named}
+use Rattle.rambo_run.proofs.FirstWorlds.{first_named}
 
 -- node n is x, and after some of the changes y, from which the rest is replayed
 abbrev Replayed : {Q : Type 0} → WorldState Q → ℕ → NodeState Q → List (Change Q) → List (Change Q) → Type 0
