@@ -69,7 +69,7 @@ module _ {Q : Type 0} (s : QuorumSystem Q) (founders : Q) (ss : List (Step Q)) w
     holds = at_least (then t n) (then r.moment j) r.reply.told;
   }
 
-  collected_by : (p e : ℕ) → Collected Letter s then p e → IsCollected s founders ss e p
+  pub collected_by : (p e : ℕ) → Collected Letter s then p e → IsCollected s founders ss e p
   collected_by p e g =
       let there : (u : ℕ) → node_at (world u) g.node ≡ Some (then u g.node) = λ u. asker_there g.opened u g.node (omega (arith, g.first.took, g.first.positive)) in
       record {
@@ -113,7 +113,7 @@ module _ {Q : Type 0} (s : QuorumSystem Q) (founders : Q) (ss : List (Step Q)) w
       }
 
   -- a place that a node's map has removed was collected
-  removed_by : (m n : ℕ) (x : NodeState Q) → node_at (world m) n ≡ Some x → (p : ℕ) → p < x.map.floor → IsCollected s founders ss m p
+  pub removed_by : (m n : ℕ) (x : NodeState Q) → node_at (world m) n ≡ Some x → (p : ℕ) → p < x.map.floor → IsCollected s founders ss m p
   removed_by m n x e p h = collected_by p m (removed s founders then runs m n p (subst (λ x. p < x.map.floor) (is_then m n x e) h))
 
   -- the configuration of a quorum was held

@@ -259,7 +259,7 @@ module _ {Q : Type 0} {T : Telling} (s : QuorumSystem Q) (founders : Q) (at : Mo
   }
 
   -- the second quorum was there
-  ends : (m n : ℕ) (g : CollectionState) → (at m n).collection ≡ Some g → CollectionAt T s at m n g → HasSecondQuorum s (at m n).map g → Collected T s at g.place m
+  pub ends : (m n : ℕ) (g : CollectionState) → (at m n).collection ≡ Some g → CollectionAt T s at m n g → HasSecondQuorum s (at m n).map g → Collected T s at g.place m
   ends m n g i f q =
       let l = f.late q.stage in
       record {

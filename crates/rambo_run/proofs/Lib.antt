@@ -34,6 +34,7 @@ pub mod FreshReplies
 pub mod CollectionClaims
 pub mod Effects
 pub mod Decisions
+pub mod ToldCollections
 pub mod Replays
 pub mod Fitting
 mod Rows

@@ -91,6 +91,12 @@ LaterPhasesRead {Q} s =
     → (d : CallState Q) → Stands z.calls d → y.number < d.phase.number → is_met s d.phase ≡ true
     → tag_lt (tag_of (map.get z.registers (key_of c.op))) (tag_of (kept_in c.stage)) ≡ false
 
+-- a place that a step tells to be collected was collected, by the steps before
+abbrev pub ToldCollectionsAreWhole : {Q : Type 0} → QuorumSystem Q → Type 0
+ToldCollectionsAreWhole {Q} s =
+    (founders : Q) (steps : List (Step Q)) (m n k p : ℕ) → IsDone s founders steps m (step.AdvanceCollect k)
+    → (turn (run s founders (take m steps)) (step.AdvanceCollect k)).effect ≡ effect.Collected n p → IsCollected s founders steps m p
+
 -- a place that a node's map has removed was told to be collected, by an earlier step
 abbrev pub RemovedPlacesAreTold : {Q : Type 0} → QuorumSystem Q → Type 0
 RemovedPlacesAreTold {Q} s =

@@ -5,6 +5,7 @@ ghost use Rattle.rambo_run.specs.Configurations.{
   RemovedPlacesAreCollected,
   CollectionsNeverFall,
   RemovedPlacesAreTold,
+  ToldCollectionsAreWhole,
   DecisionsStand,
   LaterPhasesRead,
 };
@@ -65,6 +66,12 @@ pub fn later_phases_read<Q: Quorums>()
 /// A place that a node's map has removed was told to be collected, by the advance of a collection in an earlier step.
 pub fn removed_places_are_told<Q: Quorums>()
     ensures told { RemovedPlacesAreTold Q.system }
+{}
+
+/// A place that a step tells to be collected was collected, by the steps before: as `removed_places_are_collected` says of
+/// a place that is removed.
+pub fn told_collections_are_whole<Q: Quorums>()
+    ensures whole { ToldCollectionsAreWhole Q.system }
 {}
 
 /// The configuration that a step tells to be decided for a place stands there: the node that told it holds it, and so no
