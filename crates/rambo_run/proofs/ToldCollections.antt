@@ -1,7 +1,6 @@
 -- What a step tells to be collected was collected
-use Rattle.std.proofs.Common.{◌≡◌, ℕ, ◌<◌, true, false, nat_lt, if◌then◌else◌, not, ◌&&◌, List, Option, Some, None, is_none, refl, sym, ap, ◌∙◌, subst, inl, inr}
+use Rattle.std.proofs.Common.{◌≡◌, ℕ, ◌<◌, false, not, ◌&&◌, List, Option, Some, None, is_none, refl, sym, ap, ◌∙◌, subst, inl, inr}
 use Rattle.rambo_names.specs.Quorums.{QuorumSystem}
-use Rattle.rambo_config_map.specs.Maps.{MapState}
 use Rattle.rambo_gc.specs.declared.gc_move.GcMove.{GcMove}
 use Rattle.rambo_gc.specs.declared.gc_move.GcMove.TheVariants.{Propagating, Done}
 use Rattle.rambo_gc.specs.Collections.{CollectionState, move_of}
@@ -12,7 +11,6 @@ use Rattle.rambo_node.specs.declared.effect.Effect.{Effect}
 use Rattle.rambo_node.specs.declared.effect.Effect.TheVariants as effect
 use Rattle.rambo_node.specs.Changes.{collection_turned, collection_advanced, made_by}
 use Rattle.rambo_node.specs.Nodes.{NodeState}
-use Rattle.rambo_node.specs.Reconfigurations.{collection_move}
 use Rattle.rambo_node.specs.Refusals.{collection_turn}
 use Rattle.rambo_run.specs.declared.step.Step.{Step}
 use Rattle.rambo_run.specs.declared.step.Step.TheVariants as step

@@ -8,7 +8,8 @@ mod step;
 pub use laws::{
     collection_replies_are_fresh, collections_never_fall, decisions_stand,
     given_sequences_are_proper, later_phases_read, nodes_agree, nodes_are_replayed,
-    removed_places_are_collected, removed_places_are_told, replies_are_fresh, told_collections_are_whole,
+    removed_places_are_collected, removed_places_are_told, replies_are_fresh,
+    told_collections_are_whole,
 };
 pub use outcome::{NodeMap, Outcome};
 pub use step::Step;

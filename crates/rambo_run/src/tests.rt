@@ -1,7 +1,8 @@
 use crate::{
     Step, collection_replies_are_fresh, collections_never_fall, decisions_stand,
     given_sequences_are_proper, later_phases_read, nodes_agree, nodes_are_replayed,
-    removed_places_are_collected, removed_places_are_told, replies_are_fresh, told_collections_are_whole,
+    removed_places_are_collected, removed_places_are_told, replies_are_fresh,
+    told_collections_are_whole,
 };
 use rambo_atomic::{CallId, Op};
 use rambo_names::{Bytes, Majority, Members, Name, Refusal};
