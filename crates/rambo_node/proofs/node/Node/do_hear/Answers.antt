@@ -4,6 +4,7 @@ use Rattle.rambo_gossip.specs.Letters.{gossip_with}
 use Rattle.rambo_node.specs.Hearing.{heard_kind, heard_gossip, any_gap}
 use Rattle.rambo_node.specs.Refusals.{restarts, is_last}
 use Rattle.rambo_node.proofs.Judged.{hear_next}
+use Rattle.rambo_node.proofs.Sizes.{up_fits, back_fits, variant_fits}
 use Rattle.rambo_node.proofs.node.Node.do_hear.Goals as goal
 
 pub returns-in-Gossip-clause-ok : goal.returns-in-Gossip-clause-ok
@@ -18,3 +19,6 @@ returns-in-Gossip-clause-ok g c =
 
 pub merge-requires : goal.merge-requires
 merge-requires g c = c.requires-raw.1.1.0
+
+pub outline_of-requires : goal.outline_of-requires
+outline_of-requires g c = variant_fits _ _ _ _ (back_fits _ _ _ (up_fits _ _ _ c.requires-raw.1.1.1))
