@@ -1,11 +1,16 @@
 -- Letters as they are kept, when standings are added
-use Rattle.std.proofs.Common.{◌≡◌, ℕ, Bool, true, false, if◌then◌else◌, zero, suc, ◌<◌, ◌≤◌, List, [], ◌∷◌, ◌++◌, map, length, None, Some, slice_get, refl, ap, ◌∙◌, arith}
+use Rattle.std.proofs.Common.{◌≡◌, ℕ, Bool, true, false, not, if◌then◌else◌, zero, suc, ◌<◌, ◌≤◌, List, [], ◌∷◌, ◌++◌, map, length, None, Some, slice_get, refl, ap, ◌∙◌, arith}
 use Rattle.std.specs.Option.{option_map}
+use Rattle.std.proofs.lemmas.Bool.{false≢true}
 use Rattle.std.proofs.lemmas.List.{length-append, map-append}
 use Rattle.rambo_world.specs.declared.sent.Sent.{Sent}
 use Rattle.rambo_world.specs.declared.standing.Standing.{Standing}
 use Rattle.rambo_world.specs.Kept.{SentState, kind_of}
 use Rattle.rambo_world.specs.Shared.{gossip_with, gossip_in, sent_in, IsHeld, AreHeld}
+
+pub not_told : (b : Bool) → not b ≡ true → b ≡ false
+not_told true e = absurd (false≢true e)
+not_told false e = refl
 
 pub get_before : {X : Type 0} (xs more : List X) (i : ℕ) → i < length xs → slice_get (xs ++ more) i ≡ slice_get xs i
 get_before [] more i below = absurd (omega (arith, below))
