@@ -1,8 +1,7 @@
 //! Letters.
-ghost use Rattle.std.specs.Prelude.{◌≡◌, IsOk, IfOk, IfErr};
 
 use rambo_config_map::ConfigMap;
-use rambo_names::{Members, Name, Quorums, Refusal};
+use rambo_names::{Members, Name, Quorums};
 use rambo_paxos::{Offer, Vote};
 use rambo_tag::Pack;
 
@@ -43,45 +42,4 @@ pub struct Gossip<Q: Quorums> {
     pub vote: Vote<Q>,
     /// What its own attempt for that place asks, if it has one.
     pub offer: Option<Offer<Q>>,
-}
-
-impl<Q: Quorums> Letter<Q> {
-    /// The same letter, which shares the bytes of its keys and values.
-    ///
-    /// `OutOfMemory` where there is no room for the list of its copies. A wish to join has none.
-    pub fn clone(&self) -> Result<Letter<Q>, Refusal>
-        ensures same { IfOk result (λ letter. letter ≡ self.now) }
-        ensures join { self.now.kind ≡ Kind.Join → IsOk result }
-        ensures refused { IfErr result (λ r. r ≡ Refusal.OutOfMemory) }
-    {
-        let kind = match &self.kind {
-            Kind::Join => Kind::Join,
-            Kind::Gossip(gossip) => Kind::Gossip(gossip.clone()?),
-        };
-        Ok(Letter {
-            sender: self.sender,
-            addressee: self.addressee,
-            kind,
-        })
-    }
-}
-
-impl<Q: Quorums> Gossip<Q> {
-    /// The same, which shares the bytes of its keys and values.
-    ///
-    /// `OutOfMemory` where there is no room for the list of its copies.
-    pub fn clone(&self) -> Result<Gossip<Q>, Refusal>
-        ensures same { IfOk result (λ gossip. gossip ≡ self.now) }
-        ensures refused { IfErr result (λ r. r ≡ Refusal.OutOfMemory) }
-    {
-        Ok(Gossip {
-            known: self.known,
-            copies: self.copies.clone()?,
-            map: self.map.copy(),
-            number: self.number,
-            heard: self.heard,
-            vote: self.vote,
-            offer: self.offer,
-        })
-    }
 }

@@ -2,7 +2,5 @@
 #![tactic(auto)]
 
 mod letter;
-#[cfg(test)]
-mod tests;
 
 pub use letter::{Gossip, Kind, Letter};

@@ -1,5 +1,4 @@
 pub mod Calls
-pub mod Kept
 pub mod Nodes
 pub mod Letters
 pub mod Hearing

@@ -1,21 +1,15 @@
 //! What a change did.
-ghost use Rattle.std.specs.Prelude.{◌≡◌, IfOk, IfErr};
-ghost use Rattle.rambo_node.specs.Changes.{quiet_deed, set_mark, get_mark, copy_put};
-ghost use Rattle.rambo_node.specs.Kept.{move_deed, answer_deed};
-ghost use Rattle.rambo_node.specs.Operations.{answer_of};
-ghost use Rattle.std.specs.Option.{option_copied};
 
 use crate::effect::Effect;
-use rambo_atomic::{Answer, CallId, Event, Op};
-use rambo_names::Refusal;
+use rambo_atomic::Event;
 use rambo_sequence::Mark;
-use rambo_tag::{KeyedVersion, Version};
+use rambo_tag::KeyedVersion;
 
 /// What an accepted change of a node did besides changing it.
 #[derive(Drop, Debug)]
-pub struct Deed {
+pub struct Deed<Q> {
     /// What is told of it. A letter that is sent has no number here: of it `Done` is told.
-    pub effect: Effect,
+    pub effect: Effect<Q>,
     /// The call or the answer that goes into the history.
     pub event: Option<Event>,
     /// A set that took its tag, or a get that was answered.
@@ -24,117 +18,3 @@ pub struct Deed {
     pub copy: Option<KeyedVersion>,
 }
 
-impl Deed {
-    // That of a change of the node alone.
-    pub(crate) fn quiet() -> Deed
-        ensures { result ≡ quiet_deed }
-    {
-        Deed {
-            effect: Effect::Done,
-            event: None,
-            mark: None,
-            copy: None,
-        }
-    }
-
-    // That of a met query, which keeps a copy.
-    pub(crate) fn moved(id: CallId, op: &Op, kept: &Option<Version>) -> Result<Deed, Refusal>
-        ensures ok { IfOk result (λ d. d ≡ move_deed id op.now kept.now) }
-        ensures refused { IfErr result (λ r. r ≡ Refusal.OutOfMemory) }
-    {
-        Ok(Deed {
-            effect: Effect::Moved,
-            event: None,
-            mark: set_mark(id, op, kept)?,
-            copy: copy_put(op, kept)?,
-        })
-    }
-
-    // That of a met propagation, which sent a copy round.
-    pub(crate) fn answered(id: CallId, op: &Op, kept: &Option<Version>) -> Result<Deed, Refusal>
-        ensures ok { IfOk result (λ d. d ≡ answer_deed id op.now kept.now) }
-        ensures refused { IfErr result (λ r. r ≡ Refusal.OutOfMemory) }
-    {
-        let answer = answer_of(op, kept)?;
-        let event = Event::Answer(id, answer.clone()?);
-        Ok(Deed {
-            effect: Effect::Answered(id, answer),
-            event: Some(event),
-            mark: get_mark(id, op, kept)?,
-            copy: None,
-        })
-    }
-}
-
-// The copy that a set puts.
-fn copy_put(op: &Op, kept: &Option<Version>) -> Result<Option<KeyedVersion>, Refusal>
-    ensures ok { IfOk result (λ copy. copy ≡ copy_put op.now kept.now) }
-    ensures refused { IfErr result (λ r. r ≡ Refusal.OutOfMemory) }
-{
-    match (op, kept) {
-        (Op::Set(key, _), Some(version)) => Ok(Some(KeyedVersion {
-            key: key.clone()?,
-            version: version.clone()?,
-        })),
-        _ => Ok(None),
-    }
-}
-
-// A set is marked when it takes its tag.
-fn set_mark(id: CallId, op: &Op, kept: &Option<Version>) -> Result<Option<Mark>, Refusal>
-    ensures ok { IfOk result (λ mark. mark ≡ set_mark id op.now kept.now) }
-    ensures refused { IfErr result (λ r. r ≡ Refusal.OutOfMemory) }
-{
-    match op {
-        Op::Get(_) => Ok(None),
-        Op::Set(_, _) => Ok(Some(Mark {
-            id,
-            op: op.clone()?,
-            kept: clone_of(kept.as_ref())?,
-        })),
-    }
-}
-
-// A get is marked when it is answered.
-fn get_mark(id: CallId, op: &Op, kept: &Option<Version>) -> Result<Option<Mark>, Refusal>
-    ensures ok { IfOk result (λ mark. mark ≡ get_mark id op.now kept.now) }
-    ensures refused { IfErr result (λ r. r ≡ Refusal.OutOfMemory) }
-{
-    match op {
-        Op::Set(_, _) => Ok(None),
-        Op::Get(_) => Ok(Some(Mark {
-            id,
-            op: op.clone()?,
-            kept: clone_of(kept.as_ref())?,
-        })),
-    }
-}
-
-// The answer to an operation that sent a copy round.
-fn answer_of(op: &Op, kept: &Option<Version>) -> Result<Answer, Refusal>
-    ensures ok { IfOk result (λ answer. answer ≡ answer_of op.now kept.now) }
-    ensures refused { IfErr result (λ r. r ≡ Refusal.OutOfMemory) }
-{
-    match op {
-        Op::Set(_, _) => Ok(Answer::Ok),
-        Op::Get(_) => match kept {
-            Some(
-                Version {
-                    value: Some(value),
-                    ..
-                },
-            ) => Ok(Answer::Value(value.clone()?)),
-            _ => Ok(Answer::Nil),
-        },
-    }
-}
-
-pub(crate) fn clone_of(version: Option<&Version>) -> Result<Option<Version>, Refusal>
-    ensures same { IfOk result (λ v. v ≡ option_copied version.entry) }
-    ensures refused { IfErr result (λ r. r ≡ Refusal.OutOfMemory) }
-{
-    match version {
-        Some(version) => Ok(Some(version.clone()?)),
-        None => Ok(None),
-    }
-}

@@ -1,7 +1,5 @@
 //! What a step does.
 
-ghost use Rattle.std.specs.Prelude.{◌≡◌};
-ghost use Rattle.rambo_node.specs.Changes.{answer_in};
 
 use crate::decided::Decided;
 use rambo_atomic::{Answer, CallId};
@@ -27,14 +25,3 @@ pub enum Effect<Q> {
     Decided(Name, Decided<Q>),
 }
 
-impl<Q> Effect<Q> {
-    // The answer that a call got, if it did.
-    pub(crate) fn into_answer(self) -> Option<Answer>
-        ensures { result ≡ answer_in self }
-    {
-        match self {
-            Effect::Answered(_, answer) => Some(answer),
-            _ => None,
-        }
-    }
-}

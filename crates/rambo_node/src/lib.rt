@@ -1,23 +1,14 @@
-//! One node of the store: its copies, its map, its open calls, and what it makes of changes.
+//! A stand-in: the types and the definitions of nodes.
 #![tactic(auto)]
 
-mod advancing;
 mod change;
+mod decided;
 mod deed;
 mod effect;
-mod heard_numbers;
-mod hearing;
-mod judging;
-mod laws;
-mod node;
-mod open_call;
-mod open_calls;
 mod stage;
-mod taking;
 
 pub use change::Change;
+pub use decided::Decided;
 pub use deed::Deed;
 pub use effect::Effect;
-pub use laws::{causes_rise, short_letters_are_heard_alike};
-pub use node::Node;
 pub use stage::Stage;

@@ -1,22 +1,10 @@
 pub mod Lists
-pub mod Deeds
 pub mod Turn
+pub mod Altering
+pub mod Formed
 pub mod Held
+pub mod Deeds
 pub mod Numbers
-pub mod Phases
 pub mod Seen
 pub mod Worlds
-pub mod Events
-pub mod Books
-pub mod Booked
-pub mod Tags
-pub mod LaterPhases
-pub mod Before
-pub mod Order
-pub mod Sequence
-pub mod Moments
-pub mod NodeLists
-pub mod EveryRun
-pub mod Replays
-pub mod Fitting
-mod Rows
+pub mod Places

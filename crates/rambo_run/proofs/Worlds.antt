@@ -1,5 +1,5 @@
 -- A run of whole worlds is a run of nodes
-use Rattle.std.proofs.Common.{◌≡◌, ℕ, zero, suc, ◌+◌, ◌<◌, ◌≤◌, ◌⊎◌, Bool, true, false, if◌then◌else◌, nat_eq, List, [], ◌∷◌, ◌++◌, length, Option, Some, None, slice_get, refl, sym, ap, ◌∙◌, subst, inl, inr, ⊎_elim, arith, eqb-true, true≢false}
+use Rattle.std.proofs.Common.{◌≡◌, ℕ, zero, suc, ◌+◌, ◌<◌, ◌≤◌, ◌⊎◌, Bool, true, false, not, ◌&&◌, if◌then◌else◌, nat_eq, nat_lt, List, [], ◌∷◌, ◌++◌, length, Option, Some, None, is_none, slice_get, refl, sym, ap, ◌∙◌, subst, inl, inr, ⊎_elim, arith, eqb-true, ltb-true, ltb-false, leb-false, true≢false}
 use Rattle.std.proofs.lemmas.Bool.{not-false}
 use Rattle.rambo_names.specs.Names.{IsName, rising}
 use Rattle.rambo_names.specs.Quorums.{QuorumSystem}
@@ -7,7 +7,14 @@ use Rattle.rambo_names.specs.Refusals.{Cause, least}
 use Rattle.rambo_atomic.specs.declared.event.CallId.{CallId}
 use Rattle.rambo_atomic.specs.declared.event.Event.TheVariants as event
 use Rattle.rambo_atomic.specs.declared.operation.Op.{Op}
-use Rattle.rambo_phase.specs.Phases.{is_met}
+use Rattle.rambo_config_map.specs.Maps.{MapState, active_at, end_of, top_of}
+use Rattle.rambo_gc.specs.declared.gc_move.GcMove.{GcMove}
+use Rattle.rambo_gc.specs.declared.gc_move.GcMove.TheVariants.{Propagating, Done}
+use Rattle.rambo_gc.specs.Collections.{CollectionState, has_quorum, is_met, next_move, move_of}
+use Rattle.rambo_paxos.specs.declared.stage.Stage as paxos
+use Rattle.rambo_paxos.specs.declared.stage.Stage.TheVariants as attempt
+use Rattle.rambo_paxos.specs.Attempts.{AttemptState, bid_in, bid_of}
+use Rattle.rambo_phase.specs.Phases.{is_met as is_phase_met}
 use Rattle.rambo_joiner.specs.Statuses.{is_active}
 use Rattle.rambo_gossip.specs.declared.letter.Letter.{Letter}
 use Rattle.rambo_gossip.specs.declared.letter.Gossip.{Gossip}
@@ -19,19 +26,21 @@ use Rattle.rambo_node.specs.declared.change.Change.{Change}
 use Rattle.rambo_node.specs.declared.change.Change.TheVariants as change
 use Rattle.rambo_node.specs.Calls.{CallState, propagates, kept_in}
 use Rattle.rambo_node.specs.Changes as node
-use Rattle.rambo_node.specs.Changes.{set_mark, get_mark, quiet as quiet_made, stage_met, advanced, begun_again, made_by}
+use Rattle.rambo_node.specs.Changes.{set_mark, get_mark, told, quiet as quiet_made, stage_met, advanced, begun_again, collection_turned, collection_advanced, rebid_made, decided, bid_made, attempt_advanced, made_by}
 use Rattle.rambo_node.specs.Nodes.{NodeState, first_node, open_call}
 use Rattle.rambo_node.specs.Letters.{letter_for, gossip_for}
 use Rattle.rambo_node.specs.Hearing.{heard_kind, heard_join, heard_gossip}
 use Rattle.rambo_node.specs.Operations.{called, taken, query_answered, call_closed, answer_of, called_again, joined_by, stopped}
-use Rattle.rambo_node.specs.Refusals.{is_unmet}
+use Rattle.rambo_node.specs.Refusals.{is_unmet, collection_turn, is_for, attempt_waits}
+use Rattle.rambo_node.specs.Reconfigurations.{attempt_opened, attempt_rebid, attempt_moved, config_learnt, attempt_ended, collection_opened, collection_move, collection_moved, collection_ended}
 use Rattle.rambo_run.specs.declared.step.Step.{Step}
 use Rattle.rambo_run.specs.declared.step.Step.TheVariants as step
 use Rattle.rambo_run.specs.Worlds.{WorldState, node_at, letter_at, first_nodes, first_world}
 use Rattle.rambo_run.specs.Steps.{Meant, delivery, meant, causes_at, causes_of, causes, refusal, with_letter, with_mark, turn_by, turn_at, turn_of, turn}
 use Rattle.rambo_run.proofs.Lists.{pick, some_inj, none-some, Member}
-use Rattle.rambo_run.proofs.Deeds.{id_of, with_set, open_member, advanced_letter, again_letter, put_self}
-use Rattle.rambo_run.proofs.Turn.{Moments, Turn, stays, quiet, calls, hears, queried, answers, agains, Run}
+use Rattle.rambo_run.proofs.Deeds.{id_of, with_set, open_member, advanced_letter, again_letter, collection_letter, rebid_letter, attempt_letter, put_self}
+use Rattle.rambo_run.proofs.Turn.{Moments, IsBacked, Alters, collects, seconds, finishes, opens, rebids, proposes, chooses, gives_up, Turn, stays, quiet, calls, hears, queried, answers, agains, alters, Run}
+use Rattle.rambo_run.proofs.Altering.{altered_rest}
 use Rattle.rambo_run.proofs.Held.{name_turn}
 use Rattle.rambo_run.proofs.Numbers.{Numbered, numbered_turn, numbered_first}
 use Rattle.rambo_run.proofs.Seen.{Seen, node_or, seen_at, seen, seen_called, seen_queried, seen_answered, Keeps, keeps_same, keeps_hear, keeps_again, CopiesFrom, copies_same, copies_heard, WorldTurn, t_still, t_node, t_calls, t_queries, t_answers, named_some, seen_put}
@@ -65,7 +74,7 @@ is_gossip kind.Join = false
 is_gossip (kind.Gossip g) = true
 
 -- the letters after a step: one more if a node sends it
-abbrev OneMore : {Q : Type 0} → WorldState Q → Step → WorldState Q → Type 0
+abbrev OneMore : {Q : Type 0} → WorldState Q → Step Q → WorldState Q → Type 0
 OneMore {Q} w st z = (z.letters ≡ w.letters) ⊎ ((n : ℕ) × (to : ℕ) × (x : NodeState Q) × (node_at w n ≡ Some x) × (st ≡ step.Send n to) × (z.letters ≡ w.letters ++ letter_for x to ∷ []))
 
 abbrev sends : {Q : Type 0} → Change Q → Bool
@@ -75,6 +84,11 @@ sends (change.Call o) = false
 sends (change.Deliver l) = false
 sends (change.Advance id) = false
 sends (change.Again id) = false
+sends change.Collect = false
+sends change.AdvanceCollect = false
+sends (change.Recon wish) = false
+sends change.Rebid = false
+sends change.AdvanceRecon = false
 sends change.Stop = false
 
 letters_by : {Q : Type 0} (w : WorldState Q) (n : ℕ) (x : NodeState Q) (c : Change Q) → sends c ≡ false → (turn_by w n (made_by x c)).world.letters ≡ w.letters
@@ -85,6 +99,11 @@ letters_by w n x (change.Send to) h = absurd (true≢false h)
 letters_by w n x (change.Deliver l) h = refl
 letters_by w n x (change.Advance id) h = ap (with_letter w.letters) (advanced_letter x id (open_call x id))
 letters_by w n x (change.Again id) h = ap (with_letter w.letters) (again_letter x (open_call x id))
+letters_by w n x change.Collect h = refl
+letters_by w n x change.AdvanceCollect h = ap (with_letter w.letters) (collection_letter x x.collection)
+letters_by w n x (change.Recon wish) h = refl
+letters_by w n x change.Rebid h = ap (with_letter w.letters) (rebid_letter x x.attempt)
+letters_by w n x change.AdvanceRecon h = ap (with_letter w.letters) (attempt_letter x x.attempt)
 letters_by w n x change.Stop h = refl
 
 letters_at : {Q : Type 0} (w : WorldState Q) (n : ℕ) (c : Change Q) → sends c ≡ false → (o : Option (NodeState Q)) → (turn_at w n o c).world.letters ≡ w.letters
@@ -100,7 +119,7 @@ unfolding made_by
 letters_sent w n to None h = inl refl
 letters_sent w n to (Some x) h = inr (n, to, x, h, refl, refl)
 
-letters_after : {Q : Type 0} (w : WorldState Q) (st : Step) → OneMore w st (turn w st).world
+letters_after : {Q : Type 0} (w : WorldState Q) (st : Step Q) → OneMore w st (turn w st).world
 unfolding turn
 letters_after w (step.Join n contacts) = inl (letters_at w n (change.Join contacts) refl (node_at w n))
 letters_after w (step.Call n o) = inl (letters_at w n (change.Call o) refl (node_at w n))
@@ -108,13 +127,36 @@ letters_after w (step.Send n to) = letters_sent w n to (node_at w n) refl
 letters_after w (step.Deliver i) = inl (letters_delivered w (letter_at w.letters i))
 letters_after w (step.Advance id) = inl (letters_at w id.name (change.Advance id) refl (node_at w id.name))
 letters_after w (step.Again id) = inl (letters_at w id.name (change.Again id) refl (node_at w id.name))
+letters_after w (step.Collect n) = inl (letters_at w n change.Collect refl (node_at w n))
+letters_after w (step.AdvanceCollect n) = inl (letters_at w n change.AdvanceCollect refl (node_at w n))
+letters_after w (step.Recon n wish) = inl (letters_at w n (change.Recon wish) refl (node_at w n))
+letters_after w (step.Rebid n) = inl (letters_at w n change.Rebid refl (node_at w n))
+letters_after w (step.AdvanceRecon n) = inl (letters_at w n change.AdvanceRecon refl (node_at w n))
 letters_after w (step.Stop n) = inl (letters_at w n change.Stop refl (node_at w n))
+
+some_there : {A : Type 0} (o : Option A) → is_none o ≡ false → (a : A) × (o ≡ Some a)
+some_there None e = absurd (true≢false e)
+some_there (Some a) e = (a, refl)
+
+neither_not : (a b : Bool) → a ≡ false → (not a && not b) ≡ false → b ≡ true
+neither_not true b e h = absurd (true≢false e)
+neither_not false true e h = refl
+neither_not false false e h = absurd (true≢false h)
+
+-- what an advance of a collection does that isn't refused
+same_move : {Q : Type 0} (s : QuorumSystem Q) (m : MapState Q) (g : CollectionState) (move : GcMove) → move_of s m g ≡ Some move → collection_move m g ≡ move
+same_move s m g move e = go (nat_lt g.place m.floor) (is_met s m g) e
+  where
+    go : (b c : Bool) → (if b then Some Done else (if c then Some (next_move g.stage) else None)) ≡ Some move → (if b then Done else next_move g.stage) ≡ move
+    go true c h = some_inj Done move h
+    go false true h = some_inj (next_move g.stage) move h
+    go false false h = absurd (none-some move h)
 
 -- whole worlds, moment by moment
 pub record Worlds {Q : Type 0} (s : QuorumSystem Q) (founders : Q) (world : ℕ → WorldState Q) : Type 0 where
   pub first : world 0 ≡ first_world s founders
-  pub steps : ℕ → Option Step
-  pub next : (m : ℕ) → (world (suc m) ≡ world m) ⊎ ((st : Step) × (refusal s (world m) st ≡ None) × (world (suc m) ≡ (turn (world m) st).world) × (steps m ≡ Some st))
+  pub steps : ℕ → Option (Step Q)
+  pub next : (m : ℕ) → (world (suc m) ≡ world m) ⊎ ((st : Step Q) × (refusal s (world m) st ≡ None) × (world (suc m) ≡ (turn (world m) st).world) × (steps m ≡ Some st))
 
 first_at : {Q : Type 0} (s : QuorumSystem Q) (founders : Q) (k n i : ℕ) → (slice_get (first_nodes s founders (rising k n)) i ≡ Some (first_node s founders (n + i))) ⊎ (slice_get (first_nodes s founders (rising k n)) i ≡ None)
 unfolding rising
@@ -160,7 +202,7 @@ module _ {Q : Type 0} (s : QuorumSystem Q) (founders : Q) (world : ℕ → World
   view m = seen s founders (world m)
 
   -- this is the step after moment m, and it isn't refused
-  abbrev pub Happens : ℕ → Step → Type 0
+  abbrev pub Happens : ℕ → Step Q → Type 0
   Happens m st = (worlds.steps m ≡ Some st) × (refusal s (world m) st ≡ None)
 
   -- letter i of all was sent by node j to node n in the step after moment u
@@ -221,7 +263,7 @@ module _ {Q : Type 0} (s : QuorumSystem Q) (founders : Q) (world : ℕ → World
       t_calls n o (λ i. record { node = λ k. e k i; history = history i; marks = (world m).marks })
 
   -- a call of a node that is met
-  stage_done : (m n : ℕ) (x : NodeState Q) (id : CallId) (c : CallState Q) → node_at (world m) n ≡ Some x → Member c (at m n).calls → id ≡ id_of n c.number → is_met s c.phase ≡ true → (g : Stage) → c.stage ≡ g
+  stage_done : (m n : ℕ) (x : NodeState Q) (id : CallId) (c : CallState Q) → node_at (world m) n ≡ Some x → Member c (at m n).calls → id ≡ id_of n c.number → is_phase_met s c.phase ≡ true → (g : Stage) → c.stage ≡ g
       → To m (turn_by (world m) n (stage_met x id c g)).world
   stage_done m n x id c h i d p Query q =
       let z = (turn_by (world m) n (stage_met x id c Query)).world in
@@ -254,7 +296,7 @@ module _ {Q : Type 0} (s : QuorumSystem Q) (founders : Q) (world : ℕ → World
   advance_done m n x id named h None e p = still_done m n x h
   advance_done m n x id named h (Some c) e p =
       let f = found m n x id named h c e in
-      stage_done m n x id c h f.0 f.1 (not-false (is_met s c.phase) p) c.stage refl
+      stage_done m n x id c h f.0 f.1 (not-false (is_phase_met s c.phase) p) c.stage refl
 
   again_done : (m n : ℕ) (x : NodeState Q) (id : CallId) → Sound m → node_at (world m) n ≡ Some x → (o : Option (CallState Q)) → open_call x id ≡ o → To m (turn_by (world m) n (begun_again x o)).world
   unfolding called_again
@@ -262,6 +304,42 @@ module _ {Q : Type 0} (s : QuorumSystem Q) (founders : Q) (world : ℕ → World
   again_done m n x id f h (Some c) e =
       let i = (found m n x id (f.names n) h c e).0 in
       node_done m n x (λ x. called_again x c) h (agains c i refl) (keeps_again (at m n) c (f.numbered n).single i) (copies_same at m (at m n) (called_again (at m n) c) refl)
+
+  -- one node altered its collection or its attempt
+  alter_done : (m n : ℕ) (x : NodeState Q) (f : NodeState Q → NodeState Q) → node_at (world m) n ≡ Some x → Alters s x (f x) → To m (turn_by (world m) n (quiet_made (f x))).world
+  alter_done m n x f h a =
+      let b : Alters s (at m n) (f (at m n)) = subst (λ x. Alters s x (f x)) (is_at m n x h) a in
+      let k = altered_rest s (at m n) (f (at m n)) b in
+      node_done m n x f h (alters b) (keeps_same (at m n) (f (at m n)) k.made k.calls) (copies_same at m (at m n) (f (at m n)) k.registers)
+
+  move_done : (m n : ℕ) (x : NodeState Q) (g : CollectionState) → node_at (world m) n ≡ Some x → x.collection ≡ Some g → (move : GcMove) → move_of s x.map g ≡ Some move
+      → To m (turn_by (world m) n (collection_turned x g move)).world
+  move_done m n x g h i Propagating e = alter_done m n x (λ x. collection_moved x g) h (seconds g i e refl)
+  move_done m n x g h i Done e = alter_done m n x (λ x. collection_ended x g) h (finishes g i e refl)
+
+  collection_done : (m n : ℕ) (x : NodeState Q) → node_at (world m) n ≡ Some x → (o : Option CollectionState) → x.collection ≡ o → (not (is_none o) && is_none (collection_turn s x o)) ≡ false
+      → To m (turn_by (world m) n (collection_advanced x o)).world
+  collection_done m n x h None i e = still_done m n x h
+  collection_done m n x h (Some g) i e =
+      let r = some_there (move_of s x.map g) e in
+      subst (λ move. To m (turn_by (world m) n (collection_turned x g move)).world) (sym (same_move s x.map g r.0 r.1)) (move_done m n x g h i r.0 r.1)
+
+  rebid_done : (m n : ℕ) (x : NodeState Q) → node_at (world m) n ≡ Some x → (o : Option (AttemptState Q)) → x.attempt ≡ o → not (is_for (end_of x.map) o) ≡ false → To m (turn_by (world m) n (rebid_made x o)).world
+  rebid_done m n x h None i e = still_done m n x h
+  rebid_done m n x h (Some a) i e = alter_done m n x (λ x. attempt_rebid x a) h (rebids a i (eqb-true a.place (end_of x.map) (not-false (nat_eq a.place (end_of x.map)) e)) refl)
+
+  bid_done : (m n : ℕ) (x : NodeState Q) (a : AttemptState Q) → node_at (world m) n ≡ Some x → IsBacked s x a → (g : paxos.Stage Q) → a.stage ≡ g → To m (turn_by (world m) n (bid_made x a (bid_in g))).world
+  bid_done m n x a h b (attempt.Prepare told) e = alter_done m n x (λ x. attempt_moved x a) h (proposes a told b e refl)
+  bid_done m n x a h b (attempt.Propose c) e = alter_done m n x (λ x. config_learnt x a c) h (chooses a c b e refl)
+
+  attempt_done : (m n : ℕ) (x : NodeState Q) → node_at (world m) n ≡ Some x → (o : Option (AttemptState Q)) → x.attempt ≡ o → attempt_waits s x o ≡ false → To m (turn_by (world m) n (attempt_advanced x o)).world
+  attempt_done m n x h None i e = still_done m n x h
+  attempt_done m n x h (Some a) i e =
+      elim (pick (nat_lt a.place (end_of x.map)) (record { node = attempt_ended x; deed = told (decided x a (active_at x.map a.place)); letter = None }) (bid_made x a (bid_of a))) [
+        | inl p ↦ subst (λ made. To m (turn_by (world m) n made).world) (sym p.1) (alter_done m n x attempt_ended h (gives_up a i (ltb-true a.place (end_of x.map) p.0) refl))
+        | inr p ↦ subst (λ made. To m (turn_by (world m) n made).world) (sym p.1) (bid_done m n x a h
+            (record { is_open = i; place = ltb-false a.place (end_of x.map) p.0; quorum = neither_not (nat_lt a.place (end_of x.map)) (has_quorum s (active_at x.map (top_of x.map)) a.repliers) p.0 e }) a.stage refl)
+      ]
 
   -- gossip that comes to n from j was told at some moment
   abbrev Told : ℕ → ℕ → ℕ → Gossip Q → Type 0
@@ -286,6 +364,11 @@ module _ {Q : Type 0} (s : QuorumSystem Q) (founders : Q) (world : ℕ → World
   Delivers m n (change.Send to) = Unit {0}
   Delivers m n (change.Advance id) = Unit {0}
   Delivers m n (change.Again id) = Unit {0}
+  Delivers m n change.Collect = Unit {0}
+  Delivers m n change.AdvanceCollect = Unit {0}
+  Delivers m n (change.Recon wish) = Unit {0}
+  Delivers m n change.Rebid = Unit {0}
+  Delivers m n change.AdvanceRecon = Unit {0}
   Delivers m n change.Stop = Unit {0}
 
   -- a change of a node that isn't refused
@@ -297,6 +380,11 @@ module _ {Q : Type 0} (s : QuorumSystem Q) (founders : Q) (world : ℕ → World
   change_done m n x (change.Deliver l) f h d e = hear_done m n l.sender l.kind d x h
   change_done m n x (change.Advance id) f h d e = advance_done m n x id (f.names n) h (open_call x id) refl e.1.1.1.0
   change_done m n x (change.Again id) f h d e = again_done m n x id f h (open_call x id) refl
+  change_done m n x change.Collect f h d e = alter_done m n x collection_opened h (collects (leb-false (length x.map.configs) 1 e.1.1.0) refl)
+  change_done m n x change.AdvanceCollect f h d e = collection_done m n x h x.collection refl e.1.1.0
+  change_done m n x (change.Recon wish) f h d e = alter_done m n x (λ x. attempt_opened x wish) h (opens wish refl)
+  change_done m n x change.Rebid f h d e = rebid_done m n x h x.attempt refl e.1.1.0
+  change_done m n x change.AdvanceRecon f h d e = attempt_done m n x h x.attempt refl e.1.1.0
   change_done m n x change.Stop f h d e = node_done m n x stopped h (quiet _ _ refl) (keeps_same (at m n) (stopped (at m n)) refl refl) (copies_same at m (at m n) (stopped (at m n)) refl)
 
   at_done : (m n : ℕ) (c : Change Q) → Sound m → Delivers m n c → (o : Option (NodeState Q)) → node_at (world m) n ≡ o → AllClear (causes_at s o c) → To m (turn_at (world m) n o c).world
@@ -329,21 +417,26 @@ module _ {Q : Type 0} (s : QuorumSystem Q) (founders : Q) (world : ℕ → World
   delivery_means m i f h None e = tt
   delivery_means m i f h (Some l) e = letter_told m i l e (f.letters i l e) h
 
-  step_means : (m : ℕ) → Sound m → (st : Step) → Happens m st → Means m (meant (world m) st)
+  step_means : (m : ℕ) → Sound m → (st : Step Q) → Happens m st → Means m (meant (world m) st)
   step_means m f (step.Join n contacts) h = tt
   step_means m f (step.Call n o) h = tt
   step_means m f (step.Send n to) h = tt
   step_means m f (step.Deliver i) h = delivery_means m i f h (letter_at (world m).letters i) refl
   step_means m f (step.Advance id) h = tt
   step_means m f (step.Again id) h = tt
+  step_means m f (step.Collect n) h = tt
+  step_means m f (step.AdvanceCollect n) h = tt
+  step_means m f (step.Recon n wish) h = tt
+  step_means m f (step.Rebid n) h = tt
+  step_means m f (step.AdvanceRecon n) h = tt
   step_means m f (step.Stop n) h = tt
 
   -- each step that isn't refused is a turn
-  turn_seen : (m : ℕ) → Sound m → (st : Step) → Happens m st → AllClear (causes s (world m) st) → To m (turn (world m) st).world
+  turn_seen : (m : ℕ) → Sound m → (st : Step Q) → Happens m st → AllClear (causes s (world m) st) → To m (turn (world m) st).world
   unfolding turn causes
   turn_seen m f st h e = meant_done m f (meant (world m) st) (step_means m f st h) e
 
-  none_clear : (m : ℕ) (st : Step) → refusal s (world m) st ≡ None → AllClear (causes s (world m) st)
+  none_clear : (m : ℕ) (st : Step Q) → refusal s (world m) st ≡ None → AllClear (causes s (world m) st)
   unfolding refusal
   none_clear m st e = clear (causes s (world m) st) e
 
@@ -368,7 +461,7 @@ module _ {Q : Type 0} (s : QuorumSystem Q) (founders : Q) (world : ℕ → World
   seen_turn m k (t_answers n c a b d e) = one_changed m n k (call_closed (at m n) c) (at (suc m) k) (ap (λ v. v.node k) e) (answers c a b d refl)
 
   -- the letters of a moment, and at most one more
-  letters_turn : (m : ℕ) → ((world (suc m)).letters ≡ (world m).letters) ⊎ ((st : Step) × Happens m st × OneMore (world m) st (world (suc m)))
+  letters_turn : (m : ℕ) → ((world (suc m)).letters ≡ (world m).letters) ⊎ ((st : Step Q) × Happens m st × OneMore (world m) st (world (suc m)))
   letters_turn m = elim (worlds.next m) [
     | inl e ↦ inl (ap (λ w. w.letters) e)
     | inr r ↦ inr (r.0, (r.3, r.1), subst (OneMore (world m) r.0) (sym r.2) (letters_after (world m) r.0))
