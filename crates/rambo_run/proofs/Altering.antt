@@ -3,15 +3,17 @@ use Rattle.std.proofs.Common.{◌≡◌, ℕ, ◌+◌, ◌<◌, ◌≤◌, nat_l
 use Rattle.std.proofs.lemmas.Bool.{lt-ltb, le-ltb, cond-true, cond-false}
 use Rattle.rambo_names.specs.Quorums.{QuorumSystem}
 use Rattle.rambo_tag.specs.Copies.{Copies}
-use Rattle.rambo_config_map.specs.Maps.{learnt, without_lowest}
+use Rattle.rambo_config_map.specs.Maps.{merged_map, learnt, without_lowest}
 use Rattle.rambo_gc.specs.Collections.{CollectionState}
 use Rattle.rambo_gc.specs.Turns.{HasSecondQuorum}
 use Rattle.rambo_gc.specs.CollectionLaws.{collection_over}
 use Rattle.rambo_paxos.specs.declared.stage.Stage.TheVariants as stage
 use Rattle.rambo_paxos.specs.Attempts.{AttemptState}
 use Rattle.rambo_node.specs.Nodes.{NodeState}
+use Rattle.rambo_node.specs.Hearing.{heard_gossip}
+use Rattle.rambo_node.specs.Operations.{called, query_answered, call_closed, called_again}
 use Rattle.rambo_node.specs.Reconfigurations.{attempt_opened, attempt_rebid, attempt_moved, config_learnt, attempt_ended, collection_opened, collection_moved, collection_ended}
-use Rattle.rambo_run.proofs.Turn.{IsBacked, Alters, collects, seconds, finishes, opens, rebids, proposes, chooses, gives_up}
+use Rattle.rambo_run.proofs.Turn.{Moments, Telling, IsBacked, Alters, collects, seconds, finishes, opens, rebids, proposes, chooses, gives_up, Turn, stays, quiet, calls, hears, queried, answers, agains, alters}
 
 -- all but the map, the number, the collection, the attempt and the vote
 pub record KeepsRest {Q : Type 0} (x y : NodeState Q) : Type 0 where
@@ -62,3 +64,19 @@ map_move s x y (rebids a i p e) = map_stays (ap (λ y. y.map) e)
 map_move s x y (proposes a t b g e) = map_stays (ap (λ y. y.map) e)
 map_move s x y (chooses a c b g e) = map_gains a c b g (ap (λ y. y.map) e)
 map_move s x y (gives_up a i p e) = map_stays (ap (λ y. y.map) e)
+
+-- the map after a turn: of some letter's map and the node's own, or moved by the node itself
+pub data MapTurn {Q : Type 0} (s : QuorumSystem Q) (at : Moments Q) (m : ℕ) (x y : NodeState Q) : Type 0 where
+  map_merges : (u j : ℕ) → u ≤ m → y.map ≡ merged_map x.map (at u j).map → MapTurn s at m x y
+  map_moves : MapMove s x y → MapTurn s at m x y
+
+pub map_turn : {Q : Type 0} {T : Telling} (s : QuorumSystem Q) (at : Moments Q) (m n : ℕ) (x y : NodeState Q) → Turn s T at m n x y → MapTurn s at m x y
+unfolding called query_answered call_closed called_again heard_gossip
+map_turn s at m n x y (stays e) = map_moves (map_stays (ap (λ y. y.map) e))
+map_turn s at m n x y (quiet st known e) = map_moves (map_stays (ap (λ y. y.map) e))
+map_turn s at m n x y (calls o e) = map_moves (map_stays (ap (λ y. y.map) e))
+map_turn s at m n x y (hears u j h a b t e) = map_merges u j h (ap (λ y. y.map) e)
+map_turn s at m n x y (queried c i p h e) = map_moves (map_stays (ap (λ y. y.map) e))
+map_turn s at m n x y (answers c i p h e) = map_moves (map_stays (ap (λ y. y.map) e))
+map_turn s at m n x y (agains c i e) = map_moves (map_stays (ap (λ y. y.map) e))
+map_turn s at m n x y (alters a) = map_moves (map_move s x y a)

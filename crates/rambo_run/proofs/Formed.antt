@@ -46,7 +46,7 @@ pub collection_heard : (o : Option CollectionState) (j heard : ℕ) (g : Collect
 collection_heard None j heard g e = absurd (none-some g e)
 collection_heard (Some d) j heard g e = (d, refl, subst (IsCounted d j heard) (some_inj (collection.heard d j heard) g e) (counted_once d j heard))
 
-same_place : {Q : Type 0} (a : AttemptState Q) (j : ℕ) (v : VoteState Q) → (heard_vote a j v).place ≡ a.place
+pub same_place : {Q : Type 0} (a : AttemptState Q) (j : ℕ) (v : VoteState Q) → (heard_vote a j v).place ≡ a.place
 unfolding heard_vote
 same_place a j v = elim (pick (replies_to a.stage a.ballot v) (record a { stage = told_by a.stage v; repliers = set.insert a.repliers j }) a) [ inl p ↦ ap (λ a. a.place) p.1 | inr p ↦ ap (λ a. a.place) p.1 ]
 
@@ -100,7 +100,7 @@ pub backed_place : {Q : Type 0} (s : QuorumSystem Q) (x : NodeState Q) (a : Atte
 backed_place s x a f b = omega (arith, f.place a b.is_open, b.place)
 
 -- an attempt that proposes is for its old place
-proposing_place : {Q : Type 0} (a : AttemptState Q) (told : Option (Proposal Q)) (v : VoteState Q) → a.stage ≡ stage.Prepare told → (advanced a v).place ≡ a.place
+pub proposing_place : {Q : Type 0} (a : AttemptState Q) (told : Option (Proposal Q)) (v : VoteState Q) → a.stage ≡ stage.Prepare told → (advanced a v).place ≡ a.place
 unfolding proposing
 proposing_place a told v e = ap (λ g. (advanced_in g a v).place) e
 

@@ -8,3 +8,7 @@ pub mod Numbers
 pub mod Seen
 pub mod Worlds
 pub mod Places
+pub mod Phases
+pub mod Origins
+pub mod VoteTurns
+pub mod Agreement
