@@ -30,6 +30,7 @@ pub record IsFormed {Q : Type 0} (x : NodeState Q) : Type 0 where
 
 -- the collection that a letter leaves is the old one, with the sender more where it had heard the number
 pub record IsCounted (d : CollectionState) (j heard : ℕ) (g : CollectionState) : Type 0 where
+  pub node : g.node ≡ d.node
   pub place : g.place ≡ d.place
   pub stage : g.stage ≡ d.stage
   pub number : g.number ≡ d.number
@@ -37,8 +38,8 @@ pub record IsCounted (d : CollectionState) (j heard : ℕ) (g : CollectionState)
 
 counted_once : (d : CollectionState) (j heard : ℕ) → IsCounted d j heard (collection.heard d j heard)
 counted_once d j heard = elim (pick (nat_le d.number heard) (record d { repliers = set.insert d.repliers j }) d) [
-  | inl p ↦ subst (IsCounted d j heard) (sym p.1) (record { place = refl; stage = refl; number = refl; repliers = inr (refl, leb-true d.number heard p.0) })
-  | inr p ↦ subst (IsCounted d j heard) (sym p.1) (record { place = refl; stage = refl; number = refl; repliers = inl refl })
+  | inl p ↦ subst (IsCounted d j heard) (sym p.1) (record { node = refl; place = refl; stage = refl; number = refl; repliers = inr (refl, leb-true d.number heard p.0) })
+  | inr p ↦ subst (IsCounted d j heard) (sym p.1) (record { node = refl; place = refl; stage = refl; number = refl; repliers = inl refl })
 ]
 
 pub collection_heard : (o : Option CollectionState) (j heard : ℕ) (g : CollectionState) → collection_after o j heard ≡ Some g

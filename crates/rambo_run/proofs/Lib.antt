@@ -12,3 +12,4 @@ pub mod Phases
 pub mod Origins
 pub mod VoteTurns
 pub mod Agreement
+pub mod Collections

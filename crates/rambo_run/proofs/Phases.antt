@@ -91,7 +91,7 @@ or_none : (b : Bool) → (b || false) ≡ b
 or_none true = refl
 or_none false = refl
 
-only_one : (n j : ℕ) → set.contains (only n) j ≡ true → j ≡ n
+pub only_one : (n j : ℕ) → set.contains (only n) j ≡ true → j ≡ n
 only_one n j e =
     let both : (eq_by_cmp nat_cmp j n || set.contains (set.empty {R = nat_cmp}) j) ≡ (nat_eq j n || false) = λ i. unsigned_tied j n i || set.contains-empty nat_cmp j i in
     eqb-true j n (sym (or_none (nat_eq j n)) ∙ sym both ∙ sym (set.contains-insert nat_cmp_total set.empty n j) ∙ e)
@@ -104,7 +104,7 @@ gap_any heard m c (d ∷ cs) h g =
       | inr p ↦ p.1 ∙ elim h [ inl e ↦ absurd (true≢false (sym (subst (λ z. has_gap heard m z ≡ true) (sym e) g) ∙ p.0)) | inr k ↦ gap_any heard m c cs k g ]
     ]
 
-or_second : (a b : Bool) → a ≡ false → (a || b) ≡ true → b ≡ true
+pub or_second : (a b : Bool) → a ≡ false → (a || b) ≡ true → b ≡ true
 or_second true b e h = absurd (true≢false e)
 or_second false b e h = h
 
