@@ -13,3 +13,4 @@ pub mod Origins
 pub mod VoteTurns
 pub mod Agreement
 pub mod Collections
+pub mod LaterPhases
