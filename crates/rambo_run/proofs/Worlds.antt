@@ -38,7 +38,7 @@ use Rattle.rambo_run.specs.declared.step.Step.TheVariants as step
 use Rattle.rambo_run.specs.Worlds.{WorldState, node_at, letter_at, first_nodes, first_world}
 use Rattle.rambo_run.specs.Steps.{Meant, delivery, meant, causes_at, causes_of, causes, refusal, with_letter, with_mark, turn_by, turn_at, turn_of, turn}
 use Rattle.rambo_run.proofs.Lists.{pick, some_inj, none-some, Member}
-use Rattle.rambo_run.proofs.Deeds.{id_of, with_set, open_member, advanced_letter, again_letter, collection_letter, rebid_letter, attempt_letter, put_self}
+use Rattle.rambo_run.proofs.Deeds.{id_of, with_set, open_member, advanced_letter, again_letter, collection_silent, rebid_silent, attempt_silent, put_self}
 use Rattle.rambo_run.proofs.Turn.{Moments, IsBacked, Alters, collects, seconds, finishes, opens, rebids, proposes, chooses, gives_up, Turn, stays, quiet, calls, hears, queried, answers, agains, alters, Run}
 use Rattle.rambo_run.proofs.Altering.{altered_rest}
 use Rattle.rambo_run.proofs.Held.{name_turn}
@@ -100,10 +100,10 @@ letters_by w n x (change.Deliver l) h = refl
 letters_by w n x (change.Advance id) h = ap (with_letter w.letters) (advanced_letter x id (open_call x id))
 letters_by w n x (change.Again id) h = ap (with_letter w.letters) (again_letter x (open_call x id))
 letters_by w n x change.Collect h = refl
-letters_by w n x change.AdvanceCollect h = ap (with_letter w.letters) (collection_letter x x.collection)
+letters_by w n x change.AdvanceCollect h = ap (with_letter w.letters) (collection_silent x x.collection).letter
 letters_by w n x (change.Recon wish) h = refl
-letters_by w n x change.Rebid h = ap (with_letter w.letters) (rebid_letter x x.attempt)
-letters_by w n x change.AdvanceRecon h = ap (with_letter w.letters) (attempt_letter x x.attempt)
+letters_by w n x change.Rebid h = ap (with_letter w.letters) (rebid_silent x x.attempt).letter
+letters_by w n x change.AdvanceRecon h = ap (with_letter w.letters) (attempt_silent x x.attempt).letter
 letters_by w n x change.Stop h = refl
 
 letters_at : {Q : Type 0} (w : WorldState Q) (n : ℕ) (c : Change Q) → sends c ≡ false → (o : Option (NodeState Q)) → (turn_at w n o c).world.letters ≡ w.letters

@@ -1,0 +1,79 @@
+use crate::{Step, given_sequences_are_proper, nodes_agree, nodes_are_replayed, replies_are_fresh};
+use rambo_atomic::{CallId, Op};
+use rambo_names::{Bytes, Majority, Members, Name, Refusal};
+use std::alloc::Global;
+use std::test::Fail;
+
+// The value of a call, which is made once more where it is refused.
+macro_rules! again {
+    ($call:expr) => {
+        match $call {
+            Ok(value) => value,
+            Err(_) => $call?,
+        }
+    };
+}
+
+fn bytes(alloc: Global, items: &[u8]) -> Result<Bytes, Refusal> {
+    Ok(again!(Bytes::from_slice(alloc, items)))
+}
+
+fn same_op(a: &Op, b: &Op) -> bool {
+    match (a, b) {
+        (Op::Get(key), Op::Get(other)) => key == other,
+        (Op::Set(key, value), Op::Set(other, written)) => key == other && value == written,
+        _ => false,
+    }
+}
+
+fn same(a: &Step<Majority>, b: &Step<Majority>) -> bool {
+    match (a, b) {
+        (Step::Join(name, contacts), Step::Join(other, known)) => name == other
+            && contacts == known,
+        (Step::Call(name, op), Step::Call(other, asked)) => name == other && same_op(op, asked),
+        (Step::Send(from, to), Step::Send(sender, addressee)) => from == sender && to == addressee,
+        (Step::Deliver(letter), Step::Deliver(other)) => letter == other,
+        (Step::Advance(id), Step::Advance(other)) => id == other,
+        (Step::Again(id), Step::Again(other)) => id == other,
+        (Step::Stop(name), Step::Stop(other)) => name == other,
+        _ => false,
+    }
+}
+
+// Each kind of step is the same as its clone, and as no other's.
+#[test]
+fn clones(rt: HostRuntime) -> Result<(), Fail> {
+    let alloc = rt.alloc();
+    let (first, second) = (Name::new(1)?, Name::new(2)?);
+    let id = CallId {
+        name: first,
+        number: 3,
+    };
+    let steps = [
+        Step::Join(first, Members::empty().with(second)),
+        Step::Call(first, Op::Get(bytes(alloc, b"k")?)),
+        Step::Call(second, Op::Set(bytes(alloc, b"k")?, bytes(alloc, b"v")?)),
+        Step::Send(first, second),
+        Step::Deliver(7),
+        Step::Advance(id),
+        Step::Again(id),
+        Step::Stop(first),
+    ];
+    for (i, step) in steps.iter().enumerate() {
+        let clone = step.clone()?;
+        for (j, other) in steps.iter().enumerate() {
+            assert_eq!(rt; same(&clone, other), i == j);
+        }
+    }
+    Ok(())
+}
+
+// The laws hold at a system of majorities.
+#[test]
+fn laws(rt: HostRuntime) -> Result<(), Fail> {
+    given_sequences_are_proper::<Majority>();
+    nodes_agree::<Majority>();
+    replies_are_fresh::<Majority>();
+    nodes_are_replayed::<Majority>();
+    Ok(())
+}
