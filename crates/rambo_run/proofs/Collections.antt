@@ -22,16 +22,9 @@ use Rattle.rambo_run.proofs.Lists.{pick, some_inj, none-some}
 use Rattle.rambo_run.proofs.Turn.{Moments, Telling, Alters, collects, seconds, finishes, opens, rebids, proposes, chooses, gives_up, Turn, stays, quiet, calls, hears, queried, answers, agains, alters, Run}
 use Rattle.rambo_run.proofs.Altering.{MapTurn, map_merges, map_moves, map_stays, map_loses, map_gains, map_turn}
 use Rattle.rambo_run.proofs.Formed.{IsCounted, collection_heard, formed}
-use Rattle.rambo_run.proofs.Held.{HoldsAll, up, names, active, hear_right, Fresh, fresh, Reply, later_reply}
+use Rattle.rambo_run.proofs.Held.{HoldsAll, up, names, active, hear_right, Fresh, fresh}
 use Rattle.rambo_run.proofs.Places.{HeldAt}
 use Rattle.rambo_run.proofs.Phases.{CountedReply, own_counted, later_counted, new_counted, only_one, or_second}
-
--- j told at some moment from t to e, at which it held all that n held at t
-pub record Told {Q : Type 0} (at : Moments Q) (n t e j : ℕ) : Type 0 where
-  pub moment : ℕ
-  pub since : t ≤ moment
-  pub before : moment ≤ e
-  pub told : HoldsAll (at t n) (at moment j)
 
 -- a stage of a collection of n that began at t, as it is at m
 pub record StageAt {Q : Type 0} (T : Telling) (at : Moments Q) (t m n number : ℕ) (who : NameSet) : Type 0 where
@@ -42,19 +35,22 @@ pub record StageAt {Q : Type 0} (T : Telling) (at : Moments Q) (t m n number : �
   pub replies : (j : ℕ) → set.contains who j ≡ true → CountedReply T at n t m j number
 
 -- the first quorum of a collection of place k by n, which opened and turned to the next place at these moments
-pub record FirstQuorum {Q : Type 0} (s : QuorumSystem Q) (at : Moments Q) (n k opened turned : ℕ) : Type 0 where
+pub record FirstQuorum {Q : Type 0} (T : Telling) (s : QuorumSystem Q) (at : Moments Q) (n k opened turned : ℕ) : Type 0 where
   pub floor : (at opened n).map.floor ≡ k
   pub next : k + 1 < end_of (at opened n).map
   pub config : Q
   pub held : HeldAt at k config
   pub who : NameSet
   pub quorum : s.is_quorum config who ≡ true
-  pub replies : (j : ℕ) → set.contains who j ≡ true → (u : ℕ) × Reply at n opened turned j u
+  pub asked : ℕ
+  pub positive : 1 ≤ asked
+  pub replies : (j : ℕ) → set.contains who j ≡ true → CountedReply T at n opened turned j asked
 
 -- a collection in its second stage
 pub record SecondAt {Q : Type 0} (T : Telling) (s : QuorumSystem Q) (at : Moments Q) (opened m n : ℕ) (g : CollectionState) : Type 0 where
   pub turned : ℕ
-  pub first : FirstQuorum s at n g.place opened turned
+  pub order : opened ≤ turned
+  pub first : FirstQuorum T s at n g.place opened turned
   pub now : StageAt T at turned m n g.number g.repliers
 
 -- the open collection g of n at moment m
@@ -68,17 +64,20 @@ pub record CollectionAt {Q : Type 0} (T : Telling) (s : QuorumSystem Q) (at : Mo
   pub late : g.stage ≡ Second → SecondAt T s at opened m n g
 
 -- a collection of place k that ended by moment e
-pub record Collected {Q : Type 0} (s : QuorumSystem Q) (at : Moments Q) (k e : ℕ) : Type 0 where
+pub record Collected {Q : Type 0} (T : Telling) (s : QuorumSystem Q) (at : Moments Q) (k e : ℕ) : Type 0 where
   pub node : ℕ
   pub opened : ℕ
   pub turned : ℕ
-  pub order : turned ≤ e
-  pub first : FirstQuorum s at node k opened turned
+  pub order : opened ≤ turned
+  pub before : turned ≤ e
+  pub first : FirstQuorum T s at node k opened turned
   pub config : Q
   pub held : HeldAt at (k + 1) config
   pub who : NameSet
   pub quorum : s.is_quorum config who ≡ true
-  pub replies : (j : ℕ) → set.contains who j ≡ true → Told at node turned e j
+  pub asked : ℕ
+  pub positive : 1 ≤ asked
+  pub replies : (j : ℕ) → set.contains who j ≡ true → CountedReply T at node turned e j asked
 
 -- what a turn makes of the open collection
 data CollectionTurn {Q : Type 0} (T : Telling) (s : QuorumSystem Q) (at : Moments Q) (m n : ℕ) (x y : NodeState Q) : Type 0 where
@@ -132,7 +131,7 @@ module _ {Q : Type 0} {T : Telling} (s : QuorumSystem Q) (founders : Q) (at : Mo
     took = f.took;
     positive = f.positive;
     fresh = f.fresh;
-    replies = λ j i. later_counted s founders at run n t m j number (f.replies j i);
+    replies = λ j i. later_counted s founders at run n t m (suc m) j number (omega arith) (f.replies j i);
   }
 
   -- a letter is counted
@@ -145,7 +144,7 @@ module _ {Q : Type 0} {T : Telling} (s : QuorumSystem Q) (founders : Q) (at : Mo
     fresh = f.fresh;
     replies = λ i r. elim (pick (nat_eq i j) true (set.contains who i)) [
       | inl e ↦ subst (λ i. CountedReply T at n t (suc m) i number) (sym (eqb-true i j e.0)) (new_counted s founders at run n number t m j u a f.fresh h c k came)
-      | inr e ↦ later_counted s founders at run n t m i number
+      | inr e ↦ later_counted s founders at run n t m (suc m) i number (omega arith)
           (f.replies i (or_second (nat_eq i j) (set.contains who i) e.0 (sym (set.contains-insert nat_cmp_total who j i ∙ ap (λ t. t || set.contains who i) (unsigned_tied i j)) ∙ r)))
     ];
   }
@@ -166,7 +165,7 @@ module _ {Q : Type 0} {T : Telling} (s : QuorumSystem Q) (founders : Q) (at : Mo
     floor = f.floor;
     next = f.next;
     early = λ e. stage_lasts f.opened m n g.number g.repliers (f.early e);
-    late = λ e. let l = f.late e in record { turned = l.turned; first = l.first; now = stage_lasts l.turned m n g.number g.repliers l.now };
+    late = λ e. let l = f.late e in record { turned = l.turned; order = l.order; first = l.first; now = stage_lasts l.turned m n g.number g.repliers l.now };
   }
 
   heard_on : (m n u j : ℕ) (d g : CollectionState) → CollectionAt T s at m n d → IsCounted d j (heard_from (at u j).heard n) g → u ≤ m → 1 ≤ n → HoldsAll (at u j) (at (suc m) n) → T m n u j → CollectionAt T s at (suc m) n g
@@ -179,7 +178,8 @@ module _ {Q : Type 0} {T : Telling} (s : QuorumSystem Q) (founders : Q) (at : Mo
     early = λ e. stage_hears f.opened m n u j d g (f.early (sym c.stage ∙ e)) c h a k came;
     late = λ e. let l = f.late (sym c.stage ∙ e) in record {
       turned = l.turned;
-      first = subst (λ p. FirstQuorum s at n p f.opened l.turned) (sym c.place) l.first;
+      order = l.order;
+      first = subst (λ p. FirstQuorum T s at n p f.opened l.turned) (sym c.place) l.first;
       now = stage_hears l.turned m n u j d g l.now c h a k came;
     };
   }
@@ -200,6 +200,7 @@ module _ {Q : Type 0} {T : Telling} (s : QuorumSystem Q) (founders : Q) (at : Mo
         early = λ z. absurd (first≢second (sym z));
         late = λ z. record {
           turned = suc m;
+          order = omega (arith, f.before);
           first = record {
             floor = f.floor;
             next = f.next;
@@ -207,7 +208,9 @@ module _ {Q : Type 0} {T : Telling} (s : QuorumSystem Q) (founders : Q) (at : Mo
             held = record { moment = m; node = n; active = q.met.active };
             who = g.repliers;
             quorum = q.met.quorum;
-            replies = λ j i. let r = stage.replies j i in (r.moment, later_reply s founders at run n f.opened m (suc m) j r.moment (omega arith) r.reply);
+            asked = g.number;
+            positive = stage.positive;
+            replies = λ j i. later_counted s founders at run n f.opened m (suc m) j g.number (omega arith) (stage.replies j i);
           };
           now = stage_begins m n ((at m n).number + 1) g.node refl e f.node;
         };
@@ -241,39 +244,45 @@ module _ {Q : Type 0} {T : Telling} (s : QuorumSystem Q) (founders : Q) (at : Mo
   collection_at zero n = λ g i. absurd (none-some g (sym (ap (λ x. x.collection) (run.first n)) ∙ i))
   collection_at (suc m) n = collection_on m n (collection_at m n) (collection_turn m n (run.turn m n))
 
-  pub still : (k m e : ℕ) → m ≤ e → Collected s at k m → Collected s at k e
+  pub still : (k m e : ℕ) → m ≤ e → Collected T s at k m → Collected T s at k e
   still k m e h g = record {
     node = g.node;
     opened = g.opened;
     turned = g.turned;
-    order = omega (arith, g.order);
+    order = g.order;
+    before = omega (arith, g.before, h);
     first = g.first;
     config = g.config;
     held = g.held;
     who = g.who;
     quorum = g.quorum;
-    replies = λ j i. let r = g.replies j i in record { moment = r.moment; since = r.since; before = omega (arith, r.before); told = r.told };
+    asked = g.asked;
+    positive = g.positive;
+    replies = λ j i. later_counted s founders at run g.node g.turned m e j g.asked h (g.replies j i);
   }
 
   -- the second quorum was there
-  ended : (m n : ℕ) (g : CollectionState) → CollectionAt T s at m n g → HasSecondQuorum s (at m n).map g → Collected s at g.place m
+  ended : (m n : ℕ) (g : CollectionState) → CollectionAt T s at m n g → HasSecondQuorum s (at m n).map g → Collected T s at g.place m
   ended m n g f q =
       let l = f.late q.stage in
       record {
         node = n;
         opened = f.opened;
         turned = l.turned;
-        order = l.now.before;
+        order = l.order;
+        before = l.now.before;
         first = l.first;
         config = q.met.config;
         held = record { moment = m; node = n; active = q.met.active };
         who = g.repliers;
         quorum = q.met.quorum;
-        replies = λ j i. let r = l.now.replies j i in record { moment = r.moment; since = r.reply.since; before = r.reply.before; told = r.reply.told };
+        asked = g.number;
+        positive = l.now.positive;
+        replies = l.now.replies;
       }
 
   -- each place below a map's floor was collected
-  removed_on : (m n : ℕ) → ((u j k : ℕ) → u ≤ m → k < (at u j).map.floor → Collected s at k m) → MapTurn s at m (at m n) (at (suc m) n) → (k : ℕ) → k < (at (suc m) n).map.floor → Collected s at k (suc m)
+  removed_on : (m n : ℕ) → ((u j k : ℕ) → u ≤ m → k < (at u j).map.floor → Collected T s at k m) → MapTurn s at m (at m n) (at (suc m) n) → (k : ℕ) → k < (at (suc m) n).map.floor → Collected T s at k (suc m)
   removed_on m n f (map_merges u j h e) k l = still k m (suc m) (omega arith) (elim (cases_lt k (at m n).map.floor) [
     | inl b ↦ f m n k (omega arith) b
     | inr b ↦ f u j k h (omega (arith, l, b, ap (λ p. p.floor) e))
@@ -284,10 +293,10 @@ module _ {Q : Type 0} {T : Telling} (s : QuorumSystem Q) (founders : Q) (at : Mo
     | inl b ↦ f m n k (omega arith) b
     | inr b ↦ (let o = collection_at m n g i in
         let same : g.place ≡ k = omega (arith, l, b, q.kept, o.floor, (up s founders at run o.opened m n o.before).floor, ap (λ p. p.floor) e) in
-        subst (λ k. Collected s at k m) same (ended m n g o q))
+        subst (λ k. Collected T s at k m) same (ended m n g o q))
   ])
 
-  removed_to : (m u n k : ℕ) → u ≤ m → k < (at u n).map.floor → Collected s at k m
+  removed_to : (m u n k : ℕ) → u ≤ m → k < (at u n).map.floor → Collected T s at k m
   unfolding first_node
   removed_to zero u n k h l =
       let z : u ≡ 0 = omega arith in
@@ -297,5 +306,5 @@ module _ {Q : Type 0} {T : Telling} (s : QuorumSystem Q) (founders : Q) (at : Mo
       (λ a. still k m (suc m) (omega arith) (removed_to m u n k (omega (arith, a)) l)) (eq-or-lt_of_le h)
 
   -- a place that a map has removed was collected before
-  pub removed : (m n k : ℕ) → k < (at m n).map.floor → Collected s at k m
+  pub removed : (m n k : ℕ) → k < (at m n).map.floor → Collected T s at k m
   removed m n k h = removed_to m m n k (omega arith) h

@@ -17,8 +17,15 @@ use Rattle.rambo_run.proofs.Turn.{Moments, Telling, Run}
 use Rattle.rambo_run.proofs.Held.{HoldsAll, from_then, up}
 use Rattle.rambo_run.proofs.Places.{HeldAt}
 use Rattle.rambo_run.proofs.Phases.{PhaseAt}
-use Rattle.rambo_run.proofs.Collections.{Told, Collected, removed}
+use Rattle.rambo_run.proofs.Collections.{Collected, removed}
 use Rattle.rambo_run.proofs.Agreement.{agreement}
+
+-- j told at some moment from t to e, at which it held all that n held at t
+pub record Told {Q : Type 0} (at : Moments Q) (n t e j : ℕ) : Type 0 where
+  pub moment : ℕ
+  pub since : t ≤ moment
+  pub before : moment ≤ e
+  pub told : HoldsAll (at t n) (at moment j)
 
 -- these names are a quorum of a configuration that was held at this place
 pub record QuorumAt {Q : Type 0} (s : QuorumSystem Q) (at : Moments Q) (p : ℕ) (who : NameSet) : Type 0 where
@@ -41,8 +48,8 @@ pub record Done {Q : Type 0} (s : QuorumSystem Q) (at : Moments Q) (e : ℕ) (ke
   pub replies : (j : ℕ) → set.contains repliers j ≡ true → (r : Told at node began e j) × (end_of (at r.moment j).map ≤ end)
 
 -- each collection of place k had the tag when it turned to its second quorum
-abbrev pub Carries : {Q : Type 0} → QuorumSystem Q → Moments Q → List ℕ → Tag → ℕ → Type 0
-Carries s at key tag k = (e : ℕ) (g : Collected s at k e) → TagLe tag (tag_of (map.get (at g.turned g.node).registers key))
+abbrev pub Carries : {Q : Type 0} → Telling → QuorumSystem Q → Moments Q → List ℕ → Tag → ℕ → Type 0
+Carries T s at key tag k = (e : ℕ) (g : Collected T s at k e) → TagLe tag (tag_of (map.get (at g.turned g.node).registers key))
 
 and_both : (a b : Bool) → (a && b) ≡ true → (a ≡ true) × (b ≡ true)
 and_both true b e = (refl, e)
@@ -78,37 +85,37 @@ module _ {Q : Type 0} {T : Telling} (s : QuorumSystem Q) (law : IsSound s) (foun
       let r = law.share f.config a b f.quorum (subst (λ c. s.is_quorum c b ≡ true) (sym same) g.quorum) in
       (r.0, r.2, r.3)
 
-  first_at : (k e : ℕ) (g : Collected s at k e) → QuorumAt s at k g.first.who
+  first_at : (k e : ℕ) (g : Collected T s at k e) → QuorumAt s at k g.first.who
   first_at k e g = record { config = g.first.config; held = g.first.held; quorum = g.first.quorum }
 
-  second_at : (k e : ℕ) (g : Collected s at k e) → QuorumAt s at (k + 1) g.who
+  second_at : (k e : ℕ) (g : Collected T s at k e) → QuorumAt s at (k + 1) g.who
   second_at k e g = record { config = g.config; held = g.held; quorum = g.quorum }
 
   -- the chain of collections goes on by one place
-  next_carries : (k : ℕ) → Carries s at key tag k → Carries s at key tag (k + 1)
+  next_carries : (k : ℕ) → Carries T s at key tag k → Carries T s at key tag (k + 1)
   next_carries k c e g =
-      let before : Collected s at k g.opened = removed s founders at run g.opened g.node k (omega (arith, g.first.floor)) in
+      let before : Collected T s at k g.opened = removed s founders at run g.opened g.node k (omega (arith, g.first.floor)) in
       let both = shared (k + 1) before.who g.first.who (second_at k g.opened before) (first_at (k + 1) e g) in
       let j : ℕ = both.0 in
       let told = before.replies j both.1 in
       let reply = g.first.replies j both.2 in
-      let at_told : Has told.moment j = along before.turned before.node told.moment j (c g.opened before) told.told in
-      let at_reply : Has reply.0 j = later told.moment reply.0 j (omega (arith, told.before, reply.1.since)) at_told in
-      along reply.0 j g.turned g.node at_reply reply.1.kept
+      let at_told : Has told.moment j = along before.turned before.node told.moment j (c g.opened before) told.reply.told in
+      let at_reply : Has reply.moment j = later told.moment reply.moment j (omega (arith, told.reply.before, reply.reply.since)) at_told in
+      along reply.moment j g.turned g.node at_reply reply.reply.kept
 
-  carries_on : (q k : ℕ) → q ≤ k → Carries s at key tag q → Carries s at key tag k
-  carries_on q k h c = from_then (λ k. Carries s at key tag k) q c (λ k h c. let same : k + 1 ≡ suc k = omega arith in subst (Carries s at key tag) same (next_carries k c)) k h
+  carries_on : (q k : ℕ) → q ≤ k → Carries T s at key tag q → Carries T s at key tag k
+  carries_on q k h c = from_then (λ k. Carries T s at key tag k) q c (λ k h c. let same : k + 1 ≡ suc k = omega arith in subst (Carries T s at key tag) same (next_carries k c)) k h
 
   -- it begins at the last place of a propagation that was met
-  first_carries : (e k : ℕ) (d : Done s at e key tag) → d.end ≡ k + 1 → Carries s at key tag k
+  first_carries : (e k : ℕ) (d : Done s at e key tag) → d.end ≡ k + 1 → Carries T s at key tag k
   first_carries e k d z f g =
       let both = shared k d.repliers g.first.who (d.quorums k (omega (arith, z, d.ordered)) (omega (arith, z))) (first_at k f g) in
       let j : ℕ = both.0 in
       let told = d.replies j both.1 in
       let reply = g.first.replies j both.2 in
-      elim (cases_lt told.0.moment reply.0) [
-        | inl lt ↦ along reply.0 j g.turned g.node (later told.0.moment reply.0 j (omega (arith, lt)) (along d.began d.node told.0.moment j d.holds told.0.told)) reply.1.kept
-        | inr le ↦ absurd (omega (arith, (up s founders at run reply.0 told.0.moment j le).top, reply.1.told.top, g.first.next, told.1, z))
+      elim (cases_lt told.0.moment reply.moment) [
+        | inl lt ↦ along reply.moment j g.turned g.node (later told.0.moment reply.moment j (omega (arith, lt)) (along d.began d.node told.0.moment j d.holds told.0.told)) reply.reply.kept
+        | inr le ↦ absurd (omega (arith, (up s founders at run reply.moment told.0.moment j le).top, reply.reply.told.top, g.first.next, told.1, z))
       ]
 
   -- from here on: a propagation that was met at e, and a later phase of n that was met, which began at u, as it is at m.
@@ -127,27 +134,27 @@ module _ {Q : Type 0} {T : Telling} (s : QuorumSystem Q) (law : IsSound s) (foun
   lies_above e d u m n p f h met l =
       let k : ℕ = p.lo - 1 in
       let lo : p.lo ≡ k + 1 = omega (arith, l, d.ordered) in
-      let g : Collected s at k u = removed s founders at run u n k (omega (arith, f.lo, lo)) in
+      let g : Collected T s at k u = removed s founders at run u n k (omega (arith, f.lo, lo)) in
       let c : Has g.turned g.node = carries_on (d.end - 1) k (omega (arith, l, d.ordered)) (first_carries e (d.end - 1) d (omega (arith, d.ordered))) u g in
       let mine : QuorumAt s at (k + 1) p.repliers = subst (λ q. QuorumAt s at q p.repliers) lo (met_quorums s at u m n p f met p.lo (omega arith) f.ordered) in
       let both = shared (k + 1) g.who p.repliers (second_at k u g) mine in
       let j : ℕ = both.0 in
       let told = g.replies j both.1 in
       let r = f.replies j both.2 in
-      along r.0.moment j m n (later told.moment r.0.moment j (omega (arith, told.before, r.0.reply.since)) (along g.turned g.node told.moment j c told.told)) r.0.reply.kept
+      along r.0.moment j m n (later told.moment r.0.moment j (omega (arith, told.reply.before, r.0.reply.since)) (along g.turned g.node told.moment j c told.reply.told)) r.0.reply.kept
 
   -- it can't lie below: a first quorum told of the place above its last one
   lies_below : (e : ℕ) (d : Done s at e key tag) (u m n : ℕ) (p : PhaseState Q) → PhaseAt T at u m n p → e ≤ u → is_met s p ≡ true → above p ≤ d.lo → ⊥
   lies_below e d u m n p f h met l =
       let k : ℕ = above p - 1 in
       let top : above p ≡ k + 1 = omega (arith, f.ordered) in
-      let g : Collected s at k d.began = removed s founders at run d.began d.node k (omega (arith, d.floor, l, top)) in
+      let g : Collected T s at k d.began = removed s founders at run d.began d.node k (omega (arith, d.floor, l, top)) in
       let both = shared k g.first.who p.repliers (first_at k d.began g) (met_quorums s at u m n p f met k (omega (arith, top, f.ordered)) (omega (arith, top))) in
       let j : ℕ = both.0 in
       let told = g.first.replies j both.1 in
       let r = f.replies j both.2 in
-      let later : told.0 ≤ r.0.moment = omega (arith, told.1.before, g.order, d.order, h, r.0.reply.since) in
-      omega (arith, (up s founders at run told.0 r.0.moment j later).top, told.1.told.top, g.first.next, r.1, top)
+      let later : told.moment ≤ r.0.moment = omega (arith, told.reply.before, g.before, d.order, h, r.0.reply.since) in
+      omega (arith, (up s founders at run told.moment r.0.moment j later).top, told.reply.told.top, g.first.next, r.1, top)
 
   -- a later phase that is met reads at least the tag
   pub reads : (e : ℕ) → Done s at e key tag → (u m n : ℕ) (p : PhaseState Q) → PhaseAt T at u m n p → e ≤ u → is_met s p ≡ true → TagLe tag (tag_of (map.get (at m n).registers key))

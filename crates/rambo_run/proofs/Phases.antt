@@ -37,8 +37,8 @@ Heard T at n m j u number = (number ≤ heard_from (at u j).heard n) × (v : ℕ
 abbrev pub Replied : {Q : Type 0} → Telling → Moments Q → ℕ → ℕ → ℕ → ℕ → ℕ → ℕ → Type 0
 Replied T at n t m j u number = ((j ≡ n) × (u ≡ t)) ⊎ Heard T at n m j u number
 
-pub later_heard : {Q : Type 0} (T : Telling) (at : Moments Q) (n t m j u number : ℕ) → Replied T at n t m j u number → Replied T at n t (suc m) j u number
-later_heard T at n t m j u number h = ⊎_elim inl (λ r. inr (r.0, r.1, omega (arith, r.2), r.3)) h
+pub later_heard : {Q : Type 0} (T : Telling) (at : Moments Q) (n t m k j u number : ℕ) → m ≤ k → Replied T at n t m j u number → Replied T at n t k j u number
+later_heard T at n t m k j u number l h = ⊎_elim inl (λ r. inr (r.0, r.1, omega (arith, r.2, l), r.3)) h
 
 -- a counted reply
 pub record CountedReply {Q : Type 0} (T : Telling) (at : Moments Q) (n t m j number : ℕ) : Type 0 where
@@ -50,10 +50,11 @@ pub record CountedReply {Q : Type 0} (T : Telling) (at : Moments Q) (n t m j num
 abbrev pub own_counted : {Q : Type 0} {T : Telling} (s : QuorumSystem Q) (founders : Q) (at : Moments Q) → Run s T founders at → (n t number : ℕ) → CountedReply T at n t t n number
 own_counted s founders at run n t number = record { moment = t; reply = own_reply s founders at run n t t (omega arith); heard = inl (refl, refl) }
 
--- a moment passes
-abbrev pub later_counted : {Q : Type 0} {T : Telling} (s : QuorumSystem Q) (founders : Q) (at : Moments Q) → Run s T founders at → (n t m j number : ℕ) → CountedReply T at n t m j number → CountedReply T at n t (suc m) j number
-later_counted {T = T} s founders at run n t m j number r =
-    record { moment = r.moment; reply = later_reply s founders at run n t m (suc m) j r.moment (omega arith) r.reply; heard = later_heard T at n t m j r.moment number r.heard }
+-- moments pass
+abbrev pub later_counted : {Q : Type 0} {T : Telling} (s : QuorumSystem Q) (founders : Q) (at : Moments Q) → Run s T founders at → (n t m k j number : ℕ) → m ≤ k
+    → CountedReply T at n t m j number → CountedReply T at n t k j number
+later_counted {T = T} s founders at run n t m k j number l r =
+    record { moment = r.moment; reply = later_reply s founders at run n t m k j r.moment l r.reply; heard = later_heard T at n t m k j r.moment number l r.heard }
 
 -- a letter is counted
 abbrev pub new_counted : {Q : Type 0} {T : Telling} (s : QuorumSystem Q) (founders : Q) (at : Moments Q) → Run s T founders at → (n number t m j u : ℕ) → 1 ≤ n → Fresh at n number t → u ≤ m
@@ -143,7 +144,7 @@ module _ {Q : Type 0} {T : Telling} (s : QuorumSystem Q) (founders : Q) (at : Mo
     fresh = f.fresh;
     lo = f.lo;
     ordered = f.ordered;
-    replies = λ j h. let r = f.replies j h in (later_counted s founders at run n t m j p.number r.0, r.1);
+    replies = λ j h. let r = f.replies j h in (later_counted s founders at run n t m (suc m) j p.number (omega arith) r.0, r.1);
     held = f.held;
   }
 
@@ -179,7 +180,7 @@ module _ {Q : Type 0} {T : Telling} (s : QuorumSystem Q) (founders : Q) (at : Mo
           | inl e ↦ subst (λ i. (r : CountedReply T at n t (suc m) i p.number) × (end_of (at r.moment i).map ≤ above (counted p (at u j).map j))) (sym (eqb-true i j e.0))
               (new_counted s founders at run n p.number t m j u a f.fresh h c k came, omega (arith, ends))
           | inr e ↦ (let o = f.replies i (or_second (nat_eq i j) (set.contains p.repliers i) e.0 (sym (law.repliers i) ∙ r)) in
-              (later_counted s founders at run n t m i p.number o.0, omega (arith, ends, o.1)))
+              (later_counted s founders at run n t m (suc m) i p.number (omega arith) o.0, omega (arith, ends, o.1)))
         ];
         held = λ place l v. counted_held t m n p f u j floor place l v;
       }

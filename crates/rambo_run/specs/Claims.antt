@@ -53,23 +53,27 @@ pub record IsHeard {Q : Type 0} (s : QuorumSystem Q) (founders : Q) (steps : Lis
   pub came : IsDone s founders steps heard_at (step.Deliver letter)
   pub content : letter_at (run s founders (take heard_at steps)).letters letter ≡ Some (letter_for replier n)
 
--- j replied to a phase of n, which is x now: the phase began after `began` steps, when the node took its number, and j
--- told after `told` steps, when it had heard that number of n and held all that n held when the phase began. What it
--- told came to n, which holds it. n itself replies as the phase begins
-pub record IsFreshReply {Q : Type 0} (s : QuorumSystem Q) (founders : Q) (steps : List (Step Q)) (n : ℕ) (x : NodeState Q) (c : CallState Q) (j : ℕ) : Type 0 where
+-- j replied to what n, which is x now, asks under this number: n took the number after `began` steps, and j told after
+-- `told` steps, when it had heard that number of n and held all that n held when it took it. What j told came to n, which
+-- holds it. n itself replies as it begins to ask
+pub record IsFresh {Q : Type 0} (s : QuorumSystem Q) (founders : Q) (steps : List (Step Q)) (n : ℕ) (x : NodeState Q) (asked j : ℕ) : Type 0 where
   pub began : ℕ
   pub told : ℕ
   pub order : began ≤ told
   pub now : told ≤ length steps
   pub opener : NodeState Q
   pub opener_is : node_at (run s founders (take began steps)) n ≡ Some opener
-  pub number : opener.number ≡ c.phase.number
-  pub first : (m : ℕ) (x : NodeState Q) → m < began → node_at (run s founders (take m steps)) n ≡ Some x → x.number < c.phase.number
+  pub number : opener.number ≡ asked
+  pub first : (m : ℕ) (x : NodeState Q) → m < began → node_at (run s founders (take m steps)) n ≡ Some x → x.number < asked
   pub replier : NodeState Q
   pub replier_is : node_at (run s founders (take told steps)) j ≡ Some replier
-  pub heard : ((j ≡ n) × (told ≡ began)) ⊎ ((c.phase.number ≤ heard_from replier.heard n) × IsHeard s founders steps n j told replier)
+  pub heard : ((j ≡ n) × (told ≡ began)) ⊎ ((asked ≤ heard_from replier.heard n) × IsHeard s founders steps n j told replier)
   pub holds : AtLeast opener replier
   pub kept : AtLeast replier x
+
+-- a reply to a phase of a call
+abbrev pub IsFreshReply : {Q : Type 0} → QuorumSystem Q → Q → List (Step Q) → ℕ → NodeState Q → CallState Q → ℕ → Type 0
+IsFreshReply s founders steps n x c j = IsFresh s founders steps n x c.phase.number j
 
 -- each counted reply was told after its sender had heard a letter that was sent since the phase began, and came in one
 -- that was sent then
