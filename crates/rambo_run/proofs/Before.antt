@@ -13,7 +13,6 @@ use Rattle.rambo_atomic.specs.declared.event.Event.{Event}
 use Rattle.rambo_atomic.specs.declared.event.Event.TheVariants as event
 use Rattle.rambo_atomic.specs.Calls.{key_of, is_get}
 use Rattle.rambo_atomic.specs.Histories.{call_in, answer_in, answered_before}
-use Rattle.rambo_phase.specs.Phases.{above}
 use Rattle.rambo_node.specs.Calls.{CallState, propagates, kept_in}
 use Rattle.rambo_node.specs.Nodes.{NodeState, first_node}
 use Rattle.rambo_node.specs.Operations.{taken, answer_of}
@@ -25,7 +24,7 @@ use Rattle.rambo_run.proofs.Lists.{none-some, Member}
 use Rattle.rambo_run.proofs.Turn.{Moments, Run}
 use Rattle.rambo_run.proofs.Held.{from_then}
 use Rattle.rambo_run.proofs.Phases.{calls_at}
-use Rattle.rambo_run.proofs.LaterPhases.{Done, met_quorums, reads}
+use Rattle.rambo_run.proofs.LaterPhases.{Done, done_at, reads}
 use Rattle.rambo_run.proofs.Events.{none_or_some, call_kept, call_still, answer_split, answer_still, before_called, before_answered, before_answer, before_call, place_there, place_kept, place_new}
 use Rattle.rambo_run.proofs.Seen.{Seen, mark_of, t_still, t_node, t_calls, t_queries, t_answers}
 use Rattle.rambo_run.proofs.Worlds.{Worlds, Came}
@@ -137,20 +136,8 @@ module _ {Q : Type 0} (s : QuorumSystem Q) (law : IsSound s) (founders : Q) (wor
         let c = r.1 in
         let f = calls_at s founders at runs m n c r.2.member in
         let mark : Mark = mark_of n c (kept_in c.stage) in
-        let done : Done' (suc m) mark = record {
-          node = n;
-          began = f.began;
-          order = omega (arith, f.phase.before);
-          lo = c.phase.lo;
-          end = above c.phase;
-          ordered = f.phase.ordered;
-          floor = f.phase.lo;
-          holds = f.kept r.2.told;
-          repliers = c.phase.repliers;
-          quorums = met_quorums s at f.began m n c.phase f.phase r.2.met;
-          replies = λ j w. let q = f.phase.replies j w in (record { moment = q.0.moment; since = q.0.reply.since; before = omega (arith, q.0.reply.before); told = q.0.reply.told }, q.1);
-        } in
-        subst (Done' (suc m)) (apart_same (world (suc m)).marks mark k (books (suc m)).apart (mark_given m n c r.2) j (o ∙ sym r.3)) done)
+        let done : Done' m mark = done_at s at f.began m n c.phase f.phase r.2.met (key_of c.op) (tag_of (kept_in c.stage)) (f.kept r.2.told) in
+        subst (Done' (suc m)) (apart_same (world (suc m)).marks mark k (books (suc m)).apart (mark_given m n c r.2) j (o ∙ sym r.3)) (done_later m (suc m) mark (omega arith) done))
   ]
 
   -- what stands before a call that was made by u, stood there at u

@@ -61,11 +61,28 @@ all_get f (x ∷ xs) zero a h e = subst (λ a. f a ≡ true) (some_inj x a e) (a
 all_get f (x ∷ xs) (suc i) a h e = all_get f xs i a (and_both (f x) (list_all f xs) h).1 e
 
 -- the repliers of a phase that is met are a quorum at each of its places
-pub met_quorums : {Q : Type 0} {T : Telling} (s : QuorumSystem Q) (at : Moments Q) (t m n : ℕ) (p : PhaseState Q) → PhaseAt T at t m n p → is_met s p ≡ true
+met_quorums : {Q : Type 0} {T : Telling} (s : QuorumSystem Q) (at : Moments Q) (t m n : ℕ) (p : PhaseState Q) → PhaseAt T at t m n p → is_met s p ≡ true
     → (place : ℕ) → p.lo ≤ place → place < above p → QuorumAt s at place p.repliers
 met_quorums s at t m n p f met place l h =
     let c = f.held place l h in
     record { config = c.config; held = c.held; quorum = all_get (λ q. s.is_quorum q p.repliers) p.configs (place - p.lo) c.config met c.is }
+
+-- a phase that is met at moment m, and began with the tag
+pub done_at : {Q : Type 0} {T : Telling} (s : QuorumSystem Q) (at : Moments Q) (t m n : ℕ) (p : PhaseState Q) → PhaseAt T at t m n p → is_met s p ≡ true → (key : List ℕ) (tag : Tag)
+    → TagLe tag (tag_of (map.get (at t n).registers key)) → Done s at m key tag
+done_at s at t m n p f met key tag h = record {
+  node = n;
+  began = t;
+  order = f.before;
+  lo = p.lo;
+  end = above p;
+  ordered = f.ordered;
+  floor = f.lo;
+  holds = h;
+  repliers = p.repliers;
+  quorums = met_quorums s at t m n p f met;
+  replies = λ j w. let q = f.replies j w in (record { moment = q.0.moment; since = q.0.reply.since; before = q.0.reply.before; told = q.0.reply.told }, q.1);
+}
 
 module _ {Q : Type 0} {T : Telling} (s : QuorumSystem Q) (law : IsSound s) (founders : Q) (at : Moments Q) (run : Run s T founders at) (key : List ℕ) (tag : Tag) where
   -- node n has at least the tag at moment m

@@ -24,6 +24,7 @@ pub mod Sequence
 pub mod Moments
 pub mod NodeLists
 pub mod EveryRun
+pub mod FreshReplies
 pub mod Replays
 pub mod Fitting
 mod Rows
