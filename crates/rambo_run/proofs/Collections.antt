@@ -40,9 +40,11 @@ pub record FirstQuorum {Q : Type 0} (T : Telling) (s : QuorumSystem Q) (at : Mom
   pub next : k + 1 < end_of (at opened n).map
   pub config : Q
   pub held : HeldAt at k config
+  pub by : held.node ≡ n
   pub who : NameSet
   pub quorum : s.is_quorum config who ≡ true
   pub asked : ℕ
+  pub took : (at opened n).number ≡ asked
   pub positive : 1 ≤ asked
   pub replies : (j : ℕ) → set.contains who j ≡ true → CountedReply T at n opened turned j asked
 
@@ -73,6 +75,7 @@ pub record Collected {Q : Type 0} (T : Telling) (s : QuorumSystem Q) (at : Momen
   pub first : FirstQuorum T s at node k opened turned
   pub config : Q
   pub held : HeldAt at (k + 1) config
+  pub by : held.node ≡ node
   pub who : NameSet
   pub quorum : s.is_quorum config who ≡ true
   pub asked : ℕ
@@ -206,9 +209,11 @@ module _ {Q : Type 0} {T : Telling} (s : QuorumSystem Q) (founders : Q) (at : Mo
             next = f.next;
             config = q.met.config;
             held = record { moment = m; node = n; active = q.met.active };
+            by = refl;
             who = g.repliers;
             quorum = q.met.quorum;
             asked = g.number;
+            took = stage.took;
             positive = stage.positive;
             replies = λ j i. later_counted s founders at run n f.opened m (suc m) j g.number (omega arith) (stage.replies j i);
           };
@@ -254,6 +259,7 @@ module _ {Q : Type 0} {T : Telling} (s : QuorumSystem Q) (founders : Q) (at : Mo
     first = g.first;
     config = g.config;
     held = g.held;
+    by = g.by;
     who = g.who;
     quorum = g.quorum;
     asked = g.asked;
@@ -274,6 +280,7 @@ module _ {Q : Type 0} {T : Telling} (s : QuorumSystem Q) (founders : Q) (at : Mo
         first = l.first;
         config = q.met.config;
         held = record { moment = m; node = n; active = q.met.active };
+        by = refl;
         who = g.repliers;
         quorum = q.met.quorum;
         asked = g.number;

@@ -25,6 +25,7 @@ pub mod Moments
 pub mod NodeLists
 pub mod EveryRun
 pub mod FreshReplies
+pub mod CollectionClaims
 pub mod Replays
 pub mod Fitting
 mod Rows
