@@ -106,13 +106,14 @@ unfolding proposing
 proposing_place a told v e = ap (λ g. (advanced_in g a v).place) e
 
 module _ {Q : Type 0} (s : QuorumSystem Q) where
-  formed_map : (x y : NodeState Q) → IsFormed x → MapMove s x y → HasActive y.map × (end_of x.map ≤ end_of y.map)
-  formed_map x y f (map_stays e) = (subst HasActive (sym e) f.active, omega (arith, ap end_of e))
-  formed_map x y f (map_loses g i h e) =
+  -- neither end of a map falls
+  pub map_grows : (x y : NodeState Q) → IsFormed x → MapMove s x y → HasActive y.map × (x.map.floor ≤ y.map.floor) × (end_of x.map ≤ end_of y.map)
+  map_grows x y f (map_stays e) = (subst HasActive (sym e) f.active, omega (arith, ap (λ m. m.floor) e), omega (arith, ap end_of e))
+  map_grows x y f (map_loses g i h e) =
       let room : 1 < length x.map.configs = loses_room x g f i h.kept in
-      (subst HasActive (sym e) (omega (arith, room, length-drop 1 x.map.configs)), omega (arith, ap end_of e, lost_end x.map room))
-  formed_map x y f (map_gains a c b g e) =
-      (subst HasActive (sym e) (omega (arith, length-append x.map.configs (c ∷ []))), omega (arith, ap end_of e, gained_end x.map c))
+      (subst HasActive (sym e) (omega (arith, room, length-drop 1 x.map.configs)), omega (arith, ap (λ m. m.floor) e), omega (arith, ap end_of e, lost_end x.map room))
+  map_grows x y f (map_gains a c b g e) =
+      (subst HasActive (sym e) (omega (arith, length-append x.map.configs (c ∷ []))), omega (arith, ap (λ m. m.floor) e), omega (arith, ap end_of e, gained_end x.map c))
 
   formed_altered : (x y : NodeState Q) → IsFormed x → Alters s x y → IsFormed y
   unfolding attempt_opened attempt_rebid attempt_moved config_learnt attempt_ended collection_opened collection_moved collection_ended opened
@@ -127,11 +128,11 @@ module _ {Q : Type 0} (s : QuorumSystem Q) where
     place = f.place;
   })
   formed_altered x y f (finishes g i d e) =
-      let m = formed_map x y f (map_move s x y (finishes g i d e)) in
+      let m = map_grows x y f (map_move s x y (finishes g i d e)) in
       record {
         active = m.0;
         room = λ k j. absurd (none-some k (sym (ap (λ y. y.collection) e) ∙ j));
-        place = λ a j. omega (arith, m.1, f.place a (sym (ap (λ y. y.attempt) e) ∙ j));
+        place = λ a j. omega (arith, m.2, f.place a (sym (ap (λ y. y.attempt) e) ∙ j));
       }
   formed_altered x y f (opens wish e) = subst IsFormed (sym e) (record {
     active = f.active;
@@ -149,10 +150,10 @@ module _ {Q : Type 0} (s : QuorumSystem Q) where
     place = λ c j. subst (λ b. b.place ≤ end_of x.map) (some_inj _ c j) (omega (arith, f.place a b.is_open, proposing_place a t x.vote g));
   })
   formed_altered x y f (chooses a c b g e) =
-      let m = formed_map x y f (map_move s x y (chooses a c b g e)) in
+      let m = map_grows x y f (map_move s x y (chooses a c b g e)) in
       record {
         active = m.0;
-        room = λ k j. omega (arith, m.1, f.room k (sym (ap (λ y. y.collection) e) ∙ j));
+        room = λ k j. omega (arith, m.2, f.room k (sym (ap (λ y. y.collection) e) ∙ j));
         place = λ a j. absurd (none-some a (sym (ap (λ y. y.attempt) e) ∙ j));
       }
   formed_altered x y f (gives_up a i p e) = subst IsFormed (sym e) (record { active = f.active; room = f.room; place = λ b j. absurd (none-some b j) })

@@ -21,8 +21,8 @@ use Rattle.rambo_node.specs.Hearing.{heard_gossip, any_gap, number_after}
 use Rattle.rambo_node.specs.Operations.{called, taken, new_copy, with_copy, query_answered, call_closed, called_again}
 use Rattle.rambo_run.proofs.Lists.{pick}
 use Rattle.rambo_run.proofs.Turn.{Moments, Telling, Alters, Turn, stays, quiet, calls, hears, queried, answers, agains, alters, Run}
-use Rattle.rambo_run.proofs.Altering.{altered_rest, MapMove, map_stays, map_loses, map_gains, map_move}
-use Rattle.rambo_run.proofs.Formed.{IsFormed, lost_end, gained_end, loses_room, formed}
+use Rattle.rambo_run.proofs.Altering.{altered_rest, map_move}
+use Rattle.rambo_run.proofs.Formed.{IsFormed, map_grows, formed}
 
 -- y holds at least what x holds
 pub record HoldsAll {Q : Type 0} (x y : NodeState Q) : Type 0 where
@@ -113,11 +113,6 @@ name_turn s at m n x y (answers c i p h e) = ap (λ y. y.name) e
 name_turn s at m n x y (agains c i e) = ap (λ y. y.name) e
 name_turn s at m n x y (alters a) = (altered_rest s x y a).name
 
-map_grows : {Q : Type 0} (s : QuorumSystem Q) (x y : NodeState Q) → IsFormed x → MapMove s x y → (x.map.floor ≤ y.map.floor) × (end_of x.map ≤ end_of y.map)
-map_grows s x y f (map_stays e) = (omega (arith, ap (λ m. m.floor) e), omega (arith, ap end_of e))
-map_grows s x y f (map_loses g i h e) = (omega (arith, ap (λ m. m.floor) e), omega (arith, ap end_of e, lost_end x.map (loses_room x g f i h.kept)))
-map_grows s x y f (map_gains a c b g e) = (omega (arith, ap (λ m. m.floor) e), omega (arith, ap end_of e, gained_end x.map c))
-
 -- a node that alters its collection or attempt holds what it held
 pub holds_altered : {Q : Type 0} (s : QuorumSystem Q) (x y : NodeState Q) → IsFormed x → Alters s x y → HoldsAll x y
 holds_altered s x y f a =
@@ -125,8 +120,8 @@ holds_altered s x y f a =
     let k = altered_rest s x y a in
     record {
       tags = λ key. subst (λ r. TagLe (tag_of (map.get x.registers key)) (tag_of (map.get r key))) (sym k.registers) (TagLe-refl (tag_of (map.get x.registers key)));
-      floor = m.0;
-      top = m.1;
+      floor = m.1;
+      top = m.2;
     }
 
 -- a number that j heard of n was n's at some moment, and j holds what n held then

@@ -6,6 +6,8 @@ pub mod Held
 pub mod Places
 pub mod Origins
 pub mod VoteTurns
+pub mod Voting
+pub mod PlaceRun
 pub mod Agreement
 pub mod Deeds
 pub mod Numbers
@@ -13,6 +15,7 @@ pub mod Phases
 pub mod Collections
 pub mod LaterPhases
 pub mod Seen
+pub mod Steps
 pub mod Worlds
 pub mod Events
 pub mod Books

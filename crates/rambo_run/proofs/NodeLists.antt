@@ -7,7 +7,7 @@ use Rattle.rambo_run.specs.declared.step.Step.{Step}
 use Rattle.rambo_run.specs.Worlds.{WorldState, node_at, first_world}
 use Rattle.rambo_run.specs.Steps.{Meant, meant, Turn, turn_at, turn_of, turn}
 use Rattle.rambo_run.specs.Runs.{run}
-use Rattle.rambo_run.proofs.Lists.{none-some}
+use Rattle.rambo_run.proofs.Lists.{none-some, below_there, there_below}
 use Rattle.rambo_run.proofs.Held.{names}
 use Rattle.rambo_run.proofs.Seen.{node_or}
 use Rattle.rambo_run.proofs.Worlds.{Worlds, at, first_count, run_of}
@@ -17,16 +17,6 @@ use Rattle.rambo_run.proofs.Moments.{moment, worlds, last_moment}
 pub node_at_place : {Q : Type 0} (w : WorldState Q) (n : ℕ) → 1 ≤ n → node_at w n ≡ slice_get w.nodes (n - 1)
 node_at_place w zero h = absurd (omega (arith, h))
 node_at_place w (suc n) h = let e : n ≡ suc n - 1 = omega arith in ap (slice_get w.nodes) e
-
-there_below : {A : Type 0} (xs : List A) (i : ℕ) (a : A) → slice_get xs i ≡ Some a → i < length xs
-there_below [] i a e = absurd (none-some a e)
-there_below (x ∷ xs) zero a e = omega arith
-there_below (x ∷ xs) (suc i) a e = omega (arith, there_below xs i a e)
-
-below_there : {A : Type 0} (xs : List A) (i : ℕ) → i < length xs → (a : A) × (slice_get xs i ≡ Some a)
-below_there [] i h = absurd (omega (arith, h))
-below_there (x ∷ xs) zero h = (x, refl)
-below_there (x ∷ xs) (suc i) h = below_there xs i (omega (arith, h))
 
 named_at : {Q : Type 0} (w : WorldState Q) (n : ℕ) → length w.nodes ≡ 64 → 1 ≤ n → n ≤ 64 → (x : NodeState Q) × (node_at w n ≡ Some x)
 named_at w zero l a b = absurd (omega (arith, a))

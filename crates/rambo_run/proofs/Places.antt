@@ -3,7 +3,7 @@ use Rattle.std.proofs.Common.{◌≡◌, ℕ, zero, suc, ◌+◌, ◌-◌, ◌<�
 use Rattle.std.proofs.lemmas.Bool.{cases_lt}
 use Rattle.rambo_config_map.specs.Maps.{MapState, end_of, active_at, merged_map, learnt, without_lowest}
 use Rattle.rambo_config_map.specs.MapLaws.{get_drop, active_kept, active_removed, merged_own, merged_other}
-use Rattle.rambo_run.proofs.Lists.{some_inj, none-some}
+use Rattle.rambo_run.proofs.Lists.{none-some, below_there, there_below, get_more}
 use Rattle.rambo_run.proofs.Turn.{Moments}
 
 -- some node held this configuration at this place, at some moment
@@ -18,19 +18,9 @@ pub record HeldConfig {Q : Type 0} (at : Moments Q) (p : ℕ) (o : Option Q) : T
   pub is : o ≡ Some config
   pub held : HeldAt at p config
 
-below_there : {A : Type 0} (xs : List A) (i : ℕ) → i < length xs → (a : A) × (slice_get xs i ≡ Some a)
-below_there [] i h = absurd (omega (arith, h))
-below_there (x ∷ xs) zero h = (x, refl)
-below_there (x ∷ xs) (suc i) h = below_there xs i (omega (arith, h))
-
 -- each place from the floor to the end is active
 pub active_there : {Q : Type 0} (m : MapState Q) (p : ℕ) → m.floor ≤ p → p < end_of m → (c : Q) × (active_at m p ≡ Some c)
 active_there m p l h = let r = below_there m.configs (p - m.floor) (omega (arith, l, h)) in (r.0, active_kept m p l ∙ r.1)
-
-there_below : {A : Type 0} (xs : List A) (i : ℕ) (a : A) → slice_get xs i ≡ Some a → i < length xs
-there_below [] i a e = absurd (none-some a e)
-there_below (x ∷ xs) zero a e = omega arith
-there_below (x ∷ xs) (suc i) a e = omega (arith, there_below xs i a e)
 
 -- and no other place is
 pub active_within : {Q : Type 0} (m : MapState Q) (p : ℕ) (c : Q) → active_at m p ≡ Some c → (m.floor ≤ p) × (p < end_of m)
@@ -59,12 +49,6 @@ lost_from m p c e = elim (cases_lt p (m.floor + 1)) [
   | inr l ↦ (let i : 1 + (p - (m.floor + 1)) ≡ p - m.floor = omega (arith, l) in
       active_kept m p (omega (arith, l)) ∙ ap (slice_get m.configs) (sym i) ∙ sym (get_drop 1 m.configs (p - (m.floor + 1))) ∙ sym (active_kept (without_lowest m) p l) ∙ e)
 ]
-
-get_more : {A : Type 0} (xs : List A) (a b : A) (i : ℕ) → slice_get (xs ++ a ∷ []) i ≡ Some b → (slice_get xs i ≡ Some b) ⊎ ((i ≡ length xs) × (a ≡ b))
-get_more [] a b zero e = inr (refl, some_inj a b e)
-get_more [] a b (suc i) e = absurd (none-some b e)
-get_more (x ∷ xs) a b zero e = inl e
-get_more (x ∷ xs) a b (suc i) e = ⊎_elim inl (λ r. inr (ap suc r.0, r.1)) (get_more xs a b i e)
 
 -- what is active with a learnt configuration was so before, or is the learnt one
 pub gained_from : {Q : Type 0} (m : MapState Q) (q : Q) (p : ℕ) (c : Q) → active_at (learnt m q) p ≡ Some c → (active_at m p ≡ Some c) ⊎ ((p ≡ end_of m) × (q ≡ c))
