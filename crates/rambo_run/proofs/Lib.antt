@@ -32,3 +32,4 @@ pub mod CollectionClaims
 pub mod Replays
 pub mod Fitting
 mod Rows
+mod ChangeRows

@@ -33,23 +33,23 @@ use Rattle.rambo_run.specs.Runs.{after, run_from, results_from}
 use Rattle.rambo_run.proofs.Deeds.{id_of}
 
 -- the first call of node 1, and the second
-abbrev one : CallId
+abbrev pub one : CallId
 one = id_of 1 1
 
-abbrev two : CallId
+abbrev pub two : CallId
 two = id_of 1 2
 
-abbrev key : List ℕ
+abbrev pub key : List ℕ
 key = 107 ∷ []
 
-abbrev value : List ℕ
+abbrev pub value : List ℕ
 value = 118 ∷ []
 
 -- an empty map has no key, and one with a key put has it
-none : map.get (map.empty {X = Version} {R = slice_cmp nat_cmp}) key ≡ None
+pub none : map.get (map.empty {X = Version} {R = slice_cmp nat_cmp}) key ≡ None
 none = map.get-empty (slice_cmp nat_cmp) key
 
-put : (v : Version) → map.get (map.insert (map.empty {X = Version} {R = slice_cmp nat_cmp}) key v) key ≡ Some v
+pub put : (v : Version) → map.get (map.insert (map.empty {X = Version} {R = slice_cmp nat_cmp}) key v) key ≡ Some v
 put v = get-put_same (map.empty {X = Version} {R = slice_cmp nat_cmp}) key v
 
 -- node 1 is a founder, and alone in what follows
