@@ -1,8 +1,7 @@
 -- What a node that alters its collection or attempt keeps, and what it makes of its map
-use Rattle.std.proofs.Common.{◌≡◌, ℕ, ◌+◌, ◌<◌, ◌≤◌, nat_lt, Some, refl, ap, ◌∙◌, inl, inr, arith}
+use Rattle.std.proofs.Common.{◌≡◌, ℕ, ◌≤◌, nat_lt, Some, refl, ap, ◌∙◌, inl, inr, arith}
 use Rattle.std.proofs.lemmas.Bool.{lt-ltb, le-ltb, cond-true, cond-false}
 use Rattle.rambo_names.specs.Quorums.{QuorumSystem}
-use Rattle.rambo_tag.specs.Copies.{Copies}
 use Rattle.rambo_config_map.specs.Maps.{merged_map, learnt, without_lowest}
 use Rattle.rambo_gc.specs.Collections.{CollectionState}
 use Rattle.rambo_gc.specs.Turns.{HasSecondQuorum}

@@ -1,15 +1,15 @@
 -- What small runs with changes of the member set do, computed from the definitions alone
-use Rattle.std.proofs.Common.{◌≡◌, ℕ, true, false, not, nat_eq, List, [], ◌∷◌, Some, None, Option, Result, Ok, Err, replicate, refl}
+use Rattle.std.proofs.Common.{◌≡◌, true, false, nat_eq, List, [], ◌∷◌, Some, None, Option, Result, Ok, Err, replicate, refl}
 use Rattle.std.specs.FinSet as set
 use Rattle.std.specs.FinMap as map
 use Rattle.rambo_names.specs.declared.refusal.Refusal.{Refusal}
-use Rattle.rambo_names.specs.declared.refusal.Refusal.TheVariants.{NotYet, NothingToCollect, CollectOpen, NoCollect, ReconOpen, NoRecon}
+use Rattle.rambo_names.specs.declared.refusal.Refusal.TheVariants.{NothingToCollect, NoCollect, ReconOpen, NoRecon}
 use Rattle.rambo_names.specs.Names.{NameSet, count_of}
 use Rattle.rambo_names.specs.Quorums.{QuorumSystem}
 use Rattle.rambo_atomic.specs.declared.operation.Op.TheVariants as op
 use Rattle.rambo_atomic.specs.declared.operation.Answer.TheVariants as answer
 use Rattle.rambo_config_map.specs.Maps.{MapState, first_map}
-use Rattle.rambo_paxos.specs.Attempts.{opened, heard_vote, proposing}
+use Rattle.rambo_paxos.specs.Attempts.{opened, proposing}
 use Rattle.rambo_paxos.specs.Votes.{empty_vote}
 use Rattle.rambo_phase.specs.Phases.{only}
 use Rattle.rambo_joiner.specs.declared.status.Status.TheVariants.{Active}
@@ -18,7 +18,7 @@ use Rattle.rambo_node.specs.declared.effect.Effect.TheVariants as effect
 use Rattle.rambo_node.specs.Changes.{made_by}
 use Rattle.rambo_node.specs.Operations.{called, query_answered, call_closed}
 use Rattle.rambo_node.specs.Nodes.{NodeState}
-use Rattle.rambo_node.specs.Reconfigurations.{attempt_opened, attempt_rebid, attempt_moved, config_learnt, attempt_ended, collection_opened, collection_moved, collection_ended}
+use Rattle.rambo_node.specs.Reconfigurations.{attempt_opened, attempt_moved, config_learnt, collection_opened, collection_moved, collection_ended}
 use Rattle.rambo_run.specs.declared.step.Step.{Step}
 use Rattle.rambo_run.specs.declared.step.Step.TheVariants as step
 use Rattle.rambo_run.specs.Worlds.{WorldState, node_at}
@@ -80,8 +80,8 @@ module _ {Q : Type 0} (s : QuorumSystem Q) (founders wish : Q) (known : NameSet)
       ∷ step.Call 1 (op.Get key) ∷ step.Advance two ∷ step.Advance two ∷ [])
       ≡ (
         Ok (effect.Called one) ∷ Ok effect.Moved ∷ Ok (effect.Answered one answer.Ok)
-        ∷ Ok effect.Done ∷ Ok effect.Moved ∷ Ok (effect.Decided 1 (record { place = 1; config = Some wish })) ∷ Ok effect.Done ∷ Ok effect.Moved ∷ Ok (effect.Collected 1 0)
-        ∷ Ok (effect.Called two) ∷ Ok effect.Moved ∷ Ok (effect.Answered two (answer.Value value)) ∷ [],
+            ∷ Ok effect.Done ∷ Ok effect.Moved ∷ Ok (effect.Decided 1 (record { place = 1; config = Some wish })) ∷ Ok effect.Done ∷ Ok effect.Moved ∷ Ok (effect.Collected 1 0)
+            ∷ Ok (effect.Called two) ∷ Ok effect.Moved ∷ Ok (effect.Answered two (answer.Value value)) ∷ [],
         Some (record { floor = 1; configs = wish ∷ [] }),
       )
   unfolding run_from results_from after refusal causes turn made_by called query_answered call_closed attempt_opened attempt_moved config_learnt collection_opened collection_moved collection_ended opened proposing

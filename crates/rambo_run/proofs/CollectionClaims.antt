@@ -1,7 +1,6 @@
 -- Places are removed only after a collection; what collections carry never falls; later phases read what was propagated
 use Rattle.std.proofs.Common.{◌≡◌, ℕ, ◌+◌, ◌<◌, ◌≤◌, true, List, Some, refl, sym, ap, ◌∙◌, subst, inl, inr, arith}
 use Rattle.std.proofs.lemmas.Bool.{cases_lt}
-use Rattle.std.specs.FinSet as set
 use Rattle.std.specs.FinMap as map
 use Rattle.rambo_names.specs.Quorums.{QuorumSystem, IsSound}
 use Rattle.rambo_tag.specs.Tags.{tag_of}
@@ -23,7 +22,7 @@ use Rattle.rambo_run.proofs.Places.{HeldAt}
 use Rattle.rambo_run.proofs.Agreement.{agreement}
 use Rattle.rambo_run.proofs.Phases.{CountedReply, calls_at}
 use Rattle.rambo_run.proofs.Collections.{Collected, removed}
-use Rattle.rambo_run.proofs.LaterPhases.{Done, done_at, reads}
+use Rattle.rambo_run.proofs.LaterPhases.{done_at, reads}
 use Rattle.rambo_run.proofs.Worlds.{Worlds, Came, at, run_of}
 use Rattle.rambo_run.proofs.Moments.{moment, worlds}
 use Rattle.rambo_run.proofs.NodeLists.{node_is, node_stays, nowhere}

@@ -1,27 +1,25 @@
 -- Every open collection has its beginning, and what it counted was told since then; a place is removed only after a whole
 -- collection of it
-use Rattle.std.proofs.Common.{◌≡◌, ℕ, zero, suc, ◌+◌, ◌<◌, ◌≤◌, max, ◌⊎◌, true, false, nat_eq, ◌||◌, length, Option, Some, None, refl, sym, ap, ◌∙◌, subst, inl, inr, ⊎_elim, arith, eq-or-lt_of_le, eqb-true}
+use Rattle.std.proofs.Common.{◌≡◌, ℕ, zero, suc, ◌+◌, ◌<◌, ◌≤◌, true, nat_eq, ◌||◌, length, Some, None, refl, sym, ap, ◌∙◌, subst, inl, inr, ⊎_elim, arith, eq-or-lt_of_le, eqb-true}
 use Rattle.std.proofs.lemmas.Bool.{cases_lt}
 use Rattle.std.specs.Cmp.{nat_cmp_total, unsigned_tied}
 use Rattle.std.specs.FinSet as set
 use Rattle.rambo_names.specs.Names.{NameSet}
 use Rattle.rambo_names.specs.Quorums.{QuorumSystem}
-use Rattle.rambo_config_map.specs.Maps.{end_of, active_at, without_lowest}
-use Rattle.rambo_gc.specs.declared.gc_move.GcMove.TheVariants.{Propagating, Done}
-use Rattle.rambo_gc.specs.declared.stage.Stage.{Stage}
+use Rattle.rambo_config_map.specs.Maps.{end_of}
+use Rattle.rambo_gc.specs.declared.gc_move.GcMove.TheVariants.{Propagating}
 use Rattle.rambo_gc.specs.declared.stage.Stage.TheVariants.{First, Second}
 use Rattle.rambo_gc.specs.Collections.{CollectionState, opened, moved}
 use Rattle.rambo_gc.specs.Turns.{HasFirstQuorum, HasSecondQuorum}
 use Rattle.rambo_gc.specs.CollectionLaws.{second_stage}
 use Rattle.rambo_node.specs.Nodes.{NodeState, first_node, heard_from}
-use Rattle.rambo_node.specs.Letters.{gossip_for}
 use Rattle.rambo_node.specs.Hearing.{collection_after, heard_gossip}
 use Rattle.rambo_node.specs.Operations.{called, query_answered, call_closed, called_again}
 use Rattle.rambo_node.specs.Reconfigurations.{attempt_opened, attempt_rebid, attempt_moved, config_learnt, attempt_ended, collection_opened, collection_moved, collection_ended}
 use Rattle.rambo_run.proofs.Lists.{pick, some_inj, none-some}
 use Rattle.rambo_run.proofs.Turn.{Moments, Telling, Alters, collects, seconds, finishes, opens, rebids, proposes, chooses, gives_up, Turn, stays, quiet, calls, hears, queried, answers, agains, alters, Run}
 use Rattle.rambo_run.proofs.Altering.{MapTurn, map_merges, map_moves, map_stays, map_loses, map_gains, map_turn}
-use Rattle.rambo_run.proofs.Formed.{IsCounted, collection_heard, formed}
+use Rattle.rambo_run.proofs.Formed.{IsCounted, collection_heard}
 use Rattle.rambo_run.proofs.Held.{HoldsAll, up, names, active, hear_right, Fresh, fresh}
 use Rattle.rambo_run.proofs.Places.{HeldAt}
 use Rattle.rambo_run.proofs.Phases.{CountedReply, own_counted, later_counted, new_counted, only_one, or_second}
@@ -157,8 +155,8 @@ module _ {Q : Type 0} {T : Telling} (s : QuorumSystem Q) (founders : Q) (at : Mo
   stage_hears t m n u j d g f c h a k came =
       subst (λ number. StageAt T at t (suc m) n number g.repliers) (sym c.number)
       (⊎_elim
-        (λ e. subst (StageAt T at t (suc m) n d.number) (sym e) (stage_lasts t m n d.number d.repliers f))
-        (λ r. subst (StageAt T at t (suc m) n d.number) (sym r.0) (stage_counts t m n d.number d.repliers f u j h a r.1 k came)) c.repliers)
+      (λ e. subst (StageAt T at t (suc m) n d.number) (sym e) (stage_lasts t m n d.number d.repliers f))
+      (λ r. subst (StageAt T at t (suc m) n d.number) (sym r.0) (stage_counts t m n d.number d.repliers f u j h a r.1 k came)) c.repliers)
 
   lasts : (m n : ℕ) (g : CollectionState) → CollectionAt T s at m n g → CollectionAt T s at (suc m) n g
   lasts m n g f = record {

@@ -1,29 +1,19 @@
 -- What holds of every run
-use Rattle.std.proofs.Common.{◌≡◌, ℕ, ◌-◌, ◌≤◌, ◌⊎◌, List, [], ◌∷◌, ◌++◌, append-nil, take, length, Some, refl, sym, ap, ◌∙◌, subst, inl, inr, arith}
-use Rattle.std.proofs.lemmas.Bool.{cases_lt}
-use Rattle.std.specs.FinMap as map
+use Rattle.std.proofs.Common.{◌≡◌, ℕ, List, [], ◌∷◌, ◌++◌, append-nil, take, length, Some, refl, sym, ap, ◌∙◌, subst}
 use Rattle.rambo_names.specs.Quorums.{QuorumSystem, IsSound}
-use Rattle.rambo_tag.specs.Tags.{tag_of}
-use Rattle.rambo_tag.proofs.TagOrder.{tag_lt-false}
 use Rattle.rambo_atomic.specs.Proper.{IsProper}
 use Rattle.rambo_config_map.specs.Maps.{active_at}
-use Rattle.rambo_node.specs.Nodes.{NodeState, first_node, heard_from}
 use Rattle.rambo_sequence.specs.Sequences.{sequence_of}
 use Rattle.rambo_run.specs.declared.step.Step.{Step}
-use Rattle.rambo_run.specs.Worlds.{WorldState, node_at}
+use Rattle.rambo_run.specs.Worlds.{node_at}
 use Rattle.rambo_run.specs.Runs.{run}
-use Rattle.rambo_run.specs.Claims.{IsAtomic, Holds, Agrees, AtLeast, IsHeard, RepliesAreFresh}
-use Rattle.rambo_run.proofs.Lists.{some_inj, Member, member_stands}
-use Rattle.rambo_run.proofs.Turn.{Moments}
-use Rattle.rambo_run.proofs.Events.{none_or_some}
-use Rattle.rambo_run.proofs.Held.{HoldsAll, get_or-replicate}
+use Rattle.rambo_run.specs.Claims.{IsAtomic, Holds, Agrees}
 use Rattle.rambo_run.proofs.Places.{HeldAt}
 use Rattle.rambo_run.proofs.Agreement.{agreement}
-use Rattle.rambo_run.proofs.Phases.{Replied, calls_at}
-use Rattle.rambo_run.proofs.Worlds.{Worlds, Came, at, run_of}
+use Rattle.rambo_run.proofs.Worlds.{at, run_of}
 use Rattle.rambo_run.proofs.Sequence.{proper}
 use Rattle.rambo_run.proofs.Moments.{moment, worlds, last_moment}
-use Rattle.rambo_run.proofs.NodeLists.{node_is, node_stays, nowhere}
+use Rattle.rambo_run.proofs.NodeLists.{node_is}
 
 -- the given sequence of each key is proper
 pub is_atomic : {Q : Type 0} (s : QuorumSystem Q) → IsSound s → (founders : Q) (ss : List (Step Q)) → IsAtomic (run s founders ss)

@@ -1,12 +1,10 @@
 -- What is well formed in every node: a place is active, a collection leaves one behind it, an attempt isn't ahead
-use Rattle.std.proofs.Common.{◌≡◌, ℕ, zero, suc, ◌+◌, ◌<◌, ◌≤◌, ◌⊎◌, true, nat_eq, nat_le, ◌∷◌, [], ◌++◌, length, drop, Option, Some, None, refl, sym, ap, ◌∙◌, subst, inl, inr, ⊎_elim, arith, eq-or-lt_of_le, eqb-true, leb-true, length-append, length-drop}
+use Rattle.std.proofs.Common.{◌≡◌, ℕ, zero, suc, ◌+◌, ◌<◌, ◌≤◌, ◌⊎◌, nat_eq, nat_le, ◌∷◌, [], length, Option, Some, None, refl, sym, ap, ◌∙◌, subst, inl, inr, ⊎_elim, arith, eq-or-lt_of_le, leb-true, length-append, length-drop}
 use Rattle.std.specs.FinSet as set
 use Rattle.rambo_names.specs.Quorums.{QuorumSystem}
-use Rattle.rambo_names.specs.Names.{NameSet}
-use Rattle.rambo_config_map.specs.Maps.{MapState, end_of, first_map, merged_map, learnt, without_lowest}
+use Rattle.rambo_config_map.specs.Maps.{MapState, end_of, learnt, without_lowest}
 use Rattle.rambo_config_map.specs.Merging.{HasActive}
 use Rattle.rambo_config_map.specs.MapLaws.{merged_end, merged_active}
-use Rattle.rambo_gc.specs.declared.stage.Stage.{Stage}
 use Rattle.rambo_gc.specs.Collections.{CollectionState}
 use Rattle.rambo_gc.specs.Collections as collection
 use Rattle.rambo_paxos.specs.declared.proposal.Proposal.{Proposal}
@@ -55,10 +53,14 @@ same_place a j v = elim (pick (replies_to a.stage a.ballot v) (record a { stage 
 heard_place : {Q : Type 0} (place : ℕ) (o : Option (AttemptState Q)) (j : ℕ) (v : VoteState Q) (a : AttemptState Q) → heard_for place o j v ≡ Some a
     → (b : AttemptState Q) × (o ≡ Some b) × (a.place ≡ b.place)
 heard_place place None j v a e = absurd (none-some a e)
-heard_place place (Some b) j v a e = (b, refl, elim (pick (nat_eq b.place place) (heard_vote b j v) b) [
-  | inl p ↦ ap (λ a. a.place) (sym (some_inj _ a e) ∙ p.1) ∙ same_place b j v
-  | inr p ↦ ap (λ a. a.place) (sym (some_inj _ a e) ∙ p.1)
-])
+heard_place place (Some b) j v a e = (
+  b,
+  refl,
+  elim (pick (nat_eq b.place place) (heard_vote b j v) b) [
+    | inl p ↦ ap (λ a. a.place) (sym (some_inj _ a e) ∙ p.1) ∙ same_place b j v
+    | inr p ↦ ap (λ a. a.place) (sym (some_inj _ a e) ∙ p.1)
+  ],
+)
 
 pub attempt_heard : {Q : Type 0} (x : NodeState Q) (j : ℕ) (g : Gossip Q) (a : AttemptState Q) → attempt_after x j g ≡ Some a
     → (b : AttemptState Q) × (x.attempt ≡ Some b) × (a.place ≡ b.place)

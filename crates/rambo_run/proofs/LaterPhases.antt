@@ -1,5 +1,5 @@
 -- A phase that is met reads what a phase wrote that was met before it began
-use Rattle.std.proofs.Common.{◌≡◌, ℕ, zero, suc, ◌+◌, ◌-◌, ◌<◌, ◌≤◌, Bool, true, false, ◌&&◌, List, [], ◌∷◌, Some, slice_get, refl, sym, ap, ◌∙◌, subst, inl, inr, ⊎_elim, arith, true≢false}
+use Rattle.std.proofs.Common.{◌≡◌, ℕ, zero, suc, ◌+◌, ◌-◌, ◌<◌, ◌≤◌, Bool, true, false, ◌&&◌, List, [], ◌∷◌, Some, slice_get, refl, sym, subst, inl, inr, arith, true≢false}
 use Rattle.std.proofs.lemmas.Bool.{cases_lt}
 use Rattle.std.specs.List.{list_all}
 use Rattle.std.specs.FinSet as set
@@ -11,7 +11,6 @@ use Rattle.rambo_tag.specs.Tags.{tag_of}
 use Rattle.rambo_tag.proofs.TagOrder.{TagLe, TagLe-trans}
 use Rattle.rambo_config_map.specs.Maps.{end_of}
 use Rattle.rambo_phase.specs.Phases.{PhaseState, above, is_met}
-use Rattle.rambo_node.specs.Nodes.{NodeState}
 use Rattle.rambo_run.proofs.Lists.{some_inj, none-some}
 use Rattle.rambo_run.proofs.Turn.{Moments, Telling, Run}
 use Rattle.rambo_run.proofs.Held.{HoldsAll, from_then, up}

@@ -1,5 +1,5 @@
 -- The nodes of a run: there are 64, and each name has its node
-use Rattle.std.proofs.Common.{◌≡◌, ℕ, zero, suc, ◌-◌, ◌<◌, ◌≤◌, List, [], ◌∷◌, length, Option, Some, None, slice_get, refl, sym, ap, ◌∙◌, inl, inr, arith, length-set}
+use Rattle.std.proofs.Common.{◌≡◌, ℕ, zero, suc, ◌-◌, ◌≤◌, List, length, Option, Some, None, slice_get, refl, sym, ap, ◌∙◌, inl, inr, arith, length-set}
 use Rattle.rambo_names.specs.Quorums.{QuorumSystem}
 use Rattle.rambo_node.specs.declared.change.Change.{Change}
 use Rattle.rambo_node.specs.Nodes.{NodeState, first_node}

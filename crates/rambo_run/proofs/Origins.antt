@@ -1,12 +1,12 @@
 -- Where the configuration of a place comes from: the founders, or an attempt that some node's advance ended
-use Rattle.std.proofs.Common.{◌≡◌, ℕ, zero, suc, ◌-◌, ◌≤◌, ◌⊎◌, List, [], ◌∷◌, Option, Some, None, slice_get, sym, ap, ◌∙◌, subst, inl, inr, ⊎_elim, arith, eq-or-lt_of_le, refl}
+use Rattle.std.proofs.Common.{◌≡◌, ℕ, zero, suc, ◌≤◌, ◌⊎◌, Some, sym, ap, ◌∙◌, subst, inl, inr, ⊎_elim, arith, eq-or-lt_of_le, refl}
 use Rattle.rambo_names.specs.Quorums.{QuorumSystem}
-use Rattle.rambo_config_map.specs.Maps.{MapState, end_of, active_at, first_map}
+use Rattle.rambo_config_map.specs.Maps.{end_of, active_at, first_map}
 use Rattle.rambo_paxos.specs.declared.stage.Stage.TheVariants as stage
 use Rattle.rambo_paxos.specs.Attempts.{AttemptState}
 use Rattle.rambo_node.specs.Nodes.{NodeState, first_node}
-use Rattle.rambo_run.proofs.Lists.{some_inj, none-some}
-use Rattle.rambo_run.proofs.Turn.{Moments, Telling, IsBacked, Turn, Run}
+use Rattle.rambo_run.proofs.Lists.{some_inj}
+use Rattle.rambo_run.proofs.Turn.{Moments, Telling, IsBacked, Run}
 use Rattle.rambo_run.proofs.Altering.{MapTurn, map_merges, map_moves, map_stays, map_loses, map_gains, map_turn}
 use Rattle.rambo_run.proofs.Places.{HeldAt, active_within, merged_from, lost_from, gained_from}
 

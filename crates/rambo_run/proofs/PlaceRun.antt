@@ -1,28 +1,25 @@
 -- What a place sees of a run is a run of votes and attempts
-use Rattle.std.proofs.Common.{◌≡◌, ℕ, zero, suc, ◌+◌, ◌<◌, ◌≤◌, max, pred, ◌⊎◌, Bool, true, false, if◌then◌else◌, nat_eq, nat_le, nat_lt, Option, Some, None, refl, sym, ap, ◌∙◌, subst, inl, inr, ⊎_elim, arith, eq-or-lt_of_le, eq-eqb, eqb-true}
-use Rattle.std.proofs.lemmas.Bool.{cases_lt, cond-true, cond-false, le-leb, lt-leb, lt-ltb, le-ltb}
-use Rattle.std.specs.FinSet as set
-use Rattle.rambo_names.specs.Names.{NameSet}
+use Rattle.std.proofs.Common.{◌≡◌, ℕ, suc, ◌<◌, ◌≤◌, pred, true, false, nat_eq, nat_lt, Option, Some, None, refl, sym, ap, ◌∙◌, subst, inl, inr, ⊎_elim, arith, eq-or-lt_of_le, eq-eqb, eqb-true}
+use Rattle.std.proofs.lemmas.Bool.{cases_lt, cond-true, cond-false, lt-ltb, le-ltb}
 use Rattle.rambo_names.specs.Quorums.{QuorumSystem, IsSound}
 use Rattle.rambo_config_map.specs.Maps.{end_of, top_of, active_at, merged_map}
 use Rattle.rambo_config_map.specs.MapLaws.{merged_end}
-use Rattle.rambo_gc.specs.Collections.{has_quorum}
 use Rattle.rambo_gc.specs.CollectionLaws.{quorum_of}
 use Rattle.rambo_paxos.specs.declared.offer.Offer.{Offer}
 use Rattle.rambo_paxos.specs.declared.proposal.Proposal.{Proposal}
-use Rattle.rambo_paxos.specs.Attempts.{AttemptState, offered, opened, rebid, offer_of, heard_vote, heard_if_open, proposing, vote_opened, vote_proposed}
+use Rattle.rambo_paxos.specs.Attempts.{AttemptState, offered, opened, rebid, heard_if_open, proposing, vote_opened, vote_proposed}
 use Rattle.rambo_paxos.specs.Votes.{VoteState, empty_vote, taken_if}
-use Rattle.rambo_paxos.specs.Voters.{Voter, Voters, Told, WasOffered, WasHeld, heard_if, VoterTurn, hears, opens, rebids, proposes, leaves, IsRun, Chooses, Shares}
+use Rattle.rambo_paxos.specs.Voters.{Voter, Told, WasOffered, WasHeld, VoterTurn, hears, opens, rebids, proposes, leaves, IsRun, Chooses}
 use Rattle.rambo_paxos.specs.VoterLaws.{one_choice}
 use Rattle.rambo_node.specs.Nodes.{NodeState, first_node}
 use Rattle.rambo_node.specs.Letters.{offer_for, gossip_for}
-use Rattle.rambo_node.specs.Hearing.{heard_for, is_level, vote_kept, vote_after, attempt_after, heard_gossip}
+use Rattle.rambo_node.specs.Hearing.{heard_for, is_level, vote_kept, heard_gossip}
 use Rattle.rambo_run.proofs.Lists.{pick, some_inj, none-some}
 use Rattle.rambo_run.proofs.Turn.{Moments, Telling, IsBacked, Run}
-use Rattle.rambo_run.proofs.Formed.{IsFormed, same_place, backed_place, formed}
+use Rattle.rambo_run.proofs.Formed.{IsFormed, backed_place, formed}
 use Rattle.rambo_run.proofs.Held.{names, up}
 use Rattle.rambo_run.proofs.Places.{HeldAt}
-use Rattle.rambo_run.proofs.Origins.{ChosenAt, Origin, origin}
+use Rattle.rambo_run.proofs.Origins.{ChosenAt}
 use Rattle.rambo_run.proofs.VoteTurns.{VoteTurn, v_stays, v_hears, v_opens, v_rebids, v_proposes, v_learns, v_drops, vote_turn}
 use Rattle.rambo_run.proofs.Voting.{attempt_for, voter, voters, voter_early, voter_now, voter_gone, same_offer, attempt_is_for, attempt_is_low, same_hearing, low_hearing}
 
@@ -222,4 +219,3 @@ module _ {Q : Type 0} {T : Telling} (s : QuorumSystem Q) (founders : Q) (at : Mo
   pub chosen_once : IsSound s → (c d : Q) → ChosenAt s at (suc p) c → ChosenAt s at (suc p) d → c ≡ d
   chosen_once law c d h k =
       one_choice s.is_quorum old (voters at (suc p)) vote_run (λ a b i j. let r = law.share old a b i j in (r.0, r.2, r.3)) h.moment h.node k.moment k.node c d (chooses_there c h) (chooses_there d k)
-

@@ -1,5 +1,5 @@
 -- The configurations that nodes hold, place by place
-use Rattle.std.proofs.Common.{◌≡◌, ℕ, zero, suc, ◌+◌, ◌-◌, ◌<◌, ◌≤◌, max, ◌⊎◌, List, [], ◌∷◌, ◌++◌, length, drop, Option, Some, None, slice_get, refl, sym, ap, ◌∙◌, inl, inr, ⊎_elim, arith}
+use Rattle.std.proofs.Common.{◌≡◌, ℕ, ◌+◌, ◌-◌, ◌<◌, ◌≤◌, max, ◌⊎◌, Option, Some, slice_get, sym, ap, ◌∙◌, inl, inr, ⊎_elim, arith}
 use Rattle.std.proofs.lemmas.Bool.{cases_lt}
 use Rattle.rambo_config_map.specs.Maps.{MapState, end_of, active_at, merged_map, learnt, without_lowest}
 use Rattle.rambo_config_map.specs.MapLaws.{get_drop, active_kept, active_removed, merged_own, merged_other}

@@ -3,14 +3,13 @@ use Rattle.std.proofs.Common.{◌≡◌, ℕ, zero, suc, ◌+◌, ◌<◌, ◌�
 use Rattle.std.proofs.lemmas.Bool.{not-false}
 use Rattle.rambo_names.specs.Names.{IsName, rising}
 use Rattle.rambo_names.specs.Quorums.{QuorumSystem}
-use Rattle.rambo_names.specs.Refusals.{Cause, least}
 use Rattle.rambo_atomic.specs.declared.event.CallId.{CallId}
 use Rattle.rambo_atomic.specs.declared.event.Event.TheVariants as event
 use Rattle.rambo_atomic.specs.declared.operation.Op.{Op}
-use Rattle.rambo_config_map.specs.Maps.{MapState, active_at, end_of, top_of}
+use Rattle.rambo_config_map.specs.Maps.{active_at, end_of, top_of}
 use Rattle.rambo_gc.specs.declared.gc_move.GcMove.{GcMove}
 use Rattle.rambo_gc.specs.declared.gc_move.GcMove.TheVariants.{Propagating, Done}
-use Rattle.rambo_gc.specs.Collections.{CollectionState, has_quorum, is_met, next_move, move_of}
+use Rattle.rambo_gc.specs.Collections.{CollectionState, has_quorum, move_of}
 use Rattle.rambo_paxos.specs.declared.stage.Stage as paxos
 use Rattle.rambo_paxos.specs.declared.stage.Stage.TheVariants as attempt
 use Rattle.rambo_paxos.specs.Attempts.{AttemptState, bid_in, bid_of}
@@ -32,13 +31,13 @@ use Rattle.rambo_node.specs.Letters.{letter_for, gossip_for}
 use Rattle.rambo_node.specs.Hearing.{heard_kind, heard_join, heard_gossip}
 use Rattle.rambo_node.specs.Operations.{called, taken, query_answered, call_closed, answer_of, called_again, joined_by, stopped}
 use Rattle.rambo_node.specs.Refusals.{is_unmet, collection_turn, is_for, attempt_waits}
-use Rattle.rambo_node.specs.Reconfigurations.{attempt_opened, attempt_rebid, attempt_moved, config_learnt, attempt_ended, collection_opened, collection_move, collection_moved, collection_ended}
+use Rattle.rambo_node.specs.Reconfigurations.{attempt_opened, attempt_rebid, attempt_moved, config_learnt, attempt_ended, collection_opened, collection_moved, collection_ended}
 use Rattle.rambo_run.specs.declared.step.Step.{Step}
 use Rattle.rambo_run.specs.declared.step.Step.TheVariants as step
 use Rattle.rambo_run.specs.Worlds.{WorldState, node_at, letter_at, first_nodes, first_world}
-use Rattle.rambo_run.specs.Steps.{Meant, delivery, meant, causes_at, causes_of, causes, refusal, with_letter, with_mark, turn_by, turn_at, turn_of, turn}
-use Rattle.rambo_run.proofs.Lists.{pick, some_inj, none-some, Member, get_more}
-use Rattle.rambo_run.proofs.Deeds.{id_of, with_set, open_member, advanced_letter, again_letter, collection_silent, rebid_silent, attempt_silent, put_self}
+use Rattle.rambo_run.specs.Steps.{Meant, delivery, meant, causes_at, causes_of, causes, refusal, with_mark, turn_by, turn_at, turn_of, turn}
+use Rattle.rambo_run.proofs.Lists.{pick, none-some, Member}
+use Rattle.rambo_run.proofs.Deeds.{id_of, with_set, open_member, put_self}
 use Rattle.rambo_run.proofs.Turn.{Moments, IsBacked, Alters, collects, seconds, finishes, opens, rebids, proposes, chooses, gives_up, Turn, stays, quiet, calls, hears, queried, answers, agains, alters, Run}
 use Rattle.rambo_run.proofs.Altering.{altered_rest}
 use Rattle.rambo_run.proofs.Held.{name_turn}

@@ -1,7 +1,10 @@
 //! What holds of every run.
 ghost use Rattle.rambo_run.specs.Claims.{EveryRunIsAtomic, EveryRunAgrees, RepliesAreFresh};
 ghost use Rattle.rambo_run.specs.Collections.{
-    CollectionRepliesAreFresh, RemovedPlacesAreCollected, CollectionsNeverFall, LaterPhasesRead,
+  CollectionRepliesAreFresh,
+  RemovedPlacesAreCollected,
+  CollectionsNeverFall,
+  LaterPhasesRead,
 };
 ghost use Rattle.rambo_run.specs.Journals.{NodesAreReplayed};
 

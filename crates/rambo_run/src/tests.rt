@@ -1,6 +1,7 @@
 use crate::{
-    Step, collection_replies_are_fresh, collections_never_fall, given_sequences_are_proper, later_phases_read, nodes_agree,
-    nodes_are_replayed, removed_places_are_collected, replies_are_fresh,
+    Step, collection_replies_are_fresh, collections_never_fall, given_sequences_are_proper,
+    later_phases_read, nodes_agree, nodes_are_replayed, removed_places_are_collected,
+    replies_are_fresh,
 };
 use rambo_atomic::{CallId, Op};
 use rambo_names::{Bytes, Majority, Members, Name, Refusal};
