@@ -1,5 +1,5 @@
 -- Places are removed only after a collection; what collections carry never falls; later phases read what was propagated
-use Rattle.std.proofs.Common.{◌≡◌, ℕ, ◌+◌, ◌<◌, ◌≤◌, true, List, Some, refl, sym, ap, ◌∙◌, subst, inl, inr, arith}
+use Rattle.std.proofs.Common.{◌≡◌, ℕ, suc, ◌+◌, ◌<◌, ◌≤◌, true, List, Some, refl, sym, ap, ◌∙◌, subst, inl, inr, arith}
 use Rattle.std.proofs.lemmas.Bool.{cases_lt}
 use Rattle.std.specs.FinMap as map
 use Rattle.rambo_names.specs.Quorums.{QuorumSystem, IsSound}
@@ -13,7 +13,7 @@ use Rattle.rambo_node.specs.Nodes.{NodeState, first_node}
 use Rattle.rambo_run.specs.declared.step.Step.{Step}
 use Rattle.rambo_run.specs.Worlds.{WorldState, node_at}
 use Rattle.rambo_run.specs.Claims.{AtLeast}
-use Rattle.rambo_run.specs.Collections.{HasTold, HasQuorum, IsCollected, RemovedPlacesAreCollected, CollectionsNeverFall, LaterPhasesRead}
+use Rattle.rambo_run.specs.Collections.{HasTold, IsCollected, RemovedPlacesAreCollected, CollectionsNeverFall, LaterPhasesRead}
 use Rattle.rambo_run.proofs.Lists.{Member, member_stands}
 use Rattle.rambo_run.proofs.Turn.{Moments, Telling, Run}
 use Rattle.rambo_run.proofs.Events.{none_or_some}
@@ -58,10 +58,6 @@ module _ {Q : Type 0} (s : QuorumSystem Q) (founders : Q) (ss : List (Step Q)) w
     | inl q ↦ absurd (let z : (then m n).number ≡ 0 = ap (λ x. x.number) (nowhere s founders (moment s founders ss) all m n q) ∙ first_number n in omega (arith, z, h))
   ]
 
-  -- a quorum of what a node held
-  abbrev held_quorum : (p : ℕ) (c : Q) (who : NameSet) (h : HeldAt then p c) → ((u : ℕ) → node_at (world u) h.node ≡ Some (then u h.node)) → s.is_quorum c who ≡ true → HasQuorum s founders ss p
-  held_quorum p c who h there q = record { config = c; after = h.moment; holder = h.node; held = (then h.moment h.node, there h.moment, h.active); who = who; quorum = q }
-
   -- a counted reply
   abbrev has_told : (n t e j asked : ℕ) → ((u : ℕ) → node_at (world u) n ≡ Some (then u n)) → 1 ≤ asked → (r : CountedReply Letter then n t e j asked) → HasTold s founders ss t e j (then t n)
   has_told n t e j asked there positive r = record {
@@ -80,7 +76,9 @@ module _ {Q : Type 0} (s : QuorumSystem Q) (founders : Q) (ss : List (Step Q)) w
         node = g.node;
         opened = g.opened;
         turned = g.turned;
-        order = g.order;
+        ended = g.ended;
+        order = g.first.order;
+        later = g.later;
         before = g.before;
         opener = then g.opened g.node;
         opener_is = there g.opened;
@@ -88,11 +86,30 @@ module _ {Q : Type 0} (s : QuorumSystem Q) (founders : Q) (ss : List (Step Q)) w
         next = g.first.next;
         turner = then g.turned g.node;
         turner_is = there g.turned;
-        first = held_quorum p g.first.config g.first.who g.first.held (λ u. subst (λ n. node_at (world u) n ≡ Some (then u n)) (sym g.first.by) (there u)) g.first.quorum;
+        first = g.first.asked;
+        first_open = g.first.is_open;
+        first_place = g.first.place;
+        first_number = sym g.first.took;
+        first_quorum = g.first.quorum;
         first_told = λ j i. let r = g.first.replies j i in
-            (has_told g.node g.opened g.turned j g.first.asked there g.first.positive r, at_least (then r.moment j) (then g.turned g.node) r.reply.kept);
-        second = held_quorum (p + 1) g.config g.who g.held (λ u. subst (λ n. node_at (world u) n ≡ Some (then u n)) (sym g.by) (there u)) g.quorum;
-        second_told = λ j i. has_told g.node g.turned e j g.asked there g.positive (g.replies j i);
+            (has_told g.node g.opened g.turned j g.first.asked.number there g.first.positive r, at_least (then r.moment j) (then g.turned g.node) r.reply.kept);
+        ender = then g.ended g.node;
+        ender_is = there g.ended;
+        second = g.asked;
+        second_open = g.is_open;
+        second_place = g.place;
+        second_quorum = g.quorum;
+        second_told = λ j i. let r = g.replies j i in
+            let h = has_told g.node (suc g.turned) g.ended j g.asked.number there g.positive r in
+            record {
+              told = h.told;
+              later = omega (arith, h.later);
+              before = h.before;
+              replier = h.replier;
+              replier_is = h.replier_is;
+              holds = at_least (then g.turned g.node) (then r.moment j)
+                  (holds_trans (then g.turned g.node) (then (suc g.turned) g.node) (then r.moment j) (up s founders then runs g.turned (suc g.turned) g.node (omega arith)) r.reply.told);
+            };
       }
 
   -- a place that a node's map has removed was collected
@@ -100,8 +117,19 @@ module _ {Q : Type 0} (s : QuorumSystem Q) (founders : Q) (ss : List (Step Q)) w
   removed_by m n x e p h = collected_by p m (removed s founders then runs m n p (subst (λ x. p < x.map.floor) (is_then m n x e) h))
 
   -- the configuration of a quorum was held
-  quorum_held : (p : ℕ) (q : HasQuorum s founders ss p) → HeldAt then p q.config
-  quorum_held p q = let h = q.held in record { moment = q.after; node = q.holder; active = ap (λ x. active_at x.map p) (sym (is_then q.after q.holder h.0 h.1)) ∙ h.2 }
+  first_held : (until p : ℕ) (g : IsCollected s founders ss until p) → HeldAt then p g.first_quorum.met.config
+  first_held until p g = record {
+    moment = g.turned;
+    node = g.node;
+    active = (λ i. active_at (sym (is_then g.turned g.node g.turner g.turner_is) i).map (sym g.first_place i)) ∙ g.first_quorum.met.active;
+  }
+
+  second_held : (until p : ℕ) (g : IsCollected s founders ss until p) → HeldAt then (p + 1) g.second_quorum.met.config
+  second_held until p g = record {
+    moment = g.ended;
+    node = g.node;
+    active = (λ i. active_at (sym (is_then g.ended g.node g.ender g.ender_is) i).map (sym g.second_place i + 1)) ∙ g.second_quorum.met.active;
+  }
 
   -- what a node told earlier, it held when it told again
   told_up : (a b c d j : ℕ) (x y : NodeState Q) (t : HasTold s founders ss a b j x) (u : HasTold s founders ss c d j y) → b ≤ c → HoldsAll t.replier u.replier
@@ -112,12 +140,13 @@ module _ {Q : Type 0} (s : QuorumSystem Q) (founders : Q) (ss : List (Step Q)) w
   never_falls : IsSound s → (until p : ℕ) (g : IsCollected s founders ss until (p + 1)) → (h : IsCollected s founders ss g.opened p) × AtLeast h.turner g.turner
   never_falls law until p g =
       let h = removed_by g.opened g.node g.opener g.opener_is p (omega (arith, g.lowest)) in
-      let same : h.second.config ≡ g.first.config = agreement s law founders then runs (p + 1) h.second.config g.first.config (quorum_held (p + 1) h.second) (quorum_held (p + 1) g.first) in
-      let r = law.share h.second.config h.second.who g.first.who h.second.quorum (subst (λ c. s.is_quorum c g.first.who ≡ true) (sym same) g.first.quorum) in
+      let old : Q = h.second_quorum.met.config in
+      let same : old ≡ g.first_quorum.met.config = agreement s law founders then runs (p + 1) old g.first_quorum.met.config (second_held g.opened p h) (first_held until (p + 1) g) in
+      let r = law.share old h.second.repliers g.first.repliers h.second_quorum.met.quorum (subst (λ c. s.is_quorum c g.first.repliers ≡ true) (sym same) g.first_quorum.met.quorum) in
       let j : ℕ = r.0 in
       let t = h.second_told j r.2 in
       let u = g.first_told j r.3 in
-      let k = told_up h.turned g.opened g.opened g.turned j h.turner g.opener t u.0 (omega arith) in
+      let k = told_up (h.turned + 1) h.ended g.opened g.turned j h.turner g.opener t u.0 h.before in
       (h, at_least h.turner g.turner (holds_trans h.turner t.replier g.turner (holds_all h.turner t.replier t.holds) (holds_trans t.replier u.0.replier g.turner k (holds_all u.0.replier g.turner u.1))))
 
 -- a place that a node's map has removed was collected

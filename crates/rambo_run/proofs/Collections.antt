@@ -32,26 +32,24 @@ pub record StageAt {Q : Type 0} (T : Telling) (at : Moments Q) (t m n number : �
   pub fresh : Fresh at n number t
   pub replies : (j : ℕ) → set.contains who j ≡ true → CountedReply T at n t m j number
 
--- the first quorum of a collection of place k by n, which opened and turned to the next place at these moments
+-- a collection of place k by n, which opened at one moment, and at another had the first quorum that it asked
 pub record FirstQuorum {Q : Type 0} (T : Telling) (s : QuorumSystem Q) (at : Moments Q) (n k opened turned : ℕ) : Type 0 where
+  pub order : opened ≤ turned
   pub floor : (at opened n).map.floor ≡ k
   pub next : k + 1 < end_of (at opened n).map
-  pub config : Q
-  pub held : HeldAt at k config
-  pub by : held.node ≡ n
-  pub who : NameSet
-  pub quorum : s.is_quorum config who ≡ true
-  pub asked : ℕ
-  pub took : (at opened n).number ≡ asked
-  pub positive : 1 ≤ asked
-  pub replies : (j : ℕ) → set.contains who j ≡ true → CountedReply T at n opened turned j asked
+  pub asked : CollectionState
+  pub is_open : (at turned n).collection ≡ Some asked
+  pub place : asked.place ≡ k
+  pub took : (at opened n).number ≡ asked.number
+  pub positive : 1 ≤ asked.number
+  pub quorum : HasFirstQuorum s (at turned n).map asked
+  pub replies : (j : ℕ) → set.contains asked.repliers j ≡ true → CountedReply T at n opened turned j asked.number
 
--- a collection in its second stage
+-- a collection in its second stage, which began in the step after it had its first quorum
 pub record SecondAt {Q : Type 0} (T : Telling) (s : QuorumSystem Q) (at : Moments Q) (opened m n : ℕ) (g : CollectionState) : Type 0 where
   pub turned : ℕ
-  pub order : opened ≤ turned
   pub first : FirstQuorum T s at n g.place opened turned
-  pub now : StageAt T at turned m n g.number g.repliers
+  pub now : StageAt T at (suc turned) m n g.number g.repliers
 
 -- the open collection g of n at moment m
 pub record CollectionAt {Q : Type 0} (T : Telling) (s : QuorumSystem Q) (at : Moments Q) (m n : ℕ) (g : CollectionState) : Type 0 where
@@ -63,22 +61,21 @@ pub record CollectionAt {Q : Type 0} (T : Telling) (s : QuorumSystem Q) (at : Mo
   pub early : g.stage ≡ First → StageAt T at opened m n g.number g.repliers
   pub late : g.stage ≡ Second → SecondAt T s at opened m n g
 
--- a collection of place k that ended by moment e
+-- a collection of place k that had its second quorum by moment e
 pub record Collected {Q : Type 0} (T : Telling) (s : QuorumSystem Q) (at : Moments Q) (k e : ℕ) : Type 0 where
   pub node : ℕ
   pub opened : ℕ
   pub turned : ℕ
-  pub order : opened ≤ turned
-  pub before : turned ≤ e
+  pub ended : ℕ
+  pub later : turned < ended
+  pub before : ended ≤ e
   pub first : FirstQuorum T s at node k opened turned
-  pub config : Q
-  pub held : HeldAt at (k + 1) config
-  pub by : held.node ≡ node
-  pub who : NameSet
-  pub quorum : s.is_quorum config who ≡ true
-  pub asked : ℕ
-  pub positive : 1 ≤ asked
-  pub replies : (j : ℕ) → set.contains who j ≡ true → CountedReply T at node turned e j asked
+  pub asked : CollectionState
+  pub is_open : (at ended node).collection ≡ Some asked
+  pub place : asked.place ≡ k
+  pub positive : 1 ≤ asked.number
+  pub quorum : HasSecondQuorum s (at ended node).map asked
+  pub replies : (j : ℕ) → set.contains asked.repliers j ≡ true → CountedReply T at node (suc turned) ended j asked.number
 
 -- what a turn makes of the open collection
 data CollectionTurn {Q : Type 0} (T : Telling) (s : QuorumSystem Q) (at : Moments Q) (m n : ℕ) (x y : NodeState Q) : Type 0 where
@@ -166,7 +163,7 @@ module _ {Q : Type 0} {T : Telling} (s : QuorumSystem Q) (founders : Q) (at : Mo
     floor = f.floor;
     next = f.next;
     early = λ e. stage_lasts f.opened m n g.number g.repliers (f.early e);
-    late = λ e. let l = f.late e in record { turned = l.turned; order = l.order; first = l.first; now = stage_lasts l.turned m n g.number g.repliers l.now };
+    late = λ e. let l = f.late e in record { turned = l.turned; first = l.first; now = stage_lasts (suc l.turned) m n g.number g.repliers l.now };
   }
 
   heard_on : (m n u j : ℕ) (d g : CollectionState) → CollectionAt T s at m n d → IsCounted d j (heard_from (at u j).heard n) g → u ≤ m → 1 ≤ n → HoldsAll (at u j) (at (suc m) n) → T m n u j → CollectionAt T s at (suc m) n g
@@ -179,9 +176,8 @@ module _ {Q : Type 0} {T : Telling} (s : QuorumSystem Q) (founders : Q) (at : Mo
     early = λ e. stage_hears f.opened m n u j d g (f.early (sym c.stage ∙ e)) c h a k came;
     late = λ e. let l = f.late (sym c.stage ∙ e) in record {
       turned = l.turned;
-      order = l.order;
       first = subst (λ p. FirstQuorum T s at n p f.opened l.turned) (sym c.place) l.first;
-      now = stage_hears l.turned m n u j d g l.now c h a k came;
+      now = stage_hears (suc l.turned) m n u j d g l.now c h a k came;
     };
   }
 
@@ -189,8 +185,9 @@ module _ {Q : Type 0} {T : Telling} (s : QuorumSystem Q) (founders : Q) (at : Mo
   first≢second e = cc
 
   -- the first quorum was there
-  moves_on : (m n : ℕ) (g : CollectionState) → CollectionAt T s at m n g → HasFirstQuorum s (at m n).map g → (at (suc m) n).number ≡ (at m n).number + 1 → CollectionAt T s at (suc m) n (moved (Some Propagating) ((at m n).number + 1) g)
-  moves_on m n g f q e =
+  moves_on : (m n : ℕ) (g : CollectionState) → (at m n).collection ≡ Some g → CollectionAt T s at m n g → HasFirstQuorum s (at m n).map g → (at (suc m) n).number ≡ (at m n).number + 1
+      → CollectionAt T s at (suc m) n (moved (Some Propagating) ((at m n).number + 1) g)
+  moves_on m n g i f q e =
       let stage = f.early q.stage in
       record {
         node = f.node;
@@ -200,20 +197,18 @@ module _ {Q : Type 0} {T : Telling} (s : QuorumSystem Q) (founders : Q) (at : Mo
         next = f.next;
         early = λ z. absurd (first≢second (sym z));
         late = λ z. record {
-          turned = suc m;
-          order = omega (arith, f.before);
+          turned = m;
           first = record {
+            order = f.before;
             floor = f.floor;
             next = f.next;
-            config = q.met.config;
-            held = record { moment = m; node = n; active = q.met.active };
-            by = refl;
-            who = g.repliers;
-            quorum = q.met.quorum;
-            asked = g.number;
+            asked = g;
+            is_open = i;
+            place = refl;
             took = stage.took;
             positive = stage.positive;
-            replies = λ j i. later_counted s founders at run n f.opened m (suc m) j g.number (omega arith) (stage.replies j i);
+            quorum = q;
+            replies = stage.replies;
           };
           now = stage_begins m n ((at m n).number + 1) g.node refl e f.node;
         };
@@ -238,7 +233,7 @@ module _ {Q : Type 0} {T : Telling} (s : QuorumSystem Q) (founders : Q) (at : Mo
         early = λ _. stage_begins m n (x.number + 1) x.name refl e (names s founders at run m n);
         late = λ z. absurd (first≢second z);
       })
-  collection_on m n f (c_moves g i q e c) k j = subst (CollectionAt T s at (suc m) n) (some_inj (moved (Some Propagating) ((at m n).number + 1) g) k (sym c ∙ j)) (moves_on m n g (f g i) q e)
+  collection_on m n f (c_moves g i q e c) k j = subst (CollectionAt T s at (suc m) n) (some_inj (moved (Some Propagating) ((at m n).number + 1) g) k (sym c ∙ j)) (moves_on m n g i (f g i) q e)
   collection_on m n f (c_ends e) k i = absurd (none-some k (sym e ∙ i))
 
   -- each open collection has its beginning, and its replies were told since then
@@ -252,37 +247,35 @@ module _ {Q : Type 0} {T : Telling} (s : QuorumSystem Q) (founders : Q) (at : Mo
     node = g.node;
     opened = g.opened;
     turned = g.turned;
-    order = g.order;
+    ended = g.ended;
+    later = g.later;
     before = omega (arith, g.before, h);
     first = g.first;
-    config = g.config;
-    held = g.held;
-    by = g.by;
-    who = g.who;
-    quorum = g.quorum;
     asked = g.asked;
+    is_open = g.is_open;
+    place = g.place;
     positive = g.positive;
-    replies = λ j i. later_counted s founders at run g.node g.turned m e j g.asked h (g.replies j i);
+    quorum = g.quorum;
+    replies = g.replies;
   }
 
   -- the second quorum was there
-  ended : (m n : ℕ) (g : CollectionState) → CollectionAt T s at m n g → HasSecondQuorum s (at m n).map g → Collected T s at g.place m
-  ended m n g f q =
+  ends : (m n : ℕ) (g : CollectionState) → (at m n).collection ≡ Some g → CollectionAt T s at m n g → HasSecondQuorum s (at m n).map g → Collected T s at g.place m
+  ends m n g i f q =
       let l = f.late q.stage in
       record {
         node = n;
         opened = f.opened;
         turned = l.turned;
-        order = l.order;
-        before = l.now.before;
+        ended = m;
+        later = omega (arith, l.now.before);
+        before = omega arith;
         first = l.first;
-        config = q.met.config;
-        held = record { moment = m; node = n; active = q.met.active };
-        by = refl;
-        who = g.repliers;
-        quorum = q.met.quorum;
-        asked = g.number;
+        asked = g;
+        is_open = i;
+        place = refl;
         positive = l.now.positive;
+        quorum = q;
         replies = l.now.replies;
       }
 
@@ -298,7 +291,7 @@ module _ {Q : Type 0} {T : Telling} (s : QuorumSystem Q) (founders : Q) (at : Mo
     | inl b ↦ f m n k (omega arith) b
     | inr b ↦ (let o = collection_at m n g i in
         let same : g.place ≡ k = omega (arith, l, b, q.kept, o.floor, (up s founders at run o.opened m n o.before).floor, ap (λ p. p.floor) e) in
-        subst (λ k. Collected T s at k m) same (ended m n g o q))
+        subst (λ k. Collected T s at k m) same (ends m n g i o q))
   ])
 
   removed_to : (m u n k : ℕ) → u ≤ m → k < (at u n).map.floor → Collected T s at k m

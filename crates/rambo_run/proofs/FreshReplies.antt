@@ -1,5 +1,5 @@
 -- Each counted reply, of a phase or of a collection, was told after its sender had heard of it
-use Rattle.std.proofs.Common.{◌≡◌, ℕ, ◌-◌, ◌≤◌, ◌⊎◌, List, length, Some, refl, sym, ap, ◌∙◌, subst, inl, inr, arith}
+use Rattle.std.proofs.Common.{◌≡◌, ℕ, suc, ◌-◌, ◌≤◌, ◌⊎◌, List, length, Some, refl, sym, ap, ◌∙◌, subst, inl, inr, arith}
 use Rattle.std.proofs.lemmas.Bool.{cases_lt}
 use Rattle.std.specs.FinMap as map
 use Rattle.rambo_names.specs.Quorums.{QuorumSystem}
@@ -118,4 +118,4 @@ collection_replies_are_fresh s founders ss n x e g i j r =
 
     by_stage : (stage : Stage) → g.stage ≡ stage → CollectionAt (Came s founders (moment s founders ss) (worlds s founders ss)) s (node s founders ss) (length ss) n g → IsFresh s founders ss n x g.number j
     by_stage First z o = fresh_in o.opened (o.early z)
-    by_stage Second z o = let l = o.late z in fresh_in l.turned l.now
+    by_stage Second z o = let l = o.late z in fresh_in (suc l.turned) l.now

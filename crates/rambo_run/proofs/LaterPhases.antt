@@ -15,7 +15,7 @@ use Rattle.rambo_run.proofs.Lists.{some_inj, none-some}
 use Rattle.rambo_run.proofs.Turn.{Moments, Telling, Run}
 use Rattle.rambo_run.proofs.Held.{HoldsAll, from_then, up}
 use Rattle.rambo_run.proofs.Places.{HeldAt}
-use Rattle.rambo_run.proofs.Phases.{PhaseAt}
+use Rattle.rambo_run.proofs.Phases.{CountedReply, PhaseAt}
 use Rattle.rambo_run.proofs.Collections.{Collected, removed}
 use Rattle.rambo_run.proofs.Agreement.{agreement}
 
@@ -101,22 +101,30 @@ module _ {Q : Type 0} {T : Telling} (s : QuorumSystem Q) (law : IsSound s) (foun
       let r = law.share f.config a b f.quorum (subst (λ c. s.is_quorum c b ≡ true) (sym same) g.quorum) in
       (r.0, r.2, r.3)
 
-  first_at : (k e : ℕ) (g : Collected T s at k e) → QuorumAt s at k g.first.who
-  first_at k e g = record { config = g.first.config; held = g.first.held; quorum = g.first.quorum }
+  first_at : (k e : ℕ) (g : Collected T s at k e) → QuorumAt s at k g.first.asked.repliers
+  first_at k e g =
+      let q = g.first.quorum.met in
+      subst (λ p. QuorumAt s at p g.first.asked.repliers) g.first.place (record { config = q.config; held = record { moment = g.turned; node = g.node; active = q.active }; quorum = q.quorum })
 
-  second_at : (k e : ℕ) (g : Collected T s at k e) → QuorumAt s at (k + 1) g.who
-  second_at k e g = record { config = g.config; held = g.held; quorum = g.quorum }
+  second_at : (k e : ℕ) (g : Collected T s at k e) → QuorumAt s at (k + 1) g.asked.repliers
+  second_at k e g =
+      let q = g.quorum.met in
+      subst (λ p. QuorumAt s at (p + 1) g.asked.repliers) g.place (record { config = q.config; held = record { moment = g.ended; node = g.node; active = q.active }; quorum = q.quorum })
+
+  -- a second quorum has the tag, if the node had it when it turned to that quorum
+  second_has : (k e : ℕ) (g : Collected T s at k e) (j : ℕ) (r : CountedReply T at g.node (suc g.turned) g.ended j g.asked.number) → Has g.turned g.node → Has r.moment j
+  second_has k e g j r h = along (suc g.turned) g.node r.moment j (later g.turned (suc g.turned) g.node (omega arith) h) r.reply.told
 
   -- the chain of collections goes on by one place
   next_carries : (k : ℕ) → Carries T s at key tag k → Carries T s at key tag (k + 1)
   next_carries k c e g =
       let before : Collected T s at k g.opened = removed s founders at run g.opened g.node k (omega (arith, g.first.floor)) in
-      let both = shared (k + 1) before.who g.first.who (second_at k g.opened before) (first_at (k + 1) e g) in
+      let both = shared (k + 1) before.asked.repliers g.first.asked.repliers (second_at k g.opened before) (first_at (k + 1) e g) in
       let j : ℕ = both.0 in
       let told = before.replies j both.1 in
       let reply = g.first.replies j both.2 in
-      let at_told : Has told.moment j = along before.turned before.node told.moment j (c g.opened before) told.reply.told in
-      let at_reply : Has reply.moment j = later told.moment reply.moment j (omega (arith, told.reply.before, reply.reply.since)) at_told in
+      let at_told : Has told.moment j = second_has k g.opened before j told (c g.opened before) in
+      let at_reply : Has reply.moment j = later told.moment reply.moment j (omega (arith, told.reply.before, before.before, reply.reply.since)) at_told in
       along reply.moment j g.turned g.node at_reply reply.reply.kept
 
   carries_on : (q k : ℕ) → q ≤ k → Carries T s at key tag q → Carries T s at key tag k
@@ -125,7 +133,7 @@ module _ {Q : Type 0} {T : Telling} (s : QuorumSystem Q) (law : IsSound s) (foun
   -- it begins at the last place of a propagation that was met
   first_carries : (e k : ℕ) (d : Done s at e key tag) → d.end ≡ k + 1 → Carries T s at key tag k
   first_carries e k d z f g =
-      let both = shared k d.repliers g.first.who (d.quorums k (omega (arith, z, d.ordered)) (omega (arith, z))) (first_at k f g) in
+      let both = shared k d.repliers g.first.asked.repliers (d.quorums k (omega (arith, z, d.ordered)) (omega (arith, z))) (first_at k f g) in
       let j : ℕ = both.0 in
       let told = d.replies j both.1 in
       let reply = g.first.replies j both.2 in
@@ -153,11 +161,11 @@ module _ {Q : Type 0} {T : Telling} (s : QuorumSystem Q) (law : IsSound s) (foun
       let g : Collected T s at k u = removed s founders at run u n k (omega (arith, f.lo, lo)) in
       let c : Has g.turned g.node = carries_on (d.end - 1) k (omega (arith, l, d.ordered)) (first_carries e (d.end - 1) d (omega (arith, d.ordered))) u g in
       let mine : QuorumAt s at (k + 1) p.repliers = subst (λ q. QuorumAt s at q p.repliers) lo (met_quorums s at u m n p f met p.lo (omega arith) f.ordered) in
-      let both = shared (k + 1) g.who p.repliers (second_at k u g) mine in
+      let both = shared (k + 1) g.asked.repliers p.repliers (second_at k u g) mine in
       let j : ℕ = both.0 in
       let told = g.replies j both.1 in
       let r = f.replies j both.2 in
-      along r.0.moment j m n (later told.moment r.0.moment j (omega (arith, told.reply.before, r.0.reply.since)) (along g.turned g.node told.moment j c told.reply.told)) r.0.reply.kept
+      along r.0.moment j m n (later told.moment r.0.moment j (omega (arith, told.reply.before, g.before, r.0.reply.since)) (second_has k u g j told c)) r.0.reply.kept
 
   -- it can't lie below: a first quorum told of the place above its last one
   lies_below : (e : ℕ) (d : Done s at e key tag) (u m n : ℕ) (p : PhaseState Q) → PhaseAt T at u m n p → e ≤ u → is_met s p ≡ true → above p ≤ d.lo → ⊥
@@ -165,11 +173,11 @@ module _ {Q : Type 0} {T : Telling} (s : QuorumSystem Q) (law : IsSound s) (foun
       let k : ℕ = above p - 1 in
       let top : above p ≡ k + 1 = omega (arith, f.ordered) in
       let g : Collected T s at k d.began = removed s founders at run d.began d.node k (omega (arith, d.floor, l, top)) in
-      let both = shared k g.first.who p.repliers (first_at k d.began g) (met_quorums s at u m n p f met k (omega (arith, top, f.ordered)) (omega (arith, top))) in
+      let both = shared k g.first.asked.repliers p.repliers (first_at k d.began g) (met_quorums s at u m n p f met k (omega (arith, top, f.ordered)) (omega (arith, top))) in
       let j : ℕ = both.0 in
       let told = g.first.replies j both.1 in
       let r = f.replies j both.2 in
-      let later : told.moment ≤ r.0.moment = omega (arith, told.reply.before, g.before, d.order, h, r.0.reply.since) in
+      let later : told.moment ≤ r.0.moment = omega (arith, told.reply.before, g.later, g.before, d.order, h, r.0.reply.since) in
       omega (arith, (up s founders at run told.moment r.0.moment j later).top, told.reply.told.top, g.first.next, r.1, top)
 
   -- a later phase that is met reads at least the tag

@@ -2,20 +2,20 @@
 use Rattle.std.specs.Prelude.{◌≡◌, ℕ, ◌+◌, ◌<◌, ◌≤◌, true, false, List, take, Some}
 use Rattle.std.specs.FinSet as set
 use Rattle.std.specs.FinMap as map
-use Rattle.rambo_names.specs.Names.{NameSet}
 use Rattle.rambo_names.specs.Quorums.{QuorumSystem}
 use Rattle.rambo_tag.specs.Tags.{tag_lt, tag_of}
 use Rattle.rambo_atomic.specs.Calls.{key_of}
 use Rattle.rambo_atomic.specs.Proper.{Stands}
 use Rattle.rambo_config_map.specs.Maps.{end_of}
 use Rattle.rambo_gc.specs.Collections.{CollectionState}
+use Rattle.rambo_gc.specs.Turns.{HasFirstQuorum, HasSecondQuorum}
 use Rattle.rambo_phase.specs.Phases.{is_met}
 use Rattle.rambo_node.specs.Calls.{CallState, propagates, kept_in}
 use Rattle.rambo_node.specs.Nodes.{NodeState}
 use Rattle.rambo_run.specs.declared.step.Step.{Step}
 use Rattle.rambo_run.specs.Worlds.{node_at}
 use Rattle.rambo_run.specs.Runs.{run}
-use Rattle.rambo_run.specs.Claims.{Holds, AtLeast, IsFresh}
+use Rattle.rambo_run.specs.Claims.{AtLeast, IsFresh}
 
 -- each reply that an open collection counts was told after its sender had heard a letter that was sent since the
 -- present question began
@@ -34,34 +34,36 @@ pub record HasTold {Q : Type 0} (s : QuorumSystem Q) (founders : Q) (steps : Lis
   pub replier_is : node_at (run s founders (take told steps)) j ≡ Some replier
   pub holds : AtLeast asker replier
 
--- a quorum of the configuration that some node held at this place, after some of these steps
-pub record HasQuorum {Q : Type 0} (s : QuorumSystem Q) (founders : Q) (steps : List (Step Q)) (p : ℕ) : Type 0 where
-  pub config : Q
-  pub after : ℕ
-  pub holder : ℕ
-  pub held : Holds s founders (take after steps) holder p config
-  pub who : NameSet
-  pub quorum : s.is_quorum config who ≡ true
-
 -- within the first `until` steps a node collected place p. It opened the collection when p was its lowest place and it
--- knew the next one; a quorum of p's configuration then told it of the next place, and it held all that they told when it
--- turned to the next place's configuration, of which a quorum then came to hold all that it held
+-- knew the next one. When a quorum of p's configuration had told it of the next place, it turned to the next place's
+-- configuration, and at last a quorum of that one had told that it holds all that the node held as it turned
 pub record IsCollected {Q : Type 0} (s : QuorumSystem Q) (founders : Q) (steps : List (Step Q)) (until p : ℕ) : Type 0 where
   pub node : ℕ
   pub opened : ℕ
   pub turned : ℕ
+  pub ended : ℕ
   pub order : opened ≤ turned
-  pub before : turned ≤ until
+  pub later : turned < ended
+  pub before : ended ≤ until
   pub opener : NodeState Q
   pub opener_is : node_at (run s founders (take opened steps)) node ≡ Some opener
   pub lowest : opener.map.floor ≡ p
   pub next : p + 1 < end_of opener.map
   pub turner : NodeState Q
   pub turner_is : node_at (run s founders (take turned steps)) node ≡ Some turner
-  pub first : HasQuorum s founders steps p
-  pub first_told : (j : ℕ) → set.contains first.who j ≡ true → (t : HasTold s founders steps opened turned j opener) × AtLeast t.replier turner
-  pub second : HasQuorum s founders steps (p + 1)
-  pub second_told : (j : ℕ) → set.contains second.who j ≡ true → HasTold s founders steps turned until j turner
+  pub first : CollectionState
+  pub first_open : turner.collection ≡ Some first
+  pub first_place : first.place ≡ p
+  pub first_number : first.number ≡ opener.number
+  pub first_quorum : HasFirstQuorum s turner.map first
+  pub first_told : (j : ℕ) → set.contains first.repliers j ≡ true → (t : HasTold s founders steps opened turned j opener) × AtLeast t.replier turner
+  pub ender : NodeState Q
+  pub ender_is : node_at (run s founders (take ended steps)) node ≡ Some ender
+  pub second : CollectionState
+  pub second_open : ender.collection ≡ Some second
+  pub second_place : second.place ≡ p
+  pub second_quorum : HasSecondQuorum s ender.map second
+  pub second_told : (j : ℕ) → set.contains second.repliers j ≡ true → HasTold s founders steps (turned + 1) ended j turner
 
 -- a place that a node's map has removed was collected
 abbrev pub RemovedPlacesAreCollected : {Q : Type 0} → QuorumSystem Q → Type 0
@@ -69,8 +71,8 @@ RemovedPlacesAreCollected {Q} s =
     (founders : Q) (steps : List (Step Q)) (m n : ℕ) (x : NodeState Q) → node_at (run s founders (take m steps)) n ≡ Some x
     → (p : ℕ) → p < x.map.floor → IsCollected s founders steps m p
 
--- each collection of a next place was opened after one of this place was over, and its node then came to hold at least
--- what the node of that one held
+-- each collection of a next place was opened after one of this place was over, and its node held at least as much when it
+-- turned to its second quorum as the node of that one did
 abbrev pub CollectionsNeverFall : {Q : Type 0} → QuorumSystem Q → Type 0
 CollectionsNeverFall {Q} s =
     (founders : Q) (steps : List (Step Q)) (until p : ℕ) (g : IsCollected s founders steps until (p + 1))
