@@ -1,13 +1,15 @@
 //! From a script to the text of what its run gives.
-ghost use Rattle.std.specs.Prelude.{◌≡◌, OnOk, IfOk, IfErr};
+ghost use Rattle.std.specs.Prelude.{◌≡◌, ◌⊎◌, OnOk, IfOk, IfErr};
 ghost use Rattle.std.specs.Io.KnownBytes.{IsAtEnd};
+ghost use Rattle.rambo_script.specs.Faults.{IsScriptFault, RanOut};
+ghost use Rattle.rambo_script.specs.Scripts.{IsScript};
 ghost use Rattle.rambo_script.specs.Replays.{IsReplay, Replays, Leaves, GivesUp, reads_failed, writes_failed};
 
-use crate::script::read_script;
+use crate::script::{Script, read_script};
 use rambo_atomic::{Sink, Source, read_all, write_all};
 use rambo_names::Refusal;
 use rambo_outcome::outcome_text;
-use rambo_text::ReplayFault;
+use rambo_text::{ReplayFault, ScriptFault};
 use rambo_world::run;
 use std::alloc::Global;
 
@@ -30,19 +32,27 @@ pub fn replay<R: Source, W: Sink>(
     ensures writes { IfErr result (λ f. W.failures writer.new ≡ writes_failed f (W.failures writer.old)) }
 {
     let input = read_all(alloc, reader)?;
-    let text = replayed(alloc, input.as_slice())?;
+    let text = replayed(alloc, input)?;
     write_all(writer, text.as_slice())?;
     Ok(())
 }
 
-// The text of what the run of a script gives.
-fn replayed(alloc: Global, bytes: &[u8]) -> Result<Vec<u8>, ReplayFault>
-    ensures ok { IfOk result (λ text. IsReplay bytes.now text.items) }
-    ensures fault { IfErr result (λ f. GivesUp bytes.now f) }
+// The text of what the run of a script gives. The bytes are let go before it runs.
+fn replayed(alloc: Global, input: Vec<u8>) -> Result<Vec<u8>, ReplayFault>
+    ensures ok { IfOk result (λ text. IsReplay input.items text.items) }
+    ensures fault { IfErr result (λ f. GivesUp input.items f) }
 {
-    let script = read_script(alloc, bytes)?;
+    let script = read(alloc, input)?;
     let outcome = in_memory(run(alloc, script.founders, script.steps.as_slice()))?;
     in_memory(outcome_text(alloc, &outcome))
+}
+
+// The script that bytes spell.
+fn read(alloc: Global, input: Vec<u8>) -> Result<Script, ScriptFault>
+    ensures script { IfOk result (λ s. IsScript input.items s) }
+    ensures fault { IfErr result (λ f. IsScriptFault input.items f ⊎ RanOut input.items f) }
+{
+    read_script(alloc, input.as_slice())
 }
 
 // What was refused for want of memory.
