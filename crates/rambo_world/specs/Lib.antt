@@ -1,4 +1,1 @@
-pub mod Kept
-pub mod Logging
-pub mod Shared
 pub mod Worlds

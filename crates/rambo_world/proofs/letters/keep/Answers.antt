@@ -1,5 +1,0 @@
-use Rattle.std.proofs.lemmas.Option.{slice_get_within}
-use Rattle.rambo_world.proofs.letters.keep.Goals as goal
-
-pub returns-in_ok-map-in-Gossip-clause-held : goal.returns-in_ok-map-in-Gossip-clause-held
-returns-in_ok-map-in-Gossip-clause-held g c = slice_get_within c.shared.new.maps.items c.in_ok-map-in-Gossip.map _ c.in_ok-map-in-Gossip.ensures.at
