@@ -1,7 +1,7 @@
 -- Letters as they are kept, when standings are added
 use Rattle.std.proofs.Common.{◌≡◌, ℕ, Bool, true, false, not, if◌then◌else◌, zero, suc, ◌<◌, ◌≤◌, List, [], ◌∷◌, ◌++◌, map, length, None, Some, slice_get, refl, ap, ◌∙◌, arith}
 use Rattle.std.specs.Option.{option_map}
-use Rattle.std.proofs.lemmas.Bool.{false≢true}
+use Rattle.std.proofs.lemmas.Bool.{false≢true, true≢false}
 use Rattle.std.proofs.lemmas.List.{length-append, map-append}
 use Rattle.rambo_world.specs.declared.sent.Sent.{Sent}
 use Rattle.rambo_world.specs.declared.standing.Standing.{Standing}
@@ -11,6 +11,10 @@ use Rattle.rambo_world.specs.Shared.{gossip_with, gossip_in, sent_in, IsHeld, Ar
 pub not_told : (b : Bool) → not b ≡ true → b ≡ false
 not_told true e = absurd (false≢true e)
 not_told false e = refl
+
+pub told : (b : Bool) → not b ≡ false → b ≡ true
+told true e = refl
+told false e = absurd (true≢false e)
 
 pub get_before : {X : Type 0} (xs more : List X) (i : ℕ) → i < length xs → slice_get (xs ++ more) i ≡ slice_get xs i
 get_before [] more i below = absurd (omega (arith, below))

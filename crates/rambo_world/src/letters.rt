@@ -112,15 +112,17 @@ fn read_gossip<Q: Quorums>(standings: &[Standing<Q>], sent: Sent) -> Option<Goss
     if !sent.gossips {
         return None;
     }
-    let standing = standings.get(sent.standing)?;
-    Some(GossipOutline {
-        known: sent.known,
-        map: &standing.map,
-        number: sent.number,
-        heard: sent.heard,
-        vote: standing.vote,
-        offer: standing.offer,
-    })
+    match standings.get(sent.standing) {
+        Some(standing) => Some(GossipOutline {
+            known: sent.known,
+            map: &standing.map,
+            number: sent.number,
+            heard: sent.heard,
+            vote: standing.vote,
+            offer: standing.offer,
+        }),
+        None => None,
+    }
 }
 
 // A letter as it is kept.

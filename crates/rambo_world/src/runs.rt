@@ -25,7 +25,11 @@ use std::hash::{BuildHasherDefault, FoldHasher};
 /// and Shvartsman, "RAMBO", DISC 2002). No two nodes hold different configurations at one place.
 ///
 /// Refused are 18 where there is no founder, 22 where memory runs out.
-pub fn run(alloc: Global, founders: Majority, steps: &[Step<Majority>]) -> Result<Outcome<Majority>, Refusal>
+pub fn run(
+    alloc: Global,
+    founders: Majority,
+    steps: &[Step<Majority>],
+) -> Result<Outcome<Majority>, Refusal>
     ensures founded { OnOk result (least (founding_causes majorities founders) ≡ None) }
     ensures outcome { IfOk result (λ o. o ≡ outcome_of majorities founders steps.now) }
     ensures proper { IfOk result (λ o. (key : List ℕ) → IsProper o.history key (sequence_in o.sequences key)) }

@@ -59,10 +59,7 @@ fn is_promise(ballot: &Option<Ballot>, other: &Option<Ballot>) -> bool
 }
 
 // Whether two proposals, where there are any, are the same.
-fn is_acceptance<Q: Quorums>(
-    proposal: &Option<Proposal<Q>>,
-    other: &Option<Proposal<Q>>,
-) -> bool
+fn is_acceptance<Q: Quorums>(proposal: &Option<Proposal<Q>>, other: &Option<Proposal<Q>>) -> bool
     ensures { IsTrue result → proposal.now ≡ other.now }
 {
     match proposal {
