@@ -9,7 +9,7 @@ use std::test::Fail;
 
 // A step of each kind.
 const STEPS: &[u8] =
-    b"join 3 1\nget 1 6b\nset 2 - ff00\nsend 1 2\ndeliver 18446744073709551615\nadvance 1.1\nagain 64.7\nstop 2\n";
+    b"join 3 1\nget 1 6b\nset 2 - ff00\nsend 1 2\ndeliver 18446744073709551615\nadvance 1.1\nagain 64.7\ncollect 3\nadvance-collect 64\nrecon 2 1,2,64\nrecon 1 -\nrebid 5\nadvance-recon 6\nstop 2\n";
 
 const SCRIPT: &[u8] =
     b"founders 1\nset 1 6b 76\nadvance 1.1\nadvance 1.1\nget 1 6b\nadvance 1.2\nadvance 1.2\n";
@@ -30,11 +30,17 @@ fn rewritten(rt: &impl Abort, alloc: Global) -> Option<Vec<u8>> {
     let script = read_script(alloc, text.as_slice()).ok()?;
     assert_eq!(rt; script.founders.members().count(), 2);
     let steps = script.steps.as_slice();
-    assert_eq!(rt; steps.len(), 8);
+    assert_eq!(rt; steps.len(), 14);
     if let Step::Call(name, Op::Set(key, value)) = &steps[2] {
         assert_eq!(rt; name.number(), 2);
         assert!(rt; key.is_empty());
         assert_eq!(rt; value.as_slice(), [255, 0].as_slice());
+    } else {
+        assert!(rt; false);
+    }
+    if let Step::Recon(name, wish) = &steps[9] {
+        assert_eq!(rt; name.number(), 2);
+        assert_eq!(rt; wish.members().count(), 3);
     } else {
         assert!(rt; false);
     }
