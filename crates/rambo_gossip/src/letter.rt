@@ -3,6 +3,7 @@ ghost use Rattle.std.specs.Prelude.{◌≡◌, IsOk, IfOk, IfErr};
 
 use rambo_config_map::ConfigMap;
 use rambo_names::{Members, Name, Quorums, Refusal};
+use rambo_paxos::{Offer, Vote};
 use rambo_tag::Pack;
 
 /// What one node sends to another.
@@ -38,6 +39,10 @@ pub struct Gossip<Q: Quorums> {
     pub number: u64,
     /// The greatest phase number of the addressee that it heard.
     pub heard: u64,
+    /// Its vote for the first place that its map doesn't know.
+    pub vote: Vote<Q>,
+    /// What its own attempt for that place asks, if it has one.
+    pub offer: Option<Offer<Q>>,
 }
 
 impl<Q: Quorums> Letter<Q> {
@@ -75,6 +80,8 @@ impl<Q: Quorums> Gossip<Q> {
             map: self.map.copy(),
             number: self.number,
             heard: self.heard,
+            vote: self.vote,
+            offer: self.offer,
         })
     }
 }

@@ -2,9 +2,10 @@
 
 use rambo_config_map::ConfigMap;
 use rambo_names::{Members, Name, Quorums};
+use rambo_paxos::{Offer, Vote};
 use std::marker::Model;
 
-/// A letter without its copies, which borrows its map: a few words, whatever a configuration weighs.
+/// A letter without its copies, which borrows its map.
 #[derive(Drop)]
 pub struct LetterOutline<'a, Q: Quorums> {
     /// Who sends it.
@@ -26,6 +27,10 @@ pub struct GossipOutline<'a, Q: Quorums> {
     pub number: u64,
     /// The greatest phase number of the addressee that it heard.
     pub heard: u64,
+    /// Its vote for the first place that its map doesn't know.
+    pub vote: Vote<Q>,
+    /// What its own attempt for that place asks, if it has one.
+    pub offer: Option<Offer<Q>>,
 }
 
 impl<'a, Q: Quorums> Model for LetterOutline<'a, Q> {

@@ -1,6 +1,7 @@
 use crate::{Gossip, Kind, Letter};
 use rambo_config_map::ConfigMap;
 use rambo_names::{Bytes, Majority, Members, Name, Refusal};
+use rambo_paxos::{Ballot, Offer, Vote};
 use rambo_tag::{KeyedVersion, Pack, Tag, Version};
 use std::alloc::Global;
 use std::process::Abort;
@@ -51,6 +52,21 @@ fn copies(alloc: Global) -> Result<Pack, Fail> {
     Ok(Pack::new(copies))
 }
 
+fn ballot(round: u64) -> Result<Ballot, Refusal> {
+    Ok(Ballot {
+        round,
+        name: Name::new(2)?,
+    })
+}
+
+// A vote that accepted a configuration in round 3, and then promised round 4.
+fn vote() -> Result<Vote<Majority>, Refusal> {
+    let mut vote = Vote::new();
+    vote.take(&Offer::Propose(ballot(3)?, Majority::of(names(&[1])?)));
+    vote.take(&Offer::Prepare(ballot(4)?));
+    Ok(vote)
+}
+
 fn holds(pack: &Pack) -> bool {
     let copies = pack.copies();
     for (copy, (key, sequence, value)) in copies.iter().zip(ROWS) {
@@ -90,6 +106,8 @@ fn is_told(rt: &impl Abort, alloc: Global, letter: Letter<Majority>) -> Result<(
         let map = ConfigMap::new(alloc, Majority::of(names(&[1, 2])?));
         assert!(rt; gossip.map.same(&map));
         assert_eq!(rt; (gossip.number, gossip.heard), (7, 6));
+        assert_eq!(rt; gossip.vote, vote()?);
+        assert_eq!(rt; gossip.offer, Some(Offer::Prepare(ballot(5)?)));
     }
     Ok(())
 }
@@ -105,6 +123,8 @@ fn copies_gossip(rt: HostRuntime) -> Result<(), Fail> {
         map: ConfigMap::new(alloc, Majority::of(names(&[1, 2])?)),
         number: 7,
         heard: 6,
+        vote: vote()?,
+        offer: Some(Offer::Prepare(ballot(5)?)),
     };
     let letter = Letter {
         sender,

@@ -29,7 +29,7 @@ use Rattle.rambo_local.proofs.WellFormed.{run_well_formed, no_history}
 use Rattle.rambo_local.proofs.Orders.{answer_right}
 
 -- a step that wasn't refused
-pub stepped : (old new : WorldOf NameSet) (st : Step) → refusal majorities (state majorities old) st ≡ None → new ≡ record old { steps = old.steps ++ st ∷ [] }
+pub stepped : (old new : WorldOf NameSet) (st : Step NameSet) → refusal majorities (state majorities old) st ≡ None → new ≡ record old { steps = old.steps ++ st ∷ [] }
     → history_of new ≡ (turn (state majorities old) st).world.history
 stepped old new st accepted e =
     ap history_of e ∙ ap (λ (w : WorldState NameSet). w.history) (run-more majorities old.founders old.steps st accepted)
@@ -42,39 +42,41 @@ pub delivered : (old new : WorldOf NameSet) (number : ℕ) → refusal majoritie
     → history_of new ≡ history_of old
 delivered old new number accepted e = stepped old new (step.Deliver number) accepted e ∙ deliver_quiet (state majorities old) number
 
-pub called : (old new : WorldOf NameSet) (n : ℕ) (o : Op) (id : CallId) (told : Effect) → refusal majorities (state majorities old) (step.Call n o) ≡ None
+pub called : (old new : WorldOf NameSet) (n : ℕ) (o : Op) (id : CallId) (told : Effect NameSet) → refusal majorities (state majorities old) (step.Call n o) ≡ None
     → new ≡ record old { steps = old.steps ++ step.Call n o ∷ [] } → told ≡ (turn (state majorities old) (step.Call n o)).effect → told ≡ effect.Called id
     → (history_of new ≡ history_of old ++ event.Call id o ∷ []) × (id ≡ id_at n id.number)
 called old new n o id told accepted e is f =
     let r = call_told (state majorities old) n o id (node_named majorities old.founders old.steps n) (sym is ∙ f) in
     (stepped old new (step.Call n o) accepted e ∙ r.0, r.1)
 
-pub uncalled : (old new : WorldOf NameSet) (n : ℕ) (o : Op) (told : Effect) → refusal majorities (state majorities old) (step.Call n o) ≡ None
+pub uncalled : (old new : WorldOf NameSet) (n : ℕ) (o : Op) (told : Effect NameSet) → refusal majorities (state majorities old) (step.Call n o) ≡ None
     → new ≡ record old { steps = old.steps ++ step.Call n o ∷ [] } → told ≡ (turn (state majorities old) (step.Call n o)).effect → ((id : CallId) → told ≡ effect.Called id → ⊥)
     → history_of new ≡ history_of old
 uncalled old new n o told accepted e is none =
     stepped old new (step.Call n o) accepted e ∙ uncalled_told (state majorities old) n o (λ id f. none id (is ∙ f))
 
-pub went_on : (old new : WorldOf NameSet) (id : CallId) (told : Effect) → refusal majorities (state majorities old) (step.Advance id) ≡ None
+pub went_on : (old new : WorldOf NameSet) (id : CallId) (told : Effect NameSet) → refusal majorities (state majorities old) (step.Advance id) ≡ None
     → new ≡ record old { steps = old.steps ++ step.Advance id ∷ [] } → told ≡ (turn (state majorities old) (step.Advance id)).effect
     → history_of new ≡ history_of old ++ answered id told
 went_on old new id told accepted e is =
     stepped old new (step.Advance id) accepted e ∙ advance_told (state majorities old) id ∙ ap (λ x. history_of old ++ answered id x) (sym is)
 
 -- where it is done
-pub went_on_told : (first old new : WorldOf NameSet) (id : CallId) (r : Result Effect Refusal) → history_of old ≡ history_of first
+pub went_on_told : (first old new : WorldOf NameSet) (id : CallId) (r : Result (Effect NameSet) Refusal) → history_of old ≡ history_of first
     → OnOk r (refusal majorities (state majorities old) (step.Advance id) ≡ None) → OnOk r (new ≡ record old { steps = old.steps ++ step.Advance id ∷ [] })
     → IfOk r (λ e. e ≡ (turn (state majorities old) (step.Advance id)).effect) → IfOk r (λ e. history_of new ≡ history_of first ++ answered id e)
 went_on_told first old new id (Ok told) same accepted e is = went_on old new id told accepted e is ∙ ap (λ h. h ++ answered id told) same
 went_on_told first old new id (Err f) same accepted e is = tt
 
 -- no answer
-pub unanswered : (id : CallId) (e : Effect) → ((d : CallId) (a : Answer) → e ≡ effect.Answered d a → ⊥) → answered id e ≡ []
+pub unanswered : (id : CallId) (e : Effect NameSet) → ((d : CallId) (a : Answer) → e ≡ effect.Answered d a → ⊥) → answered id e ≡ []
 unanswered id (effect.Answered d a) none = absurd (none d a refl)
 unanswered id effect.Done none = refl
 unanswered id (effect.Called d) none = refl
 unanswered id (effect.Sent number) none = refl
 unanswered id effect.Moved none = refl
+unanswered id (effect.Collected n place) none = refl
+unanswered id (effect.Decided n d) none = refl
 
 -- a world just made has no history
 pub fresh_history : (w : WorldOf NameSet) → w.steps ≡ [] → history_of w ≡ []

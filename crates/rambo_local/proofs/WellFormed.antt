@@ -32,7 +32,7 @@ module _ {Q : Type 0} (s : QuorumSystem Q) (founders : Q) where
   pub no_history : (run s founders []).history ≡ []
   no_history = ap (λ (w : WorldState Q). w.history) (run-none s founders) ∙ first_history
 
-  one_more : (done : List Step) (st : Step) → IsWellFormed (run s founders done).history → IsWellFormed (run s founders (done ++ st ∷ [])).history
+  one_more : (done : List (Step Q)) (st : Step Q) → IsWellFormed (run s founders done).history → IsWellFormed (run s founders (done ++ st ∷ [])).history
   one_more done st well =
       let w = run s founders done in
       elim (refusal s w st) as (λ r. refusal s w st ≡ r → IsWellFormed (run s founders (done ++ st ∷ [])).history) [
@@ -47,10 +47,10 @@ module _ {Q : Type 0} (s : QuorumSystem Q) (founders : Q) where
             (sym (run-after s founders done st ∙ after-refused s w st r e)) well
       ] (λ i. refusal s w st)
 
-  several_more : (done more : List Step) → IsWellFormed (run s founders done).history → IsWellFormed (run s founders (done ++ more)).history
+  several_more : (done more : List (Step Q)) → IsWellFormed (run s founders done).history → IsWellFormed (run s founders (done ++ more)).history
   several_more done [] well = subst (λ l. IsWellFormed (run s founders l).history) (sym (append-nil done)) well
   several_more done (st ∷ more) well =
       subst (λ l. IsWellFormed (run s founders l).history) (append_assoc done (st ∷ []) more) (several_more (done ++ st ∷ []) more (one_more done st well))
 
-  pub run_well_formed : (steps : List Step) → IsWellFormed (run s founders steps).history
+  pub run_well_formed : (steps : List (Step Q)) → IsWellFormed (run s founders steps).history
   run_well_formed steps = several_more [] steps (subst IsWellFormed (sym no_history) none_well)

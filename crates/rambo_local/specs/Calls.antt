@@ -41,9 +41,11 @@ abbrev pub lowest : NameSet → ℕ
 lowest s = slice_index (names s) 0
 
 -- what a call that goes on adds to the history
-abbrev pub answered : CallId → Effect → List Event
+abbrev pub answered : {Q : Type 0} → CallId → Effect Q → List Event
 answered id (effect.Answered d a) = event.Answer id a ∷ []
 answered id effect.Done = []
 answered id (effect.Called d) = []
 answered id (effect.Sent number) = []
 answered id effect.Moved = []
+answered id (effect.Collected n place) = []
+answered id (effect.Decided n d) = []

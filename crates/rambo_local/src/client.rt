@@ -78,7 +78,7 @@ impl Client {
     }
 
     // Exchanges letters with each other founder, and then has a call go on.
-    fn advance(&self, world: &mut Host, id: &CallId) -> Result<Effect, Refusal>
+    fn advance(&self, world: &mut Host, id: &CallId) -> Result<Effect<Majority>, Refusal>
         ensures ok { IfOk result (λ e. history_of world.new ≡ history_of world.old ++ answered id.now e) }
         ensures err { OnErr result (history_of world.new ≡ history_of world.old) }
     {

@@ -8,11 +8,12 @@ use Rattle.rambo_tag.specs.Copies.{Copies}
 use Rattle.rambo_atomic.specs.declared.event.CallId.{CallId}
 use Rattle.rambo_atomic.specs.declared.operation.Op.{Op}
 use Rattle.rambo_atomic.specs.declared.operation.Op.TheVariants as op
+use Rattle.rambo_paxos.specs.Attempts.{AttemptState}
 use Rattle.rambo_phase.specs.Phases.{started}
 use Rattle.rambo_node.specs.declared.stage.Stage.{Stage}
 use Rattle.rambo_node.specs.declared.stage.Stage.TheVariants.{Query, Propagation}
 use Rattle.rambo_node.specs.Calls.{CallState, place_of, find_call}
-use Rattle.rambo_node.specs.Changes.{quiet_deed, advanced, stage_met, begun_again, copy_put}
+use Rattle.rambo_node.specs.Changes.{quiet_deed, advanced, stage_met, begun_again, rebid_made, copy_put}
 use Rattle.rambo_node.specs.Hearing.{restarted}
 use Rattle.rambo_node.specs.Kept.{with_call, propagating, propagation_begun, copy_held, move_deed, answered_in, answered_from}
 use Rattle.rambo_node.specs.Nodes.{NodeState, open_call}
@@ -55,6 +56,11 @@ put_held r (op.Set key value) (Some v) = refl
 pub quiet_again : {Q : Type 0} (x : NodeState Q) (found : Option (CallState Q)) → quiet_deed ≡ (begun_again x found).deed
 quiet_again x None = refl
 quiet_again x (Some c) = refl
+
+-- nor is to begin an attempt again
+pub quiet_rebid : {Q : Type 0} (x : NodeState Q) (o : Option (AttemptState Q)) → quiet_deed ≡ (rebid_made x o).deed
+quiet_rebid x None = refl
+quiet_rebid x (Some a) = refl
 
 -- a node with these calls, and with the next number
 abbrev pub with_calls : {Q : Type 0} → List (CallState Q) → NodeState Q → NodeState Q

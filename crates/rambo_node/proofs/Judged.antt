@@ -1,5 +1,5 @@
 -- What follows where a judge found no cause of refusal
-use Rattle.std.proofs.Common.{◌≡◌, ℕ, zero, suc, ◌^◌, ◌-◌, ◌+◌, ◌≢◌, ◌≤◌, min, Bool, true, false, ◌&&◌, ◌||◌, if◌then◌else◌, List, [], ◌∷◌, Option, None, Some, Fits, w64, All, refl, sym, ◌∙◌, subst, arith}
+use Rattle.std.proofs.Common.{◌≡◌, ℕ, zero, suc, ◌^◌, ◌-◌, ◌+◌, ◌≢◌, ◌≤◌, min, Bool, true, false, not, ◌&&◌, ◌||◌, nat_le, nat_lt, length, is_none, if◌then◌else◌, List, [], ◌∷◌, Option, None, Some, Fits, w64, All, refl, sym, ap, ◌∙◌, subst, arith}
 use Rattle.std.proofs.lemmas.Bool.{eq-eqb, true≢false}
 use Rattle.std.proofs.lemmas.Option.{none-some, same_Some}
 use Rattle.std.proofs.lemmas.List.Elements.{All-nil, All-cons}
@@ -8,11 +8,19 @@ use Rattle.rambo_names.specs.Quorums.{QuorumSystem}
 use Rattle.rambo_names.specs.Refusals.{Cause, least, number_of}
 use Rattle.rambo_atomic.specs.declared.event.CallId.{CallId}
 use Rattle.rambo_atomic.specs.declared.operation.Op.{Op}
+use Rattle.rambo_config_map.specs.Maps.{MapState, active_at, end_of, top_of}
+use Rattle.rambo_gc.specs.declared.stage.Stage.{Stage}
+use Rattle.rambo_gc.specs.declared.gc_move.GcMove.{GcMove}
+use Rattle.rambo_gc.specs.declared.gc_move.GcMove.TheVariants.{Propagating, Done}
+use Rattle.rambo_gc.specs.Collections.{CollectionState, has_quorum, is_met, move_of, next_move}
 use Rattle.rambo_gossip.specs.declared.letter.Kind.{Kind}
+use Rattle.rambo_paxos.specs.Attempts.{AttemptState}
+use Rattle.rambo_paxos.specs.Votes.{is_spent}
 use Rattle.rambo_node.specs.Claims.{RisesFrom, FirstIsLeast}
 use Rattle.rambo_node.specs.Nodes.{NodeState, open_call}
 use Rattle.rambo_node.specs.Operations.{query_in}
-use Rattle.rambo_node.specs.Refusals.{is_last, is_missing, call_causes, hear_causes, advance_causes, again_causes, query_spent, tags_spent, restarts}
+use Rattle.rambo_node.specs.Refusals.{is_last, is_missing, call_causes, hear_causes, advance_causes, again_causes, collect_causes, advance_collect_causes, recon_causes, rebid_causes, advance_recon_causes, collection_turn, needs_number, is_for, attempt_waits, query_spent, tags_spent, restarts}
+use Rattle.rambo_node.specs.Reconfigurations.{collection_move}
 
 passed : (holds : Bool) (r : Refusal) (rest : Option Refusal) → (if holds then Some r else rest) ≡ None → (holds ≡ false) × (rest ≡ None)
 passed true r rest e = absurd (none-some r (sym e))
@@ -48,12 +56,58 @@ pub neither : (a b : Bool) → (a || b) ≡ false → (a ≡ false) × (b ≡ fa
 neither true b e = absurd (true≢false e)
 neither false b e = (refl, e)
 
+not_false : (b : Bool) → not b ≡ false → b ≡ true
+not_false true e = refl
+not_false false e = absurd (true≢false e)
+
+turned : (removed met : Bool) (st : Stage) (v : GcMove) → (if removed then Some Done else (if met then Some (next_move st) else None)) ≡ Some v
+    → (if removed then Done else next_move st) ≡ v
+turned true met st v e = same_Some Done v e
+turned false true st v e = same_Some (next_move st) v e
+turned false false st v e = absurd (none-some v e)
+
+-- what the advance of a collection does
+pub same_move : {Q : Type 0} (s : QuorumSystem Q) (m : MapState Q) (g : CollectionState) (v : GcMove) → move_of s m g ≡ Some v → collection_move m g ≡ v
+same_move s m g v e = turned (nat_lt g.place m.floor) (is_met s m g) g.stage v e
+
 module _ {Q : Type 0} (x : NodeState Q) where
   pub call_next : (o : Op) → least (call_causes x o) ≡ None → (is_last x.number ≡ false) × (is_last x.made ≡ false)
   call_next o e = (none_holds (call_causes x o) 5 e, none_holds (call_causes x o) 6 e)
 
   pub again_next : (id : CallId) → least (again_causes x id) ≡ None → (is_missing (open_call x id) ≡ false) × (is_last x.number ≡ false)
   again_next id e = (none_holds (again_causes x id) 2 e, none_holds (again_causes x id) 3 e)
+
+  pub collect_next : least (collect_causes x) ≡ None → (nat_le (length x.map.configs) 1 ≡ false) × (is_last x.number ≡ false)
+  collect_next e = (none_holds (collect_causes x) 2 e, none_holds (collect_causes x) 4 e)
+
+  pub turn_open : (s : QuorumSystem Q) → least (advance_collect_causes s x) ≡ None → is_none x.collection ≡ false
+  turn_open s e = none_holds (advance_collect_causes s x) 3 e
+
+  -- a collection that isn't refused has a turn, and a number for it
+  pub turn_there : (s : QuorumSystem Q) (g : CollectionState) → least (advance_collect_causes s x) ≡ None → x.collection ≡ Some g → move_of s x.map g ≡ None → ⊥
+  turn_there s g e held none =
+      true≢false (sym (ap (λ o. not (is_none o) && is_none (collection_turn s x o)) held ∙ ap is_none none) ∙ none_holds (advance_collect_causes s x) 2 e)
+
+  pub turn_next : (s : QuorumSystem Q) (g : CollectionState) → least (advance_collect_causes s x) ≡ None → x.collection ≡ Some g → move_of s x.map g ≡ Some Propagating → is_last x.number ≡ false
+  turn_next s g e held met =
+      sym (ap (λ o. needs_number (collection_turn s x o) && is_last x.number) held ∙ ap (λ t. needs_number t && is_last x.number) met)
+      ∙ none_holds (advance_collect_causes s x) 4 e
+
+  pub recon_next : (s : QuorumSystem Q) (wish : Q) → least (recon_causes s x wish) ≡ None
+      → (nat_le 8 (length x.map.configs) ≡ false) × (is_spent x.vote ≡ false) × (is_last (top_of x.map) ≡ false)
+  recon_next s wish e = (none_holds (recon_causes s x wish) 4 e, none_holds (recon_causes s x wish) 7 e, none_holds (recon_causes s x wish) 8 e)
+
+  pub rebid_next : least (rebid_causes x) ≡ None → (not (is_for (end_of x.map) x.attempt) ≡ false) × (is_spent x.vote ≡ false)
+  rebid_next e = (none_holds (rebid_causes x) 2 e, none_holds (rebid_causes x) 3 e)
+
+  pub bid_next : (s : QuorumSystem Q) → least (advance_recon_causes s x) ≡ None → (attempt_waits s x x.attempt ≡ false) × (is_none x.attempt ≡ false)
+  bid_next s e = (none_holds (advance_recon_causes s x) 2 e, none_holds (advance_recon_causes s x) 3 e)
+
+  -- an attempt for an unknown place that isn't refused has its quorum
+  pub bid_met : (s : QuorumSystem Q) (a : AttemptState Q) → least (advance_recon_causes s x) ≡ None → x.attempt ≡ Some a → nat_lt a.place (end_of x.map) ≡ false
+      → has_quorum s (active_at x.map (top_of x.map)) a.repliers ≡ true
+  bid_met s a e held unknown =
+      not_false _ (sym (ap (attempt_waits s x) held ∙ ap (λ b. not b && not (has_quorum s (active_at x.map (top_of x.map)) a.repliers)) unknown) ∙ (bid_next s e).0)
 
   pub hear_next : (k : Kind Q) → least (hear_causes x k) ≡ None → (restarts x k && is_last x.number) ≡ false
   hear_next k e = none_holds (hear_causes x k) 2 e

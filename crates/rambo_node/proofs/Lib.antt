@@ -1,5 +1,6 @@
 pub mod Advances
 pub mod CallLists
 pub mod Judged
+pub mod Merged
 pub mod Sizes
 pub mod Telling

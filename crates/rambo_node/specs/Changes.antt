@@ -1,5 +1,5 @@
 -- A change of one node: why it is refused, and what it makes of the node and of the rest. Each step of a world is one
-use Rattle.std.specs.Prelude.{◌+◌, List, [], ◌∷◌, Option, None, Some}
+use Rattle.std.specs.Prelude.{ℕ, ◌+◌, nat_lt, if◌then◌else◌, List, [], ◌∷◌, Option, None, Some}
 use Rattle.rambo_names.specs.declared.refusal.Refusal.{Refusal}
 use Rattle.rambo_names.specs.Quorums.{QuorumSystem}
 use Rattle.rambo_names.specs.Refusals.{Cause, least}
@@ -10,10 +10,18 @@ use Rattle.rambo_atomic.specs.declared.event.Event.TheVariants as event
 use Rattle.rambo_atomic.specs.declared.operation.Answer.{Answer}
 use Rattle.rambo_atomic.specs.declared.operation.Op.{Op}
 use Rattle.rambo_atomic.specs.declared.operation.Op.TheVariants as op
+use Rattle.rambo_config_map.specs.Maps.{active_at, end_of}
+use Rattle.rambo_gc.specs.declared.gc_move.GcMove.{GcMove}
+use Rattle.rambo_gc.specs.declared.gc_move.GcMove.TheVariants.{Propagating, Done}
+use Rattle.rambo_gc.specs.Collections.{CollectionState}
 use Rattle.rambo_gossip.specs.declared.letter.Letter.{Letter}
+use Rattle.rambo_paxos.specs.declared.bid.Bid.{Bid}
+use Rattle.rambo_paxos.specs.declared.bid.Bid.TheVariants as bid
+use Rattle.rambo_paxos.specs.Attempts.{AttemptState, bid_of}
 use Rattle.rambo_sequence.specs.declared.mark.Mark.{Mark}
 use Rattle.rambo_node.specs.declared.change.Change.{Change}
 use Rattle.rambo_node.specs.declared.change.Change.TheVariants as change
+use Rattle.rambo_node.specs.declared.decided.Decided.{Decided}
 use Rattle.rambo_node.specs.declared.deed.Deed.{Deed}
 use Rattle.rambo_node.specs.declared.effect.Effect.{Effect}
 use Rattle.rambo_node.specs.declared.effect.Effect.TheVariants as effect
@@ -24,7 +32,8 @@ use Rattle.rambo_node.specs.Nodes.{NodeState, open_call}
 use Rattle.rambo_node.specs.Letters.{letter_for}
 use Rattle.rambo_node.specs.Hearing.{heard_letter}
 use Rattle.rambo_node.specs.Operations.{called, taken, query_answered, call_closed, answer_of, called_again, joined_by, stopped}
-use Rattle.rambo_node.specs.Refusals.{join_causes, call_causes, send_causes, hear_causes, advance_causes, again_causes, stop_causes}
+use Rattle.rambo_node.specs.Reconfigurations.{attempt_opened, attempt_rebid, attempt_moved, config_learnt, attempt_ended, collection_opened, collection_move, collection_moved, collection_ended}
+use Rattle.rambo_node.specs.Refusals.{join_causes, call_causes, send_causes, hear_causes, advance_causes, again_causes, stop_causes, collect_causes, advance_collect_causes, recon_causes, rebid_causes, advance_recon_causes}
 
 -- the causes of refusal of a change, by rising numbers
 abbrev pub causes : {Q : Type 0} → QuorumSystem Q → NodeState Q → Change Q → List Cause
@@ -34,6 +43,11 @@ causes s x (change.Send to) = send_causes x to
 causes s x (change.Deliver l) = hear_causes x l.kind
 causes s x (change.Advance id) = advance_causes s x id
 causes s x (change.Again id) = again_causes x id
+causes s x change.Collect = collect_causes x
+causes s x change.AdvanceCollect = advance_collect_causes s x
+causes s x (change.Recon wish) = recon_causes s x wish
+causes s x change.Rebid = rebid_causes x
+causes s x change.AdvanceRecon = advance_recon_causes s x
 causes s x change.Stop = stop_causes x
 
 -- the least refusal whose cause holds
@@ -43,11 +57,15 @@ refusal_of s x c = least (causes s x c)
 -- a node after a change, what the change did, and the letter that was sent
 pub record Made (Q : Type 0) : Type 0 where
   pub node : NodeState Q
-  pub deed : Deed
+  pub deed : Deed Q
   pub letter : Option (Letter Q)
 
-abbrev pub quiet_deed : Deed
-quiet_deed = record { effect = effect.Done; event = None; mark = None; copy = None }
+-- what is told of a change that does nothing else
+abbrev pub told : {Q : Type 0} → Effect Q → Deed Q
+told e = record { effect = e; event = None; mark = None; copy = None }
+
+abbrev pub quiet_deed : {Q : Type 0} → Deed Q
+quiet_deed = told effect.Done
 
 -- a change of the node alone
 abbrev pub quiet : {Q : Type 0} → NodeState Q → Made Q
@@ -91,16 +109,68 @@ advanced x id None = quiet x
 advanced x id (Some c) = stage_met x id c c.stage
 
 -- the answer that a call got
-abbrev pub answer_in : Effect → Option Answer
+abbrev pub answer_in : {Q : Type 0} → Effect Q → Option Answer
 answer_in (effect.Answered id answer) = Some answer
 answer_in effect.Done = None
 answer_in (effect.Called id) = None
 answer_in (effect.Sent number) = None
 answer_in effect.Moved = None
+answer_in (effect.Collected n place) = None
+answer_in (effect.Decided n d) = None
+
+-- the place whose collection ended
+abbrev pub collected_in : {Q : Type 0} → Effect Q → Option ℕ
+collected_in (effect.Collected n place) = Some place
+collected_in effect.Done = None
+collected_in (effect.Called id) = None
+collected_in (effect.Sent number) = None
+collected_in effect.Moved = None
+collected_in (effect.Answered id answer) = None
+collected_in (effect.Decided n d) = None
+
+-- what an attempt that ended came to
+abbrev pub decided_in : {Q : Type 0} → Effect Q → Option (Decided Q)
+decided_in (effect.Decided n d) = Some d
+decided_in effect.Done = None
+decided_in (effect.Called id) = None
+decided_in (effect.Sent number) = None
+decided_in effect.Moved = None
+decided_in (effect.Answered id answer) = None
+decided_in (effect.Collected n place) = None
 
 abbrev pub begun_again : {Q : Type 0} → NodeState Q → Option (CallState Q) → Made Q
 begun_again x None = quiet x
 begun_again x (Some c) = quiet (called_again x c)
+
+-- an advance of a collection: its first quorum leads to a second question, and then the place is removed
+abbrev pub collection_turned : {Q : Type 0} → NodeState Q → CollectionState → GcMove → Made Q
+collection_turned x g Propagating = record { node = collection_moved x g; deed = told effect.Moved; letter = None }
+collection_turned x g Done = record { node = collection_ended x g; deed = told (effect.Collected x.name g.place); letter = None }
+
+abbrev pub collection_advanced : {Q : Type 0} → NodeState Q → Option CollectionState → Made Q
+collection_advanced x None = quiet x
+collection_advanced x (Some g) = collection_turned x g (collection_move x.map g)
+
+abbrev pub rebid_made : {Q : Type 0} → NodeState Q → Option (AttemptState Q) → Made Q
+rebid_made x None = quiet x
+rebid_made x (Some a) = quiet (attempt_rebid x a)
+
+-- an attempt ended for its place: what stands there now is told
+abbrev pub decided : {Q : Type 0} → NodeState Q → AttemptState Q → Option Q → Effect Q
+decided x a c = effect.Decided x.name (record { place = a.place; config = c })
+
+-- an advance of an attempt: promises lead to a proposal, and acceptances to a chosen configuration
+abbrev pub bid_made : {Q : Type 0} → NodeState Q → AttemptState Q → Bid Q → Made Q
+bid_made x a bid.Propose = record { node = attempt_moved x a; deed = told effect.Moved; letter = None }
+bid_made x a (bid.Chosen c) = record { node = config_learnt x a c; deed = told (decided x a (Some c)); letter = None }
+
+-- where its place has come to be known by another's letter, it ends
+abbrev pub attempt_advanced : {Q : Type 0} → NodeState Q → Option (AttemptState Q) → Made Q
+attempt_advanced x None = quiet x
+attempt_advanced x (Some a) =
+    if nat_lt a.place (end_of x.map)
+    then record { node = attempt_ended x; deed = told (decided x a (active_at x.map a.place)); letter = None }
+    else bid_made x a (bid_of a)
 
 -- what a change makes that isn't refused: who sends a letter stays as it is
 unfoldable pub made_by : {Q : Type 0} → NodeState Q → Change Q → Made Q
@@ -110,6 +180,11 @@ made_by x (change.Send to) = record { node = x; deed = quiet_deed; letter = Some
 made_by x (change.Deliver l) = quiet (heard_letter x l)
 made_by x (change.Advance id) = advanced x id (open_call x id)
 made_by x (change.Again id) = begun_again x (open_call x id)
+made_by x change.Collect = quiet (collection_opened x)
+made_by x change.AdvanceCollect = collection_advanced x x.collection
+made_by x (change.Recon wish) = quiet (attempt_opened x wish)
+made_by x change.Rebid = rebid_made x x.attempt
+made_by x change.AdvanceRecon = attempt_advanced x x.attempt
 made_by x change.Stop = quiet (stopped x)
 
 -- a node after a list of changes, none of which was refused

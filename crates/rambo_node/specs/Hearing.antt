@@ -1,8 +1,12 @@
 -- What a node makes of a letter (Lynch and Shvartsman, "RAMBO", DISC 2002)
-use Rattle.std.specs.Prelude.{ℕ, suc, Bool, true, false, not, if◌then◌else◌, nat_le, List, [], ◌∷◌, map}
+use Rattle.std.specs.Prelude.{ℕ, suc, Bool, true, false, not, if◌then◌else◌, nat_eq, nat_le, nat_lt, List, [], ◌∷◌, map, Option, None, Some}
 use Rattle.std.specs.FinSet as set
 use Rattle.rambo_tag.specs.Copies.{joined}
-use Rattle.rambo_config_map.specs.Maps.{MapState, merged_map}
+use Rattle.rambo_config_map.specs.Maps.{MapState, end_of, merged_map}
+use Rattle.rambo_gc.specs.Collections.{CollectionState}
+use Rattle.rambo_gc.specs.Collections as collection
+use Rattle.rambo_paxos.specs.Attempts.{AttemptState, heard_vote}
+use Rattle.rambo_paxos.specs.Votes.{VoteState, empty_vote, taken_if}
 use Rattle.rambo_phase.specs.Phases.{PhaseState, fits, counted, started}
 use Rattle.rambo_joiner.specs.Statuses.{woken}
 use Rattle.rambo_gossip.specs.declared.letter.Letter.{Letter}
@@ -35,7 +39,33 @@ heard_call heard j m number merged me c = record { number = c.number; op = c.op;
 abbrev pub number_after : {Q : Type 0} → NodeState Q → Gossip Q → ℕ
 number_after x g = if any_gap g.heard g.map x.calls then suc x.number else x.number
 
--- the node after gossip from j: everything is merged, and open calls count it or restart
+-- a collection counts a reply to it
+abbrev pub collection_after : Option CollectionState → ℕ → ℕ → Option CollectionState
+collection_after None j heard = None
+collection_after (Some c) j heard = Some (collection.heard c j heard)
+
+-- whether the letter's first unknown place is the one of the merged map: then its vote and offer are for this place
+abbrev pub is_level : {Q : Type 0} → NodeState Q → Gossip Q → Bool
+is_level x g = nat_eq (end_of g.map) (end_of (merged_map x.map g.map))
+
+-- a vote is for the first unknown place: where that place has come to be known, the vote for the next one is empty
+abbrev pub vote_kept : {Q : Type 0} → NodeState Q → Gossip Q → VoteState Q
+vote_kept x g = if nat_lt (end_of x.map) (end_of g.map) then empty_vote else x.vote
+
+-- and it takes an offer that is for the same place
+abbrev pub vote_after : {Q : Type 0} → NodeState Q → Gossip Q → VoteState Q
+vote_after x g = if is_level x g then taken_if (vote_kept x g) g.offer else vote_kept x g
+
+-- an attempt hears a vote that is for its place
+abbrev pub heard_for : {Q : Type 0} → ℕ → Option (AttemptState Q) → ℕ → VoteState Q → Option (AttemptState Q)
+heard_for place None j v = None
+heard_for place (Some a) j v = Some (if nat_eq a.place place then heard_vote a j v else a)
+
+abbrev pub attempt_after : {Q : Type 0} → NodeState Q → ℕ → Gossip Q → Option (AttemptState Q)
+attempt_after x j g = if is_level x g then heard_for (end_of g.map) x.attempt j g.vote else x.attempt
+
+-- the node after gossip from j: everything is merged, open calls count it or restart, a collection counts it, and votes
+-- come last
 unfoldable pub heard_gossip : {Q : Type 0} → NodeState Q → ℕ → Gossip Q → NodeState Q
 heard_gossip x j g = record x {
   status = woken x.status;
@@ -45,6 +75,9 @@ heard_gossip x j g = record x {
   number = number_after x g;
   heard = raised x.heard j g.number;
   calls = map (heard_call g.heard j g.map (number_after x g) (merged_map x.map g.map) x.name) x.calls;
+  collection = collection_after x.collection j g.heard;
+  attempt = attempt_after x j g;
+  vote = vote_after x g;
 }
 
 -- a letter of a joining node makes its sender known

@@ -1,7 +1,8 @@
 -- How open calls are kept
-use Rattle.std.specs.Prelude.{ℕ, ◌+◌, ◌≤◌, List, [], ◌∷◌, map as list_map, Option, None, Some, slice_set}
+use Rattle.std.specs.Prelude.{ℕ, ◌+◌, ◌≤◌, length, List, [], ◌∷◌, map as list_map, Option, None, Some, slice_set}
 use Rattle.std.specs.FinMap as map
-use Rattle.rambo_config_map.specs.Maps.{MapState}
+use Rattle.rambo_config_map.specs.Maps.{MapState, end_of}
+use Rattle.rambo_paxos.specs.Attempts.{AttemptState}
 use Rattle.rambo_phase.specs.Phases.{PhaseState, started, needed}
 use Rattle.rambo_tag.specs.declared.keyed_version.KeyedVersion.{KeyedVersion}
 use Rattle.rambo_tag.specs.declared.version.Version.{Version}
@@ -46,19 +47,19 @@ propagation_begun x number kept = record x {
 }
 
 -- what a met query does, which keeps a copy
-abbrev pub move_deed : CallId → Op → Option Version → Deed
+abbrev pub move_deed : {Q : Type 0} → CallId → Op → Option Version → Deed Q
 move_deed id o kept = record { effect = effect.Moved; event = None; mark = set_mark id o kept; copy = copy_put o kept }
 
 -- what a met propagation does, which sent a copy round
-abbrev pub answer_deed : CallId → Op → Option Version → Deed
+abbrev pub answer_deed : {Q : Type 0} → CallId → Op → Option Version → Deed Q
 answer_deed id o kept = record { effect = effect.Answered id (answer_of o kept); event = Some (event.Answer id (answer_of o kept)); mark = get_mark id o kept; copy = None }
 
 -- and what it does if the call is in it
-abbrev pub answered_in : CallId → Op → Stage → Deed
+abbrev pub answered_in : {Q : Type 0} → CallId → Op → Stage → Deed Q
 answered_in id o Query = quiet_deed
 answered_in id o (Propagation kept) = answer_deed id o kept
 
-abbrev pub answered_from : {Q : Type 0} → CallId → Option (CallState Q) → Deed
+abbrev pub answered_from : {Q : Type 0} → CallId → Option (CallState Q) → Deed Q
 answered_from id None = quiet_deed
 answered_from id (Some c) = answered_in id c.op c.stage
 
@@ -71,3 +72,9 @@ copy_held r (Some c) = map.insert r c.key c.version
 abbrev pub IsRoomy : {Q : Type 0} → MapState Q → List (OpenCall Q) → Type 0
 IsRoomy m [] = Unit {0}
 IsRoomy m (c ∷ cs) = (needed c.phase.state m ≤ c.phase.capacity) × IsRoomy m cs
+
+-- an attempt that may be open is for a place that is known or the first one that isn't. Where it is for that one, the
+-- map can learn a configuration there
+abbrev pub AttemptFits : {Q : Type 0} → MapState Q → Option (AttemptState Q) → Type 0
+AttemptFits m None = Unit {0}
+AttemptFits m (Some a) = (a.place ≤ end_of m) × (end_of m ≤ a.place → length m.configs ≤ 7)

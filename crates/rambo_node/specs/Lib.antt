@@ -4,6 +4,7 @@ pub mod Nodes
 pub mod Letters
 pub mod Hearing
 pub mod Operations
+pub mod Reconfigurations
 pub mod Refusals
 pub mod Changes
 pub mod Claims

@@ -7,13 +7,17 @@ use Rattle.rambo_names.specs.Quorums.{QuorumSystem}
 use Rattle.rambo_tag.specs.Copies.{Copies}
 use Rattle.rambo_atomic.specs.declared.event.CallId.{CallId}
 use Rattle.rambo_config_map.specs.Maps.{MapState, first_map}
+use Rattle.rambo_gc.specs.Collections.{CollectionState}
+use Rattle.rambo_paxos.specs.Attempts.{AttemptState}
+use Rattle.rambo_paxos.specs.Votes.{VoteState, empty_vote}
 use Rattle.rambo_joiner.specs.declared.status.Status.{Status}
 use Rattle.rambo_joiner.specs.declared.status.Status.TheVariants.{Idle, Active}
 use Rattle.rambo_node.specs.Calls.{CallState, find_call}
 
 -- status and names: who takes part, as far as the node knows; registers: its copies; map: its configurations;
 -- number: its phase number; made: the number of its last call; heard: of the names 1, 2, .. the greatest phase number
--- that it heard; calls: its open calls, the oldest first
+-- that it heard; calls: its open calls, the oldest first; collection: of its lowest place, if it is open; attempt: to have
+-- a configuration chosen, if one is open; vote: for the first place that the map doesn't know
 pub record NodeState (Q : Type 0) : Type 0 where
   pub name : ℕ
   pub status : Status
@@ -24,6 +28,9 @@ pub record NodeState (Q : Type 0) : Type 0 where
   pub made : ℕ
   pub heard : List ℕ
   pub calls : List (CallState Q)
+  pub collection : Option CollectionState
+  pub attempt : Option (AttemptState Q)
+  pub vote : VoteState Q
 
 -- the open call of an id: none where the id is of another node
 abbrev pub open_call : {Q : Type 0} → NodeState Q → CallId → Option (CallState Q)
@@ -55,4 +62,7 @@ first_node s founders name = record {
   made = 0;
   heard = replicate 64 0;
   calls = [];
+  collection = None;
+  attempt = None;
+  vote = empty_vote;
 }

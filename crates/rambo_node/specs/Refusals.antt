@@ -1,8 +1,8 @@
 -- Why a node refuses a change of each kind: of the causes that hold, the least number is answered
-use Rattle.std.specs.Prelude.{ℕ, ◌^◌, ◌-◌, Bool, true, false, not, ◌&&◌, ◌||◌, nat_eq, nat_le, nat_lt, List, [], ◌∷◌, length, Option, None, Some}
+use Rattle.std.specs.Prelude.{ℕ, ◌^◌, ◌-◌, Bool, true, false, not, ◌&&◌, ◌||◌, nat_eq, nat_le, nat_lt, List, [], ◌∷◌, length, Option, None, Some, is_none}
 use Rattle.std.specs.FinSet as set
 use Rattle.std.specs.FinMap as map
-use Rattle.rambo_names.specs.declared.refusal.Refusal.TheVariants.{NameUsed, NotActive, Stopped, NotKnown, NoSuchCall, NotYet, Busy, EmptyMembers, KeyTooLong, ValueTooLong, NumbersSpent}
+use Rattle.rambo_names.specs.declared.refusal.Refusal.TheVariants.{NameUsed, NotActive, Stopped, NotKnown, NoSuchCall, NotYet, Busy, NothingToCollect, CollectOpen, NoCollect, NotMember, ReconOpen, NoRecon, TooManyActive, UnknownMember, EmptyMembers, KeyTooLong, ValueTooLong, NumbersSpent}
 use Rattle.rambo_names.specs.Names.{NameSet, count_of}
 use Rattle.rambo_names.specs.Quorums.{QuorumSystem}
 use Rattle.rambo_names.specs.Refusals.{Cause, cause}
@@ -11,6 +11,12 @@ use Rattle.rambo_atomic.specs.declared.event.CallId.{CallId}
 use Rattle.rambo_atomic.specs.declared.operation.Op.{Op}
 use Rattle.rambo_atomic.specs.declared.operation.Op.TheVariants as op
 use Rattle.rambo_atomic.specs.Calls.{key_of}
+use Rattle.rambo_config_map.specs.Maps.{active_at, end_of, top_of}
+use Rattle.rambo_gc.specs.declared.gc_move.GcMove.{GcMove}
+use Rattle.rambo_gc.specs.declared.gc_move.GcMove.TheVariants.{Propagating, Done}
+use Rattle.rambo_gc.specs.Collections.{CollectionState, has_quorum, move_of}
+use Rattle.rambo_paxos.specs.Attempts.{AttemptState}
+use Rattle.rambo_paxos.specs.Votes.{is_spent}
 use Rattle.rambo_phase.specs.Phases.{is_met}
 use Rattle.rambo_joiner.specs.Statuses.{is_idle, is_early, is_stopped}
 use Rattle.rambo_gossip.specs.declared.letter.Kind.{Kind}
@@ -83,3 +89,61 @@ again_causes x id =
 
 abbrev pub stop_causes : {Q : Type 0} → NodeState Q → List Cause
 stop_causes x = cause NotActive (is_idle x.status) ∷ cause Stopped (is_stopped x.status) ∷ []
+
+abbrev pub collect_causes : {Q : Type 0} → NodeState Q → List Cause
+collect_causes x =
+    cause NotActive (is_early x.status) ∷ cause Stopped (is_stopped x.status)
+    ∷ cause NothingToCollect (nat_le (length x.map.configs) 1) ∷ cause CollectOpen (not (is_none x.collection))
+    ∷ cause NumbersSpent (is_last x.number) ∷ []
+
+-- what the advance of a collection would do, if one is open and it wouldn't be refused
+abbrev pub collection_turn : {Q : Type 0} → QuorumSystem Q → NodeState Q → Option CollectionState → Option GcMove
+collection_turn s x None = None
+collection_turn s x (Some g) = move_of s x.map g
+
+-- whether that asks the next configuration, under a new number
+abbrev pub needs_number : Option GcMove → Bool
+needs_number None = false
+needs_number (Some Propagating) = true
+needs_number (Some Done) = false
+
+abbrev pub advance_collect_causes : {Q : Type 0} → QuorumSystem Q → NodeState Q → List Cause
+advance_collect_causes s x =
+    let turn = collection_turn s x x.collection in
+    cause NotActive (is_early x.status) ∷ cause Stopped (is_stopped x.status)
+    ∷ cause NotYet (not (is_none x.collection) && is_none turn) ∷ cause NoCollect (is_none x.collection)
+    ∷ cause NumbersSpent (needs_number turn && is_last x.number) ∷ []
+
+-- whether the node is a member of a configuration, if there is one
+abbrev pub is_member : {Q : Type 0} → QuorumSystem Q → ℕ → Option Q → Bool
+is_member s name None = false
+is_member s name (Some c) = set.contains (s.members c) name
+
+abbrev pub recon_causes : {Q : Type 0} → QuorumSystem Q → NodeState Q → Q → List Cause
+recon_causes s x wish =
+    cause NotActive (is_early x.status) ∷ cause Stopped (is_stopped x.status)
+    ∷ cause NotMember (not (is_member s x.name (active_at x.map (top_of x.map)))) ∷ cause ReconOpen (not (is_none x.attempt))
+    ∷ cause TooManyActive (nat_le 8 (length x.map.configs)) ∷ cause UnknownMember (not (set.is_subset (s.members wish) x.known))
+    ∷ cause EmptyMembers (nat_eq (count_of (s.members wish)) 0)
+    ∷ cause NumbersSpent (is_spent x.vote) ∷ cause NumbersSpent (is_last (top_of x.map)) ∷ []
+
+-- whether an attempt is open for this place
+abbrev pub is_for : {Q : Type 0} → ℕ → Option (AttemptState Q) → Bool
+is_for place None = false
+is_for place (Some a) = nat_eq a.place place
+
+abbrev pub rebid_causes : {Q : Type 0} → NodeState Q → List Cause
+rebid_causes x =
+    cause NotActive (is_early x.status) ∷ cause Stopped (is_stopped x.status)
+    ∷ cause NoRecon (not (is_for (end_of x.map) x.attempt)) ∷ cause NumbersSpent (is_spent x.vote) ∷ []
+
+-- whether an attempt is open whose place isn't known yet and whose quorum, one of the configuration at the top, isn't
+-- there
+abbrev pub attempt_waits : {Q : Type 0} → QuorumSystem Q → NodeState Q → Option (AttemptState Q) → Bool
+attempt_waits s x None = false
+attempt_waits s x (Some a) = not (nat_lt a.place (end_of x.map)) && not (has_quorum s (active_at x.map (top_of x.map)) a.repliers)
+
+abbrev pub advance_recon_causes : {Q : Type 0} → QuorumSystem Q → NodeState Q → List Cause
+advance_recon_causes s x =
+    cause NotActive (is_early x.status) ∷ cause Stopped (is_stopped x.status)
+    ∷ cause NotYet (attempt_waits s x x.attempt) ∷ cause NoRecon (is_none x.attempt) ∷ []

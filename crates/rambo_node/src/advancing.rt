@@ -19,7 +19,7 @@ use rambo_tag::{KeyedVersion, Replica, Tag, Version};
 impl<Q: Quorums, S: Replica> Node<Q, S> {
     // A call that isn't refused begins.
     #[tactic(auto, unfolding(crate::specs::Changes::made_by, crate::specs::Operations::called))]
-    pub(crate) fn do_call(&mut self, op: Op) -> Result<Deed, Refusal>
+    pub(crate) fn do_call(&mut self, op: Op) -> Result<Deed<Q>, Refusal>
         requires { refusal_of Q.system self.old (change.Call op) ≡ None }
         ensures node { OnOk result (self.new ≡ (made_by self.old (change.Call op)).node) }
         ensures deed { IfOk result (λ d. d ≡ (made_by self.old (change.Call op)).deed) }
@@ -56,7 +56,7 @@ impl<Q: Quorums, S: Replica> Node<Q, S> {
 
     // A call that isn't refused goes on.
     #[tactic(auto, unfolding(crate::specs::Changes::made_by))]
-    pub(crate) fn do_advance(&mut self, id: CallId) -> Result<Deed, Refusal>
+    pub(crate) fn do_advance(&mut self, id: CallId) -> Result<Deed<Q>, Refusal>
         requires { refusal_of Q.system self.old (change.Advance id) ≡ None }
         ensures node { OnOk result (self.new ≡ (made_by self.old (change.Advance id)).node) }
         ensures deed { IfOk result (λ d. d ≡ (made_by self.old (change.Advance id)).deed) }
@@ -71,7 +71,7 @@ impl<Q: Quorums, S: Replica> Node<Q, S> {
     }
 
     // A met propagation is answered.
-    fn close(&mut self, id: CallId) -> Result<Deed, Refusal>
+    fn close(&mut self, id: CallId) -> Result<Deed<Q>, Refusal>
         requires open { is_missing (open_call self.old id) ≡ false }
         requires told { query_in (open_call self.old id) ≡ None }
         ensures node { OnOk result (self.new ≡ (advanced self.old id (open_call self.old id)).node) }
@@ -86,7 +86,7 @@ impl<Q: Quorums, S: Replica> Node<Q, S> {
     }
 
     // A query that asked for this is answered, and its propagation begins. All that can fail comes first.
-    fn answer_query(&mut self, id: CallId, asked: Op) -> Result<Deed, Refusal>
+    fn answer_query(&mut self, id: CallId, asked: Op) -> Result<Deed<Q>, Refusal>
         requires asked { query_in (open_call self.old id) ≡ Some asked }
         requires next { query_spent self.old (Some asked) ≡ false }
         ensures node { OnOk result (self.new ≡ (advanced self.old id (open_call self.old id)).node) }

@@ -19,6 +19,16 @@ pub enum Change<Q: Quorums> {
     Advance(CallId),
     /// The present phase of its call begins anew.
     Again(CallId),
+    /// It begins to collect the lowest place of its map.
+    Collect,
+    /// Its collection, whose quorum is there, goes on.
+    AdvanceCollect,
+    /// It begins to have this configuration chosen for the first place that its map doesn't know.
+    Recon(Q),
+    /// Its attempt begins again with a fresh ballot.
+    Rebid,
+    /// Its attempt, whose quorum is there, goes on.
+    AdvanceRecon,
     /// It stops for ever.
     Stop,
 }

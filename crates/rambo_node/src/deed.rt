@@ -1,6 +1,6 @@
 //! What a change did.
 ghost use Rattle.std.specs.Prelude.{◌≡◌, IfOk, IfErr};
-ghost use Rattle.rambo_node.specs.Changes.{quiet_deed, set_mark, get_mark, copy_put};
+ghost use Rattle.rambo_node.specs.Changes.{told, quiet_deed, set_mark, get_mark, copy_put};
 ghost use Rattle.rambo_node.specs.Kept.{move_deed, answer_deed};
 ghost use Rattle.rambo_node.specs.Operations.{answer_of};
 ghost use Rattle.std.specs.Option.{option_copied};
@@ -13,9 +13,9 @@ use rambo_tag::{KeyedVersion, Version};
 
 /// What an accepted change of a node did besides changing it.
 #[derive(Drop, Debug)]
-pub struct Deed {
+pub struct Deed<Q> {
     /// What is told of it. A letter that is sent has no number here: of it `Done` is told.
-    pub effect: Effect,
+    pub effect: Effect<Q>,
     /// The call or the answer that goes into the history.
     pub event: Option<Event>,
     /// A set that took its tag, or a get that was answered.
@@ -24,21 +24,28 @@ pub struct Deed {
     pub copy: Option<KeyedVersion>,
 }
 
-impl Deed {
-    // That of a change of the node alone.
-    pub(crate) fn quiet() -> Deed
-        ensures { result ≡ quiet_deed }
+impl<Q: Copy> Deed<Q> {
+    // That of a change of the node alone, of which this is told.
+    pub(crate) fn told(effect: Effect<Q>) -> Deed<Q>
+        ensures { result ≡ told effect }
     {
         Deed {
-            effect: Effect::Done,
+            effect,
             event: None,
             mark: None,
             copy: None,
         }
     }
 
+    // That of which nothing is told.
+    pub(crate) fn quiet() -> Deed<Q>
+        ensures { result ≡ quiet_deed }
+    {
+        Deed::told(Effect::Done)
+    }
+
     // That of a met query, which keeps a copy.
-    pub(crate) fn moved(id: CallId, op: &Op, kept: &Option<Version>) -> Result<Deed, Refusal>
+    pub(crate) fn moved(id: CallId, op: &Op, kept: &Option<Version>) -> Result<Deed<Q>, Refusal>
         ensures ok { IfOk result (λ d. d ≡ move_deed id op.now kept.now) }
         ensures refused { IfErr result (λ r. r ≡ Refusal.OutOfMemory) }
     {
@@ -51,7 +58,7 @@ impl Deed {
     }
 
     // That of a met propagation, which sent a copy round.
-    pub(crate) fn answered(id: CallId, op: &Op, kept: &Option<Version>) -> Result<Deed, Refusal>
+    pub(crate) fn answered(id: CallId, op: &Op, kept: &Option<Version>) -> Result<Deed<Q>, Refusal>
         ensures ok { IfOk result (λ d. d ≡ answer_deed id op.now kept.now) }
         ensures refused { IfErr result (λ r. r ≡ Refusal.OutOfMemory) }
     {

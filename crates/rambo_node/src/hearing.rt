@@ -2,8 +2,8 @@
 ghost use Rattle.std.specs.Prelude.{◌≡◌, ◌&&◌, None, Some, false, if◌then◌else◌, suc, IsOk, IfOk, IfErr, OnOk, OnErr};
 ghost use Rattle.std.specs.FinMap as map;
 ghost use Rattle.rambo_names.specs.Refusals.{IsRefusal};
-ghost use Rattle.rambo_gossip.specs.Letters.{letter_with, kind_with};
-ghost use Rattle.rambo_gossip.specs.Outlines.{outlined};
+ghost use Rattle.rambo_gossip.specs.Letters.{letter_with, kind_with, gossip_with};
+ghost use Rattle.rambo_gossip.specs.Outlines.{outlined, gossip_outlined};
 ghost use Rattle.rambo_node.specs.Changes.{refusal_of, made_by};
 ghost use Rattle.rambo_node.specs.Hearing.{any_gap, heard_gossip, heard_join, heard_letter};
 ghost use Rattle.rambo_node.specs.Letters.{letter_for};
@@ -13,7 +13,7 @@ ghost use Rattle.rambo_node.specs.declared.change.Change.TheVariants as change;
 use crate::node::Node;
 use rambo_config_map::ConfigMap;
 use rambo_gossip::{Gossip, GossipOutline, Kind, Letter, LetterOutline};
-use rambo_names::{Members, Name, Quorums, Refusal};
+use rambo_names::{Name, Quorums, Refusal};
 use rambo_tag::{Pack, Replica};
 
 impl<Q: Quorums, S: Replica> Node<Q, S> {
@@ -44,7 +44,9 @@ impl<Q: Quorums, S: Replica> Node<Q, S> {
 
     /// Hears a letter. One of a joining node makes its sender known. One of an active node wakes a joining
     /// node, all that it knows is merged, and each open call whose phase it replies to counts the sender; a
-    /// reply that leaves a gap in the configurations of a phase begins it anew, under one new number for all.
+    /// reply that leaves a gap in the configurations of a phase begins it anew, under one new number for all. A
+    /// collection counts it too. The vote is emptied where its place has come to be known; it takes the letter's
+    /// offer, and an attempt hears the letter's vote, where these are for the same place.
     ///
     /// Refused are 3 where the node is idle, 4 where it has stopped, 21 where a phase would begin anew and the
     /// phase number is the greatest one, 22 where there is no room for what is new.
@@ -78,14 +80,7 @@ impl<Q: Quorums, S: Replica> Node<Q, S> {
                 self.meet(outline.sender);
                 Ok(())
             }
-            Some(gossip) => self.merge(
-                outline.sender,
-                gossip.known,
-                copies,
-                gossip.map,
-                gossip.number,
-                gossip.heard,
-            ),
+            Some(gossip) => self.merge(outline.sender, gossip, copies),
         }
     }
 }
@@ -102,14 +97,9 @@ impl<Q: Quorums, S: Replica> Node<Q, S> {
                 self.meet(letter.sender);
                 Ok(())
             }
-            Kind::Gossip(gossip) => self.merge(
-                letter.sender,
-                gossip.known,
-                &gossip.copies,
-                &gossip.map,
-                gossip.number,
-                gossip.heard,
-            ),
+            Kind::Gossip(gossip) => {
+                self.merge(letter.sender, &outline_of(gossip), &gossip.copies)
+            }
         }
     }
 
@@ -136,6 +126,8 @@ impl<Q: Quorums, S: Replica> Node<Q, S> {
             map: &self.map,
             number: self.number,
             heard: self.heard.of(to),
+            vote: self.vote,
+            offer: self.offer(),
         })
     }
 
@@ -158,31 +150,49 @@ impl<Q: Quorums, S: Replica> Node<Q, S> {
         self.known = self.known.with(from);
     }
 
-    // Merges gossip, if there is a phase number for it.
+    // Merges gossip and copies, if there is a phase number for it.
     fn merge(
         &mut self,
         from: Name,
-        known: Members,
+        gossip: &GossipOutline<'_, Q>,
         copies: &Pack,
-        map: &ConfigMap<Q>,
-        number: u64,
-        heard: u64,
     ) -> Result<(), Refusal>
-        ensures ok { OnOk result ((any_gap heard map.now self.old.calls && is_last self.old.number) ≡ false
-            → self.new ≡ heard_gossip self.old from (record { known = known; copies = copies.now; map = map.now; number = number; heard = heard })) }
+        ensures ok { OnOk result ((any_gap gossip.now.heard gossip.now.map.now self.old.calls && is_last self.old.number) ≡ false
+            → self.new ≡ heard_gossip self.old from (gossip_with (gossip_outlined gossip.now) copies.now)) }
         ensures refused { IfErr result (λ r. r ≡ Refusal.OutOfMemory) }
         ensures err { OnErr result (self.new ≡ self.old) }
     {
-        let own = self.number_after(heard, map);
-        self.calls.make_room(map)?;
+        let own = self.number_after(gossip.heard, gossip.map);
+        let collection = self.collection_after(from, gossip.heard);
+        let attempt = self.attempt_after(from, gossip);
+        let vote = self.vote_after(gossip);
+        self.calls.make_room(gossip.map)?;
         self.registers.merge(copies)?;
-        self.map.merge(map);
-        self.calls.hear(from, heard, map, own, &self.map, self.name);
+        self.map.merge(gossip.map);
+        self.calls
+            .hear(from, gossip.heard, gossip.map, own, &self.map, self.name);
         self.status.wake();
-        self.known = self.known.union(known);
-        self.heard.raise(from, number);
+        self.known = self.known.union(gossip.known);
+        self.heard.raise(from, gossip.number);
         self.number = own;
+        self.collection = collection;
+        self.attempt = attempt;
+        self.vote = vote;
         Ok(())
+    }
+}
+
+// Gossip without its copies.
+fn outline_of<Q: Quorums>(gossip: &Gossip<Q>) -> GossipOutline<'_, Q>
+    ensures { gossip_outlined result ≡ gossip_with gossip.now map.empty }
+{
+    GossipOutline {
+        known: gossip.known,
+        map: &gossip.map,
+        number: gossip.number,
+        heard: gossip.heard,
+        vote: gossip.vote,
+        offer: gossip.offer,
     }
 }
 
@@ -198,6 +208,8 @@ fn kind_of<Q: Quorums>(gossip: &Option<GossipOutline<'_, Q>>, copies: Pack) -> K
             map: gossip.map.copy(),
             number: gossip.number,
             heard: gossip.heard,
+            vote: gossip.vote,
+            offer: gossip.offer,
         }),
     }
 }

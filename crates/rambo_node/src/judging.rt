@@ -1,6 +1,10 @@
 //! Why a node refuses a change.
-ghost use Rattle.std.specs.Prelude.{◌≡◌, OnOk, IfErr, None, Some};
+ghost use Rattle.std.specs.Prelude.{◌≡◌, ◌&&◌, ◌||◌, not, nat_eq, nat_le, nat_lt, length, OnOk, IfErr, None, Some};
+ghost use Rattle.std.specs.FinSet as set;
+ghost use Rattle.rambo_names.specs.Names.{count_of};
+ghost use Rattle.rambo_atomic.specs.Calls.{key_of};
 ghost use Rattle.rambo_names.specs.Refusals.{least};
+ghost use Rattle.rambo_gossip.specs.Outlines.{outlined};
 ghost use Rattle.rambo_node.specs.Refusals.{join_causes, call_causes, send_causes, advance_causes, again_causes, stop_causes, tags_spent, value_is_long, restarts, query_spent, is_last, is_missing, is_unmet};
 ghost use Rattle.rambo_node.specs.Nodes.{open_call};
 ghost use Rattle.rambo_node.specs.Operations.{query_in};
@@ -10,7 +14,7 @@ ghost use Rattle.rambo_node.specs.declared.change.Change.TheVariants as change;
 use crate::change::Change;
 use crate::node::Node;
 use rambo_atomic::{CallId, Op};
-use rambo_gossip::{Kind, Letter, LetterOutline};
+use rambo_gossip::{GossipOutline, Kind, Letter, LetterOutline};
 use rambo_names::{Members, Name, Quorums, Refusal};
 use rambo_tag::Replica;
 
@@ -39,6 +43,19 @@ impl<Q: Quorums, S: Replica> Node<Q, S> {
     ///   sequence number of the key's tag, is the greatest one.
     /// - `Again`: 3 where it is idle or joining, 4 where it has stopped, 7 where there is no such open call, 21
     ///   where the phase number is the greatest one.
+    /// - `Collect`: 3 where it is idle or joining, 4 where it has stopped, 10 where only one place is active, 11
+    ///   where a collection is open, 21 where the phase number is the greatest one.
+    /// - `AdvanceCollect`: 3 where it is idle or joining, 4 where it has stopped, 8 where a collection is open
+    ///   whose place isn't removed and whose quorum isn't there, 12 where no collection is open, 21 where its first
+    ///   quorum is there, its place isn't removed and the phase number is the greatest one.
+    /// - `Recon`: 3 where it is idle or joining, 4 where it has stopped, 13 where it is no member of the
+    ///   configuration at its top, 14 where an attempt is open, 16 where eight places are active, 17 where the wish
+    ///   has a member that it doesn't know, 18 where the wish has no member, 21 where the round that its vote promised,
+    ///   or the top, is the greatest one.
+    /// - `Rebid`: 3 where it is idle or joining, 4 where it has stopped, 15 where no attempt is open for the first
+    ///   unknown place, 21 where the round that its vote promised is the greatest one.
+    /// - `AdvanceRecon`: 3 where it is idle or joining, 4 where it has stopped, 8 where an attempt is open whose place
+    ///   is unknown and whose quorum isn't there, 15 where no attempt is open.
     /// - `Stop`: 3 where it is idle, 4 where it has stopped.
     pub fn judge(&self, change: &Change<Q>) -> Result<(), Refusal>
         ensures ok { OnOk result (refusal_of Q.system self.now change.now ≡ None) }
@@ -51,6 +68,11 @@ impl<Q: Quorums, S: Replica> Node<Q, S> {
             Change::Deliver(letter) => self.may_hear(letter),
             Change::Advance(id) => self.may_advance(id),
             Change::Again(id) => self.may_restart(id),
+            Change::Collect => self.may_collect(),
+            Change::AdvanceCollect => self.may_advance_collect(),
+            Change::Recon(wish) => self.may_recon(wish),
+            Change::Rebid => self.may_rebid(),
+            Change::AdvanceRecon => self.may_advance_recon(),
             Change::Stop => self.may_stop(),
         }
     }
@@ -67,7 +89,7 @@ impl<Q: Quorums, S: Replica> Node<Q, S> {
         if self.status.is_stopped() {
             return Err(Refusal::Stopped);
         }
-        if self.restarts(&letter.kind) && is_last(self.number) {
+        if self.is_out_of_numbers(&letter.kind) {
             return Err(Refusal::NumbersSpent);
         }
         Ok(())
@@ -84,10 +106,7 @@ impl<Q: Quorums, S: Replica> Node<Q, S> {
         if self.status.is_stopped() {
             return Err(Refusal::Stopped);
         }
-        let Some(gossip) = &outline.gossip else {
-            return Ok(());
-        };
-        if self.calls.any_gap(gossip.heard, gossip.map) && is_last(self.number) {
+        if self.is_out_of_numbers_for(&outline.gossip) {
             return Err(Refusal::NumbersSpent);
         }
         Ok(())
@@ -103,6 +122,23 @@ impl<Q: Quorums, S: Replica> Node<Q, S> {
             Kind::Join => false,
             Kind::Gossip(gossip) => self.calls.any_gap(gossip.heard, &gossip.map),
         }
+    }
+
+    // Whether gossip, where a letter is some, would restart a phase, and there is no number for it.
+    fn is_out_of_numbers_for(&self, gossip: &Option<GossipOutline<'_, Q>>) -> bool
+        ensures { result ≡ (restarts self.now (outlined gossip.now) && is_last self.now.number) }
+    {
+        match gossip {
+            None => false,
+            Some(gossip) => self.calls.any_gap(gossip.heard, gossip.map) && is_last(self.number),
+        }
+    }
+
+    // Whether a letter would restart a phase, and there is no number for it.
+    fn is_out_of_numbers(&self, kind: &Kind<Q>) -> bool
+        ensures { result ≡ (restarts self.now kind.now && is_last self.now.number) }
+    {
+        self.restarts(kind) && is_last(self.number)
     }
 
     // Whether a set can take no further tag.
@@ -126,10 +162,17 @@ impl<Q: Quorums, S: Replica> Node<Q, S> {
         if !self.status.is_idle() {
             return Err(Refusal::NameUsed);
         }
-        if contacts.count() == 0 {
+        if is_nobody(contacts) {
             return Err(Refusal::EmptyMembers);
         }
         Ok(())
+    }
+
+    // Whether it has as many open calls as it may have.
+    fn is_full(&self) -> bool
+        ensures { result ≡ nat_le 64 (length self.now.calls) }
+    {
+        self.calls.len() >= CALL_LIMIT
     }
 
     /// Why a client may not ask this of the node, if it may not: what `judge` says of a call, where none is made yet.
@@ -143,10 +186,10 @@ impl<Q: Quorums, S: Replica> Node<Q, S> {
         if self.status.is_stopped() {
             return Err(Refusal::Stopped);
         }
-        if self.calls.len() >= CALL_LIMIT {
+        if self.is_full() {
             return Err(Refusal::Busy);
         }
-        if op.key().len() > KEY_LIMIT {
+        if key_is_long(op) {
             return Err(Refusal::KeyTooLong);
         }
         if value_is_long(op) {
@@ -172,7 +215,7 @@ impl<Q: Quorums, S: Replica> Node<Q, S> {
         if self.status.is_stopped() {
             return Err(Refusal::Stopped);
         }
-        if to == self.name || !self.known.has(to) {
+        if is_out_of_reach(self.name, self.known, to) {
             return Err(Refusal::NotKnown);
         }
         Ok(())
@@ -261,10 +304,30 @@ impl<Q: Quorums, S: Replica> Node<Q, S> {
 }
 
 // Whether a counter can't rise.
-fn is_last(number: u64) -> bool
+pub(crate) fn is_last(number: u64) -> bool
     ensures { result ≡ is_last number }
 {
     number == u64::MAX
+}
+
+// Whether a set has no name.
+pub(crate) fn is_nobody(names: Members) -> bool
+    ensures { result ≡ nat_eq (count_of names) 0 }
+{
+    names.count() == 0
+}
+
+// Whether a name is the own one or none that is known.
+fn is_out_of_reach(me: Name, known: Members, to: Name) -> bool
+    ensures { result ≡ (nat_eq to me || not (set.contains known to)) }
+{
+    to == me || !known.has(to)
+}
+
+fn key_is_long(op: &Op) -> bool
+    ensures { result ≡ nat_lt 256 (length (key_of op.now)) }
+{
+    op.key().len() > KEY_LIMIT
 }
 
 fn value_is_long(op: &Op) -> bool

@@ -2,20 +2,26 @@
 #![tactic(auto)]
 
 mod advancing;
+mod bids;
 mod change;
+mod decided;
 mod deed;
 mod effect;
 mod heard_numbers;
 mod hearing;
 mod judging;
+mod judging_turns;
 mod laws;
 mod node;
 mod open_call;
 mod open_calls;
+mod reconfiguring;
 mod stage;
 mod taking;
+mod turns;
 
 pub use change::Change;
+pub use decided::Decided;
 pub use deed::Deed;
 pub use effect::Effect;
 pub use laws::{causes_rise, short_letters_are_heard_alike};

@@ -9,14 +9,17 @@ use crate::heard_numbers::HeardNumbers;
 use crate::open_calls::OpenCalls;
 use rambo_atomic::{CallId, Op};
 use rambo_config_map::ConfigMap;
+use rambo_gc::Collection;
 use rambo_joiner::Status;
 use rambo_names::{Members, Name, Quorums};
+use rambo_paxos::{Attempt, Vote};
 use rambo_tag::{Replica, Version};
 use std::alloc::Global;
 use std::marker::Model;
 
 /// One node: its status, the names that it knows, its copies, its configuration map, its phase number, the
-/// phase numbers that it heard of others, and its open calls.
+/// phase numbers that it heard of others, its open calls, and how far it is with the next and the oldest
+/// configuration.
 ///
 /// All that happens to it is a `Change`. One that is refused leaves the node as it was. Of several causes of
 /// a refusal the one of the least number is told, and `OutOfMemory` only where there is no other.
@@ -25,12 +28,15 @@ pub struct Node<Q: Quorums, S: Replica> {
     pub(crate) name: Name,
     pub(crate) status: Status,
     pub(crate) known: Members,
-    pub(crate) registers: S,
-    pub(crate) map: ConfigMap<Q>,
     pub(crate) number: u64,
     pub(crate) made: u64,
     pub(crate) heard: HeardNumbers,
+    pub(crate) collection: Option<Collection>,
+    pub(crate) registers: S,
+    pub(crate) vote: Vote<Q>,
+    pub(crate) attempt: Option<Attempt<Q>>,
     pub(crate) calls: OpenCalls<Q>,
+    pub(crate) map: ConfigMap<Q>,
 }
 
 impl<Q: Quorums, S: Replica> Model for Node<Q, S> {
@@ -43,7 +49,7 @@ impl<Q: Quorums, S: Replica> Model for Node<Q, S> {
 
     ghost coded = { Prim.hlevel (codes, names_code, copies_code, Q.code) };
 
-    ghost use Rattle.rambo_node.specs.Kept.{calls_of};
+    ghost use Rattle.rambo_node.specs.Kept.{calls_of, AttemptFits};
 
     ghost view = { λ n. record {
       name = n.name;
@@ -55,7 +61,12 @@ impl<Q: Quorums, S: Replica> Model for Node<Q, S> {
       made = n.made;
       heard = n.heard;
       calls = calls_of n.calls;
+      collection = n.collection;
+      attempt = n.attempt;
+      vote = n.vote;
     } };
+
+    ghost invariant = { λ n. AttemptFits n.map n.attempt };
 }
 
 impl<Q: Quorums, S: Replica> Node<Q, S> {
@@ -79,6 +90,9 @@ impl<Q: Quorums, S: Replica> Node<Q, S> {
             made: 0,
             heard: HeardNumbers::new(),
             calls: OpenCalls::new(alloc),
+            collection: None,
+            attempt: None,
+            vote: Vote::new(),
         }
     }
 

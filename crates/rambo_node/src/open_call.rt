@@ -44,7 +44,7 @@ impl<Q: Quorums> OpenCall<Q> {
     }
 
     // What it does when its propagation is met, if it is in it.
-    pub(crate) fn answered(&self, id: CallId) -> Result<Deed, Refusal>
+    pub(crate) fn answered(&self, id: CallId) -> Result<Deed<Q>, Refusal>
         ensures ok { IfOk result (λ d. d ≡ answered_in id self.now.op self.now.stage) }
         ensures refused { IfErr result (λ r. r ≡ Refusal.OutOfMemory) }
     {

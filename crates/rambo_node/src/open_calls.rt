@@ -195,7 +195,7 @@ impl<Q: Quorums> OpenCalls<Q> {
     }
 
     // What the call of an id's number does when its propagation is met, if it is in it.
-    pub(crate) fn answered(&self, id: CallId) -> Result<Deed, Refusal>
+    pub(crate) fn answered(&self, id: CallId) -> Result<Deed<Q>, Refusal>
         ensures ok { IfOk result (λ d. d ≡ answered_from id (find_call id.number (calls_of self.now))) }
         ensures refused { IfErr result (λ r. r ≡ Refusal.OutOfMemory) }
     {

@@ -1,11 +1,12 @@
 //! The changes that a node takes.
-ghost use Rattle.std.specs.Prelude.{◌≡◌, ◌+◌, None, OnOk, OnErr, IfOk, IfErr};
+ghost use Rattle.std.specs.Prelude.{◌≡◌, ◌+◌, None, Some, OnOk, OnErr, IfOk, IfErr};
 ghost use Rattle.rambo_names.specs.Refusals.{IsRefusal};
-ghost use Rattle.rambo_node.specs.Changes.{refusal_of, made_by, answer_in};
+ghost use Rattle.rambo_node.specs.Changes.{refusal_of, made_by, answer_in, collected_in, decided_in};
 ghost use Rattle.rambo_node.specs.Operations.{joined_by, stopped};
 ghost use Rattle.rambo_node.specs.declared.change.Change.TheVariants as change;
 
 use crate::change::Change;
+use crate::decided::Decided;
 use crate::deed::Deed;
 use crate::node::Node;
 use rambo_atomic::{Answer, CallId, Op};
@@ -18,7 +19,7 @@ impl<Q: Quorums, S: Replica> Node<Q, S> {
     ///
     /// Refused are those of `judge`, and 22 where there is no room for what is new.
     #[tactic(auto, unfolding(crate::specs::Changes::made_by))]
-    pub fn take(&mut self, change: Change<Q>) -> Result<Deed, Refusal>
+    pub fn take(&mut self, change: Change<Q>) -> Result<Deed<Q>, Refusal>
         ensures judged { OnOk result (refusal_of Q.system self.old change ≡ None) }
         ensures node { OnOk result (self.new ≡ (made_by self.old change).node) }
         ensures deed { IfOk result (λ d. d ≡ (made_by self.old change).deed) }
@@ -33,7 +34,7 @@ impl<Q: Quorums, S: Replica> Node<Q, S> {
     ///
     /// `OutOfMemory` where there is no room for what is new; the node is then as it was.
     #[tactic(auto, unfolding(crate::specs::Changes::made_by))]
-    pub fn act(&mut self, change: &Change<Q>) -> Result<Deed, Refusal>
+    pub fn act(&mut self, change: &Change<Q>) -> Result<Deed<Q>, Refusal>
         requires { refusal_of Q.system self.old change.now ≡ None }
         ensures node { OnOk result (self.new ≡ (made_by self.old change.now).node) }
         ensures deed { IfOk result (λ d. d ≡ (made_by self.old change.now).deed) }
@@ -56,6 +57,20 @@ impl<Q: Quorums, S: Replica> Node<Q, S> {
                 self.do_again(*id);
                 Ok(Deed::quiet())
             }
+            Change::Collect => {
+                self.do_collect();
+                Ok(Deed::quiet())
+            }
+            Change::AdvanceCollect => Ok(self.do_advance_collect()),
+            Change::Recon(wish) => {
+                self.do_recon(*wish);
+                Ok(Deed::quiet())
+            }
+            Change::Rebid => {
+                self.do_rebid();
+                Ok(Deed::quiet())
+            }
+            Change::AdvanceRecon => Ok(self.do_advance_recon()),
             Change::Stop => {
                 self.do_stop();
                 Ok(Deed::quiet())
@@ -132,6 +147,100 @@ impl<Q: Quorums, S: Replica> Node<Q, S> {
         self.may_restart(&id)?;
         self.do_again(id);
         Ok(())
+    }
+
+    /// The collection of the lowest place begins: under a new phase number the node asks for a quorum of the
+    /// configuration there, and replies itself. It takes no memory.
+    ///
+    /// Refused are 3 where the node is idle or joining, 4 where it has stopped, 10 where only one place is active,
+    /// 11 where a collection is open, 21 where the phase number is the greatest one.
+    #[tactic(auto, unfolding(crate::specs::Changes::made_by))]
+    pub fn collect(&mut self) -> Result<(), Refusal>
+        ensures judged { OnOk result (refusal_of Q.system self.old change.Collect ≡ None) }
+        ensures node { OnOk result (self.new ≡ (made_by self.old change.Collect).node) }
+        ensures refused { IfErr result (λ r. refusal_of Q.system self.old change.Collect ≡ Some r) }
+        ensures err { OnErr result (self.new ≡ self.old) }
+    {
+        self.may_collect()?;
+        self.do_collect();
+        Ok(())
+    }
+
+    /// The open collection goes on. Where the first quorum is there, it asks for one of the next place's
+    /// configuration, under a new phase number: the answer is none. Where the second one is there, the place is
+    /// removed, and where it is removed already, the collection ends at once: the answer is the place. It takes no
+    /// memory.
+    ///
+    /// Refused are 3 where the node is idle or joining, 4 where it has stopped, 8 where the place isn't removed and
+    /// the quorum isn't there, 12 where no collection is open, 21 where the first quorum is there, the place isn't
+    /// removed and the phase number is the greatest one.
+    #[tactic(auto, unfolding(crate::specs::Changes::made_by))]
+    pub fn advance_collect(&mut self) -> Result<Option<u64>, Refusal>
+        ensures judged { OnOk result (refusal_of Q.system self.old change.AdvanceCollect ≡ None) }
+        ensures node { OnOk result (self.new ≡ (made_by self.old change.AdvanceCollect).node) }
+        ensures place { IfOk result (λ place. place ≡ collected_in (made_by self.old change.AdvanceCollect).deed.effect) }
+        ensures refused { IfErr result (λ r. refusal_of Q.system self.old change.AdvanceCollect ≡ Some r) }
+        ensures err { OnErr result (self.new ≡ self.old) }
+    {
+        self.may_advance_collect()?;
+        let deed = self.do_advance_collect();
+        Ok(deed.effect.collected())
+    }
+
+    /// An attempt begins to have this configuration chosen for the first unknown place, with a ballot of the round
+    /// above the one that the node's vote promised. The vote takes the offer of it. It takes no memory.
+    ///
+    /// Refused are 3 where the node is idle or joining, 4 where it has stopped, 13 where it is no member of the
+    /// configuration at its top, 14 where an attempt is open, 16 where eight places are active, 17 where the wish has
+    /// a member that the node doesn't know, 18 where the wish has no member, 21 where the promised round or the top
+    /// is the greatest number.
+    #[tactic(auto, unfolding(crate::specs::Changes::made_by))]
+    pub fn recon(&mut self, wish: Q) -> Result<(), Refusal>
+        ensures judged { OnOk result (refusal_of Q.system self.old (change.Recon wish) ≡ None) }
+        ensures node { OnOk result (self.new ≡ (made_by self.old (change.Recon wish)).node) }
+        ensures refused { IfErr result (λ r. refusal_of Q.system self.old (change.Recon wish) ≡ Some r) }
+        ensures err { OnErr result (self.new ≡ self.old) }
+    {
+        self.may_recon(&wish)?;
+        self.do_recon(wish);
+        Ok(())
+    }
+
+    /// The open attempt keeps its wish and begins again, with a ballot of the round above the one that the node's
+    /// vote promised. The vote takes the offer of it. It takes no memory.
+    ///
+    /// Refused are 3 where the node is idle or joining, 4 where it has stopped, 15 where no attempt is open for the
+    /// first unknown place, 21 where the promised round is the greatest number.
+    #[tactic(auto, unfolding(crate::specs::Changes::made_by))]
+    pub fn rebid(&mut self) -> Result<(), Refusal>
+        ensures judged { OnOk result (refusal_of Q.system self.old change.Rebid ≡ None) }
+        ensures node { OnOk result (self.new ≡ (made_by self.old change.Rebid).node) }
+        ensures refused { IfErr result (λ r. refusal_of Q.system self.old change.Rebid ≡ Some r) }
+        ensures err { OnErr result (self.new ≡ self.old) }
+    {
+        self.may_rebid()?;
+        self.do_rebid();
+        Ok(())
+    }
+
+    /// The open attempt goes on. Where a quorum of the configuration at the top promised its ballot, it proposes what
+    /// it was told of, or else its wish: the answer is none. Where a quorum accepted the proposal, its configuration
+    /// is learnt at the first unknown place, and where the attempt's place is known already, the attempt ends at once:
+    /// the answer is what stands at its place then. It takes no memory.
+    ///
+    /// Refused are 3 where the node is idle or joining, 4 where it has stopped, 8 where the attempt's place is unknown
+    /// and its quorum isn't there, 15 where no attempt is open.
+    #[tactic(auto, unfolding(crate::specs::Changes::made_by))]
+    pub fn advance_recon(&mut self) -> Result<Option<Decided<Q>>, Refusal>
+        ensures judged { OnOk result (refusal_of Q.system self.old change.AdvanceRecon ≡ None) }
+        ensures node { OnOk result (self.new ≡ (made_by self.old change.AdvanceRecon).node) }
+        ensures decided { IfOk result (λ d. d ≡ decided_in (made_by self.old change.AdvanceRecon).deed.effect) }
+        ensures refused { IfErr result (λ r. refusal_of Q.system self.old change.AdvanceRecon ≡ Some r) }
+        ensures err { OnErr result (self.new ≡ self.old) }
+    {
+        self.may_advance_recon()?;
+        let deed = self.do_advance_recon();
+        Ok(deed.effect.decided())
     }
 
     /// The node stops for ever.

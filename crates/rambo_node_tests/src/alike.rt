@@ -17,6 +17,8 @@ fn is_gossip_alike(
                 && gossip.map.same(others.map)
                 && gossip.number == others.number
                 && gossip.heard == others.heard
+                && gossip.vote == others.vote
+                && gossip.offer == others.offer
         }
         _ => false,
     }
@@ -55,6 +57,14 @@ fn is_copy_alike(host: &Host, twin: &Host, key: u8) -> bool {
     host.copy(&[key]) == twin.copy(&[key])
 }
 
+// Whether what they collect and bid for is alike.
+fn turn_alike(host: &Host, twin: &Host) -> bool {
+    host.judge(&Change::Collect) == twin.judge(&Change::Collect)
+        && host.judge(&Change::AdvanceCollect) == twin.judge(&Change::AdvanceCollect)
+        && host.judge(&Change::Rebid) == twin.judge(&Change::Rebid)
+        && host.judge(&Change::AdvanceRecon) == twin.judge(&Change::AdvanceRecon)
+}
+
 fn stand_alike(host: &Host, twin: &Host) -> bool {
     let nobody = Members::empty();
     host.name() == twin.name()
@@ -81,5 +91,5 @@ pub(crate) fn are_alike(host: &Host, twin: &Host) -> Result<bool, Refusal> {
             return Ok(false);
         }
     }
-    Ok(stand_alike(host, twin))
+    Ok(stand_alike(host, twin) && turn_alike(host, twin))
 }

@@ -35,7 +35,7 @@ fn op(alloc: Global, value: Option<u8>) -> Result<Op, Refusal> {
 }
 
 // A call is made once more where it is refused while memory is short.
-fn call(host: &mut Host, alloc: Global, value: Option<u8>) -> Result<Deed, Refusal> {
+fn call(host: &mut Host, alloc: Global, value: Option<u8>) -> Result<Deed<Majority>, Refusal> {
     match host.take(Change::Call(op(alloc, value)?)) {
         Err(Refusal::OutOfMemory) => host.take(Change::Call(op(alloc, value)?)),
         taken => taken,
@@ -49,7 +49,7 @@ fn id(number: u64) -> Result<CallId, Refusal> {
     })
 }
 
-fn advance(host: &mut Host, number: u64) -> Result<Deed, Refusal> {
+fn advance(host: &mut Host, number: u64) -> Result<Deed<Majority>, Refusal> {
     match host.take(Change::Advance(id(number)?)) {
         Err(Refusal::OutOfMemory) => host.take(Change::Advance(id(number)?)),
         taken => taken,
@@ -67,7 +67,7 @@ fn is_first(version: &Version) -> bool {
 }
 
 // The numbers of the calls that a deed tells, or 0.
-fn called(deed: &Deed) -> (u64, u64) {
+fn called(deed: &Deed<Majority>) -> (u64, u64) {
     let told = match &deed.effect {
         Effect::Called(id) => id.number,
         _ => 0,
@@ -79,7 +79,7 @@ fn called(deed: &Deed) -> (u64, u64) {
     (told, written)
 }
 
-fn answered(deed: &Deed) -> (u64, u64) {
+fn answered(deed: &Deed<Majority>) -> (u64, u64) {
     let told = match &deed.effect {
         Effect::Answered(id, Answer::Ok | Answer::Value(_)) => id.number,
         _ => 0,
@@ -91,7 +91,7 @@ fn answered(deed: &Deed) -> (u64, u64) {
     (told, written)
 }
 
-fn is_moved(deed: &Deed) -> bool {
+fn is_moved(deed: &Deed<Majority>) -> bool {
     let is_effect = match &deed.effect {
         Effect::Moved => true,
         _ => false,
@@ -99,12 +99,12 @@ fn is_moved(deed: &Deed) -> bool {
     is_effect && deed.event.is_none()
 }
 
-fn leaves_nothing(deed: &Deed) -> bool {
+fn leaves_nothing(deed: &Deed<Majority>) -> bool {
     deed.mark.is_none() && deed.copy.is_none()
 }
 
 // Whether a deed has the mark of this call, with the first set's copy.
-fn is_marked(deed: &Deed, number: u64, is_get: bool) -> bool {
+fn is_marked(deed: &Deed<Majority>, number: u64, is_get: bool) -> bool {
     match &deed.mark {
         Some(mark) => {
             mark.id.number == number
@@ -115,7 +115,7 @@ fn is_marked(deed: &Deed, number: u64, is_get: bool) -> bool {
     }
 }
 
-fn has_put_first(deed: &Deed) -> bool {
+fn has_put_first(deed: &Deed<Majority>) -> bool {
     match &deed.copy {
         Some(copy) => byte(&copy.key) == 107 && is_first(&copy.version),
         None => false,

@@ -16,4 +16,6 @@ mod step;
 #[cfg(test)]
 mod town;
 #[cfg(test)]
+mod turns;
+#[cfg(test)]
 mod twins;

@@ -41,6 +41,8 @@ impl Mail {
                 map: gossip.map.copy(),
                 number: gossip.number,
                 heard: gossip.heard,
+                vote: gossip.vote,
+                offer: gossip.offer,
             }),
         };
         Mail {

@@ -199,6 +199,7 @@ const FROM_ONE: Forged = Forged {
     active: 1,
     member: 1,
     copies: [(122, 1, 1, 0); 5],
+    offered: 0,
 };
 
 // A reply whose floor is two above the phase's top begins the phase anew, and counts no more.
@@ -290,6 +291,7 @@ const HELD: Forged = Forged {
         (98, 1, 2, 50),
         (98, 1, 2, 50),
     ],
+    offered: 0,
 };
 
 const BROUGHT: Forged = Forged {
@@ -304,6 +306,7 @@ const BROUGHT: Forged = Forged {
         (98, 3, 2, 52),
         (101, 1, 2, 55),
     ],
+    offered: 0,
 };
 
 // A letter with five copies replies to two open calls, whose phases get four places more.
@@ -390,6 +393,7 @@ const LAST_TAG: Forged = Forged {
     active: 1,
     member: 1,
     copies: [(107, u64::MAX, 2, 1); 5],
+    offered: 0,
 };
 
 #[test]

@@ -12,6 +12,8 @@ pub(crate) struct Forged {
     pub(crate) active: u64,
     pub(crate) member: u64,
     pub(crate) copies: [Copied; 5],
+    // The round of the ballot that its sender asks promises for, or 0.
+    pub(crate) offered: u64,
 }
 
 // What a node does, whose name comes first.
@@ -38,9 +40,17 @@ pub(crate) enum Step {
     Again(u64, u64),
     // It is asked to go on with a call of another node.
     AdvanceOf(u64, u64, u64),
+    // It begins to collect, and its collection goes on.
+    Collect(u64),
+    AdvanceCollect(u64),
+    // It wishes the members from one number to another, begins again, and its attempt goes on.
+    Recon(u64, u64, u64),
+    Rebid(u64),
+    AdvanceRecon(u64),
     // It is looked at, and its copy of a key.
     Look(u64),
     Copy(u64, u8),
     // A letter is read.
     Read(usize),
+    ReadVote(usize),
 }

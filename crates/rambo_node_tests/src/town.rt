@@ -2,13 +2,16 @@
 
 use crate::alike::are_alike;
 use crate::mail::Mail;
-use crate::seen::{Seen, byte, seen_of_answer, seen_of_deed, seen_of_mail};
+use crate::seen::{
+    Seen, byte, seen_of_answer, seen_of_decided, seen_of_deed, seen_of_mail, seen_of_vote,
+};
 use crate::step::{Copied, Forged, Step};
 use rambo_atomic::{CallId, Op};
 use rambo_config_map::ConfigMap;
 use rambo_gossip::{Gossip, Letter};
 use rambo_names::{Bytes, Majority, Members, Name, Refusal};
-use rambo_node::{Change, Node};
+use rambo_node::{Change, Decided, Node};
+use rambo_paxos::{Ballot, Offer, Vote};
 use rambo_tag::{KeyedVersion, Pack, Registers, Tag, Version};
 use std::alloc::Global;
 use std::hash::{BuildHasherDefault, FoldHasher};
@@ -96,6 +99,16 @@ fn map(
     Ok(map)
 }
 
+fn offer(forged: &Forged) -> Result<Option<Offer<Majority>>, Refusal> {
+    if forged.offered == 0 {
+        return Ok(None);
+    }
+    Ok(Some(Offer::Prepare(Ballot {
+        round: forged.offered,
+        name: Name::new(forged.from)?,
+    })))
+}
+
 fn forge(
     alloc: Global,
     number: u64,
@@ -112,8 +125,24 @@ fn forge(
             map: map(alloc, floor, forged.active, forged.member)?,
             number,
             heard,
+            vote: Vote::new(),
+            offer: offer(forged)?,
         }),
     })
+}
+
+fn seen_of_place(place: Option<u64>) -> Seen {
+    match place {
+        Some(place) => Seen::Collected(place),
+        None => Seen::Moved,
+    }
+}
+
+fn seen_of_bid(decided: &Option<Decided<Majority>>) -> Seen {
+    match decided {
+        Some(decided) => seen_of_decided(decided),
+        None => Seen::Moved,
+    }
 }
 
 // What the call of the name of a change comes to.
@@ -131,6 +160,11 @@ fn call_by_name(host: &mut Host, change: Change<Majority>) -> Result<Seen, Refus
         }
         Change::Advance(id) => return Ok(seen_of_answer(&host.advance(id)?)),
         Change::Again(id) => host.again(id)?,
+        Change::Collect => host.collect()?,
+        Change::AdvanceCollect => return Ok(seen_of_place(host.advance_collect()?)),
+        Change::Recon(wish) => host.recon(wish)?,
+        Change::Rebid => host.rebid()?,
+        Change::AdvanceRecon => return Ok(seen_of_bid(&host.advance_recon()?)),
         Change::Stop => host.stop()?,
     }
     Ok(Seen::Done)
@@ -242,6 +276,21 @@ impl Town {
         self.change(of, Change::Again(CallId { name, number }))
     }
 
+    fn recon(&mut self, of: u64, first: u64, last: u64) -> Result<Seen, Refusal> {
+        let mut members = Members::empty();
+        for number in first..last.saturating_add(1) {
+            members = members.with(Name::new(number)?);
+        }
+        self.change(of, Change::Recon(Majority::of(members)))
+    }
+
+    fn read_vote(&self, place: usize) -> Result<Seen, Refusal> {
+        match self.letters.get(place) {
+            Some(mail) => Ok(seen_of_vote(mail)),
+            None => Err(Refusal::NoSuchLetter),
+        }
+    }
+
     fn read(&self, place: usize) -> Result<Seen, Refusal> {
         match self.letters.get(place) {
             Some(mail) => Ok(seen_of_mail(mail)),
@@ -265,9 +314,15 @@ impl Town {
             Step::AdvanceOf(of, name, number) => self.advance(of, name, number),
             Step::Again(of, number) => self.again(of, number),
             Step::Forge(number, heard, floor, forged) => self.forge(number, heard, floor, &forged),
+            Step::Collect(of) => self.change(of, Change::Collect),
+            Step::AdvanceCollect(of) => self.change(of, Change::AdvanceCollect),
+            Step::Recon(of, first, last) => self.recon(of, first, last),
+            Step::Rebid(of) => self.change(of, Change::Rebid),
+            Step::AdvanceRecon(of) => self.change(of, Change::AdvanceRecon),
             Step::Look(of) => Ok(look(host_of(self.hosts.as_slice(), of)?)),
             Step::Copy(of, key) => Ok(look_at_copy(host_of(self.hosts.as_slice(), of)?, key)),
             Step::Read(place) => self.read(place),
+            Step::ReadVote(place) => self.read_vote(place),
         }
     }
 

@@ -10,7 +10,7 @@ use Rattle.rambo_text.specs.declared.fault.Fault.TheVariants.{UnknownWord, Wrong
 use Rattle.rambo_text.specs.Forms.{Form, Num, Name, Set, Call, Hex, IsBadWord}
 use Rattle.rambo_text.specs.Words.{AreMore, IsFirstWord}
 use Rattle.rambo_text.proofs.WordSplits.{words_joined}
-use Rattle.rambo_outcome.specs.Plans.{Plan, Forms, each, call_plan, answer_plan, refused_plan, sequence_plan, map_plan, plan, IsPlanFault, IsLineFault, IsFaulty}
+use Rattle.rambo_outcome.specs.Plans.{Plan, Forms, each, call_plan, answer_plan, collected_plan, decided_plan, refused_plan, sequence_plan, map_plan, plan, IsPlanFault, IsLineFault, IsFaulty}
 use Rattle.rambo_outcome.proofs.LineWords.{more_has_words}
 use Rattle.rambo_outcome.proofs.Rows.{length-each}
 
@@ -32,32 +32,49 @@ line_fault line first more p f is same (inr bad) =
 abbrev IsWord : List ℕ → List ℕ → Bool → Type 0
 IsWord w text b = b ≡ bytes_eq w text
 
-pub plan_call : (w : List ℕ) → true ≡ bytes_eq w (codes "call") → (ws : List (List ℕ)) → plan (w ∷ ws) ≡ call_plan ws
-plan_call w e ws = then_so _ _ _ e
+pub plan_call : (w : List ℕ) → true ≡ bytes_eq w (codes "call")
+    → (ws : List (List ℕ)) → plan (w ∷ ws) ≡ call_plan ws
+plan_call w is ws = then_so _ _ _ is
 
-pub plan_answer : (w : List ℕ) → false ≡ bytes_eq w (codes "call") → true ≡ bytes_eq w (codes "answer") → (ws : List (List ℕ)) → plan (w ∷ ws) ≡ answer_plan ws
-plan_answer w a e ws = else_so _ _ _ a ∙ then_so _ _ _ e
+pub plan_answer : (w : List ℕ) → false ≡ bytes_eq w (codes "call") → true ≡ bytes_eq w (codes "answer")
+    → (ws : List (List ℕ)) → plan (w ∷ ws) ≡ answer_plan ws
+plan_answer w a is ws = else_so _ _ _ a ∙ then_so _ _ _ is
 
-pub plan_refused : (w : List ℕ) → false ≡ bytes_eq w (codes "call") → false ≡ bytes_eq w (codes "answer") → true ≡ bytes_eq w (codes "refused")
+pub plan_collected : (w : List ℕ) → false ≡ bytes_eq w (codes "call") → false ≡ bytes_eq w (codes "answer") → true ≡ bytes_eq w (codes "collected")
+    → (ws : List (List ℕ)) → plan (w ∷ ws) ≡ collected_plan ws
+plan_collected w a b is ws = else_so _ _ _ a ∙ else_so _ _ _ b ∙ then_so _ _ _ is
+
+pub plan_decided : (w : List ℕ) → false ≡ bytes_eq w (codes "call") → false ≡ bytes_eq w (codes "answer") → false ≡ bytes_eq w (codes "collected")
+    → true ≡ bytes_eq w (codes "decided")
+    → (ws : List (List ℕ)) → plan (w ∷ ws) ≡ decided_plan ws
+plan_decided w a b c is ws = else_so _ _ _ a ∙ else_so _ _ _ b ∙ else_so _ _ _ c ∙ then_so _ _ _ is
+
+pub plan_refused : (w : List ℕ) → false ≡ bytes_eq w (codes "call") → false ≡ bytes_eq w (codes "answer") → false ≡ bytes_eq w (codes "collected")
+    → false ≡ bytes_eq w (codes "decided") → true ≡ bytes_eq w (codes "refused")
     → (ws : List (List ℕ)) → plan (w ∷ ws) ≡ refused_plan ws
-plan_refused w a b e ws = else_so _ _ _ a ∙ else_so _ _ _ b ∙ then_so _ _ _ e
+plan_refused w a b c d is ws = else_so _ _ _ a ∙ else_so _ _ _ b ∙ else_so _ _ _ c ∙ else_so _ _ _ d ∙ then_so _ _ _ is
 
-pub plan_sequence : (w : List ℕ) → false ≡ bytes_eq w (codes "call") → false ≡ bytes_eq w (codes "answer") → false ≡ bytes_eq w (codes "refused")
-    → true ≡ bytes_eq w (codes "sequence") → (ws : List (List ℕ)) → plan (w ∷ ws) ≡ sequence_plan ws
-plan_sequence w a b c e ws = else_so _ _ _ a ∙ else_so _ _ _ b ∙ else_so _ _ _ c ∙ then_so _ _ _ e
+pub plan_sequence : (w : List ℕ) → false ≡ bytes_eq w (codes "call") → false ≡ bytes_eq w (codes "answer") → false ≡ bytes_eq w (codes "collected")
+    → false ≡ bytes_eq w (codes "decided") → false ≡ bytes_eq w (codes "refused") → true ≡ bytes_eq w (codes "sequence")
+    → (ws : List (List ℕ)) → plan (w ∷ ws) ≡ sequence_plan ws
+plan_sequence w a b c d e is ws = else_so _ _ _ a ∙ else_so _ _ _ b ∙ else_so _ _ _ c ∙ else_so _ _ _ d ∙ else_so _ _ _ e ∙ then_so _ _ _ is
 
-pub plan_map : (w : List ℕ) → false ≡ bytes_eq w (codes "call") → false ≡ bytes_eq w (codes "answer") → false ≡ bytes_eq w (codes "refused")
-    → false ≡ bytes_eq w (codes "sequence") → true ≡ bytes_eq w (codes "map") → (ws : List (List ℕ)) → plan (w ∷ ws) ≡ map_plan ws
-plan_map w a b c d e ws = else_so _ _ _ a ∙ else_so _ _ _ b ∙ else_so _ _ _ c ∙ else_so _ _ _ d ∙ then_so _ _ _ e
+pub plan_map : (w : List ℕ) → false ≡ bytes_eq w (codes "call") → false ≡ bytes_eq w (codes "answer") → false ≡ bytes_eq w (codes "collected")
+    → false ≡ bytes_eq w (codes "decided") → false ≡ bytes_eq w (codes "refused") → false ≡ bytes_eq w (codes "sequence")
+    → true ≡ bytes_eq w (codes "map")
+    → (ws : List (List ℕ)) → plan (w ∷ ws) ≡ map_plan ws
+plan_map w a b c d e f is ws = else_so _ _ _ a ∙ else_so _ _ _ b ∙ else_so _ _ _ c ∙ else_so _ _ _ d ∙ else_so _ _ _ e ∙ else_so _ _ _ f ∙ then_so _ _ _ is
 
-pub plan_unknown : (line w : List ℕ) (more : Option (List ℕ)) → IsFirstWord line w more → false ≡ bytes_eq w (codes "call") → false ≡ bytes_eq w (codes "answer")
-    → false ≡ bytes_eq w (codes "refused") → false ≡ bytes_eq w (codes "sequence") → false ≡ bytes_eq w (codes "map") → IsLineFault line UnknownWord
-plan_unknown line w more is a b c d e =
+pub plan_unknown : (line w : List ℕ) (more : Option (List ℕ)) → IsFirstWord line w more
+    → false ≡ bytes_eq w (codes "call") → false ≡ bytes_eq w (codes "answer") → false ≡ bytes_eq w (codes "collected")
+    → false ≡ bytes_eq w (codes "decided") → false ≡ bytes_eq w (codes "refused") → false ≡ bytes_eq w (codes "sequence")
+    → false ≡ bytes_eq w (codes "map") → IsLineFault line UnknownWord
+plan_unknown line w more is a b c d e f g =
     let all = more_has_words more in (
       w ∷ all.0,
       words_joined line w more all.0 is all.1,
       subst (λ q. IsPlanFault q UnknownWord)
-          (sym (else_so _ _ _ a ∙ else_so _ _ _ b ∙ else_so _ _ _ c ∙ else_so _ _ _ d ∙ else_so _ _ _ e)) refl,
+          (sym (else_so _ _ _ a ∙ else_so _ _ _ b ∙ else_so _ _ _ c ∙ else_so _ _ _ d ∙ else_so _ _ _ e ∙ else_so _ _ _ f ∙ else_so _ _ _ g)) refl,
     )
 
 -- what follows the first two words behind `call` or `answer`

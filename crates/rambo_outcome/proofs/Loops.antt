@@ -30,25 +30,25 @@ items-append [] js = refl
 items-append (i ∷ is) js = ap (λ t. item_line i ++ t) (items-append is js) ∙ sym (append_assoc (item_line i) (items_text is) (items_text js))
 
 -- a step more
-pub step_on : (h : List Event) (rs : List (Result Effect Refusal)) (i : ℕ) (r : Result Effect Refusal) (out new whole : List ℕ) → i < length rs
-    → r ≡ get_or rs i r → new ≡ out ++ items_text (step_items h (i + 1) r)
-    → out ++ items_text (steps_items h (i + 1) (drop i rs)) ≡ whole → new ++ items_text (steps_items h (i + 1 + 1) (drop (i + 1) rs)) ≡ whole
-step_on h rs i r out new whole lt item now before =
-    let left = steps_items h (i + 1 + 1) (drop (i + 1) rs) in
+pub step_on : {Q : Type 0} (s : QuorumSystem Q) (h : List Event) (rs : List (Result (Effect Q) Refusal)) (i : ℕ) (r : Result (Effect Q) Refusal) (out new whole : List ℕ) → i < length rs
+    → r ≡ get_or rs i r → new ≡ out ++ items_text (step_items s h (i + 1) r)
+    → out ++ items_text (steps_items s h (i + 1) (drop i rs)) ≡ whole → new ++ items_text (steps_items s h (i + 1 + 1) (drop (i + 1) rs)) ≡ whole
+step_on s h rs i r out new whole lt item now before =
+    let left = steps_items s h (i + 1 + 1) (drop (i + 1) rs) in
     let split = drop_more rs i r lt ∙ ap (λ y. y ∷ drop (i + 1) rs) (sym item) in
-    ap (λ t. t ++ items_text left) now ∙ append_assoc out (items_text (step_items h (i + 1) r)) (items_text left)
-    ∙ ap (λ t. out ++ t) (sym (items-append (step_items h (i + 1) r) left))
-    ∙ ap (λ t. out ++ items_text (steps_items h (i + 1) t)) (sym split) ∙ before
+    ap (λ t. t ++ items_text left) now ∙ append_assoc out (items_text (step_items s h (i + 1) r)) (items_text left)
+    ∙ ap (λ t. out ++ t) (sym (items-append (step_items s h (i + 1) r) left))
+    ∙ ap (λ t. out ++ items_text (steps_items s h (i + 1) t)) (sym split) ∙ before
 
 -- the steps, then the sequences, then the maps
-pub whole_text : {Q : Type 0} (s : QuorumSystem Q) (o : OutcomeState Q) (start a b c : List ℕ) → start ≡ [] → a ≡ start ++ items_text (steps_items o.history 1 o.effects)
+pub whole_text : {Q : Type 0} (s : QuorumSystem Q) (o : OutcomeState Q) (start a b c : List ℕ) → start ≡ [] → a ≡ start ++ items_text (steps_items s o.history 1 o.effects)
     → b ≡ a ++ items_text (map Ordered o.sequences) → c ≡ b ++ items_text (map (map_item s) o.maps) → c ≡ outcome_lines s o
 whole_text s o start a b c none steps sequences maps =
-    let first : a ≡ items_text (steps_items o.history 1 o.effects) = steps ∙ ap (λ t. t ++ items_text (steps_items o.history 1 o.effects)) none in
+    let first : a ≡ items_text (steps_items s o.history 1 o.effects) = steps ∙ ap (λ t. t ++ items_text (steps_items s o.history 1 o.effects)) none in
     maps
     ∙ ap (λ t. t ++ items_text (map (map_item s) o.maps))
-    (sequences ∙ ap (λ t. t ++ items_text (map Ordered o.sequences)) first ∙ sym (items-append (steps_items o.history 1 o.effects) (map Ordered o.sequences)))
-    ∙ sym (items-append (steps_items o.history 1 o.effects ++ map Ordered o.sequences) (map (map_item s) o.maps))
+    (sequences ∙ ap (λ t. t ++ items_text (map Ordered o.sequences)) first ∙ sym (items-append (steps_items s o.history 1 o.effects) (map Ordered o.sequences)))
+    ∙ sym (items-append (steps_items s o.history 1 o.effects ++ map Ordered o.sequences) (map (map_item s) o.maps))
 
 apart : {X : Type 0} (o : Option X) (x : X) → o ≡ None → o ≡ Some x → ⊥
 apart o x e f = let clash : None ≡ Some x = sym e ∙ f in cc

@@ -11,7 +11,7 @@ use Rattle.rambo_atomic.proofs.Splits.{splits-head, splits-tail}
 use Rattle.rambo_outcome.specs.EvidenceStates.{EvidenceState, no_evidence, with_item, IsBadItem}
 use Rattle.rambo_outcome.specs.Items.{IsItem}
 use Rattle.rambo_outcome.specs.Laws.{HasNames, OneReading, OneEvidence, NoToldIsFaulty, OneFault}
-use Rattle.rambo_outcome.specs.Lines.{Item, Happened, Refused, Ordered, Mapped, item_words, items_text}
+use Rattle.rambo_outcome.specs.Lines.{Item, Happened, Collected, Settled, Refused, Ordered, Mapped, item_words, items_text}
 use Rattle.rambo_atomic.specs.declared.event.Event.TheVariants as event
 use Rattle.rambo_outcome.specs.Plans.{Plan, Unknown, Missing, Forms, plan, IsPlanFault, IsLineFault}
 use Rattle.rambo_outcome.specs.Texts.{AreLinesOf, IsFaultBehind}
@@ -35,6 +35,8 @@ no_nothing (x ∷ l) t e = cc
 some_word : (i : Item) → item_words i ≡ [] ∷ [] → ⊥
 some_word (Happened (event.Call c o)) e = cc
 some_word (Happened (event.Answer c a)) e = cc
+some_word (Collected name place) e = cc
+some_word (Settled name place members) e = cc
 some_word (Refused step number) e = cc
 some_word (Ordered s) e = cc
 some_word (Mapped name floor sets) e = cc

@@ -9,7 +9,7 @@ use Rattle.rambo_atomic.specs.declared.event.Event.{Event}
 use Rattle.rambo_atomic.specs.declared.event.Event.TheVariants as event
 use Rattle.rambo_text.specs.Signs.{IsCall, AreBytes}
 use Rattle.rambo_text.specs.Words.{AreMore}
-use Rattle.rambo_outcome.specs.Lines.{Item, Happened, Refused, Ordered, Mapped, item_words}
+use Rattle.rambo_outcome.specs.Lines.{Item, Happened, Collected, Settled, Refused, Ordered, Mapped, item_words}
 
 abbrev pub IsOp : Op → Type 0
 IsOp (op.Get key) = AreBytes key
@@ -27,6 +27,8 @@ IsEvent (event.Answer c a) = IsCall c × IsAnswer a
 -- names, numbers and bytes are in their ranges, and a map has a configuration
 abbrev pub IsItem : Item → Type 0
 IsItem (Happened e) = IsEvent e
+IsItem (Collected name place) = IsName name × (place < 2 ^ 64)
+IsItem (Settled name place members) = IsName name × (place < 2 ^ 64)
 IsItem (Refused step number) = (step < 2 ^ 64) × (number < 2 ^ 64)
 IsItem (Ordered s) = AreBytes s.key × All IsCall s.calls
 IsItem (Mapped name floor sets) = IsName name × (floor < 2 ^ 64) × (sets ≢ [])
@@ -38,6 +40,8 @@ IsSpelling first more i = IsItem i × (words : List (List ℕ)) × AreMore more 
 -- a line that is only read for its form
 abbrev pub IsPassed : Item → Type 0
 IsPassed (Happened e) = ⊥
+IsPassed (Collected name place) = Unit {0}
+IsPassed (Settled name place members) = Unit {0}
 IsPassed (Refused step number) = Unit {0}
 IsPassed (Ordered s) = ⊥
 IsPassed (Mapped name floor sets) = Unit {0}

@@ -1,10 +1,10 @@
 -- What is true of every outcome text
-use Rattle.std.specs.Prelude.{◌≡◌, ◌≢◌, ℕ, List}
+use Rattle.std.specs.Prelude.{◌≡◌, ◌≢◌, ℕ, List, IfSome}
 use Rattle.std.specs.List.{AllByRecursion}
 use Rattle.rambo_text.specs.declared.fault.Fault.TheVariants.{OutOfMemory}
 use Rattle.rambo_text.specs.declared.fault.ScriptFault.{ScriptFault}
 use Rattle.rambo_text.specs.Signs.{AreNames}
-use Rattle.rambo_outcome.specs.Lines.{Item, Happened, Refused, Ordered, Mapped}
+use Rattle.rambo_outcome.specs.Lines.{Item, Happened, Collected, Settled, Refused, Ordered, Mapped}
 use Rattle.rambo_outcome.specs.Items.{IsItem}
 use Rattle.rambo_outcome.specs.EvidenceStates.{EvidenceState}
 use Rattle.rambo_outcome.specs.Texts.{AreLinesOf, IsTold, IsTextFault}
@@ -12,6 +12,8 @@ use Rattle.rambo_outcome.specs.Texts.{AreLinesOf, IsTold, IsTextFault}
 -- the sets of a line have names alone
 abbrev pub HasNames : Item → Type 0
 HasNames (Happened e) = Unit {0}
+HasNames (Collected name place) = Unit {0}
+HasNames (Settled name place members) = IfSome members AreNames
 HasNames (Refused step number) = Unit {0}
 HasNames (Ordered s) = Unit {0}
 HasNames (Mapped name floor sets) = AllByRecursion AreNames sets

@@ -1,5 +1,5 @@
 -- Lines of an outcome text
-use Rattle.std.specs.Prelude.{ℕ, List, [], ◌∷◌, ◌++◌, map, codes, decimal}
+use Rattle.std.specs.Prelude.{ℕ, List, [], ◌∷◌, ◌++◌, Option, map, codes, decimal}
 use Rattle.rambo_names.specs.Names.{NameSet}
 use Rattle.rambo_names.specs.Signs.{set_text}
 use Rattle.rambo_atomic.specs.declared.operation.Op.{Op}
@@ -9,13 +9,16 @@ use Rattle.rambo_atomic.specs.declared.operation.Answer.TheVariants as answer
 use Rattle.rambo_atomic.specs.declared.event.Event.{Event}
 use Rattle.rambo_atomic.specs.declared.event.Event.TheVariants as event
 use Rattle.rambo_sequence.specs.Sequences.{SequenceOf}
-use Rattle.rambo_text.specs.Signs.{hex_text, call_text}
+use Rattle.rambo_text.specs.Signs.{hex_text, call_text, standing_text}
 use Rattle.rambo_text.specs.Words.{words_text}
 
--- what a line says: that a call was made or answered, that the step of a number was refused by a number, in which
--- order a key's calls are put, or which map a node has
+-- what a line says: that a call was made or answered, that a node's collection of a place ended, that a node's attempt for
+-- a place ended, with the members that are now known there or none where the place is removed, that the step of a number
+-- was refused by a number, in which order a key's calls are put, or which map a node has
 pub data Item : Type 0 where
   Happened : Event → Item
+  Collected : ℕ → ℕ → Item
+  Settled : ℕ → ℕ → Option NameSet → Item
   Refused : ℕ → ℕ → Item
   Ordered : SequenceOf → Item
   Mapped : ℕ → ℕ → List NameSet → Item
@@ -33,6 +36,8 @@ answer_words (answer.Value value) = codes "value" ∷ hex_text value ∷ []
 abbrev pub item_words : Item → List (List ℕ)
 item_words (Happened (event.Call c o)) = codes "call" ∷ call_text c ∷ op_words o
 item_words (Happened (event.Answer c a)) = codes "answer" ∷ call_text c ∷ answer_words a
+item_words (Collected name place) = codes "collected" ∷ decimal name ∷ decimal place ∷ []
+item_words (Settled name place members) = codes "decided" ∷ decimal name ∷ decimal place ∷ standing_text members ∷ []
 item_words (Refused step number) = codes "refused" ∷ decimal step ∷ decimal number ∷ []
 item_words (Ordered s) = codes "sequence" ∷ hex_text s.key ∷ map call_text s.calls
 item_words (Mapped name floor sets) = codes "map" ∷ decimal name ∷ decimal floor ∷ map set_text sets

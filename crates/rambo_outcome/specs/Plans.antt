@@ -3,7 +3,7 @@ use Rattle.std.specs.Prelude.{◌≡◌, ◌≢◌, ◌⊎◌, ℕ, if◌then◌
 use Rattle.std.specs.Str.{bytes_eq}
 use Rattle.rambo_text.specs.declared.fault.Fault.{Fault}
 use Rattle.rambo_text.specs.declared.fault.Fault.TheVariants.{UnknownWord, WrongCount, OutOfMemory}
-use Rattle.rambo_text.specs.Forms.{Form, Num, Name, Set, Call, Hex, IsBadWord}
+use Rattle.rambo_text.specs.Forms.{Form, Num, Name, Set, Call, Hex, Standing, IsBadWord}
 use Rattle.rambo_text.specs.Words.{AreWords, AreMore}
 
 -- a word that says what the line is has no meaning, or is missing, or else these words have these forms, each its own
@@ -35,7 +35,13 @@ answer_plan (c ∷ w ∷ ws) =
     else if bytes_eq w (codes "value") then Forms (Call ∷ Hex ∷ []) (c ∷ ws)
     else Unknown
 
--- behind `refused`, `sequence` and `map`
+-- behind `collected`, `decided`, `refused`, `sequence` and `map`
+abbrev pub collected_plan : List (List ℕ) → Plan
+collected_plan ws = Forms (Name ∷ Num ∷ []) ws
+
+abbrev pub decided_plan : List (List ℕ) → Plan
+decided_plan ws = Forms (Name ∷ Num ∷ Standing ∷ []) ws
+
 abbrev pub refused_plan : List (List ℕ) → Plan
 refused_plan ws = Forms (Num ∷ Num ∷ []) ws
 
@@ -51,6 +57,8 @@ plan [] = Unknown
 plan (w ∷ ws) =
     if bytes_eq w (codes "call") then call_plan ws
     else if bytes_eq w (codes "answer") then answer_plan ws
+    else if bytes_eq w (codes "collected") then collected_plan ws
+    else if bytes_eq w (codes "decided") then decided_plan ws
     else if bytes_eq w (codes "refused") then refused_plan ws
     else if bytes_eq w (codes "sequence") then sequence_plan ws
     else if bytes_eq w (codes "map") then map_plan ws

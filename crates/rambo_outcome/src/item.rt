@@ -4,7 +4,7 @@ ghost use Rattle.std.specs.Option.{option_copied};
 ghost use Rattle.rambo_text.specs.declared.fault.Fault.TheVariants as fault;
 ghost use Rattle.rambo_outcome.specs.Lines.{Item, Happened, Ordered};
 ghost use Rattle.rambo_outcome.specs.Items.{IsSpelling, IsPassed};
-ghost use Rattle.rambo_outcome.specs.Plans.{call_plan, answer_plan, refused_plan, sequence_plan, map_plan, IsFaulty, IsLineFault};
+ghost use Rattle.rambo_outcome.specs.Plans.{call_plan, answer_plan, collected_plan, decided_plan, refused_plan, sequence_plan, map_plan, IsFaulty, IsLineFault};
 ghost use Rattle.rambo_outcome.specs.Readings.{IsLineOf};
 
 use crate::kept::Kept;
@@ -14,7 +14,7 @@ use crate::operands::{
 use crate::order::Order;
 use rambo_atomic::{Answer, Event, Op};
 use rambo_names::{Bytes, read_num};
-use rambo_text::{Fault, next_word, read_hex, read_name, two_words};
+use rambo_text::{Fault, next_word, read_hex, read_name, read_standing, three_words, two_words};
 use std::alloc::Global;
 
 /// What is kept of a line.
@@ -31,6 +31,14 @@ pub(crate) fn read_line(alloc: Global, line: &[u8]) -> Result<Kept, Fault>
     }
     if first == b"answer".as_slice() {
         return Ok(Kept::Happened(read_answered(alloc, more)?));
+    }
+    if first == b"collected".as_slice() {
+        read_collected(more)?;
+        return Ok(Kept::Nothing);
+    }
+    if first == b"decided".as_slice() {
+        read_decided(more)?;
+        return Ok(Kept::Nothing);
     }
     if first == b"refused".as_slice() {
         read_refused(more)?;
@@ -83,6 +91,41 @@ fn read_answered(alloc: Global, more: Option<&[u8]>) -> Result<Event, Fault>
         return Ok(Event::Answer(id, Answer::Value(value)));
     }
     Err(Fault::UnknownWord)
+}
+
+fn read_collected(more: Option<&[u8]>) -> Result<(), Fault>
+    ensures spelt { OnOk result ((i : Item) × IsPassed i × IsSpelling (codes "collected") (option_copied more.entry) i) }
+    ensures fault { IfErr result (IsFaulty collected_plan (option_copied more.entry)) }
+{
+    let Some((name, place)) = two_words(more) else {
+        return Err(Fault::WrongCount);
+    };
+    let Some(_name) = read_name(name) else {
+        return Err(Fault::BadNumber);
+    };
+    let Some(_place) = read_num(place) else {
+        return Err(Fault::BadNumber);
+    };
+    Ok(())
+}
+
+fn read_decided(more: Option<&[u8]>) -> Result<(), Fault>
+    ensures spelt { OnOk result ((i : Item) × IsPassed i × IsSpelling (codes "decided") (option_copied more.entry) i) }
+    ensures fault { IfErr result (IsFaulty decided_plan (option_copied more.entry)) }
+{
+    let Some((name, place, standing)) = three_words(more) else {
+        return Err(Fault::WrongCount);
+    };
+    let Some(_name) = read_name(name) else {
+        return Err(Fault::BadNumber);
+    };
+    let Some(_place) = read_num(place) else {
+        return Err(Fault::BadNumber);
+    };
+    let Some(_members) = read_standing(standing) else {
+        return Err(Fault::BadNumber);
+    };
+    Ok(())
 }
 
 fn read_refused(more: Option<&[u8]>) -> Result<(), Fault>

@@ -2,17 +2,18 @@
 ghost use Rattle.std.specs.Prelude.{◌≡◌, ◌++◌, map, OnOk, IfErr};
 ghost use Rattle.rambo_atomic.specs.declared.event.Event.TheVariants as event;
 ghost use Rattle.rambo_text.specs.Words.{more_words};
-ghost use Rattle.rambo_text.specs.Signs.{call_text};
+ghost use Rattle.rambo_text.specs.Signs.{call_text, standing_text};
 ghost use Rattle.rambo_names.specs.Signs.{set_text};
 ghost use Rattle.rambo_names.specs.Refusals.{number_of};
-ghost use Rattle.rambo_outcome.specs.Lines.{Happened, Refused, Ordered, op_words, answer_words, item_line};
-ghost use Rattle.rambo_outcome.specs.Outcomes.{map_item};
+ghost use Rattle.rambo_outcome.specs.Lines.{Happened, Collected, Settled, Refused, Ordered, op_words, answer_words, item_line};
+ghost use Rattle.rambo_outcome.specs.Outcomes.{members_at, map_item};
 
 use rambo_atomic::{Answer, CallId, Op};
-use rambo_names::{Quorums, Refusal, write_set};
+use rambo_names::{Name, Quorums, Refusal, write_set};
+use rambo_node::Decided;
 use rambo_run::NodeMap;
 use rambo_sequence::KeySequence;
-use rambo_text::{write_call, write_hex, write_name, write_num};
+use rambo_text::{write_call, write_hex, write_name, write_num, write_standing};
 
 /// Appends the line of a call.
 pub(crate) fn write_called(id: &CallId, op: &Op, out: &mut Vec<u8>) -> Result<(), Refusal>
@@ -70,6 +71,48 @@ fn write_answer(answer: &Answer, out: &mut Vec<u8>) -> Result<(), Refusal>
         }
     }
     Ok(())
+}
+
+/// Appends the line of a node's collection of a place, which ended.
+pub(crate) fn write_collected(name: Name, place: u64, out: &mut Vec<u8>) -> Result<(), Refusal>
+    ensures ok { OnOk result (out.new.items ≡ out.old.items ++ item_line (Collected name place)) }
+    ensures refused { IfErr result (λ r. r ≡ Refusal.OutOfMemory) }
+{
+    out.extend_from_slice(b"collected ")?;
+    write_name(name, out)?;
+    out.push(b' ')?;
+    write_num(place, out)?;
+    out.push(b'\n')?;
+    Ok(())
+}
+
+/// Appends the line of a node's attempt, which ended.
+pub(crate) fn write_decided<Q: Quorums>(
+    name: Name,
+    decided: &Decided<Q>,
+    out: &mut Vec<u8>,
+) -> Result<(), Refusal>
+    ensures ok { OnOk result (out.new.items ≡ out.old.items ++ item_line (Settled name decided.now.place (members_at Q.system decided.now.config))) }
+    ensures refused { IfErr result (λ r. r ≡ Refusal.OutOfMemory) }
+{
+    out.extend_from_slice(b"decided ")?;
+    write_name(name, out)?;
+    out.push(b' ')?;
+    write_num(decided.place, out)?;
+    out.push(b' ')?;
+    write_config(&decided.config, out)?;
+    out.push(b'\n')?;
+    Ok(())
+}
+
+fn write_config<Q: Quorums>(config: &Option<Q>, out: &mut Vec<u8>) -> Result<(), Refusal>
+    ensures ok { OnOk result (out.new.items ≡ out.old.items ++ standing_text (members_at Q.system config.now)) }
+    ensures refused { IfErr result (λ r. r ≡ Refusal.OutOfMemory) }
+{
+    match config {
+        None => write_standing(None, out),
+        Some(config) => write_standing(Some(config.members()), out),
+    }
 }
 
 /// Appends the line of a refused step.

@@ -3,7 +3,10 @@ ghost use Rattle.std.specs.Prelude.{◌≡◌, ◌++◌, ℕ, OnOk, IfOk, IfErr,
 ghost use Rattle.rambo_outcome.specs.Lines.{Ordered, items_text};
 ghost use Rattle.rambo_outcome.specs.Outcomes.{step_items, steps_items, map_item, outcome_lines};
 
-use crate::line::{write_answered, write_called, write_map, write_refused, write_sequence};
+use crate::line::{
+    write_answered, write_called, write_collected, write_decided, write_map, write_refused,
+    write_sequence,
+};
 use rambo_atomic::History;
 use rambo_names::{Quorums, Refusal};
 use rambo_node::Effect;
@@ -11,8 +14,8 @@ use rambo_run::{NodeMap, Outcome};
 use rambo_sequence::KeySequence;
 use std::alloc::Global;
 
-/// The text of an outcome: a line for each call, answer and refusal in the order of the steps, then one for each
-/// sequence, then one for each map, in which the members of each configuration stand.
+/// The text of an outcome: a line for each call, answer, ended collection, ended attempt and refusal in the order of the
+/// steps, then one for each sequence, then one for each map. Of a configuration the members are told.
 ///
 /// `OutOfMemory` where there is no room for it.
 pub fn outcome_text<Q: Quorums>(alloc: Global, outcome: &Outcome<Q>) -> Result<Vec<u8>, Refusal>
@@ -26,12 +29,12 @@ pub fn outcome_text<Q: Quorums>(alloc: Global, outcome: &Outcome<Q>) -> Result<V
     Ok(out)
 }
 
-fn write_steps(
-    results: &[Result<Effect, Refusal>],
+fn write_steps<Q: Quorums>(
+    results: &[Result<Effect<Q>, Refusal>],
     history: &History,
     out: &mut Vec<u8>,
 ) -> Result<(), Refusal>
-    ensures ok { OnOk result (out.new.items ≡ out.old.items ++ items_text (steps_items history.now.events 1 results.now)) }
+    ensures ok { OnOk result (out.new.items ≡ out.old.items ++ items_text (steps_items Q.system history.now.events 1 results.now)) }
     ensures refused { IfErr result (λ r. r ≡ Refusal.OutOfMemory) }
 {
     for (place, told) in results.iter().enumerate() {
@@ -41,13 +44,13 @@ fn write_steps(
 }
 
 // What is told of a step, by its number.
-fn write_step(
+fn write_step<Q: Quorums>(
     step: u64,
-    told: &Result<Effect, Refusal>,
+    told: &Result<Effect<Q>, Refusal>,
     history: &History,
     out: &mut Vec<u8>,
 ) -> Result<(), Refusal>
-    ensures ok { OnOk result (out.new.items ≡ out.old.items ++ items_text (step_items history.now.events step told.now)) }
+    ensures ok { OnOk result (out.new.items ≡ out.old.items ++ items_text (step_items Q.system history.now.events step told.now)) }
     ensures refused { IfErr result (λ r. r ≡ Refusal.OutOfMemory) }
 {
     match told {
@@ -56,6 +59,8 @@ fn write_step(
             None => Ok(()),
         },
         Ok(Effect::Answered(id, answer)) => write_answered(id, answer, out),
+        Ok(Effect::Collected(name, place)) => write_collected(*name, *place, out),
+        Ok(Effect::Decided(name, decided)) => write_decided(*name, decided, out),
         Ok(Effect::Done | Effect::Sent(_) | Effect::Moved) => Ok(()),
         Err(refusal) => write_refused(step, *refusal, out),
     }

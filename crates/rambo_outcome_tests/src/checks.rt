@@ -45,7 +45,7 @@ pub(crate) const SET_THEN_GET: &[u8] =
     b"call 1.1 set 6b 76\nanswer 1.1 ok\ncall 1.2 get 6b\nanswer 1.2 value 76\nmap 1 0 1\n";
 
 // The two parts of a text, whether each verdict is yes, and the lines of verdicts.
-const VERDICTS: [(&[u8], &[u8], bool, &[u8]); 13] = [
+const VERDICTS: [(&[u8], &[u8], bool, &[u8]); 15] = [
     (SET_THEN_GET, b"sequence 6b 1.1 1.2", true, b"yes 6b\n"),
     (SET_THEN_GET, b"sequence 6b 1.2 1.1", false, b"no 6b 4\n"),
     (SET_THEN_GET, b"sequence 6b 1.2", false, b"no 6b 1\n"),
@@ -89,6 +89,18 @@ const VERDICTS: [(&[u8], &[u8], bool, &[u8]); 13] = [
         b"yes 00\n",
     ),
     (b"map 64 18446744073709551615 - 1,64", b"", true, b""),
+    (
+        b"decided 64 18446744073709551615 1,64\ndecided 1 0 -\ndecided 1 0 removed\ncollected 1 0\n",
+        b"collected 64 18446744073709551615",
+        true,
+        b"",
+    ),
+    (
+        b"decided 1 1 1,2\ncall 1.1 get 6b\ncollected 1 0\nanswer 1.1 nil\ndecided 1 2 removed\n",
+        b"sequence 6b 1.1",
+        true,
+        b"yes 6b\n",
+    ),
 ];
 
 #[test]
@@ -103,7 +115,7 @@ fn verdicts(rt: HostRuntime) -> Result<(), Fail> {
 }
 
 // A text, its first fault, and the line of that.
-const FAULTS: [(&[u8], Fault, u64); 30] = [
+const FAULTS: [(&[u8], Fault, u64); 45] = [
     (b"\n", Fault::UnknownWord, 1),
     (b"founders 1", Fault::UnknownWord, 1),
     (b"call 1.1 put 6b", Fault::UnknownWord, 1),
@@ -123,6 +135,21 @@ const FAULTS: [(&[u8], Fault, u64); 30] = [
     (b"map 1 1 - 1,1", Fault::BadNumber, 1),
     (b"refused 1 -1", Fault::BadNumber, 1),
     (b"sequence 6b 1.1 1", Fault::BadNumber, 1),
+    (b"collected", Fault::WrongCount, 1),
+    (b"collected 0 01 ", Fault::WrongCount, 1),
+    (b"collected 0 1", Fault::BadNumber, 1),
+    (b"collected 65 1", Fault::BadNumber, 1),
+    (b"collected 1 01", Fault::BadNumber, 1),
+    (b"collected 1 18446744073709551616", Fault::BadNumber, 1),
+    (b"decided 1 1", Fault::WrongCount, 1),
+    (b"decided 0 1 1 2", Fault::WrongCount, 1),
+    (b"decided removed 1 removed", Fault::BadNumber, 1),
+    (b"decided 1 removed removed", Fault::BadNumber, 1),
+    (b"decided 1 1 2,1", Fault::BadNumber, 1),
+    (b"decided 1 1 Removed", Fault::BadNumber, 1),
+    (b"decided 1 1 remove", Fault::BadNumber, 1),
+    (b"decided 1 1 ", Fault::BadNumber, 1),
+    (b"collected 1 0\ndecide 1 1 1\n", Fault::UnknownWord, 2),
     (b"call 1.0 get 6B", Fault::BadNumber, 1),
     (b"call 1.1 get 6B", Fault::BadHex, 1),
     (b"call 1.1 set 6b 7", Fault::BadHex, 1),

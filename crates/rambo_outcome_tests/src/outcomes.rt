@@ -3,7 +3,7 @@
 use crate::memory::is_short;
 use rambo_atomic::{Answer, CallId, Event, History, Op};
 use rambo_names::{Bytes, Majority, Members, Name, Refusal};
-use rambo_node::Effect;
+use rambo_node::{Decided, Effect};
 use rambo_outcome::outcome_text;
 use rambo_run::{NodeMap, Outcome};
 use rambo_sequence::KeySequence;
@@ -41,7 +41,13 @@ fn history(alloc: Global) -> Result<History, Refusal> {
     Ok(history)
 }
 
-fn effects(alloc: Global) -> Result<Vec<Result<Effect, Refusal>>, Refusal> {
+// What is told of an attempt for a place.
+fn decided(name: u64, place: u64, config: Option<Majority>) -> Result<Effect<Majority>, Refusal> {
+    Ok(Effect::Decided(Name::new(name)?, Decided { place, config }))
+}
+
+fn effects(alloc: Global) -> Result<Vec<Result<Effect<Majority>, Refusal>>, Refusal> {
+    let last = Majority::of(members(&[2, 64])?);
     let value = Answer::Value(Bytes::from_slice(alloc, &[0, 255])?);
     let effects = [
         Ok(Effect::Done),
@@ -54,6 +60,15 @@ fn effects(alloc: Global) -> Result<Vec<Result<Effect, Refusal>>, Refusal> {
         Ok(Effect::Answered(id(1, 1)?, Answer::Nil)),
         Ok(Effect::Answered(id(1, 2)?, value)),
         Err(Refusal::NoPassLeft),
+        Ok(decided(64, 1, Some(last))?),
+        Ok(decided(
+            1,
+            18_446_744_073_709_551_615,
+            Some(Majority::of(Members::empty())),
+        )?),
+        Ok(Effect::Collected(Name::new(64)?, 0)),
+        Ok(decided(3, 0, None)?),
+        Err(Refusal::TooManyActive),
     ];
     Ok(Vec::from_array(alloc, effects)?)
 }
@@ -89,7 +104,7 @@ fn is_written(rt: HostRuntime) -> Result<(), Fail> {
     let text = again!(is_short(&rt), text(rt.alloc()))?;
     assert_eq!(rt;
         text.as_slice(),
-        b"call 4.1 set 6b 76\nrefused 5 8\nanswer 4.1 ok\ncall 1.1 get -\nanswer 1.1 nil\nanswer 1.2 value 00ff\nrefused 10 24\nsequence 6b 4.1 1.1\nmap 64 0 1,2,3 64\n".as_slice()
+        b"call 4.1 set 6b 76\nrefused 5 8\nanswer 4.1 ok\ncall 1.1 get -\nanswer 1.1 nil\nanswer 1.2 value 00ff\nrefused 10 24\ndecided 64 1 2,64\ndecided 1 18446744073709551615 -\ncollected 64 0\ndecided 3 0 removed\nrefused 15 16\nsequence 6b 4.1 1.1\nmap 64 0 1,2,3 64\n".as_slice()
     );
     Ok(())
 }

@@ -24,10 +24,10 @@ use Rattle.rambo_run.proofs.Lists.{none-some, Member}
 use Rattle.rambo_run.proofs.Turn.{Moments, Run}
 use Rattle.rambo_run.proofs.Held.{from_then}
 use Rattle.rambo_run.proofs.Phases.{calls_at}
-use Rattle.rambo_run.proofs.LaterPhases.{Done, met_quorum, reads}
+use Rattle.rambo_run.proofs.LaterPhases.{Done, done_at, reads}
 use Rattle.rambo_run.proofs.Events.{none_or_some, call_kept, call_still, answer_split, answer_still, before_called, before_answered, before_answer, before_call, place_there, place_kept, place_new}
 use Rattle.rambo_run.proofs.Seen.{Seen, mark_of, t_still, t_node, t_calls, t_queries, t_answers}
-use Rattle.rambo_run.proofs.Worlds.{Worlds, Came}
+use Rattle.rambo_run.proofs.Sights.{Worlds, Came}
 use Rattle.rambo_run.proofs.Books.{Book, apart_same, get_cases, get_new, next_new}
 use Rattle.rambo_run.proofs.Booked.{book}
 use Rattle.rambo_run.proofs.Tags.{node, sight, run, turns, Turning, Queried, Answers, by_query, by_answer, mark_split, mark_later, told_split, new_tag}
@@ -59,17 +59,21 @@ module _ {Q : Type 0} (s : QuorumSystem Q) (law : IsSound s) (founders : Q) (wor
   books m = book s founders world worlds m
 
   abbrev Done' : ℕ → Mark → Type 0
-  Done' m k = Done s founders at m (key_of k.op) (tag_of k.kept)
+  Done' m k = Done s at m (key_of k.op) (tag_of k.kept)
 
   done_later : (m u : ℕ) (k : Mark) → m ≤ u → Done' m k → Done' u k
   done_later m u k h d = record {
     node = d.node;
     began = d.began;
     order = omega (arith, d.order);
+    lo = d.lo;
+    end = d.end;
+    ordered = d.ordered;
+    floor = d.floor;
     holds = d.holds;
     repliers = d.repliers;
-    quorum = d.quorum;
-    replies = λ j r. let q = d.replies j r in record { moment = q.moment; since = q.since; before = omega (arith, q.before); told = q.told };
+    quorums = d.quorums;
+    replies = λ j r. let q = d.replies j r in (record { moment = q.0.moment; since = q.0.since; before = omega (arith, q.0.before); told = q.0.told }, q.1);
   }
 
   -- the history grows at its end
@@ -132,16 +136,8 @@ module _ {Q : Type 0} (s : QuorumSystem Q) (law : IsSound s) (founders : Q) (wor
         let c = r.1 in
         let f = calls_at s founders at runs m n c r.2.member in
         let mark : Mark = mark_of n c (kept_in c.stage) in
-        let done : Done' (suc m) mark = record {
-          node = n;
-          began = f.began;
-          order = omega (arith, f.phase.before);
-          holds = f.kept r.2.told;
-          repliers = c.phase.repliers;
-          quorum = met_quorum s founders c.phase f.phase.configs r.2.met;
-          replies = λ j w. let q = f.phase.replies j w in record { moment = q.moment; since = q.reply.since; before = omega (arith, q.reply.before); told = q.reply.told };
-        } in
-        subst (Done' (suc m)) (apart_same (world (suc m)).marks mark k (books (suc m)).apart (mark_given m n c r.2) j (o ∙ sym r.3)) done)
+        let done : Done' m mark = done_at s at f.began m n c.phase f.phase r.2.met (key_of c.op) (tag_of (kept_in c.stage)) (f.kept r.2.told) in
+        subst (Done' (suc m)) (apart_same (world (suc m)).marks mark k (books (suc m)).apart (mark_given m n c r.2) j (o ∙ sym r.3)) (done_later m (suc m) mark (omega arith) done))
   ]
 
   -- what stands before a call that was made by u, stood there at u
@@ -161,7 +157,7 @@ module _ {Q : Type 0} (s : QuorumSystem Q) (law : IsSound s) (founders : Q) (wor
       let w = was_before f.began m (id_of n c.number) made.0 k f.phase.before made.1 i l in
       let d = answered_done f.began k.id w.2.0 w.2.1 k w.0 refl in
       subst (λ key. TagLe (tag_of k.kept) (tag_of (map.get (at m n).registers key))) e
-      (reads s law founders at runs f.began (key_of k.op) (tag_of k.kept) d f.began m n c.phase f.phase (omega arith) q.met)
+      (reads s law founders at runs (key_of k.op) (tag_of k.kept) f.began d f.began m n c.phase f.phase (omega arith) q.met)
 
   no_call : (n : ℕ) (d : CallState Q) → Member d (at 0 n).calls → ⊥
   unfolding first_node

@@ -9,7 +9,8 @@ use Rattle.rambo_run.proofs.Deeds.{id_of}
 use Rattle.rambo_run.proofs.Lists.{pick, none-some, Member}
 use Rattle.rambo_run.proofs.Numbers.{Numbered, numbered_at}
 use Rattle.rambo_run.proofs.Seen.{same_refl, WorldTurn, t_still, t_node, t_calls, t_queries, t_answers}
-use Rattle.rambo_run.proofs.Worlds.{Worlds, Came, at, view, steps, run_of}
+use Rattle.rambo_run.proofs.Sights.{Worlds, Came, at, view}
+use Rattle.rambo_run.proofs.Worlds.{steps, run_of}
 use Rattle.rambo_run.proofs.Books.{Apart, Book, book_same, book_calls, book_queries, book_answers}
 
 module _ {Q : Type 0} (s : QuorumSystem Q) (founders : Q) (world : ℕ → WorldState Q) (worlds : Worlds s founders world) where

@@ -25,10 +25,10 @@ use Rattle.rambo_node.specs.Operations.{answer_of}
 use Rattle.rambo_sequence.specs.declared.mark.Mark.{Mark}
 use Rattle.rambo_run.specs.declared.step.Step.{Step}
 use Rattle.rambo_run.specs.Worlds.{WorldState, node_at}
-use Rattle.rambo_run.specs.Steps.{Meant, meant, Turn, turn_by, turn_at, turn_of, turn}
+use Rattle.rambo_run.specs.Steps.{Meant, meant, with_event, Turn, turn_by, turn_at, turn_of, turn}
 use Rattle.rambo_run.specs.Runs.{run}
 use Rattle.rambo_run.proofs.Lists.{Member}
-use Rattle.rambo_run.proofs.Deeds.{id_of, open_member}
+use Rattle.rambo_run.proofs.Deeds.{id_of, open_member, collection_silent, rebid_silent, attempt_silent}
 use Rattle.rambo_run.proofs.Seen.{Seen, seen}
 use Rattle.rambo_run.proofs.Books.{Book, Apart, next_new, open_call as not_answered}
 use Rattle.rambo_run.proofs.Booked.{book}
@@ -52,7 +52,7 @@ answer_fits (op.Get key) kept = value_fits (value_of kept)
 abbrev called_fault : Option Op → Option HistoryFault
 called_fault o = if is_some o then Some CalledTwice else None
 
-module _ {Q : Type 0} (s : QuorumSystem Q) (founders : Q) (ss : List Step) where
+module _ {Q : Type 0} (s : QuorumSystem Q) (founders : Q) (ss : List (Step Q)) where
   abbrev w : WorldState Q
   w = run s founders ss
 
@@ -115,6 +115,11 @@ module _ {Q : Type 0} (s : QuorumSystem Q) (founders : Q) (ss : List Step) where
   change_fits n x (change.Deliver l) e = inl refl
   change_fits n x (change.Advance id) e = advance_fits n x id (open_call x id) e refl
   change_fits n x (change.Again id) e = again_fits n x (open_call x id)
+  change_fits n x change.Collect e = inl refl
+  change_fits n x change.AdvanceCollect e = inl (ap (with_event w.history) (collection_silent x x.collection).event)
+  change_fits n x (change.Recon wish) e = inl refl
+  change_fits n x change.Rebid e = inl (ap (with_event w.history) (rebid_silent x x.attempt).event)
+  change_fits n x change.AdvanceRecon e = inl (ap (with_event w.history) (attempt_silent x x.attempt).event)
   change_fits n x change.Stop e = inl refl
 
   at_fits : (n : ℕ) (c : Change Q) (o : Option (NodeState Q)) → node_at w n ≡ o → Grows (turn_at w n o c)
@@ -126,7 +131,7 @@ module _ {Q : Type 0} (s : QuorumSystem Q) (founders : Q) (ss : List Step) where
   of_fits (Some m) = at_fits m.name m.change (node_at w m.name) refl
 
   -- a step adds no event, or one that fits
-  pub events_fit : (st : Step) → Grows (turn w st)
+  pub events_fit : (st : Step Q) → Grows (turn w st)
   unfolding turn
   events_fit st = of_fits (meant w st)
 

@@ -11,16 +11,18 @@ use Rattle.rambo_tag.proofs.CopyOrder.{is_newer-from_lt}
 use Rattle.rambo_tag.proofs.Joins.{TagLe-joined_left, TagLe-joined_right, TagLe-put}
 use Rattle.rambo_atomic.specs.declared.operation.Op.{Op}
 use Rattle.rambo_atomic.specs.declared.operation.Op.TheVariants as op
-use Rattle.rambo_config_map.specs.Maps.{MapState, end_of, first_map, merged_map}
+use Rattle.rambo_config_map.specs.Maps.{end_of}
 use Rattle.rambo_config_map.specs.Merging.{HasActive}
-use Rattle.rambo_config_map.specs.MapLaws.{merged_end, merged_active}
+use Rattle.rambo_config_map.specs.MapLaws.{merged_end}
 use Rattle.rambo_gossip.specs.declared.letter.Gossip.{Gossip}
 use Rattle.rambo_node.specs.Nodes.{NodeState, first_node, heard_from, raised}
 use Rattle.rambo_node.specs.Letters.{gossip_for}
 use Rattle.rambo_node.specs.Hearing.{heard_gossip, any_gap, number_after}
 use Rattle.rambo_node.specs.Operations.{called, taken, new_copy, with_copy, query_answered, call_closed, called_again}
 use Rattle.rambo_run.proofs.Lists.{pick}
-use Rattle.rambo_run.proofs.Turn.{Moments, Telling, Turn, stays, quiet, calls, hears, queried, answers, agains, Run}
+use Rattle.rambo_run.proofs.Turn.{Moments, Telling, Alters, Turn, stays, quiet, calls, hears, queried, answers, agains, alters, Run}
+use Rattle.rambo_run.proofs.Altering.{altered_rest, map_move}
+use Rattle.rambo_run.proofs.Formed.{IsFormed, map_grows, formed}
 
 -- y holds at least what x holds
 pub record HoldsAll {Q : Type 0} (x y : NodeState Q) : Type 0 where
@@ -109,6 +111,18 @@ name_turn s at m n x y (hears u j h b k t e) = ap (λ y. y.name) e
 name_turn s at m n x y (queried c i p h e) = ap (λ y. y.name) e
 name_turn s at m n x y (answers c i p h e) = ap (λ y. y.name) e
 name_turn s at m n x y (agains c i e) = ap (λ y. y.name) e
+name_turn s at m n x y (alters a) = (altered_rest s x y a).name
+
+-- a node that alters its collection or attempt holds what it held
+pub holds_altered : {Q : Type 0} (s : QuorumSystem Q) (x y : NodeState Q) → IsFormed x → Alters s x y → HoldsAll x y
+holds_altered s x y f a =
+    let m = map_grows s x y f (map_move s x y a) in
+    let k = altered_rest s x y a in
+    record {
+      tags = λ key. subst (λ r. TagLe (tag_of (map.get x.registers key)) (tag_of (map.get r key))) (sym k.registers) (TagLe-refl (tag_of (map.get x.registers key)));
+      floor = m.1;
+      top = m.2;
+    }
 
 -- a number that j heard of n was n's at some moment, and j holds what n held then
 pub record HeardOf {Q : Type 0} (at : Moments Q) (m j n number : ℕ) : Type 0 where
@@ -129,31 +143,8 @@ pub record Reply {Q : Type 0} (at : Moments Q) (n t m j u : ℕ) : Type 0 where
   pub kept : HoldsAll (at u j) (at m n)
 
 module _ {Q : Type 0} {T : Telling} (s : QuorumSystem Q) (founders : Q) (at : Moments Q) (run : Run s T founders at) where
-  -- what the first map has and merging keeps, each map has
-  map_turn : (P : MapState Q → Type 0) → ((a b : MapState Q) → P a → P b → P (merged_map a b)) → (m : ℕ) → ((u : ℕ) → u ≤ m → (n : ℕ) → P (at u n).map)
-      → (n : ℕ) (y : NodeState Q) → Turn s T at m n (at m n) y → P y.map
-  unfolding called query_answered call_closed called_again heard_gossip
-  map_turn P merge m f n y (stays e) = subst (λ y. P y.map) (sym e) (f m (omega arith) n)
-  map_turn P merge m f n y (quiet st known e) = subst (λ y. P y.map) (sym e) (f m (omega arith) n)
-  map_turn P merge m f n y (calls o e) = subst (λ y. P y.map) (sym e) (f m (omega arith) n)
-  map_turn P merge m f n y (hears u j h b k t e) = subst (λ y. P y.map) (sym e) (merge (at m n).map (at u j).map (f m (omega arith) n) (f u h j))
-  map_turn P merge m f n y (queried c i p h e) = subst (λ y. P y.map) (sym e) (f m (omega arith) n)
-  map_turn P merge m f n y (answers c i p h e) = subst (λ y. P y.map) (sym e) (f m (omega arith) n)
-  map_turn P merge m f n y (agains c i e) = subst (λ y. P y.map) (sym e) (f m (omega arith) n)
-
-  map_to : (P : MapState Q → Type 0) → P (first_map founders) → ((a b : MapState Q) → P a → P b → P (merged_map a b)) → (m u : ℕ) → u ≤ m → (n : ℕ) → P (at u n).map
-  unfolding first_node
-  map_to P p merge zero u h n =
-      let z : u ≡ 0 = omega arith in
-      subst (λ u. P (at u n).map) (sym z) (subst (λ x. P x.map) (sym (run.first n)) p)
-  map_to P p merge (suc m) u h n = up_to (λ u. (n : ℕ) → P (at u n).map) m (map_to P p merge m) (λ n. map_turn P merge m (map_to P p merge m) n (at (suc m) n) (run.turn m n)) u h n
-
   pub active : (m n : ℕ) → HasActive (at m n).map
-  active m n = map_to HasActive (omega arith) (λ a b. merged_active a b) m m (omega arith) n
-
-  -- while no configuration is learnt, each map is the first one
-  pub maps_first : (m n : ℕ) → (at m n).map ≡ first_map founders
-  maps_first m n = map_to (λ a. a ≡ first_map founders) refl (λ a b e f. λ i. merged_map (e i) (f i)) m m (omega arith) n
+  active m n = (formed s founders at run m n).active
 
   -- node n has the name n
   pub names : (m n : ℕ) → (at m n).name ≡ n
@@ -175,6 +166,9 @@ module _ {Q : Type 0} {T : Telling} (s : QuorumSystem Q) (founders : Q) (at : Mo
       subst (Growth at m (at m n)) (sym e) (by_itself (record { tags = put_raises (at m n) c.op; floor = omega arith; top = omega arith }) (omega arith) refl (omega arith))
   growth m n (answers c i p h e) = by_itself (holds_same _ _ (ap (λ y. y.registers) e) (ap (λ y. y.map) e)) (omega (arith, ap (λ y. y.number) e)) (ap (λ y. y.heard) e) (omega (arith, ap (λ y. y.made) e))
   growth m n (agains c i e) = by_itself (holds_same _ _ (ap (λ y. y.registers) e) (ap (λ y. y.map) e)) (omega (arith, ap (λ y. y.number) e)) (ap (λ y. y.heard) e) (omega (arith, ap (λ y. y.made) e))
+  growth m n (alters a) =
+      let k = altered_rest s (at m n) (at (suc m) n) a in
+      by_itself (holds_altered s (at m n) (at (suc m) n) (formed s founders at run m n) a) k.number k.heard (omega (arith, k.made))
 
   abbrev grows : (m n : ℕ) → Growth at m (at m n) (at (suc m) n)
   grows m n = growth m n (run.turn m n)

@@ -1,5 +1,5 @@
 -- Members of lists, and the list of a node's open calls
-use Rattle.std.proofs.Common.{◌≡◌, ℕ, zero, suc, ◌⊎◌, Bool, true, false, if◌then◌else◌, nat_eq, List, [], ◌∷◌, ◌++◌, map, Option, Some, None, slice_get, slice_set, refl, sym, ap, ◌∙◌, subst, inl, inr, ⊎_elim, eqb-true, true≢false}
+use Rattle.std.proofs.Common.{◌≡◌, ℕ, zero, suc, ◌<◌, ◌⊎◌, Bool, true, false, if◌then◌else◌, nat_eq, List, [], ◌∷◌, ◌++◌, length, map, Option, Some, None, slice_get, slice_set, refl, sym, ap, ◌∙◌, subst, inl, inr, ⊎_elim, eqb-true, true≢false, arith}
 use Rattle.std.proofs.lemmas.Bool.{eqb-false}
 use Rattle.std.specs.List.{remove}
 use Rattle.rambo_atomic.specs.Proper.{Stands}
@@ -74,6 +74,24 @@ pub member_at : {A : Type 0} (xs : List A) (i : ℕ) (a : A) → slice_get xs i 
 member_at [] i a e = absurd (none-some a e)
 member_at (x ∷ xs) zero a e = inl (some_inj x a e)
 member_at (x ∷ xs) (suc i) a e = inr (member_at xs i a e)
+
+-- each place below the length has an item, and no other place has one
+pub below_there : {A : Type 0} (xs : List A) (i : ℕ) → i < length xs → (a : A) × (slice_get xs i ≡ Some a)
+below_there [] i h = absurd (omega (arith, h))
+below_there (x ∷ xs) zero h = (x, refl)
+below_there (x ∷ xs) (suc i) h = below_there xs i (omega (arith, h))
+
+pub there_below : {A : Type 0} (xs : List A) (i : ℕ) (a : A) → slice_get xs i ≡ Some a → i < length xs
+there_below [] i a e = absurd (none-some a e)
+there_below (x ∷ xs) zero a e = omega arith
+there_below (x ∷ xs) (suc i) a e = omega (arith, there_below xs i a e)
+
+-- of a list with one more item, an old one or the last
+pub get_more : {A : Type 0} (xs : List A) (a b : A) (i : ℕ) → slice_get (xs ++ a ∷ []) i ≡ Some b → (slice_get xs i ≡ Some b) ⊎ ((i ≡ length xs) × (a ≡ b))
+get_more [] a b zero e = inr (refl, some_inj a b e)
+get_more [] a b (suc i) e = absurd (none-some b e)
+get_more (x ∷ xs) a b zero e = inl e
+get_more (x ∷ xs) a b (suc i) e = ⊎_elim inl (λ r. inr (ap suc r.0, r.1)) (get_more xs a b i e)
 
 -- a list with one item in another's place
 pub set_here : {A : Type 0} (xs : List A) (i : ℕ) (a b : A) → slice_get xs i ≡ Some a → slice_get (slice_set xs i b) i ≡ Some b

@@ -1,5 +1,5 @@
 -- The nodes of a run: there are 64, and each name has its node
-use Rattle.std.proofs.Common.{◌≡◌, ℕ, zero, suc, ◌-◌, ◌<◌, ◌≤◌, List, [], ◌∷◌, length, Option, Some, None, slice_get, refl, sym, ap, ◌∙◌, inl, inr, arith, length-set}
+use Rattle.std.proofs.Common.{◌≡◌, ℕ, zero, suc, ◌-◌, ◌≤◌, List, length, Option, Some, None, slice_get, refl, sym, ap, ◌∙◌, inl, inr, arith, length-set}
 use Rattle.rambo_names.specs.Quorums.{QuorumSystem}
 use Rattle.rambo_node.specs.declared.change.Change.{Change}
 use Rattle.rambo_node.specs.Nodes.{NodeState, first_node}
@@ -7,26 +7,18 @@ use Rattle.rambo_run.specs.declared.step.Step.{Step}
 use Rattle.rambo_run.specs.Worlds.{WorldState, node_at, first_world}
 use Rattle.rambo_run.specs.Steps.{Meant, meant, Turn, turn_at, turn_of, turn}
 use Rattle.rambo_run.specs.Runs.{run}
-use Rattle.rambo_run.proofs.Lists.{none-some}
+use Rattle.rambo_run.proofs.Lists.{none-some, below_there, there_below}
 use Rattle.rambo_run.proofs.Held.{names}
 use Rattle.rambo_run.proofs.Seen.{node_or}
-use Rattle.rambo_run.proofs.Worlds.{Worlds, at, first_count, run_of}
+use Rattle.rambo_run.proofs.Sights.{Worlds, at}
+use Rattle.rambo_run.proofs.FirstWorlds.{first_count}
+use Rattle.rambo_run.proofs.Worlds.{run_of}
 use Rattle.rambo_run.proofs.Moments.{moment, worlds, last_moment}
 
 -- the node of a name stands at its place
 pub node_at_place : {Q : Type 0} (w : WorldState Q) (n : ℕ) → 1 ≤ n → node_at w n ≡ slice_get w.nodes (n - 1)
 node_at_place w zero h = absurd (omega (arith, h))
 node_at_place w (suc n) h = let e : n ≡ suc n - 1 = omega arith in ap (slice_get w.nodes) e
-
-there_below : {A : Type 0} (xs : List A) (i : ℕ) (a : A) → slice_get xs i ≡ Some a → i < length xs
-there_below [] i a e = absurd (none-some a e)
-there_below (x ∷ xs) zero a e = omega arith
-there_below (x ∷ xs) (suc i) a e = omega (arith, there_below xs i a e)
-
-below_there : {A : Type 0} (xs : List A) (i : ℕ) → i < length xs → (a : A) × (slice_get xs i ≡ Some a)
-below_there [] i h = absurd (omega (arith, h))
-below_there (x ∷ xs) zero h = (x, refl)
-below_there (x ∷ xs) (suc i) h = below_there xs i (omega (arith, h))
 
 named_at : {Q : Type 0} (w : WorldState Q) (n : ℕ) → length w.nodes ≡ 64 → 1 ≤ n → n ≤ 64 → (x : NodeState Q) × (node_at w n ≡ Some x)
 named_at w zero l a b = absurd (omega (arith, a))
@@ -48,7 +40,7 @@ of_count : {Q : Type 0} (w : WorldState Q) (o : Option (Meant Q)) → SameCount 
 of_count w None = refl
 of_count w (Some m) = at_count w m.name m.change (node_at w m.name)
 
-turn_count : {Q : Type 0} (w : WorldState Q) (st : Step) → SameCount w (turn w st)
+turn_count : {Q : Type 0} (w : WorldState Q) (st : Step Q) → SameCount w (turn w st)
 unfolding turn
 turn_count w st = of_count w (meant w st)
 
@@ -74,7 +66,7 @@ module _ {Q : Type 0} (s : QuorumSystem Q) (founders : Q) (world : ℕ → World
   pub nowhere : (u n : ℕ) → node_at (world u) n ≡ None → at s founders world all u n ≡ first_node s founders n
   nowhere u n e = ap (node_or (first_node s founders n)) e
 
-module _ {Q : Type 0} (s : QuorumSystem Q) (founders : Q) (ss : List Step) where
+module _ {Q : Type 0} (s : QuorumSystem Q) (founders : Q) (ss : List (Step Q)) where
   -- a run has 64 nodes
   pub nodes_count : length (run s founders ss).nodes ≡ 64
   nodes_count = ap (λ w. length w.nodes) (sym (last_moment s founders ss)) ∙ count_at s founders (moment s founders ss) (worlds s founders ss) (length ss)

@@ -7,7 +7,8 @@ use Rattle.rambo_node.specs.Letters.{gossip_for}
 use Rattle.rambo_node.specs.Hearing.{heard_call, number_after, heard_gossip}
 use Rattle.rambo_node.specs.Operations.{called, query_answered, call_closed, called_again}
 use Rattle.rambo_run.proofs.Lists.{Member, Single, member_more, member_map, member_put, member_out, single_put, single_out, single_map, single_more}
-use Rattle.rambo_run.proofs.Turn.{Moments, Telling, Turn, stays, quiet, calls, hears, queried, answers, agains, Run}
+use Rattle.rambo_run.proofs.Turn.{Moments, Telling, Turn, stays, quiet, calls, hears, queried, answers, agains, alters, Run}
+use Rattle.rambo_run.proofs.Altering.{altered_rest}
 
 -- no two open calls of a node have one number, nor one that is still to come
 pub record Numbered {Q : Type 0} (x : NodeState Q) : Type 0 where
@@ -41,6 +42,9 @@ numbered_turn s at m n x y o (agains c i e) = subst Numbered (sym e) (record {
   single = single_put c.number _ x.calls refl o.single;
   low = λ d k. ⊎_elim (λ r. o.low d r.0) (λ r. omega (arith, o.low c i, ap (λ c. c.number) r)) (member_put c.number _ d x.calls o.single k);
 })
+numbered_turn s at m n x y o (alters a) =
+    let k = altered_rest s x y a in
+    record { single = subst Single (sym k.calls) o.single; low = λ c i. omega (arith, o.low c (subst (Member c) k.calls i), k.made) }
 
 pub numbered_first : {Q : Type 0} (s : QuorumSystem Q) (founders : Q) (n : ℕ) → Numbered (first_node s founders n)
 unfolding first_node

@@ -12,7 +12,7 @@ use Rattle.rambo_run.specs.Steps.{Meant, meant, refusal, turn_at, turn_of, turn}
 use Rattle.rambo_run.specs.Runs.{unless_refused, after, run_from, run}
 use Rattle.rambo_run.specs.Journals.{entered, entered_unless, journal_from, journal, NodesAreReplayed}
 use Rattle.rambo_run.proofs.Lists.{pick, some_inj, none-some, set_here, set_there}
-use Rattle.rambo_run.proofs.Worlds.{first_named}
+use Rattle.rambo_run.proofs.FirstWorlds.{first_named}
 
 -- node n is x, and after some of the changes y, from which the rest is replayed
 abbrev Replayed : {Q : Type 0} → WorldState Q → ℕ → NodeState Q → List (Change Q) → List (Change Q) → Type 0
@@ -26,7 +26,7 @@ other_stays w z (suc k) (suc n) x y d h e =
     let i : suc k - 1 ≡ k = omega arith in
     ap (λ l. slice_get l n) (e ∙ ap (λ i. slice_set w.nodes i y) i) ∙ set_there w.nodes k n y (λ r. d (ap suc (sym r)))
 
-own_put : {Q : Type 0} (w z : WorldState Q) (n : ℕ) (x y : NodeState Q) → node_at w n ≡ Some x → z.nodes ≡ slice_set w.nodes (n - 1) y → node_at z n ≡ Some y
+pub own_put : {Q : Type 0} (w z : WorldState Q) (n : ℕ) (x y : NodeState Q) → node_at w n ≡ Some x → z.nodes ≡ slice_set w.nodes (n - 1) y → node_at z n ≡ Some y
 own_put w z zero x y h e = absurd (none-some x h)
 own_put w z (suc n) x y h e =
     let i : suc n - 1 ≡ n = omega arith in
@@ -56,7 +56,7 @@ step_replayed w n x None None rest h = (x, h, refl)
 step_replayed w n x None (Some m) rest h = changed_at w m.name n x m.change rest h (node_at w m.name) refl
 step_replayed w n x (Some r) m rest h = (x, h, refl)
 
-replays_from : {Q : Type 0} (s : QuorumSystem Q) (n : ℕ) (sts : List Step) (w : WorldState Q) (x : NodeState Q) → node_at w n ≡ Some x → node_at (run_from s w sts) n ≡ Some (replayed x (journal_from s w n sts))
+replays_from : {Q : Type 0} (s : QuorumSystem Q) (n : ℕ) (sts : List (Step Q)) (w : WorldState Q) (x : NodeState Q) → node_at w n ≡ Some x → node_at (run_from s w sts) n ≡ Some (replayed x (journal_from s w n sts))
 unfolding run_from journal_from after turn
 replays_from s n [] w x h = h
 replays_from s n (st ∷ sts) w x h =

@@ -16,6 +16,7 @@ use Rattle.rambo_atomic.specs.declared.operation.Answer.TheVariants as answer
 use Rattle.rambo_atomic.specs.declared.event.Event.{Event}
 use Rattle.rambo_atomic.specs.declared.event.Event.TheVariants as event
 use Rattle.rambo_config_map.specs.Maps.{first_map}
+use Rattle.rambo_paxos.specs.Votes.{empty_vote}
 use Rattle.rambo_phase.specs.Phases.{only}
 use Rattle.rambo_joiner.specs.declared.status.Status.TheVariants.{Active}
 use Rattle.rambo_node.specs.declared.effect.Effect.{Effect}
@@ -32,23 +33,23 @@ use Rattle.rambo_run.specs.Runs.{after, run_from, results_from}
 use Rattle.rambo_run.proofs.Deeds.{id_of}
 
 -- the first call of node 1, and the second
-abbrev one : CallId
+abbrev pub one : CallId
 one = id_of 1 1
 
-abbrev two : CallId
+abbrev pub two : CallId
 two = id_of 1 2
 
-abbrev key : List ℕ
+abbrev pub key : List ℕ
 key = 107 ∷ []
 
-abbrev value : List ℕ
+abbrev pub value : List ℕ
 value = 118 ∷ []
 
 -- an empty map has no key, and one with a key put has it
-none : map.get (map.empty {X = Version} {R = slice_cmp nat_cmp}) key ≡ None
+pub none : map.get (map.empty {X = Version} {R = slice_cmp nat_cmp}) key ≡ None
 none = map.get-empty (slice_cmp nat_cmp) key
 
-put : (v : Version) → map.get (map.insert (map.empty {X = Version} {R = slice_cmp nat_cmp}) key v) key ≡ Some v
+pub put : (v : Version) → map.get (map.insert (map.empty {X = Version} {R = slice_cmp nat_cmp}) key v) key ≡ Some v
 put v = get-put_same (map.empty {X = Version} {R = slice_cmp nat_cmp}) key v
 
 -- node 1 is a founder, and alone in what follows
@@ -63,13 +64,16 @@ lone_node founders = record {
   made = 0;
   heard = replicate 64 0;
   calls = [];
+  collection = None;
+  attempt = None;
+  vote = empty_vote;
 }
 
 abbrev lone_world : {Q : Type 0} → Q → List (NodeState Q) → WorldState Q
 lone_world founders others = record { nodes = lone_node founders ∷ others; letters = []; history = []; marks = [] }
 
 -- what a run gives: the effects and refusals, the history, and the sequence of the key
-abbrev outcome : {Q : Type 0} → QuorumSystem Q → WorldState Q → List Step → List (Result Effect Refusal) × List Event × List CallId
+abbrev outcome : {Q : Type 0} → QuorumSystem Q → WorldState Q → List (Step Q) → List (Result (Effect Q) Refusal) × List Event × List CallId
 outcome s w steps = (results_from s w steps, (run_from s w steps).history, sequence_of (run_from s w steps).history (run_from s w steps).marks key)
 
 module _ {Q : Type 0} (s : QuorumSystem Q) (founders : Q) (others : List (NodeState Q)) where

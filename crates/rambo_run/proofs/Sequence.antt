@@ -19,7 +19,7 @@ use Rattle.rambo_sequence.specs.Sequences.{call_place, rank, sorted_marks, seque
 use Rattle.rambo_run.specs.Worlds.{WorldState}
 use Rattle.rambo_run.proofs.Lists.{pick, some_inj, Member, member_stands, stands_member, member_map, map_member, member_left, member_right, member_cases}
 use Rattle.rambo_run.proofs.Events.{place_same}
-use Rattle.rambo_run.proofs.Worlds.{Worlds}
+use Rattle.rambo_run.proofs.Sights.{Worlds}
 use Rattle.rambo_run.proofs.Books.{apart_same}
 use Rattle.rambo_run.proofs.Tags.{FromMark, empty, marked, mark_from, set_value, set_tag, one_set}
 use Rattle.rambo_run.proofs.Before.{books, see, mark_order, called_first}

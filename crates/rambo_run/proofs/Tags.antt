@@ -24,7 +24,8 @@ use Rattle.rambo_run.proofs.Turn.{Moments, Run}
 use Rattle.rambo_run.proofs.Held.{up, names, from_then, up_to}
 use Rattle.rambo_run.proofs.Phases.{keeps}
 use Rattle.rambo_run.proofs.Seen.{Seen, seen_queried, seen_answered, mark_of, SameCall, same_refl, WorldTurn, t_still, t_node, t_calls, t_queries, t_answers}
-use Rattle.rambo_run.proofs.Worlds.{Worlds, Came, at, view, steps, run_of}
+use Rattle.rambo_run.proofs.Sights.{Worlds, Came, at, view}
+use Rattle.rambo_run.proofs.Worlds.{steps, run_of}
 use Rattle.rambo_run.proofs.Books.{set_grows, set_new, set_split, get_grows, get_split, moved_call, calls_split, query_split, answer_left}
 use Rattle.rambo_run.proofs.Booked.{numbers}
 

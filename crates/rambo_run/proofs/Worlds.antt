@@ -1,357 +1,47 @@
 -- A run of whole worlds is a run of nodes
-use Rattle.std.proofs.Common.{◌≡◌, ℕ, zero, suc, ◌+◌, ◌<◌, ◌≤◌, ◌⊎◌, Bool, true, false, if◌then◌else◌, nat_eq, List, [], ◌∷◌, ◌++◌, length, Option, Some, None, slice_get, refl, sym, ap, ◌∙◌, subst, inl, inr, ⊎_elim, arith, eqb-true, true≢false}
-use Rattle.std.proofs.lemmas.Bool.{not-false}
-use Rattle.rambo_names.specs.Names.{IsName, rising}
+use Rattle.std.proofs.Common.{◌≡◌, ℕ, zero, suc, ◌+◌, ◌⊎◌, if◌then◌else◌, nat_eq, length, Some, refl, sym, ap, ◌∙◌, subst, inl, inr, arith, eqb-true}
 use Rattle.rambo_names.specs.Quorums.{QuorumSystem}
-use Rattle.rambo_names.specs.Refusals.{Cause, least}
-use Rattle.rambo_atomic.specs.declared.event.CallId.{CallId}
-use Rattle.rambo_atomic.specs.declared.event.Event.TheVariants as event
-use Rattle.rambo_atomic.specs.declared.operation.Op.{Op}
-use Rattle.rambo_phase.specs.Phases.{is_met}
-use Rattle.rambo_joiner.specs.Statuses.{is_active}
 use Rattle.rambo_gossip.specs.declared.letter.Letter.{Letter}
-use Rattle.rambo_gossip.specs.declared.letter.Gossip.{Gossip}
-use Rattle.rambo_gossip.specs.declared.letter.Kind.{Kind}
-use Rattle.rambo_gossip.specs.declared.letter.Kind.TheVariants as kind
-use Rattle.rambo_node.specs.declared.stage.Stage.{Stage}
-use Rattle.rambo_node.specs.declared.stage.Stage.TheVariants.{Query, Propagation}
-use Rattle.rambo_node.specs.declared.change.Change.{Change}
-use Rattle.rambo_node.specs.declared.change.Change.TheVariants as change
-use Rattle.rambo_node.specs.Calls.{CallState, propagates, kept_in}
-use Rattle.rambo_node.specs.Changes as node
-use Rattle.rambo_node.specs.Changes.{set_mark, get_mark, quiet as quiet_made, stage_met, advanced, begun_again, made_by}
-use Rattle.rambo_node.specs.Nodes.{NodeState, first_node, open_call}
-use Rattle.rambo_node.specs.Letters.{letter_for, gossip_for}
-use Rattle.rambo_node.specs.Hearing.{heard_kind, heard_join, heard_gossip}
-use Rattle.rambo_node.specs.Operations.{called, taken, query_answered, call_closed, answer_of, called_again, joined_by, stopped}
-use Rattle.rambo_node.specs.Refusals.{is_unmet}
+use Rattle.rambo_node.specs.Nodes.{NodeState, first_node}
+use Rattle.rambo_node.specs.Letters.{letter_for}
+use Rattle.rambo_node.specs.Operations.{called, query_answered, call_closed}
 use Rattle.rambo_run.specs.declared.step.Step.{Step}
 use Rattle.rambo_run.specs.declared.step.Step.TheVariants as step
-use Rattle.rambo_run.specs.Worlds.{WorldState, node_at, letter_at, first_nodes, first_world}
-use Rattle.rambo_run.specs.Steps.{Meant, delivery, meant, causes_at, causes_of, causes, refusal, with_letter, with_mark, turn_by, turn_at, turn_of, turn}
-use Rattle.rambo_run.proofs.Lists.{pick, some_inj, none-some, Member}
-use Rattle.rambo_run.proofs.Deeds.{id_of, with_set, open_member, advanced_letter, again_letter, put_self}
-use Rattle.rambo_run.proofs.Turn.{Moments, Turn, stays, quiet, calls, hears, queried, answers, agains, Run}
+use Rattle.rambo_run.specs.Worlds.{WorldState, node_at, letter_at, first_world}
+use Rattle.rambo_run.proofs.Lists.{pick, none-some}
+use Rattle.rambo_run.proofs.Turn.{Moments, Telling, Turn, stays, calls, queried, answers, Run}
 use Rattle.rambo_run.proofs.Held.{name_turn}
 use Rattle.rambo_run.proofs.Numbers.{Numbered, numbered_turn, numbered_first}
-use Rattle.rambo_run.proofs.Seen.{Seen, node_or, seen_at, seen, seen_called, seen_queried, seen_answered, Keeps, keeps_same, keeps_hear, keeps_again, CopiesFrom, copies_same, copies_heard, WorldTurn, t_still, t_node, t_calls, t_queries, t_answers, named_some, seen_put}
-
--- no cause holds
-abbrev AllClear : List Cause → Type 0
-AllClear [] = Unit {0}
-AllClear (c ∷ cs) = (c.holds ≡ false) × AllClear cs
-
-clear : (cs : List Cause) → least cs ≡ None → AllClear cs
-clear [] e = tt
-clear (c ∷ cs) e = elim (pick c.holds (Some c.refusal) (least cs)) [ inl p ↦ absurd (none-some c.refusal (sym e ∙ p.1)) | inr p ↦ (p.0, clear cs (sym p.1 ∙ e)) ]
-
--- a letter in a list that one was put to: an old one, or the last
-at_more : {A : Type 0} (xs : List A) (a b : A) (i : ℕ) → slice_get (xs ++ a ∷ []) i ≡ Some b → (slice_get xs i ≡ Some b) ⊎ ((i ≡ length xs) × (a ≡ b))
-at_more [] a b zero e = inr (refl, some_inj a b e)
-at_more [] a b (suc i) e = absurd (none-some b e)
-at_more (x ∷ xs) a b zero e = inl e
-at_more (x ∷ xs) a b (suc i) e = ⊎_elim inl (λ r. inr (ap suc r.0, r.1)) (at_more xs a b i e)
-
-letter_more : {Q : Type 0} (ls : List (Letter Q)) (a b : Letter Q) (i : ℕ) → letter_at (ls ++ a ∷ []) i ≡ Some b → (letter_at ls i ≡ Some b) ⊎ ((i ≡ length ls + 1) × (a ≡ b))
-letter_more ls a b zero e = absurd (none-some b e)
-letter_more ls a b (suc i) e = ⊎_elim inl (λ r. inr (omega (arith, r.0), r.1)) (at_more ls a b i e)
-
-abbrev gossip_in : {Q : Type 0} → Gossip Q → Kind Q → Gossip Q
-gossip_in g kind.Join = g
-gossip_in g (kind.Gossip h) = h
-
-abbrev is_gossip : {Q : Type 0} → Kind Q → Bool
-is_gossip kind.Join = false
-is_gossip (kind.Gossip g) = true
-
--- the letters after a step: one more if a node sends it
-abbrev OneMore : {Q : Type 0} → WorldState Q → Step → WorldState Q → Type 0
-OneMore {Q} w st z = (z.letters ≡ w.letters) ⊎ ((n : ℕ) × (to : ℕ) × (x : NodeState Q) × (node_at w n ≡ Some x) × (st ≡ step.Send n to) × (z.letters ≡ w.letters ++ letter_for x to ∷ []))
-
-abbrev sends : {Q : Type 0} → Change Q → Bool
-sends (change.Send to) = true
-sends (change.Join contacts) = false
-sends (change.Call o) = false
-sends (change.Deliver l) = false
-sends (change.Advance id) = false
-sends (change.Again id) = false
-sends change.Stop = false
-
-letters_by : {Q : Type 0} (w : WorldState Q) (n : ℕ) (x : NodeState Q) (c : Change Q) → sends c ≡ false → (turn_by w n (made_by x c)).world.letters ≡ w.letters
-unfolding made_by
-letters_by w n x (change.Join contacts) h = refl
-letters_by w n x (change.Call o) h = refl
-letters_by w n x (change.Send to) h = absurd (true≢false h)
-letters_by w n x (change.Deliver l) h = refl
-letters_by w n x (change.Advance id) h = ap (with_letter w.letters) (advanced_letter x id (open_call x id))
-letters_by w n x (change.Again id) h = ap (with_letter w.letters) (again_letter x (open_call x id))
-letters_by w n x change.Stop h = refl
-
-letters_at : {Q : Type 0} (w : WorldState Q) (n : ℕ) (c : Change Q) → sends c ≡ false → (o : Option (NodeState Q)) → (turn_at w n o c).world.letters ≡ w.letters
-letters_at w n c h None = refl
-letters_at w n c h (Some x) = letters_by w n x c h
-
-letters_delivered : {Q : Type 0} (w : WorldState Q) (o : Option (Letter Q)) → (turn_of w (delivery o)).world.letters ≡ w.letters
-letters_delivered w None = refl
-letters_delivered w (Some l) = letters_at w l.addressee (change.Deliver l) refl (node_at w l.addressee)
-
-letters_sent : {Q : Type 0} (w : WorldState Q) (n to : ℕ) (o : Option (NodeState Q)) → node_at w n ≡ o → OneMore w (step.Send n to) (turn_at w n o (change.Send to)).world
-unfolding made_by
-letters_sent w n to None h = inl refl
-letters_sent w n to (Some x) h = inr (n, to, x, h, refl, refl)
-
-letters_after : {Q : Type 0} (w : WorldState Q) (st : Step) → OneMore w st (turn w st).world
-unfolding turn
-letters_after w (step.Join n contacts) = inl (letters_at w n (change.Join contacts) refl (node_at w n))
-letters_after w (step.Call n o) = inl (letters_at w n (change.Call o) refl (node_at w n))
-letters_after w (step.Send n to) = letters_sent w n to (node_at w n) refl
-letters_after w (step.Deliver i) = inl (letters_delivered w (letter_at w.letters i))
-letters_after w (step.Advance id) = inl (letters_at w id.name (change.Advance id) refl (node_at w id.name))
-letters_after w (step.Again id) = inl (letters_at w id.name (change.Again id) refl (node_at w id.name))
-letters_after w (step.Stop n) = inl (letters_at w n change.Stop refl (node_at w n))
-
--- whole worlds, moment by moment
-pub record Worlds {Q : Type 0} (s : QuorumSystem Q) (founders : Q) (world : ℕ → WorldState Q) : Type 0 where
-  pub first : world 0 ≡ first_world s founders
-  pub steps : ℕ → Option Step
-  pub next : (m : ℕ) → (world (suc m) ≡ world m) ⊎ ((st : Step) × (refusal s (world m) st ≡ None) × (world (suc m) ≡ (turn (world m) st).world) × (steps m ≡ Some st))
-
-first_at : {Q : Type 0} (s : QuorumSystem Q) (founders : Q) (k n i : ℕ) → (slice_get (first_nodes s founders (rising k n)) i ≡ Some (first_node s founders (n + i))) ⊎ (slice_get (first_nodes s founders (rising k n)) i ≡ None)
-unfolding rising
-first_at s founders zero n i = inr refl
-first_at s founders (suc k) n zero = let e : n ≡ n + 0 = omega arith in inl (ap (λ n. Some (first_node s founders n)) e)
-first_at s founders (suc k) n (suc i) =
-    let e : n + 1 + i ≡ n + suc i = omega arith in
-    ⊎_elim (λ h. inl (h ∙ ap (λ n. Some (first_node s founders n)) e)) inr (first_at s founders k (n + 1) i)
-
-pub first_count : {Q : Type 0} (s : QuorumSystem Q) (founders : Q) (k n : ℕ) → length (first_nodes s founders (rising k n)) ≡ k
-unfolding rising
-first_count s founders zero n = refl
-first_count s founders (suc k) n = ap suc (first_count s founders k (n + 1))
-
-first_seen : {Q : Type 0} (s : QuorumSystem Q) (founders : Q) (n : ℕ) → seen_at s founders (first_world s founders) n ≡ first_node s founders n
-unfolding first_world
-first_seen s founders zero = refl
-first_seen s founders (suc n) =
-    let e : 1 + n ≡ suc n = omega arith in
-    ⊎_elim (λ h. ap (node_or (first_node s founders (suc n))) h ∙ ap (first_node s founders) e) (λ h. ap (node_or (first_node s founders (suc n))) h) (first_at s founders 64 1 n)
-
-there : {A : Type 0} (xs : List A) (i : ℕ) → i < length xs → slice_get xs i ≡ None → ⊥
-there [] i h e = omega (arith, h)
-there (x ∷ xs) zero h e = none-some x (sym e)
-there (x ∷ xs) (suc i) h e = there xs i (omega (arith, h)) e
-
--- each name has a node at first
-pub first_named : {Q : Type 0} (s : QuorumSystem Q) (founders : Q) (n : ℕ) → IsName n → node_at (first_world s founders) n ≡ Some (first_node s founders n)
-unfolding first_world
-first_named s founders zero h = absurd (omega (arith, h.0))
-first_named s founders (suc n) h =
-    let e : 1 + n ≡ suc n = omega arith in
-    elim (first_at s founders 64 1 n) [
-      | inl a ↦ a ∙ ap (λ n. Some (first_node s founders n)) e
-      | inr a ↦ absurd (there (first_nodes s founders (rising 64 1)) n (omega (arith, h.1, first_count s founders 64 1)) a)
-    ]
+use Rattle.rambo_run.proofs.Seen.{Seen, seen_at, WorldTurn, t_still, t_node, t_calls, t_queries, t_answers, named_some}
+use Rattle.rambo_run.proofs.Steps.{letter_more, OneMore, letters_after}
+use Rattle.rambo_run.proofs.Sights.{Worlds, at as at_of, view as view_of, Happens as HappensIn, Came as CameIn, LetterFrom as LetterIn, Sound as SoundIn, To as ToIn, is_at as is_there}
+use Rattle.rambo_run.proofs.FirstWorlds.{first_seen}
+use Rattle.rambo_run.proofs.Doings.{step_of as step_seen}
 
 module _ {Q : Type 0} (s : QuorumSystem Q) (founders : Q) (world : ℕ → WorldState Q) (worlds : Worlds s founders world) where
-  abbrev pub at : Moments Q
-  at m n = seen_at s founders (world m) n
+  abbrev at : Moments Q
+  at m n = at_of s founders world worlds m n
 
-  abbrev pub view : ℕ → Seen Q
-  view m = seen s founders (world m)
+  abbrev view : ℕ → Seen Q
+  view m = view_of s founders world worlds m
 
-  -- this is the step after moment m, and it isn't refused
-  abbrev pub Happens : ℕ → Step → Type 0
-  Happens m st = (worlds.steps m ≡ Some st) × (refusal s (world m) st ≡ None)
+  abbrev Happens : ℕ → Step Q → Type 0
+  Happens m st = HappensIn s founders world worlds m st
 
-  -- letter i of all was sent by node j to node n in the step after moment u
-  pub record Sent (i u j n : ℕ) : Type 0 where
-    pub number : i ≡ length (world u).letters + 1
-    pub happens : Happens u (step.Send j n)
-    pub named : (at u j).name ≡ j
-    pub there : 1 ≤ j
+  abbrev Came : Telling
+  Came m n u j = CameIn s founders world worlds m n u j
 
-  -- the letter that active node j sent to node n at moment u comes in the step after moment m
-  pub record Came (m n u j : ℕ) : Type 0 where
-    pub letter : ℕ
-    pub sent : Sent letter u j n
-    pub later : u < m
-    pub comes : Happens m (step.Deliver letter)
-    pub content : letter_at (world m).letters letter ≡ Some (letter_for (at u j) n)
-    pub active : is_active (at u j).status ≡ true
+  abbrev LetterFrom : ℕ → ℕ → Letter Q → Type 0
+  LetterFrom m i l = LetterIn s founders world worlds m i l
+
+  abbrev Sound : ℕ → Type 0
+  Sound m = SoundIn s founders world worlds m
 
   abbrev To : ℕ → WorldState Q → Type 0
-  To m z = WorldTurn s Came at m (view m) (seen s founders z)
-
-  -- each letter was made by its sender at some moment
-  record LetterFrom (m i : ℕ) (l : Letter Q) : Type 0 where
-    moment : ℕ
-    before : moment < m
-    sender : ℕ
-    addressee : ℕ
-    sent : Sent i moment sender addressee
-    content : letter_for (at moment sender) addressee ≡ l
-
-  -- what holds of a moment, from which the step after it is seen
-  record Sound (m : ℕ) : Type 0 where
-    letters : (i : ℕ) (l : Letter Q) → letter_at (world m).letters i ≡ Some l → LetterFrom m i l
-    names : (n : ℕ) → (at m n).name ≡ n
-    numbered : (n : ℕ) → Numbered (at m n)
+  To m z = ToIn s founders world worlds m z
 
   is_at : (m n : ℕ) (x : NodeState Q) → node_at (world m) n ≡ Some x → x ≡ at m n
-  is_at m n x e = sym (ap (node_or (first_node s founders n)) e)
-
-  -- one node changed
-  node_done : (m n : ℕ) (x : NodeState Q) (f : NodeState Q → NodeState Q) → node_at (world m) n ≡ Some x → Turn s Came at m n (at m n) (f (at m n)) → Keeps (at m n) (f (at m n)) → CopiesFrom at m (at m n) (f (at m n))
-      → To m (turn_by (world m) n (quiet_made (f x))).world
-  node_done m n x f h t k c =
-      let z = (turn_by (world m) n (quiet_made (f x))).world in
-      let e : (k : ℕ) → seen_at s founders z k ≡ (if nat_eq k n then f (at m n) else at m k) =
-      λ k. seen_put s founders (world m) z n x (f x) h refl k ∙ ap (λ x. if nat_eq k n then f x else at m k) (is_at m n x h) in
-      t_node n (f (at m n)) t k c (λ i. record { node = λ k. e k i; history = (world m).history; marks = (world m).marks })
-
-  call_done : (m n : ℕ) (o : Op) (x : NodeState Q) → (at m n).name ≡ n → node_at (world m) n ≡ Some x → To m (turn_by (world m) n (made_by x (change.Call o))).world
-  unfolding made_by
-  call_done m n o x named h =
-      let z = (turn_by (world m) n (made_by x (change.Call o))).world in
-      let a = is_at m n x h in
-      let e : (k : ℕ) → seen_at s founders z k ≡ (if nat_eq k n then called (at m n) o else at m k) =
-      λ k. seen_put s founders (world m) z n x (called x o) h refl k ∙ ap (λ x. if nat_eq k n then called x o else at m k) a in
-      let history : z.history ≡ (seen_called (view m) n o).history =
-      ap (λ x. (world m).history ++ event.Call (id_of x.name (x.made + 1)) o ∷ []) a ∙ ap (λ k. (world m).history ++ event.Call (id_of k ((at m n).made + 1)) o ∷ []) named in
-      t_calls n o (λ i. record { node = λ k. e k i; history = history i; marks = (world m).marks })
-
-  -- a call of a node that is met
-  stage_done : (m n : ℕ) (x : NodeState Q) (id : CallId) (c : CallState Q) → node_at (world m) n ≡ Some x → Member c (at m n).calls → id ≡ id_of n c.number → is_met s c.phase ≡ true → (g : Stage) → c.stage ≡ g
-      → To m (turn_by (world m) n (stage_met x id c g)).world
-  stage_done m n x id c h i d p Query q =
-      let z = (turn_by (world m) n (stage_met x id c Query)).world in
-      let a = is_at m n x h in
-      let e : (k : ℕ) → seen_at s founders z k ≡ (if nat_eq k n then query_answered (at m n) c else at m k) =
-      λ k. seen_put s founders (world m) z n x (query_answered x c) h refl k ∙ ap (λ x. if nat_eq k n then query_answered x c else at m k) a in
-      let marks : z.marks ≡ (seen_queried (view m) n c).marks =
-      ap (λ id. with_mark (world m).marks (set_mark id c.op (taken x c.op))) d ∙ ap (λ x. with_set (world m).marks n c.number c.op (taken x c.op)) a in
-      t_queries n c i (ap propagates q) p (λ i. record { node = λ k. e k i; history = (world m).history; marks = marks i })
-  stage_done m n x id c h i d p (Propagation kept) q =
-      let z = (turn_by (world m) n (stage_met x id c (Propagation kept))).world in
-      let a = is_at m n x h in
-      let e : (k : ℕ) → seen_at s founders z k ≡ (if nat_eq k n then call_closed (at m n) c else at m k) =
-      λ k. seen_put s founders (world m) z n x (call_closed x c) h refl k ∙ ap (λ x. if nat_eq k n then call_closed x c else at m k) a in
-      let same : kept ≡ kept_in c.stage = sym (ap kept_in q) in
-      let history : z.history ≡ (seen_answered (view m) n c).history = λ i. (world m).history ++ event.Answer (d i) (answer_of c.op (same i)) ∷ [] in
-      let marks : z.marks ≡ (seen_answered (view m) n c).marks = λ i. with_mark (world m).marks (get_mark (d i) c.op (same i)) in
-      t_answers n c i (ap propagates q) p (λ i. record { node = λ k. e k i; history = history i; marks = marks i })
-
-  -- a call that a node's id finds
-  found : (m n : ℕ) (x : NodeState Q) (id : CallId) → (at m n).name ≡ n → node_at (world m) n ≡ Some x → (c : CallState Q) → open_call x id ≡ Some c → Member c (at m n).calls × (id ≡ id_of n c.number)
-  found m n x id named h c e =
-      let a = is_at m n x h in
-      open_member n (at m n) id c named (ap (λ x. open_call x id) (sym a) ∙ e)
-
-  still_done : (m n : ℕ) (x : NodeState Q) → node_at (world m) n ≡ Some x → To m (turn_by (world m) n (quiet_made x)).world
-  still_done m n x h = t_still (λ i. seen s founders (record { nodes = put_self (world m) n x h i; letters = (world m).letters; history = (world m).history; marks = (world m).marks }))
-
-  advance_done : (m n : ℕ) (x : NodeState Q) (id : CallId) → (at m n).name ≡ n → node_at (world m) n ≡ Some x → (o : Option (CallState Q)) → open_call x id ≡ o → is_unmet s o ≡ false → To m (turn_by (world m) n (advanced x id o)).world
-  advance_done m n x id named h None e p = still_done m n x h
-  advance_done m n x id named h (Some c) e p =
-      let f = found m n x id named h c e in
-      stage_done m n x id c h f.0 f.1 (not-false (is_met s c.phase) p) c.stage refl
-
-  again_done : (m n : ℕ) (x : NodeState Q) (id : CallId) → Sound m → node_at (world m) n ≡ Some x → (o : Option (CallState Q)) → open_call x id ≡ o → To m (turn_by (world m) n (begun_again x o)).world
-  unfolding called_again
-  again_done m n x id f h None e = still_done m n x h
-  again_done m n x id f h (Some c) e =
-      let i = (found m n x id (f.names n) h c e).0 in
-      node_done m n x (λ x. called_again x c) h (agains c i refl) (keeps_again (at m n) c (f.numbered n).single i) (copies_same at m (at m n) (called_again (at m n) c) refl)
-
-  -- gossip that comes to n from j was told at some moment
-  abbrev Told : ℕ → ℕ → ℕ → Gossip Q → Type 0
-  Told m n j g = (u : ℕ) × (u ≤ m) × (1 ≤ j) × Came m n u j × (g ≡ gossip_for (at u j) n)
-
-  hear_done : (m n j : ℕ) (k : Kind Q) → ((g : Gossip Q) → k ≡ kind.Gossip g → Told m n j g)
-      → (x : NodeState Q) → node_at (world m) n ≡ Some x → To m (turn_by (world m) n (quiet_made (heard_kind x j k))).world
-  unfolding heard_join
-  hear_done m n j kind.Join f x h = node_done m n x (λ x. heard_join x j) h (quiet _ _ refl) (keeps_same (at m n) (heard_join (at m n) j) refl refl) (copies_same at m (at m n) (heard_join (at m n) j) refl)
-  hear_done m n j (kind.Gossip g) f x h =
-      let r = f g refl in
-      node_done m n x (λ x. heard_gossip x j g) h
-      (hears r.0 j r.1 r.2 (named_some (world m) n x h) r.3 (ap (heard_gossip (at m n) j) r.4))
-      (keeps_hear (at m n) j g)
-      (copies_heard at m r.0 j j (at m n) g r.1 (ap (λ g. g.copies) r.4))
-
-  -- a letter that is delivered to n was told so
-  abbrev Delivers : ℕ → ℕ → Change Q → Type 0
-  Delivers m n (change.Deliver l) = (g : Gossip Q) → l.kind ≡ kind.Gossip g → Told m n l.sender g
-  Delivers m n (change.Join contacts) = Unit {0}
-  Delivers m n (change.Call o) = Unit {0}
-  Delivers m n (change.Send to) = Unit {0}
-  Delivers m n (change.Advance id) = Unit {0}
-  Delivers m n (change.Again id) = Unit {0}
-  Delivers m n change.Stop = Unit {0}
-
-  -- a change of a node that isn't refused
-  change_done : (m n : ℕ) (x : NodeState Q) (c : Change Q) → Sound m → node_at (world m) n ≡ Some x → Delivers m n c → AllClear (node.causes s x c) → To m (turn_by (world m) n (made_by x c)).world
-  unfolding made_by joined_by stopped
-  change_done m n x (change.Join contacts) f h d e = node_done m n x (λ x. joined_by x contacts) h (quiet _ _ refl) (keeps_same (at m n) (joined_by (at m n) contacts) refl refl) (copies_same at m (at m n) (joined_by (at m n) contacts) refl)
-  change_done m n x (change.Call o) f h d e = call_done m n o x (f.names n) h
-  change_done m n x (change.Send to) f h d e = still_done m n x h
-  change_done m n x (change.Deliver l) f h d e = hear_done m n l.sender l.kind d x h
-  change_done m n x (change.Advance id) f h d e = advance_done m n x id (f.names n) h (open_call x id) refl e.1.1.1.0
-  change_done m n x (change.Again id) f h d e = again_done m n x id f h (open_call x id) refl
-  change_done m n x change.Stop f h d e = node_done m n x stopped h (quiet _ _ refl) (keeps_same (at m n) (stopped (at m n)) refl refl) (copies_same at m (at m n) (stopped (at m n)) refl)
-
-  at_done : (m n : ℕ) (c : Change Q) → Sound m → Delivers m n c → (o : Option (NodeState Q)) → node_at (world m) n ≡ o → AllClear (causes_at s o c) → To m (turn_at (world m) n o c).world
-  at_done m n c f d None h e = t_still refl
-  at_done m n c f d (Some x) h e = change_done m n x c f h d e
-
-  abbrev Means : ℕ → Option (Meant Q) → Type 0
-  Means m None = Unit {0}
-  Means m (Some a) = Delivers m a.name a.change
-
-  meant_done : (m : ℕ) → Sound m → (o : Option (Meant Q)) → Means m o → AllClear (causes_of s (world m) o) → To m (turn_of (world m) o).world
-  meant_done m f None d e = t_still refl
-  meant_done m f (Some a) d e = at_done m a.name a.change f d (node_at (world m) a.name) refl e
-
-  kind_told : (g : Gossip Q) (x : NodeState Q) (to : ℕ) (b : Bool) → (if b then kind.Gossip (gossip_for x to) else kind.Join) ≡ kind.Gossip g → (b ≡ true) × (g ≡ gossip_for x to)
-  kind_told g x to true e = (refl, sym (ap (gossip_in g) e))
-  kind_told g x to false e = absurd (true≢false (sym (ap is_gossip e)))
-
-  letter_told : (m i : ℕ) (l : Letter Q) → letter_at (world m).letters i ≡ Some l → LetterFrom m i l → Happens m (step.Deliver i) → Delivers m l.addressee (change.Deliver l)
-  letter_told m i l e f h g q =
-      let x = at f.moment f.sender in
-      let k = kind_told g x f.addressee (is_active x.status) (ap (λ l. l.kind) f.content ∙ q) in
-      let told : Told m f.addressee f.sender g =
-      (f.moment, omega (arith, f.before), f.sent.there, record { letter = i; sent = f.sent; later = f.before; comes = h; content = e ∙ ap Some (sym f.content); active = k.0 }, k.1) in
-      let sender : f.sender ≡ l.sender = sym f.sent.named ∙ ap (λ l. l.sender) f.content in
-      let addressee : f.addressee ≡ l.addressee = ap (λ l. l.addressee) f.content in
-      subst (λ j. Told m l.addressee j g) sender (subst (λ n. Told m n f.sender g) addressee told)
-
-  delivery_means : (m i : ℕ) → Sound m → Happens m (step.Deliver i) → (o : Option (Letter Q)) → letter_at (world m).letters i ≡ o → Means m (delivery o)
-  delivery_means m i f h None e = tt
-  delivery_means m i f h (Some l) e = letter_told m i l e (f.letters i l e) h
-
-  step_means : (m : ℕ) → Sound m → (st : Step) → Happens m st → Means m (meant (world m) st)
-  step_means m f (step.Join n contacts) h = tt
-  step_means m f (step.Call n o) h = tt
-  step_means m f (step.Send n to) h = tt
-  step_means m f (step.Deliver i) h = delivery_means m i f h (letter_at (world m).letters i) refl
-  step_means m f (step.Advance id) h = tt
-  step_means m f (step.Again id) h = tt
-  step_means m f (step.Stop n) h = tt
-
-  -- each step that isn't refused is a turn
-  turn_seen : (m : ℕ) → Sound m → (st : Step) → Happens m st → AllClear (causes s (world m) st) → To m (turn (world m) st).world
-  unfolding turn causes
-  turn_seen m f st h e = meant_done m f (meant (world m) st) (step_means m f st h) e
-
-  none_clear : (m : ℕ) (st : Step) → refusal s (world m) st ≡ None → AllClear (causes s (world m) st)
-  unfolding refusal
-  none_clear m st e = clear (causes s (world m) st) e
-
-  step_of : (m : ℕ) → Sound m → WorldTurn s Came at m (view m) (view (suc m))
-  step_of m f = elim (worlds.next m) [
-    | inl e ↦ t_still (ap (seen s founders) e)
-    | inr r ↦ subst (λ w. To m w) (sym r.2) (turn_seen m f r.0 (r.3, r.1) (none_clear m r.0 r.1))
-  ]
+  is_at m n x e = is_there s founders world worlds m n x e
 
   -- one node changed
   one_changed : (m n k : ℕ) (y z : NodeState Q) → z ≡ (if nat_eq k n then y else at m k) → Turn s Came at m n (at m n) y → Turn s Came at m k (at m k) z
@@ -368,7 +58,7 @@ module _ {Q : Type 0} (s : QuorumSystem Q) (founders : Q) (world : ℕ → World
   seen_turn m k (t_answers n c a b d e) = one_changed m n k (call_closed (at m n) c) (at (suc m) k) (ap (λ v. v.node k) e) (answers c a b d refl)
 
   -- the letters of a moment, and at most one more
-  letters_turn : (m : ℕ) → ((world (suc m)).letters ≡ (world m).letters) ⊎ ((st : Step) × Happens m st × OneMore (world m) st (world (suc m)))
+  letters_turn : (m : ℕ) → ((world (suc m)).letters ≡ (world m).letters) ⊎ ((st : Step Q) × Happens m st × OneMore (world m) st (world (suc m)))
   letters_turn m = elim (worlds.next m) [
     | inl e ↦ inl (ap (λ w. w.letters) e)
     | inr r ↦ inr (r.0, (r.3, r.1), subst (OneMore (world m) r.0) (sym r.2) (letters_after (world m) r.0))
@@ -417,17 +107,17 @@ module _ {Q : Type 0} (s : QuorumSystem Q) (founders : Q) (world : ℕ → World
   sound_next : (m : ℕ) → Sound m → Sound (suc m)
   sound_next m f = record {
     letters = λ i l e. letters_next m i l f e;
-    names = λ n. name_turn s at m n (at m n) (at (suc m) n) (seen_turn m n (step_of m f)) ∙ f.names n;
-    numbered = λ n. numbered_turn s at m n (at m n) (at (suc m) n) (f.numbered n) (seen_turn m n (step_of m f));
+    names = λ n. name_turn s at m n (at m n) (at (suc m) n) (seen_turn m n (step_seen s founders world worlds m f)) ∙ f.names n;
+    numbered = λ n. numbered_turn s at m n (at m n) (at (suc m) n) (f.numbered n) (seen_turn m n (step_seen s founders world worlds m f));
   }
 
-  sound : (m : ℕ) → Sound m
+  pub sound : (m : ℕ) → Sound m
   sound zero = sound_first
   sound (suc m) = sound_next m (sound m)
 
   -- each step is a turn of the seen world
   pub steps : (m : ℕ) → WorldTurn s Came at m (view m) (view (suc m))
-  steps m = step_of m (sound m)
+  steps m = step_seen s founders world worlds m (sound m)
 
   pub run_of : Run s Came founders at
   run_of = record {

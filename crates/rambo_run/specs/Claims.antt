@@ -23,13 +23,13 @@ abbrev pub IsAtomic : {Q : Type 0} → WorldState Q → Type 0
 IsAtomic w = (key : List ℕ) → IsProper w.history key (sequence_of w.history w.marks key)
 
 -- a node holds this configuration at this place, after these steps
-abbrev pub Holds : {Q : Type 0} → QuorumSystem Q → Q → List Step → ℕ → ℕ → Q → Type 0
+abbrev pub Holds : {Q : Type 0} → QuorumSystem Q → Q → List (Step Q) → ℕ → ℕ → Q → Type 0
 Holds {Q} s founders steps n p c = (x : NodeState Q) × (node_at (run s founders steps) n ≡ Some x) × (active_at x.map p ≡ Some c)
 
 -- two nodes, at one moment of the run or at two, hold the same configuration at one place
-abbrev pub Agrees : {Q : Type 0} → QuorumSystem Q → Q → List Step → Type 0
+abbrev pub Agrees : {Q : Type 0} → QuorumSystem Q → Q → List (Step Q) → Type 0
 Agrees {Q} s founders steps =
-    (early late rest : List Step) (n k p : ℕ) (c d : Q) → steps ≡ early ++ late ++ rest
+    (early late rest : List (Step Q)) (n k p : ℕ) (c d : Q) → steps ≡ early ++ late ++ rest
     → Holds s founders early n p c → Holds s founders (early ++ late) k p d → c ≡ d
 
 -- y holds at least what x holds: of each key a tag that is no less, and a map that is no less at either end
@@ -39,11 +39,11 @@ pub record AtLeast {Q : Type 0} (x y : NodeState Q) : Type 0 where
   pub top : end_of x.map ≤ end_of y.map
 
 -- the step after these many steps is this one, and isn't refused
-abbrev pub IsDone : {Q : Type 0} → QuorumSystem Q → Q → List Step → ℕ → Step → Type 0
+abbrev pub IsDone : {Q : Type 0} → QuorumSystem Q → Q → List (Step Q) → ℕ → Step Q → Type 0
 IsDone s founders steps m st = (slice_get steps m ≡ Some st) × (refusal s (run s founders (take m steps)) st ≡ None)
 
 -- the letter that j sent to n after `told` steps, when it was `replier` and active, came to n since
-pub record IsHeard {Q : Type 0} (s : QuorumSystem Q) (founders : Q) (steps : List Step) (n j told : ℕ) (replier : NodeState Q) : Type 0 where
+pub record IsHeard {Q : Type 0} (s : QuorumSystem Q) (founders : Q) (steps : List (Step Q)) (n j told : ℕ) (replier : NodeState Q) : Type 0 where
   pub active : is_active replier.status ≡ true
   pub sent : IsDone s founders steps told (step.Send j n)
   pub letter : ℕ
@@ -53,35 +53,39 @@ pub record IsHeard {Q : Type 0} (s : QuorumSystem Q) (founders : Q) (steps : Lis
   pub came : IsDone s founders steps heard_at (step.Deliver letter)
   pub content : letter_at (run s founders (take heard_at steps)).letters letter ≡ Some (letter_for replier n)
 
--- j replied to a phase of n, which is x now: the phase began after `began` steps, when the node took its number, and j
--- told after `told` steps, when it had heard that number of n and held all that n held when the phase began. What it
--- told came to n, which holds it. n itself replies as the phase begins
-pub record IsFreshReply {Q : Type 0} (s : QuorumSystem Q) (founders : Q) (steps : List Step) (n : ℕ) (x : NodeState Q) (c : CallState Q) (j : ℕ) : Type 0 where
+-- j replied to what n, which is x now, asks under this number: n took the number after `began` steps, and j told after
+-- `told` steps, when it had heard that number of n and held all that n held when it took it. What j told came to n, which
+-- holds it. n itself replies as it begins to ask
+pub record IsFresh {Q : Type 0} (s : QuorumSystem Q) (founders : Q) (steps : List (Step Q)) (n : ℕ) (x : NodeState Q) (asked j : ℕ) : Type 0 where
   pub began : ℕ
   pub told : ℕ
   pub order : began ≤ told
   pub now : told ≤ length steps
   pub opener : NodeState Q
   pub opener_is : node_at (run s founders (take began steps)) n ≡ Some opener
-  pub number : opener.number ≡ c.phase.number
-  pub first : (m : ℕ) (x : NodeState Q) → m < began → node_at (run s founders (take m steps)) n ≡ Some x → x.number < c.phase.number
+  pub number : opener.number ≡ asked
+  pub first : (m : ℕ) (x : NodeState Q) → m < began → node_at (run s founders (take m steps)) n ≡ Some x → x.number < asked
   pub replier : NodeState Q
   pub replier_is : node_at (run s founders (take told steps)) j ≡ Some replier
-  pub heard : ((j ≡ n) × (told ≡ began)) ⊎ ((c.phase.number ≤ heard_from replier.heard n) × IsHeard s founders steps n j told replier)
+  pub heard : ((j ≡ n) × (told ≡ began)) ⊎ ((asked ≤ heard_from replier.heard n) × IsHeard s founders steps n j told replier)
   pub holds : AtLeast opener replier
   pub kept : AtLeast replier x
+
+-- a reply to a phase of a call
+abbrev pub IsFreshReply : {Q : Type 0} → QuorumSystem Q → Q → List (Step Q) → ℕ → NodeState Q → CallState Q → ℕ → Type 0
+IsFreshReply s founders steps n x c j = IsFresh s founders steps n x c.phase.number j
 
 -- each counted reply was told after its sender had heard a letter that was sent since the phase began, and came in one
 -- that was sent then
 abbrev pub RepliesAreFresh : {Q : Type 0} → QuorumSystem Q → Type 0
 RepliesAreFresh {Q} s =
-    (founders : Q) (steps : List Step) (n : ℕ) (x : NodeState Q) → node_at (run s founders steps) n ≡ Some x
+    (founders : Q) (steps : List (Step Q)) (n : ℕ) (x : NodeState Q) → node_at (run s founders steps) n ≡ Some x
     → (c : CallState Q) → Stands x.calls c → (j : ℕ) → set.contains c.phase.repliers j ≡ true → IsFreshReply s founders steps n x c j
 
 -- of every run, of any founders and steps, the given sequences are proper
 abbrev pub EveryRunIsAtomic : {Q : Type 0} → QuorumSystem Q → Type 0
-EveryRunIsAtomic {Q} s = (founders : Q) (steps : List Step) → IsAtomic (run s founders steps)
+EveryRunIsAtomic {Q} s = (founders : Q) (steps : List (Step Q)) → IsAtomic (run s founders steps)
 
 -- and nodes hold the same configurations
 abbrev pub EveryRunAgrees : {Q : Type 0} → QuorumSystem Q → Type 0
-EveryRunAgrees {Q} s = (founders : Q) (steps : List Step) → Agrees s founders steps
+EveryRunAgrees {Q} s = (founders : Q) (steps : List (Step Q)) → Agrees s founders steps

@@ -22,15 +22,15 @@ entered_unless None n m cs = entered n m cs
 entered_unless (Some r) n m cs = cs
 
 -- the changes that node n made in these steps, the oldest first
-unfoldable pub journal_from : {Q : Type 0} → QuorumSystem Q → WorldState Q → ℕ → List Step → List (Change Q)
+unfoldable pub journal_from : {Q : Type 0} → QuorumSystem Q → WorldState Q → ℕ → List (Step Q) → List (Change Q)
 journal_from s w n [] = []
 journal_from s w n (st ∷ sts) = entered_unless (refusal s w st) n (meant w st) (journal_from s (after s w st) n sts)
 
-unfoldable pub journal : {Q : Type 0} → QuorumSystem Q → Q → ℕ → List Step → List (Change Q)
+unfoldable pub journal : {Q : Type 0} → QuorumSystem Q → Q → ℕ → List (Step Q) → List (Change Q)
 journal s founders n sts = journal_from s (first_world s founders) n sts
 
 -- each node of a run is the replay of its own changes
 abbrev pub NodesAreReplayed : {Q : Type 0} → QuorumSystem Q → Type 0
 NodesAreReplayed {Q} s =
-    (founders : Q) (steps : List Step) (n : ℕ) → IsName n
+    (founders : Q) (steps : List (Step Q)) (n : ℕ) → IsName n
     → node_at (run s founders steps) n ≡ Some (replayed (first_node s founders n) (journal s founders n steps))

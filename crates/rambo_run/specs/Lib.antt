@@ -3,3 +3,4 @@ pub mod Steps
 pub mod Runs
 pub mod Journals
 pub mod Claims
+pub mod Configurations

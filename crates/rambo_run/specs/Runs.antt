@@ -16,23 +16,23 @@ abbrev pub unless_refused : {Q : Type 0} → Option Refusal → WorldState Q →
 unless_refused None w next = next
 unless_refused (Some r) w next = w
 
-unfoldable pub after : {Q : Type 0} → QuorumSystem Q → WorldState Q → Step → WorldState Q
+unfoldable pub after : {Q : Type 0} → QuorumSystem Q → WorldState Q → Step Q → WorldState Q
 after s w st = unless_refused (refusal s w st) w (turn w st).world
 
-unfoldable pub run_from : {Q : Type 0} → QuorumSystem Q → WorldState Q → List Step → WorldState Q
+unfoldable pub run_from : {Q : Type 0} → QuorumSystem Q → WorldState Q → List (Step Q) → WorldState Q
 run_from s w [] = w
 run_from s w (st ∷ sts) = run_from s (after s w st) sts
 
 -- the world after all steps of a list
-unfoldable pub run : {Q : Type 0} → QuorumSystem Q → Q → List Step → WorldState Q
+unfoldable pub run : {Q : Type 0} → QuorumSystem Q → Q → List (Step Q) → WorldState Q
 run s founders sts = run_from s (first_world s founders) sts
 
 -- what a step did, or why it was refused
-abbrev pub result_of : {Q : Type 0} → Option Refusal → WorldState Q → Step → Result Effect Refusal
+abbrev pub result_of : {Q : Type 0} → Option Refusal → WorldState Q → Step Q → Result (Effect Q) Refusal
 result_of None w st = Ok (turn w st).effect
 result_of (Some r) w st = Err r
 
-unfoldable pub results_from : {Q : Type 0} → QuorumSystem Q → WorldState Q → List Step → List (Result Effect Refusal)
+unfoldable pub results_from : {Q : Type 0} → QuorumSystem Q → WorldState Q → List (Step Q) → List (Result (Effect Q) Refusal)
 results_from s w [] = []
 results_from s w (st ∷ sts) = result_of (refusal s w st) w st ∷ results_from s (after s w st) sts
 
@@ -50,13 +50,13 @@ maps_of (x ∷ xs) = if is_idle x.status then maps_of xs else record { name = x.
 -- what a run gives: the effect or refusal of each step, the history, the sequence of each key that has one, and the
 -- map of each node that isn't idle
 pub record OutcomeState (Q : Type 0) : Type 0 where
-  pub effects : List (Result Effect Refusal)
+  pub effects : List (Result (Effect Q) Refusal)
   pub history : List Event
   pub sequences : List SequenceOf
   pub maps : List (MapOf Q)
 
-abbrev pub outcome_at : {Q : Type 0} → List (Result Effect Refusal) → WorldState Q → OutcomeState Q
+abbrev pub outcome_at : {Q : Type 0} → List (Result (Effect Q) Refusal) → WorldState Q → OutcomeState Q
 outcome_at effects w = record { effects = effects; history = w.history; sequences = sequences_of w.history w.marks; maps = maps_of w.nodes }
 
-unfoldable pub outcome_of : {Q : Type 0} → QuorumSystem Q → Q → List Step → OutcomeState Q
+unfoldable pub outcome_of : {Q : Type 0} → QuorumSystem Q → Q → List (Step Q) → OutcomeState Q
 outcome_of s founders sts = outcome_at (results_from s (first_world s founders) sts) (run s founders sts)

@@ -28,13 +28,18 @@ delivery None = None
 delivery (Some l) = Some (record { name = l.addressee; change = change.Deliver l })
 
 -- which node and change a step means, if the letter that it names was sent
-abbrev pub meant : {Q : Type 0} → WorldState Q → Step → Option (Meant Q)
+abbrev pub meant : {Q : Type 0} → WorldState Q → Step Q → Option (Meant Q)
 meant w (step.Join n contacts) = Some (record { name = n; change = change.Join contacts })
 meant w (step.Call n o) = Some (record { name = n; change = change.Call o })
 meant w (step.Send n to) = Some (record { name = n; change = change.Send to })
 meant w (step.Deliver l) = delivery (letter_at w.letters l)
 meant w (step.Advance id) = Some (record { name = id.name; change = change.Advance id })
 meant w (step.Again id) = Some (record { name = id.name; change = change.Again id })
+meant w (step.Collect n) = Some (record { name = n; change = change.Collect })
+meant w (step.AdvanceCollect n) = Some (record { name = n; change = change.AdvanceCollect })
+meant w (step.Recon n wish) = Some (record { name = n; change = change.Recon wish })
+meant w (step.Rebid n) = Some (record { name = n; change = change.Rebid })
+meant w (step.AdvanceRecon n) = Some (record { name = n; change = change.AdvanceRecon })
 meant w (step.Stop n) = Some (record { name = n; change = change.Stop })
 
 -- there are 64 nodes, so that each name has one
@@ -47,17 +52,17 @@ causes_of s w None = cause NoSuchLetter true ∷ []
 causes_of s w (Some m) = causes_at s (node_at w m.name) m.change
 
 -- the causes of refusal of a step, by rising numbers
-unfoldable pub causes : {Q : Type 0} → QuorumSystem Q → WorldState Q → Step → List Cause
+unfoldable pub causes : {Q : Type 0} → QuorumSystem Q → WorldState Q → Step Q → List Cause
 causes s w st = causes_of s w (meant w st)
 
 -- the least refusal whose cause holds
-unfoldable pub refusal : {Q : Type 0} → QuorumSystem Q → WorldState Q → Step → Option Refusal
+unfoldable pub refusal : {Q : Type 0} → QuorumSystem Q → WorldState Q → Step Q → Option Refusal
 refusal s w st = least (causes s w st)
 
 -- a world, and what the step did that led to it
 pub record Turn (Q : Type 0) : Type 0 where
   pub world : WorldState Q
-  pub effect : Effect
+  pub effect : Effect Q
 
 -- nothing happens
 abbrev pub no_turn : {Q : Type 0} → WorldState Q → Turn Q
@@ -77,7 +82,7 @@ with_mark ms None = ms
 with_mark ms (Some m) = ms ++ m ∷ []
 
 -- letters are numbered from 1
-abbrev pub effect_in : {Q : Type 0} → List (Letter Q) → Effect → Option (Letter Q) → Effect
+abbrev pub effect_in : {Q : Type 0} → List (Letter Q) → Effect Q → Option (Letter Q) → Effect Q
 effect_in ls e None = e
 effect_in ls e (Some l) = effect.Sent (length ls + 1)
 
@@ -102,5 +107,5 @@ turn_of w None = no_turn w
 turn_of w (Some m) = turn_at w m.name (node_at w m.name) m.change
 
 -- what a step does that isn't refused
-unfoldable pub turn : {Q : Type 0} → WorldState Q → Step → Turn Q
+unfoldable pub turn : {Q : Type 0} → WorldState Q → Step Q → Turn Q
 turn w st = turn_of w (meant w st)

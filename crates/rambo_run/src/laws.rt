@@ -1,5 +1,14 @@
 //! What holds of every run.
 ghost use Rattle.rambo_run.specs.Claims.{EveryRunIsAtomic, EveryRunAgrees, RepliesAreFresh};
+ghost use Rattle.rambo_run.specs.Configurations.{
+  CollectionRepliesAreFresh,
+  RemovedPlacesAreCollected,
+  CollectionsNeverFall,
+  RemovedPlacesAreTold,
+  ToldCollectionsAreWhole,
+  DecisionsStand,
+  LaterPhasesRead,
+};
 ghost use Rattle.rambo_run.specs.Journals.{NodesAreReplayed};
 
 use rambo_names::Quorums;
@@ -27,4 +36,46 @@ pub fn replies_are_fresh<Q: Quorums>()
 /// steps that weren't refused.
 pub fn nodes_are_replayed<Q: Quorums>()
     ensures replayed { NodesAreReplayed Q.system }
+{}
+
+/// Each reply that an open collection counts was told after its sender had heard a letter that was sent since the
+/// present question began, and then held all that the collecting node held when it began to ask. Where another node told
+/// it, it came in the letter that was sent then and was delivered since.
+pub fn collection_replies_are_fresh<Q: Quorums>()
+    ensures fresh { CollectionRepliesAreFresh Q.system }
+{}
+
+/// A place that a node's map has removed was collected before: a quorum of the place's configuration told the collecting
+/// node of the next place, and a quorum of the next place's configuration then came to hold all that they had told.
+pub fn removed_places_are_collected<Q: Quorums>()
+    ensures collected { RemovedPlacesAreCollected Q.system }
+{}
+
+/// What collections carry from place to place never falls: each collection of a next place was opened after one of this
+/// place was over, and its node came to hold at least what the node of that one held.
+pub fn collections_never_fall<Q: Quorums>()
+    ensures carried { CollectionsNeverFall Q.system }
+{}
+
+/// A phase that begins after a call's propagation was met, whatever the configurations of the two, reads at least the
+/// tag that was propagated, once it is met.
+pub fn later_phases_read<Q: Quorums>()
+    ensures read { LaterPhasesRead Q.system }
+{}
+
+/// A place that a node's map has removed was told to be collected, by the advance of a collection in an earlier step.
+pub fn removed_places_are_told<Q: Quorums>()
+    ensures told { RemovedPlacesAreTold Q.system }
+{}
+
+/// A place that a step tells to be collected was collected, by the steps before: as `removed_places_are_collected` says of
+/// a place that is removed.
+pub fn told_collections_are_whole<Q: Quorums>()
+    ensures whole { ToldCollectionsAreWhole Q.system }
+{}
+
+/// The configuration that a step tells to be decided for a place stands there: the node that told it holds it, and so no
+/// node holds another one there (`nodes_agree`).
+pub fn decisions_stand<Q: Quorums>()
+    ensures stand { DecisionsStand Q.system }
 {}

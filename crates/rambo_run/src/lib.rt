@@ -5,7 +5,12 @@ mod laws;
 mod outcome;
 mod step;
 
-pub use laws::{given_sequences_are_proper, nodes_agree, nodes_are_replayed, replies_are_fresh};
+pub use laws::{
+    collection_replies_are_fresh, collections_never_fall, decisions_stand,
+    given_sequences_are_proper, later_phases_read, nodes_agree, nodes_are_replayed,
+    removed_places_are_collected, removed_places_are_told, replies_are_fresh,
+    told_collections_are_whole,
+};
 pub use outcome::{NodeMap, Outcome};
 pub use step::Step;
 

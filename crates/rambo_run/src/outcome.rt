@@ -32,7 +32,7 @@ impl<Q: Quorums> Model for NodeMap<Q> {
 /// byte order, and the map of each node that isn't idle, names rising.
 #[derive(Drop)]
 pub struct Outcome<Q: Quorums> {
-    pub effects: Vec<Result<Effect, Refusal>>,
+    pub effects: Vec<Result<Effect<Q>, Refusal>>,
     pub history: History,
     pub sequences: Vec<KeySequence>,
     pub maps: Vec<NodeMap<Q>>,

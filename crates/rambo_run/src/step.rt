@@ -2,11 +2,11 @@
 ghost use Rattle.std.specs.Prelude.{◌≡◌, IfOk, IfErr};
 
 use rambo_atomic::{CallId, Op};
-use rambo_names::{Members, Name, Refusal};
+use rambo_names::{Members, Name, Quorums, Refusal};
 
 /// One event of a run.
 #[derive(Drop, Debug)]
-pub enum Step {
+pub enum Step<Q: Quorums> {
     /// An idle node begins to join, with these contacts.
     Join(Name, Members),
     /// A client asks a node for an operation.
@@ -20,15 +20,25 @@ pub enum Step {
     Advance(CallId),
     /// The present phase of a call begins anew.
     Again(CallId),
+    /// A node begins to collect the lowest place of its map.
+    Collect(Name),
+    /// A node's collection, whose quorum is there, goes on.
+    AdvanceCollect(Name),
+    /// A node begins to have this configuration chosen for the first place that its map doesn't know.
+    Recon(Name, Q),
+    /// A node's attempt begins again with a fresh ballot.
+    Rebid(Name),
+    /// A node's attempt, whose quorum is there, goes on.
+    AdvanceRecon(Name),
     /// A node stops for ever.
     Stop(Name),
 }
 
-impl Step {
+impl<Q: Quorums> Step<Q> {
     /// The same step, which shares its bytes.
     ///
     /// `OutOfMemory` where a count of owners is full.
-    pub fn clone(&self) -> Result<Step, Refusal>
+    pub fn clone(&self) -> Result<Step<Q>, Refusal>
         ensures same { IfOk result (λ step. step ≡ self.now) }
         ensures refused { IfErr result (λ r. r ≡ Refusal.OutOfMemory) }
     {
@@ -39,6 +49,11 @@ impl Step {
             Step::Deliver(letter) => Step::Deliver(*letter),
             Step::Advance(id) => Step::Advance(*id),
             Step::Again(id) => Step::Again(*id),
+            Step::Collect(name) => Step::Collect(*name),
+            Step::AdvanceCollect(name) => Step::AdvanceCollect(*name),
+            Step::Recon(name, wish) => Step::Recon(*name, *wish),
+            Step::Rebid(name) => Step::Rebid(*name),
+            Step::AdvanceRecon(name) => Step::AdvanceRecon(*name),
             Step::Stop(name) => Step::Stop(*name),
         })
     }

@@ -1,4 +1,9 @@
-use crate::{Step, given_sequences_are_proper, nodes_agree, nodes_are_replayed, replies_are_fresh};
+use crate::{
+    Step, collection_replies_are_fresh, collections_never_fall, decisions_stand,
+    given_sequences_are_proper, later_phases_read, nodes_agree, nodes_are_replayed,
+    removed_places_are_collected, removed_places_are_told, replies_are_fresh,
+    told_collections_are_whole,
+};
 use rambo_atomic::{CallId, Op};
 use rambo_names::{Bytes, Majority, Members, Name, Refusal};
 use std::alloc::Global;
@@ -26,7 +31,7 @@ fn same_op(a: &Op, b: &Op) -> bool {
     }
 }
 
-fn same(a: &Step, b: &Step) -> bool {
+fn same(a: &Step<Majority>, b: &Step<Majority>) -> bool {
     match (a, b) {
         (Step::Join(name, contacts), Step::Join(other, known)) => name == other
             && contacts == known,
@@ -35,6 +40,11 @@ fn same(a: &Step, b: &Step) -> bool {
         (Step::Deliver(letter), Step::Deliver(other)) => letter == other,
         (Step::Advance(id), Step::Advance(other)) => id == other,
         (Step::Again(id), Step::Again(other)) => id == other,
+        (Step::Collect(name), Step::Collect(other)) => name == other,
+        (Step::AdvanceCollect(name), Step::AdvanceCollect(other)) => name == other,
+        (Step::Recon(name, wish), Step::Recon(other, wished)) => name == other && wish == wished,
+        (Step::Rebid(name), Step::Rebid(other)) => name == other,
+        (Step::AdvanceRecon(name), Step::AdvanceRecon(other)) => name == other,
         (Step::Stop(name), Step::Stop(other)) => name == other,
         _ => false,
     }
@@ -57,6 +67,12 @@ fn clones(rt: HostRuntime) -> Result<(), Fail> {
         Step::Deliver(7),
         Step::Advance(id),
         Step::Again(id),
+        Step::Collect(first),
+        Step::AdvanceCollect(first),
+        Step::Recon(first, Majority::of(Members::empty().with(first))),
+        Step::Recon(first, Majority::of(Members::empty().with(second))),
+        Step::Rebid(first),
+        Step::AdvanceRecon(first),
         Step::Stop(first),
     ];
     for (i, step) in steps.iter().enumerate() {
@@ -75,5 +91,12 @@ fn laws(rt: HostRuntime) -> Result<(), Fail> {
     nodes_agree::<Majority>();
     replies_are_fresh::<Majority>();
     nodes_are_replayed::<Majority>();
+    collection_replies_are_fresh::<Majority>();
+    removed_places_are_collected::<Majority>();
+    collections_never_fall::<Majority>();
+    later_phases_read::<Majority>();
+    removed_places_are_told::<Majority>();
+    told_collections_are_whole::<Majority>();
+    decisions_stand::<Majority>();
     Ok(())
 }

@@ -13,7 +13,7 @@ use Rattle.rambo_script.specs.Scripts.{ScriptState, IsScript}
 use Rattle.rambo_script.specs.Replays.{IsReplay, Leaves}
 
 -- the text is that of the run of the script that was read
-pub replay_of : (bytes : List ℕ) (s : ScriptState) (founders : NameSet) (items steps : List Step) (o : OutcomeState NameSet) (text : List ℕ) → IsScript bytes s
+pub replay_of : (bytes : List ℕ) (s : ScriptState) (founders : NameSet) (items steps : List (Step NameSet)) (o : OutcomeState NameSet) (text : List ℕ) → IsScript bytes s
     → record { founders = founders; steps = items } ≡ s → steps ≡ items → o ≡ outcome_of majorities founders steps → text ≡ outcome_lines majorities o → IsReplay bytes text
 replay_of bytes s founders items steps o text is view same ran told =
     record {

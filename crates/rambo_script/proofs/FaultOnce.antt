@@ -4,6 +4,7 @@ use Rattle.std.specs.List.{AllByRecursion}
 use Rattle.std.specs.FinSet.{empty}
 use Rattle.rambo_names.specs.Signs.{set_text, names_text}
 use Rattle.rambo_names.proofs.NameInserts.{names-empty}
+use Rattle.rambo_names.specs.Names.{NameSet}
 use Rattle.rambo_run.specs.declared.step.Step.{Step}
 use Rattle.rambo_text.specs.declared.fault.Fault.{Fault}
 use Rattle.rambo_text.specs.declared.fault.ScriptFault.{ScriptFault}
@@ -86,11 +87,11 @@ same_first text l r m s a b = elim a.whole [
 ]
 
 -- the line behind some lines that have no fault
-front_line : (y : Step) (ys : List Step) (behind text line rest : List ℕ) → HasLine y → text ≡ steps_text (y ∷ ys) ++ behind → IsFirstLine text line rest → line ≡ step_line y
+front_line : (y : Step NameSet) (ys : List (Step NameSet)) (behind text line rest : List ℕ) → HasLine y → text ≡ steps_text (y ∷ ys) ++ behind → IsFirstLine text line rest → line ≡ step_line y
 front_line y ys behind text line rest has is first =
     head_line (step_line y) (steps_text ys ++ behind) text line rest (step_lacks y has.is_step) (inl (is ∙ append_assoc (step_line y) (10 ∷ steps_text ys) behind)) first
 
-same_place : (xs ys : List Step) (b c l r m s : List ℕ) (f g : Fault) → AllByRecursion HasLine xs → AllByRecursion HasLine ys → steps_text xs ++ b ≡ steps_text ys ++ c
+same_place : (xs ys : List (Step NameSet)) (b c l r m s : List ℕ) (f g : Fault) → AllByRecursion HasLine xs → AllByRecursion HasLine ys → steps_text xs ++ b ≡ steps_text ys ++ c
     → IsFirstLine b l r → IsFirstLine c m s → IsLineFault TellNoStep l f → IsLineFault TellNoStep m g → (l ≡ m) × (length xs ≡ length ys)
 same_place [] [] b c l r m s f g p q e first other a d = (same_first c l r m s (subst (λ t. IsFirstLine t l r) e first) other, refl)
 same_place [] (y ∷ ys) b c l r m s f g p q e first other a d =

@@ -6,3 +6,4 @@ pub mod StepShapes
 pub mod Texts
 pub mod FaultOnce
 mod AfterRun
+pub mod Words

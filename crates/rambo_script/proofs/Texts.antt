@@ -29,7 +29,7 @@ no_nothing : (l t : List ℕ) → [] ≡ l ++ 10 ∷ t → ⊥
 no_nothing [] t e = cc
 no_nothing (x ∷ l) t e = cc
 
-same_steps : (xs ys : List Step) → AllByRecursion HasLine xs → AllByRecursion HasLine ys
+same_steps : (xs ys : List (Step NameSet)) → AllByRecursion HasLine xs → AllByRecursion HasLine ys
     → steps_text xs ≡ steps_text ys → xs ≡ ys
 same_steps [] [] a b e = refl
 same_steps [] (y ∷ ys) a b e = absurd (no_nothing (step_line y) (steps_text ys) e)
@@ -46,15 +46,20 @@ word_there kind.Send e = cc
 word_there kind.Deliver e = cc
 word_there kind.Advance e = cc
 word_there kind.Again e = cc
+word_there kind.Collect e = cc
+word_there kind.AdvanceCollect e = cc
+word_there kind.Recon e = cc
+word_there kind.Rebid e = cc
+word_there kind.AdvanceRecon e = cc
 word_there kind.Stop e = cc
 
 -- a line of a step isn't empty
-not_empty : (y : Step) → IsStep y → [] ≡ step_line y → ⊥
+not_empty : (y : Step NameSet) → IsStep y → [] ≡ step_line y → ⊥
 not_empty y is e =
     let words = same_words (step_line y) (step_words y) ([] ∷ []) (step_are_words y is) (record { some = λ n. cc; no_space = (tt, tt); whole = sym e }) in
     word_there (kind_of y) (let both = sym (words_are y) ∙ words in cc)
 
-no_line_more : (xs ys : List Step) → AllByRecursion HasLine xs → AllByRecursion HasLine ys → steps_text xs ++ 10 ∷ [] ≡ steps_text ys → ⊥
+no_line_more : (xs ys : List (Step NameSet)) → AllByRecursion HasLine xs → AllByRecursion HasLine ys → steps_text xs ++ 10 ∷ [] ≡ steps_text ys → ⊥
 no_line_more [] [] a b e = cc
 no_line_more [] (y ∷ ys) a b e = not_empty y b.0.is_step (cut 10 [] (step_line y) [] (steps_text ys) tt (step_lacks y b.0.is_step) e).0
 no_line_more (x ∷ xs) [] a b e =
@@ -127,8 +132,8 @@ not_nothing [] ys some e = some e
 not_nothing (x ∷ xs) ys some e = cc
 
 -- a later line is that of a step
-step_there : (xs ys : List Step) (bytes behind line rest : List ℕ) → AllByRecursion HasLine xs → AllByRecursion HasLine ys → bytes ≡ steps_text xs ++ behind
-    → IsTextOf bytes (steps_text ys) → behind ≢ [] → IsFirstLine behind line rest → (st : Step) × HasLine st × (line ≡ step_line st)
+step_there : (xs ys : List (Step NameSet)) (bytes behind line rest : List ℕ) → AllByRecursion HasLine xs → AllByRecursion HasLine ys → bytes ≡ steps_text xs ++ behind
+    → IsTextOf bytes (steps_text ys) → behind ≢ [] → IsFirstLine behind line rest → (st : Step NameSet) × HasLine st × (line ≡ step_line st)
 step_there xs [] bytes behind line rest a b is text some first =
     absurd (no_text bytes (λ none. not_nothing (steps_text xs) behind some (sym is ∙ none)) text)
 step_there [] (y ∷ ys) bytes behind line rest a b is text some first =
@@ -168,20 +173,20 @@ good_founders s f are (inl long) = let some = long.0 in let short = are.short in
 good_founders s f are (inr fault) =
     founders_told s f fault.1.0 are (same_words (founders_line s) fault.1.0 (founders_words s) fault.1.1 (founders_are_words s)) fault.1.2
 
-step_fit : (st : Step) (f : Fault) (k : StepKind) (others : List (List ℕ)) → IsStep st → k ≡ kind_of st → others ≡ parts_of st → AreUnfit (forms_of k) others f → ⊥
+step_fit : (st : Step NameSet) (f : Fault) (k : StepKind) (others : List (List ℕ)) → IsStep st → k ≡ kind_of st → others ≡ parts_of st → AreUnfit (forms_of k) others f → ⊥
 step_fit st f k others is kinds same (inl many) =
     many.0 (ap length same ∙ as_many (forms_of (kind_of st)) (parts_of st) (spelt st is) ∙ ap (λ j. length (forms_of j)) (sym kinds))
 step_fit st f k others is kinds same (inr bad) =
     not_bad (forms_of (kind_of st)) (parts_of st) f (spelt st is)
     (subst (λ j. IsBadWord (forms_of j) (parts_of st) f) kinds (subst (λ o. IsBadWord (forms_of k) o f) same bad.1))
 
-step_told : (st : Step) (f : Fault) (words : List (List ℕ)) → IsStep st → words ≡ step_words st → TellNoStep words f → ⊥
+step_told : (st : Step NameSet) (f : Fault) (words : List (List ℕ)) → IsStep st → words ≡ step_words st → TellNoStep words f → ⊥
 step_told st f words is same (inl none) = none.0 (kind_of st) (parts_of st) (same ∙ words_are st)
 step_told st f words is same (inr unfit) =
     let both = sym unfit.2 ∙ same ∙ words_are st in
     step_fit st f unfit.0 unfit.1 is (same_kind unfit.0 (kind_of st) (cc)) (cc) unfit.3
 
-pub good_step : (st : Step) (f : Fault) → HasLine st → IsLineFault TellNoStep (step_line st) f → ⊥
+pub good_step : (st : Step NameSet) (f : Fault) → HasLine st → IsLineFault TellNoStep (step_line st) f → ⊥
 good_step st f has (inl long) = let some = long.0 in let short = has.short in omega arith
 good_step st f has (inr fault) = step_told st f fault.1.0 has.is_step (same_words (step_line st) fault.1.0 (step_words st) fault.1.1 (step_are_words st has.is_step)) fault.1.2
 

@@ -10,7 +10,7 @@ use Rattle.rambo_script.specs.StepLines.{step_line, IsStep}
 -- a script without where it lies in memory
 pub record ScriptState : Type 0 where
   pub founders : NameSet
-  pub steps : List Step
+  pub steps : List (Step NameSet)
 
 -- the words of the first line
 abbrev pub founders_words : NameSet → List (List ℕ)
@@ -21,7 +21,7 @@ abbrev pub founders_line : NameSet → List ℕ
 founders_line founders = words_text (founders_words founders)
 
 -- the lines of steps, each with its line feed
-abbrev pub steps_text : List Step → List ℕ
+abbrev pub steps_text : List (Step NameSet) → List ℕ
 steps_text [] = []
 steps_text (st ∷ sts) = step_line st ++ 10 ∷ steps_text sts
 
@@ -40,7 +40,7 @@ pub record AreFounders (founders : NameSet) : Type 0 where
   pub short : IsShort (founders_line founders)
 
 -- a step that has a line, which isn't too long
-pub record HasLine (st : Step) : Type 0 where
+pub record HasLine (st : Step NameSet) : Type 0 where
   pub is_step : IsStep st
   pub short : IsShort (step_line st)
 

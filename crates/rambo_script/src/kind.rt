@@ -11,8 +11,29 @@ pub enum StepKind {
     Deliver,
     Advance,
     Again,
+    Collect,
+    AdvanceCollect,
+    Recon,
+    Rebid,
+    AdvanceRecon,
     Stop,
 }
+
+const KINDS: [StepKind; 13] = [
+    StepKind::Join,
+    StepKind::Get,
+    StepKind::Set,
+    StepKind::Send,
+    StepKind::Deliver,
+    StepKind::Advance,
+    StepKind::Again,
+    StepKind::Collect,
+    StepKind::AdvanceCollect,
+    StepKind::Recon,
+    StepKind::Rebid,
+    StepKind::AdvanceRecon,
+    StepKind::Stop,
+];
 
 impl StepKind {
     ghost use Rattle.rambo_script.specs.declared.kind.StepKind.{StepKind};
@@ -30,6 +51,11 @@ impl StepKind {
             StepKind::Deliver => b"deliver",
             StepKind::Advance => b"advance",
             StepKind::Again => b"again",
+            StepKind::Collect => b"collect",
+            StepKind::AdvanceCollect => b"advance-collect",
+            StepKind::Recon => b"recon",
+            StepKind::Rebid => b"rebid",
+            StepKind::AdvanceRecon => b"advance-recon",
             StepKind::Stop => b"stop",
         }
     }
@@ -41,16 +67,11 @@ impl StepKind {
         ensures found { IfSome result (λ kind. word.now ≡ word_of kind) }
         ensures none { IfNone result ((kind : StepKind) → word.now ≢ word_of kind) }
     {
-        match word {
-            b"join" => Some(StepKind::Join),
-            b"get" => Some(StepKind::Get),
-            b"set" => Some(StepKind::Set),
-            b"send" => Some(StepKind::Send),
-            b"deliver" => Some(StepKind::Deliver),
-            b"advance" => Some(StepKind::Advance),
-            b"again" => Some(StepKind::Again),
-            b"stop" => Some(StepKind::Stop),
-            _ => None,
+        for kind in KINDS.as_slice() {
+            if kind.word() == word {
+                return Some(*kind);
+            }
         }
+        None
     }
 }

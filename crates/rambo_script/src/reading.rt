@@ -10,6 +10,7 @@ use crate::kind::StepKind;
 use crate::parts::{call_of, name_of, number_of, one, set_of, three, two};
 use crate::script::LINE_LIMIT;
 use rambo_atomic::Op;
+use rambo_names::Majority;
 use rambo_run::Step;
 use rambo_text::{Fault, next_word, read_hex};
 use std::alloc::Global;
@@ -17,7 +18,7 @@ use std::alloc::Global;
 /// The step that a line tells.
 ///
 /// `OutOfMemory` where there is no room for its bytes; else the first fault of the line.
-pub fn read_step(alloc: Global, line: &[u8]) -> Result<Step, Fault>
+pub fn read_step(alloc: Global, line: &[u8]) -> Result<Step<Majority>, Fault>
     ensures found { IfOk result (λ st. HasLine st × (line.now ≡ step_line st)) }
     ensures fault { IfErr result (λ f. (f ≡ Fault.OutOfMemory) ⊎ IsLineFault TellNoStep line.now f) }
 {
@@ -32,7 +33,7 @@ pub fn read_step(alloc: Global, line: &[u8]) -> Result<Step, Fault>
 }
 
 // The step of a kind that the words behind the first tell.
-fn read_parts(alloc: Global, kind: StepKind, more: Option<&[u8]>) -> Result<Step, Fault>
+fn read_parts(alloc: Global, kind: StepKind, more: Option<&[u8]>) -> Result<Step<Majority>, Fault>
     ensures found { IfOk result (λ st. TellStep kind (option_copied more.entry) st) }
     ensures fault { IfErr result (λ f. TellFault kind (option_copied more.entry) f) }
 {
@@ -44,11 +45,16 @@ fn read_parts(alloc: Global, kind: StepKind, more: Option<&[u8]>) -> Result<Step
         StepKind::Deliver => read_deliver(more),
         StepKind::Advance => read_advance(more),
         StepKind::Again => read_again(more),
+        StepKind::Collect => read_collect(more),
+        StepKind::AdvanceCollect => read_advance_collect(more),
+        StepKind::Recon => read_recon(more),
+        StepKind::Rebid => read_rebid(more),
+        StepKind::AdvanceRecon => read_advance_recon(more),
         StepKind::Stop => read_stop(more),
     }
 }
 
-fn read_join(more: Option<&[u8]>) -> Result<Step, Fault>
+fn read_join(more: Option<&[u8]>) -> Result<Step<Majority>, Fault>
     ensures found { IfOk result (λ st. TellStep StepKind.Join (option_copied more.entry) st) }
     ensures fault { IfErr result (λ f. TellFault StepKind.Join (option_copied more.entry) f) }
 {
@@ -56,7 +62,7 @@ fn read_join(more: Option<&[u8]>) -> Result<Step, Fault>
     Ok(Step::Join(name_of(name)?, set_of(contacts)?))
 }
 
-fn read_get(alloc: Global, more: Option<&[u8]>) -> Result<Step, Fault>
+fn read_get(alloc: Global, more: Option<&[u8]>) -> Result<Step<Majority>, Fault>
     ensures found { IfOk result (λ st. TellStep StepKind.Get (option_copied more.entry) st) }
     ensures fault { IfErr result (λ f. TellFault StepKind.Get (option_copied more.entry) f) }
 {
@@ -64,7 +70,7 @@ fn read_get(alloc: Global, more: Option<&[u8]>) -> Result<Step, Fault>
     Ok(Step::Call(name_of(name)?, Op::Get(read_hex(alloc, key)?)))
 }
 
-fn read_put(alloc: Global, more: Option<&[u8]>) -> Result<Step, Fault>
+fn read_put(alloc: Global, more: Option<&[u8]>) -> Result<Step<Majority>, Fault>
     ensures found { IfOk result (λ st. TellStep StepKind.Set (option_copied more.entry) st) }
     ensures fault { IfErr result (λ f. TellFault StepKind.Set (option_copied more.entry) f) }
 {
@@ -74,7 +80,7 @@ fn read_put(alloc: Global, more: Option<&[u8]>) -> Result<Step, Fault>
     Ok(Step::Call(name, Op::Set(key, read_hex(alloc, value)?)))
 }
 
-fn read_send(more: Option<&[u8]>) -> Result<Step, Fault>
+fn read_send(more: Option<&[u8]>) -> Result<Step<Majority>, Fault>
     ensures found { IfOk result (λ st. TellStep StepKind.Send (option_copied more.entry) st) }
     ensures fault { IfErr result (λ f. TellFault StepKind.Send (option_copied more.entry) f) }
 {
@@ -82,7 +88,7 @@ fn read_send(more: Option<&[u8]>) -> Result<Step, Fault>
     Ok(Step::Send(name_of(from)?, name_of(to)?))
 }
 
-fn read_deliver(more: Option<&[u8]>) -> Result<Step, Fault>
+fn read_deliver(more: Option<&[u8]>) -> Result<Step<Majority>, Fault>
     ensures found { IfOk result (λ st. TellStep StepKind.Deliver (option_copied more.entry) st) }
     ensures fault { IfErr result (λ f. TellFault StepKind.Deliver (option_copied more.entry) f) }
 {
@@ -90,7 +96,7 @@ fn read_deliver(more: Option<&[u8]>) -> Result<Step, Fault>
     Ok(Step::Deliver(number_of(letter)?))
 }
 
-fn read_advance(more: Option<&[u8]>) -> Result<Step, Fault>
+fn read_advance(more: Option<&[u8]>) -> Result<Step<Majority>, Fault>
     ensures found { IfOk result (λ st. TellStep StepKind.Advance (option_copied more.entry) st) }
     ensures fault { IfErr result (λ f. TellFault StepKind.Advance (option_copied more.entry) f) }
 {
@@ -98,7 +104,7 @@ fn read_advance(more: Option<&[u8]>) -> Result<Step, Fault>
     Ok(Step::Advance(call_of(call)?))
 }
 
-fn read_again(more: Option<&[u8]>) -> Result<Step, Fault>
+fn read_again(more: Option<&[u8]>) -> Result<Step<Majority>, Fault>
     ensures found { IfOk result (λ st. TellStep StepKind.Again (option_copied more.entry) st) }
     ensures fault { IfErr result (λ f. TellFault StepKind.Again (option_copied more.entry) f) }
 {
@@ -106,7 +112,47 @@ fn read_again(more: Option<&[u8]>) -> Result<Step, Fault>
     Ok(Step::Again(call_of(call)?))
 }
 
-fn read_stop(more: Option<&[u8]>) -> Result<Step, Fault>
+fn read_collect(more: Option<&[u8]>) -> Result<Step<Majority>, Fault>
+    ensures found { IfOk result (λ st. TellStep StepKind.Collect (option_copied more.entry) st) }
+    ensures fault { IfErr result (λ f. TellFault StepKind.Collect (option_copied more.entry) f) }
+{
+    let name = one(more)?;
+    Ok(Step::Collect(name_of(name)?))
+}
+
+fn read_advance_collect(more: Option<&[u8]>) -> Result<Step<Majority>, Fault>
+    ensures found { IfOk result (λ st. TellStep StepKind.AdvanceCollect (option_copied more.entry) st) }
+    ensures fault { IfErr result (λ f. TellFault StepKind.AdvanceCollect (option_copied more.entry) f) }
+{
+    let name = one(more)?;
+    Ok(Step::AdvanceCollect(name_of(name)?))
+}
+
+fn read_recon(more: Option<&[u8]>) -> Result<Step<Majority>, Fault>
+    ensures found { IfOk result (λ st. TellStep StepKind.Recon (option_copied more.entry) st) }
+    ensures fault { IfErr result (λ f. TellFault StepKind.Recon (option_copied more.entry) f) }
+{
+    let (name, wish) = two(more)?;
+    Ok(Step::Recon(name_of(name)?, Majority::of(set_of(wish)?)))
+}
+
+fn read_rebid(more: Option<&[u8]>) -> Result<Step<Majority>, Fault>
+    ensures found { IfOk result (λ st. TellStep StepKind.Rebid (option_copied more.entry) st) }
+    ensures fault { IfErr result (λ f. TellFault StepKind.Rebid (option_copied more.entry) f) }
+{
+    let name = one(more)?;
+    Ok(Step::Rebid(name_of(name)?))
+}
+
+fn read_advance_recon(more: Option<&[u8]>) -> Result<Step<Majority>, Fault>
+    ensures found { IfOk result (λ st. TellStep StepKind.AdvanceRecon (option_copied more.entry) st) }
+    ensures fault { IfErr result (λ f. TellFault StepKind.AdvanceRecon (option_copied more.entry) f) }
+{
+    let name = one(more)?;
+    Ok(Step::AdvanceRecon(name_of(name)?))
+}
+
+fn read_stop(more: Option<&[u8]>) -> Result<Step<Majority>, Fault>
     ensures found { IfOk result (λ st. TellStep StepKind.Stop (option_copied more.entry) st) }
     ensures fault { IfErr result (λ f. TellFault StepKind.Stop (option_copied more.entry) f) }
 {

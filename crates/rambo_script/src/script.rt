@@ -19,7 +19,7 @@ pub const LINE_LIMIT: usize = 16_384;
 #[derive(Drop)]
 pub struct Script {
     pub founders: Majority,
-    pub steps: Vec<Step>,
+    pub steps: Vec<Step<Majority>>,
 }
 
 impl Model for Script {
@@ -86,7 +86,7 @@ fn read_founders(line: &[u8]) -> Result<Members, Fault>
 }
 
 // Appends the step that a line tells.
-fn push_step(alloc: Global, line: &[u8], steps: &mut Vec<Step>) -> Result<(), Fault>
+fn push_step(alloc: Global, line: &[u8], steps: &mut Vec<Step<Majority>>) -> Result<(), Fault>
     ensures ok { OnOk result (PushesStep steps.old.items steps.new.items line.now) }
     ensures err { OnErr result (steps.new.items ≡ steps.old.items) }
     ensures fault { IfErr result (λ f. (f ≡ Fault.OutOfMemory) ⊎ IsLineFault TellNoStep line.now f) }

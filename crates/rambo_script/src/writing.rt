@@ -7,14 +7,14 @@ ghost use Rattle.rambo_script.specs.StepLines.{word_of, step_line, call_words};
 
 use crate::kind::StepKind;
 use rambo_atomic::{CallId, Op};
-use rambo_names::{Bytes, Members, Name, Refusal, write_set};
+use rambo_names::{Bytes, Majority, Members, Name, Quorums, Refusal, write_set};
 use rambo_run::Step;
 use rambo_text::{write_call, write_hex, write_name, write_num};
 
 /// Appends the line of a step, with its line feed.
 ///
 /// `OutOfMemory` where the text can't grow; it is then as before.
-pub fn step_text(step: &Step, out: &mut Vec<u8>) -> Result<(), Refusal>
+pub fn step_text(step: &Step<Majority>, out: &mut Vec<u8>) -> Result<(), Refusal>
     ensures ok { OnOk result (out.new.items ≡ out.old.items ++ step_line step.now ++ 10 ∷ []) }
     ensures err { OnErr result (out.new.items ≡ out.old.items) }
     ensures refused { IfErr result (λ r. r ≡ Refusal.OutOfMemory) }
@@ -27,7 +27,7 @@ pub fn step_text(step: &Step, out: &mut Vec<u8>) -> Result<(), Refusal>
     written
 }
 
-fn append_line(step: &Step, out: &mut Vec<u8>) -> Result<(), Refusal>
+fn append_line(step: &Step<Majority>, out: &mut Vec<u8>) -> Result<(), Refusal>
     ensures ok { OnOk result (out.new.items ≡ out.old.items ++ step_line step.now ++ 10 ∷ []) }
     ensures err { OnErr result (Grows out.old.items out.new.items) }
     ensures refused { IfErr result (λ r. r ≡ Refusal.OutOfMemory) }
@@ -38,7 +38,7 @@ fn append_line(step: &Step, out: &mut Vec<u8>) -> Result<(), Refusal>
 }
 
 // Appends the words of a step, or after a refusal some front of them.
-fn append_step(step: &Step, out: &mut Vec<u8>) -> Result<(), Refusal>
+fn append_step(step: &Step<Majority>, out: &mut Vec<u8>) -> Result<(), Refusal>
     ensures ok { OnOk result (out.new.items ≡ out.old.items ++ step_line step.now) }
     ensures err { OnErr result (Grows out.old.items out.new.items) }
     ensures refused { IfErr result (λ r. r ≡ Refusal.OutOfMemory) }
@@ -66,6 +66,27 @@ fn append_step(step: &Step, out: &mut Vec<u8>) -> Result<(), Refusal>
         Step::Again(id) => {
             append_kind(StepKind::Again, out)?;
             append_id(id, out)
+        }
+        Step::Collect(name) => {
+            append_kind(StepKind::Collect, out)?;
+            append_name(*name, out)
+        }
+        Step::AdvanceCollect(name) => {
+            append_kind(StepKind::AdvanceCollect, out)?;
+            append_name(*name, out)
+        }
+        Step::Recon(name, wish) => {
+            append_kind(StepKind::Recon, out)?;
+            append_name(*name, out)?;
+            append_set(&wish.members(), out)
+        }
+        Step::Rebid(name) => {
+            append_kind(StepKind::Rebid, out)?;
+            append_name(*name, out)
+        }
+        Step::AdvanceRecon(name) => {
+            append_kind(StepKind::AdvanceRecon, out)?;
+            append_name(*name, out)
         }
         Step::Stop(name) => {
             append_kind(StepKind::Stop, out)?;

@@ -1,7 +1,7 @@
 use rambo_atomic::{Op, Tape};
 use rambo_names::Quorums;
 use rambo_run::Step;
-use rambo_script::{ReplayFault, read_script, replay, step_text};
+use rambo_script::{Fault, ReplayFault, ScriptFault, read_script, replay, step_text};
 use std::alloc::{AllocError, Global};
 use std::env;
 use std::process::Abort;
@@ -9,7 +9,7 @@ use std::test::Fail;
 
 // A step of each kind.
 const STEPS: &[u8] =
-    b"join 3 1\nget 1 6b\nset 2 - ff00\nsend 1 2\ndeliver 18446744073709551615\nadvance 1.1\nagain 64.7\nstop 2\n";
+    b"join 3 1\nget 1 6b\nset 2 - ff00\nsend 1 2\ndeliver 18446744073709551615\nadvance 1.1\nagain 64.7\ncollect 3\nadvance-collect 64\nrecon 2 1,2,64\nrecon 1 -\nrebid 5\nadvance-recon 6\nstop 2\n";
 
 const SCRIPT: &[u8] =
     b"founders 1\nset 1 6b 76\nadvance 1.1\nadvance 1.1\nget 1 6b\nadvance 1.2\nadvance 1.2\n";
@@ -30,11 +30,17 @@ fn rewritten(rt: &impl Abort, alloc: Global) -> Option<Vec<u8>> {
     let script = read_script(alloc, text.as_slice()).ok()?;
     assert_eq!(rt; script.founders.members().count(), 2);
     let steps = script.steps.as_slice();
-    assert_eq!(rt; steps.len(), 8);
+    assert_eq!(rt; steps.len(), 14);
     if let Step::Call(name, Op::Set(key, value)) = &steps[2] {
         assert_eq!(rt; name.number(), 2);
         assert!(rt; key.is_empty());
         assert_eq!(rt; value.as_slice(), [255, 0].as_slice());
+    } else {
+        assert!(rt; false);
+    }
+    if let Step::Recon(name, wish) = &steps[9] {
+        assert_eq!(rt; name.number(), 2);
+        assert_eq!(rt; wish.members().count(), 3);
     } else {
         assert!(rt; false);
     }
@@ -54,6 +60,48 @@ fn each_kind_of_step(rt: HostRuntime) {
     match out {
         Some(out) => assert_eq!(rt; out.as_slice(), STEPS),
         None => assert!(rt; false),
+    }
+}
+
+// The line of a step, and its first fault.
+const FAULTS: [(&[u8], Fault); 16] = [
+    (b"collect", Fault::WrongCount),
+    (b"collect 1 2", Fault::WrongCount),
+    (b"collect 1,2", Fault::BadNumber),
+    (b"advance-collect 1.1", Fault::BadNumber),
+    (b"advance-collect 1 ", Fault::WrongCount),
+    (b"recon 1", Fault::WrongCount),
+    (b"recon 1 1 2", Fault::WrongCount),
+    (b"recon 0 2,1", Fault::BadNumber),
+    (b"recon 1 2,1", Fault::BadNumber),
+    (b"recon 1 removed", Fault::BadNumber),
+    (b"rebid 65", Fault::BadNumber),
+    (b"rebid 1 -", Fault::WrongCount),
+    (b"advance-recon -", Fault::BadNumber),
+    (b"advance-recon 1 1", Fault::WrongCount),
+    (b"advance-", Fault::UnknownWord),
+    (b"Recon 1 1", Fault::UnknownWord),
+];
+
+// What a script of a founder and this line comes to. None where memory is refused.
+fn fault_of(alloc: Global, line: &[u8]) -> Option<ScriptFault> {
+    let mut text = b"founders 1\n".to_vec(alloc).ok()?;
+    text.extend_from_slice(line).ok()?;
+    match read_script(alloc, text.as_slice()) {
+        Ok(_) => None,
+        Err(fault) if fault.fault == Fault::OutOfMemory => None,
+        Err(fault) => Some(fault),
+    }
+}
+
+#[test]
+fn faults(rt: HostRuntime) {
+    for (line, fault) in FAULTS {
+        let told = match fault_of(rt.alloc(), line) {
+            None if is_short(&rt) => fault_of(rt.alloc(), line),
+            told => told,
+        };
+        assert_eq!(rt; told, Some(ScriptFault { fault, line: 2 }));
     }
 }
 

@@ -12,3 +12,9 @@ pub lacks-decimal : (b n : ℕ) → b < 48 → n < 2 ^ 64 → Lacks b (decimal n
 lacks-decimal b n low h =
     decimal_by_steps (λ m ds. Lacks b ds) (λ m k. (λ (e : 48 + m ≡ b). let bad : ⊥ = omega arith in bad, tt))
     (λ m ds k l. lacks-append b ds ((48 + m % 10) ∷ []) l (λ (e : 48 + m % 10 ≡ b). let bad : ⊥ = omega arith in bad, tt)) n h
+
+-- and no letter
+pub letterless : (b n : ℕ) → 57 < b → n < 2 ^ 64 → Lacks b (decimal n)
+letterless b n high h =
+    decimal_by_steps (λ m ds. Lacks b ds) (λ m k. (λ (e : 48 + m ≡ b). let bad : ⊥ = omega (arith, k) in bad, tt))
+    (λ m ds k l. lacks-append b ds ((48 + m % 10) ∷ []) l (λ (e : 48 + m % 10 ≡ b). let bad : ⊥ = omega arith in bad, tt)) n h

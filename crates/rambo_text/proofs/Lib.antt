@@ -5,3 +5,4 @@ pub mod Options
 pub mod Pairs
 pub mod Plain
 pub mod WordSplits
+pub mod Standings

@@ -1,19 +1,20 @@
 -- The forms of words, and the first word that isn't in its form
-use Rattle.std.specs.Prelude.{◌≡◌, ◌⊎◌, ℕ, ◌<◌, ◌^◌, List, [], ◌∷◌, decimal}
+use Rattle.std.specs.Prelude.{◌≡◌, ◌⊎◌, ℕ, ◌<◌, ◌^◌, List, [], ◌∷◌, Option, decimal}
 use Rattle.rambo_names.specs.Names.{IsName, NameSet}
 use Rattle.rambo_names.specs.Signs.{set_text}
 use Rattle.rambo_atomic.specs.declared.event.CallId.{CallId}
 use Rattle.rambo_text.specs.declared.fault.Fault.{Fault}
 use Rattle.rambo_text.specs.declared.fault.Fault.TheVariants.{BadNumber, BadHex}
-use Rattle.rambo_text.specs.Signs.{call_text, hex_text, IsCall, AreBytes}
+use Rattle.rambo_text.specs.Signs.{call_text, hex_text, standing_text, IsCall, AreBytes}
 
--- a number, a name, a set of names, a call or bytes
+-- a number, a name, a set of names, a call, bytes, or what stands at a place
 pub data Form : Type 0 where
   Num : Form
   Name : Form
   Set : Form
   Call : Form
   Hex : Form
+  Standing : Form
 
 -- the word is the spelling of a value of this form
 abbrev pub IsSpelt : Form → List ℕ → Type 0
@@ -22,6 +23,7 @@ IsSpelt Name word = (n : ℕ) × IsName n × (word ≡ decimal n)
 IsSpelt Set word = (s : NameSet) × (word ≡ set_text s)
 IsSpelt Call word = (c : CallId) × IsCall c × (word ≡ call_text c)
 IsSpelt Hex word = (bs : List ℕ) × AreBytes bs × (word ≡ hex_text bs)
+IsSpelt Standing word = (members : Option NameSet) × (word ≡ standing_text members)
 
 -- the fault of a word that isn't in its form
 abbrev pub form_fault : Form → Fault
@@ -30,6 +32,7 @@ form_fault Name = BadNumber
 form_fault Set = BadNumber
 form_fault Call = BadNumber
 form_fault Hex = BadHex
+form_fault Standing = BadNumber
 
 -- each word is in its form, one form for each
 abbrev pub AreSpelt : List Form → List (List ℕ) → Type 0

@@ -1,7 +1,8 @@
 -- How calls and bytes are spelt
-use Rattle.std.specs.Prelude.{◌≡◌, true, ℕ, ◌+◌, ◌<◌, ◌≤◌, ◌^◌, if◌then◌else◌, nat_lt, List, [], ◌∷◌, ◌++◌, decimal, ◌/◌, ◌%◌, All}
+use Rattle.std.specs.Prelude.{◌≡◌, true, ℕ, ◌+◌, ◌<◌, ◌≤◌, ◌^◌, if◌then◌else◌, nat_lt, List, [], ◌∷◌, ◌++◌, Option, None, Some, codes, decimal, ◌/◌, ◌%◌, All}
 use Rattle.std.specs.FinSet.{contains}
 use Rattle.rambo_names.specs.Names.{IsName, NameSet}
+use Rattle.rambo_names.specs.Signs.{set_text}
 use Rattle.rambo_atomic.specs.declared.event.CallId.{CallId}
 
 -- the digit of a number below 16
@@ -21,6 +22,11 @@ hex_text (b ∷ bs) = pairs_text (b ∷ bs)
 -- the one spelling of a call
 abbrev pub call_text : CallId → List ℕ
 call_text c = decimal c.name ++ 46 ∷ decimal c.number
+
+-- what stands at a place: the members of its configuration, or none where the place is removed
+abbrev pub standing_text : Option NameSet → List ℕ
+standing_text None = codes "removed"
+standing_text (Some members) = set_text members
 
 -- a call has a node's name, and a number from 1
 abbrev pub IsCall : CallId → Type 0

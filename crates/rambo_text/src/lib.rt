@@ -1,8 +1,8 @@
 //! Signs and words of texts: how numbers, names, calls and bytes are written and read, and the faults of texts.
 //!
 //! - `Fault`, `ScriptFault` and `ReplayFault`: what is wrong with a text, in which line, and why nothing was made of it.
-//! - `write_num`, `write_name`, `write_call`, `write_hex`: the one spelling of each sign.
-//! - `read_name`, `read_call`, `read_hex`: the same backwards.
+//! - `write_num`, `write_name`, `write_call`, `write_hex`, `write_standing`: the one spelling of each sign.
+//! - `read_name`, `read_call`, `read_hex`, `read_standing`: the same backwards.
 //! - `next_line`, `next_word`, `one_word`, `two_words`, `three_words`: lines of a text, and words of a line.
 #![tactic(auto)]
 
@@ -12,6 +12,6 @@ mod words;
 mod writing;
 
 pub use fault::{Fault, ReplayFault, ScriptFault};
-pub use reading::{read_call, read_hex, read_name};
+pub use reading::{read_call, read_hex, read_name, read_standing};
 pub use words::{next_line, next_word, one_word, three_words, two_words};
-pub use writing::{write_call, write_hex, write_name, write_num};
+pub use writing::{write_call, write_hex, write_name, write_num, write_standing};

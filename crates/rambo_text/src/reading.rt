@@ -1,14 +1,14 @@
 //! Reading signs.
-ghost use Rattle.std.specs.Prelude.{◌≡◌, ◌≢◌, ◌⊎◌, ℕ, List, ◌∷◌, ◌++◌, length, ◌<◌, ◌/◌, ◌%◌, decimal, IfSome, IfNone, IfOk, IfErr};
-ghost use Rattle.rambo_names.specs.Names.{IsName};
+ghost use Rattle.std.specs.Prelude.{◌≡◌, ◌≢◌, ◌⊎◌, ℕ, List, ◌∷◌, ◌++◌, length, ◌<◌, ◌/◌, ◌%◌, decimal, Option, IfSome, IfNone, IfOk, IfErr};
+ghost use Rattle.rambo_names.specs.Names.{IsName, NameSet};
 ghost use Rattle.rambo_atomic.specs.declared.event.CallId.{CallId};
 ghost use Rattle.rambo_text.specs.Words.{Lacks};
-ghost use Rattle.rambo_text.specs.Signs.{digit_of, pairs_text, hex_text, call_text, IsCall, AreBytes};
+ghost use Rattle.rambo_text.specs.Signs.{digit_of, pairs_text, hex_text, call_text, standing_text, IsCall, AreBytes};
 
 use crate::fault::Fault;
 use memchr::memchr;
 use rambo_atomic::CallId;
-use rambo_names::{Bytes, Name, read_num};
+use rambo_names::{Bytes, Members, Name, read_num, read_set};
 use std::alloc::Global;
 
 /// The name that a word spells: a number from 1 to 64 in plain decimal.
@@ -36,6 +36,19 @@ pub fn read_call(word: &[u8]) -> Option<CallId>
         return None;
     }
     Some(CallId { name, number })
+}
+
+/// What a word tells of a place: the members of the configuration that stands there, or none for the word `removed`.
+///
+/// None where it tells neither.
+pub fn read_standing(word: &[u8]) -> Option<Option<Members>>
+    ensures found { IfSome result (λ members. word.now ≡ standing_text members) }
+    ensures none { IfNone result ((members : Option NameSet) → word.now ≢ standing_text members) }
+{
+    if word == b"removed".as_slice() {
+        return Some(None);
+    }
+    read_set(word).map(Some)
 }
 
 // What stands before and behind the first dot.

@@ -1,10 +1,10 @@
 //! Writing signs.
-ghost use Rattle.std.specs.Prelude.{◌≡◌, ◌++◌, ◌<◌, decimal, OnOk, OnErr};
-ghost use Rattle.rambo_text.specs.Signs.{digit_of, hex_text, call_text, Grows};
+ghost use Rattle.std.specs.Prelude.{◌≡◌, ◌++◌, ◌<◌, decimal, OnOk, OnErr, IfErr};
+ghost use Rattle.rambo_text.specs.Signs.{digit_of, hex_text, call_text, standing_text, Grows};
 
 use itoa::Buffer;
 use rambo_atomic::CallId;
-use rambo_names::Name;
+use rambo_names::{Members, Name, Refusal, write_set};
 use std::alloc::AllocError;
 
 /// Appends a number in plain decimal.
@@ -66,6 +66,21 @@ pub fn write_hex(bytes: &[u8], out: &mut Vec<u8>) -> Result<(), AllocError>
         out.truncate(before);
     }
     written
+}
+
+/// Appends what stands at a place: the members of its configuration, or `removed` for none.
+///
+/// `OutOfMemory` where the text can't grow; it is then as before.
+pub fn write_standing(members: Option<Members>, out: &mut Vec<u8>) -> Result<(), Refusal>
+    ensures ok { OnOk result (out.new.items ≡ out.old.items ++ standing_text members) }
+    ensures err { OnErr result (out.new.items ≡ out.old.items) }
+    ensures refused { IfErr result (λ r. r ≡ Refusal.OutOfMemory) }
+{
+    match members {
+        None => out.extend_from_slice(b"removed")?,
+        Some(members) => write_set(&members, out)?,
+    }
+    Ok(())
 }
 
 // Appends bytes as digits, or after a refusal some bytes.

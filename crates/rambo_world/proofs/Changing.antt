@@ -16,6 +16,7 @@ use Rattle.rambo_run.specs.Steps.{turn_at, with_letter, with_event, with_mark, e
 use Rattle.rambo_world.specs.Kept.{KeptNode, SentState, states_of, whole_letters, moved, moved_in, state_at}
 use Rattle.rambo_world.specs.Worlds.{sends}
 use Rattle.rambo_world.specs.Deliveries.{world_of}
+use Rattle.rambo_world.proofs.Members.{collection_keeps, rebid_keeps, attempt_keeps}
 
 module _ {Q : Type 0} (x : NodeState Q) where
   stage_quiet : (id : CallId) (c : CallState Q) (stage : Stage) → (stage_met x id c stage).letter ≡ None
@@ -39,10 +40,15 @@ module _ {Q : Type 0} (x : NodeState Q) where
   quiet_made (change.Deliver l) e = refl
   quiet_made (change.Advance id) e = advanced_quiet id (open_call x id)
   quiet_made (change.Again id) e = again_quiet (open_call x id)
+  quiet_made change.Collect e = refl
+  quiet_made change.AdvanceCollect e = (collection_keeps x x.collection).letter
+  quiet_made (change.Recon wish) e = refl
+  quiet_made change.Rebid e = (rebid_keeps x x.attempt).letter
+  quiet_made change.AdvanceRecon e = (attempt_keeps x x.attempt).letter
   quiet_made change.Stop e = refl
 
 -- a change of a node that is there, and that sends no letter
-pub changed_world : {Q : Type 0} (ks new : List (KeptNode Q)) (ss : List (SentState Q)) (h history : List Event) (ms marks : List Mark) (n : ℕ) (c : Change Q) (e : Effect) (x : NodeState Q)
+pub changed_world : {Q : Type 0} (ks new : List (KeptNode Q)) (ss : List (SentState Q)) (h history : List Event) (ms marks : List Mark) (n : ℕ) (c : Change Q) (e : Effect Q) (x : NodeState Q)
     → states_of new ≡ moved ks n (λ y. (made_by y c).node) → whole_letters new ss ≡ whole_letters ks ss → state_at ks n ≡ Some x → sends c ≡ false
     → e ≡ (made_by x c).deed.effect → history ≡ with_event h (made_by x c).deed.event → marks ≡ with_mark ms (made_by x c).deed.mark
     → turn_at (world_of ks ss h ms) n (state_at ks n) c ≡ record { world = world_of new ss history marks; effect = e }

@@ -1,4 +1,5 @@
 mod Growth
+mod Members
 mod Logging
 mod Stepping
 mod Merging

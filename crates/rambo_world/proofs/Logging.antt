@@ -32,7 +32,9 @@ use Rattle.rambo_node.specs.Calls.{CallState}
 use Rattle.rambo_node.specs.Nodes.{NodeState, open_call, first_node}
 use Rattle.rambo_node.specs.Hearing.{heard_kind, heard_join, heard_gossip}
 use Rattle.rambo_node.specs.Operations.{called, joined_by, stopped, called_again, query_answered, call_closed, with_copy, taken, new_copy}
-use Rattle.rambo_node.specs.Changes.{made_by, stage_met, advanced, begun_again, copy_put}
+use Rattle.rambo_node.specs.Changes.{Made, made_by, quiet, stage_met, advanced, begun_again, copy_put, collection_advanced, rebid_made, attempt_advanced}
+use Rattle.rambo_node.specs.Reconfigurations.{collection_opened, attempt_opened}
+use Rattle.rambo_world.proofs.Members.{Keeps, opened_keeps, collection_keeps, wish_keeps, rebid_keeps, attempt_keeps}
 use Rattle.rambo_world.specs.Logging.{copies_in, copies_brought, listed}
 
 -- a new node holds nothing
@@ -99,7 +101,16 @@ module _ {Q : Type 0} (x : NodeState Q) where
   made_name (change.Deliver l) = heard_name l.sender l.kind
   made_name (change.Advance id) = advanced_name id (open_call x id)
   made_name (change.Again id) = again_name (open_call x id)
+  made_name change.Collect = (opened_keeps x).name
+  made_name change.AdvanceCollect = (collection_keeps x x.collection).name
+  made_name (change.Recon wish) = (wish_keeps x wish).name
+  made_name change.Rebid = (rebid_keeps x x.attempt).name
+  made_name change.AdvanceRecon = (attempt_keeps x x.attempt).name
   made_name change.Stop = refl
+
+  -- a change that keeps its copies and puts none
+  kept_registers : (m : Made Q) → Keeps x m → m.node.registers ≡ greatest_after (joined x.registers copies.empty) (listed m.deed.copy)
+  kept_registers m k = k.registers ∙ sym (joined-empty x.registers) ∙ ap (λ o. greatest_after (joined x.registers copies.empty) (listed o)) (sym k.copy)
 
   -- it takes on the copies that are brought to it, and the one that it puts
   pub made_registers : (c : Change Q) → (made_by x c).node.registers ≡ greatest_after (joined x.registers (copies_brought c)) (listed (made_by x c).deed.copy)
@@ -112,6 +123,11 @@ module _ {Q : Type 0} (x : NodeState Q) where
       advanced_logged id (open_call x id) ∙ ap (λ r. greatest_after r (listed (advanced x id (open_call x id)).deed.copy)) (sym (joined-empty x.registers))
   made_registers (change.Again id) =
       again_logged (open_call x id) ∙ ap (λ r. greatest_after r (listed (begun_again x (open_call x id)).deed.copy)) (sym (joined-empty x.registers))
+  made_registers change.Collect = kept_registers (quiet (collection_opened x)) (opened_keeps x)
+  made_registers change.AdvanceCollect = kept_registers (collection_advanced x x.collection) (collection_keeps x x.collection)
+  made_registers (change.Recon wish) = kept_registers (quiet (attempt_opened x wish)) (wish_keeps x wish)
+  made_registers change.Rebid = kept_registers (rebid_made x x.attempt) (rebid_keeps x x.attempt)
+  made_registers change.AdvanceRecon = kept_registers (attempt_advanced x x.attempt) (attempt_keeps x x.attempt)
   made_registers change.Stop = sym (joined-empty x.registers)
 
 greatest_of-more : (log more : List KeyedVersion) → greatest_of (log ++ more) ≡ greatest_after (greatest_of log) more
@@ -157,6 +173,11 @@ none_brought (change.Send to) other = refl
 none_brought (change.Deliver l) other = absurd (other l refl)
 none_brought (change.Advance id) other = refl
 none_brought (change.Again id) other = refl
+none_brought change.Collect other = refl
+none_brought change.AdvanceCollect other = refl
+none_brought (change.Recon wish) other = refl
+none_brought change.Rebid other = refl
+none_brought change.AdvanceRecon other = refl
 none_brought change.Stop other = refl
 
 -- a letter that is told by its outline brings the copies that it is given, if it gossips

@@ -22,7 +22,7 @@ use Rattle.rambo_run.proofs.EveryRun.{is_atomic}
 use Rattle.rambo_world.specs.Worlds.{EventsFit, AreAccepted}
 use Rattle.rambo_world.proofs.Growth.{some_is}
 
-pub run_from-more : {Q : Type 0} (s : QuorumSystem Q) (w : WorldState Q) (sts : List Step) (st : Step) → run_from s w (sts ++ st ∷ []) ≡ after s (run_from s w sts) st
+pub run_from-more : {Q : Type 0} (s : QuorumSystem Q) (w : WorldState Q) (sts : List (Step Q)) (st : Step Q) → run_from s w (sts ++ st ∷ []) ≡ after s (run_from s w sts) st
 unfolding run_from
 run_from-more s w [] st = refl
 run_from-more s w (x ∷ sts) st = run_from-more s (after s w x) sts st
@@ -35,7 +35,7 @@ pub results_from-none : {Q : Type 0} (s : QuorumSystem Q) (w : WorldState Q) →
 unfolding results_from
 results_from-none s w = refl
 
-pub run_is : {Q : Type 0} (s : QuorumSystem Q) (founders : Q) (sts : List Step) → run s founders sts ≡ run_from s (first_world s founders) sts
+pub run_is : {Q : Type 0} (s : QuorumSystem Q) (founders : Q) (sts : List (Step Q)) → run s founders sts ≡ run_from s (first_world s founders) sts
 unfolding run
 run_is s founders sts = refl
 
@@ -44,22 +44,22 @@ unfolding run run_from
 run_none s founders = refl
 
 -- a step that isn't refused
-pub after-taken : {Q : Type 0} (s : QuorumSystem Q) (w : WorldState Q) (st : Step) → refusal s w st ≡ None → after s w st ≡ (turn w st).world
+pub after-taken : {Q : Type 0} (s : QuorumSystem Q) (w : WorldState Q) (st : Step Q) → refusal s w st ≡ None → after s w st ≡ (turn w st).world
 unfolding after
 after-taken s w st e = λ i. unless_refused (e i) w (turn w st).world
 
 -- and one that is
-pub after-refused : {Q : Type 0} (s : QuorumSystem Q) (w : WorldState Q) (st : Step) (r : Refusal) → refusal s w st ≡ Some r → after s w st ≡ w
+pub after-refused : {Q : Type 0} (s : QuorumSystem Q) (w : WorldState Q) (st : Step Q) (r : Refusal) → refusal s w st ≡ Some r → after s w st ≡ w
 unfolding after
 after-refused s w st r e = λ i. unless_refused (e i) w (turn w st).world
 
-pub run-more : {Q : Type 0} (s : QuorumSystem Q) (founders : Q) (sts : List Step) (st : Step) → refusal s (run s founders sts) st ≡ None → run s founders (sts ++ st ∷ []) ≡ (turn (run s founders sts) st).world
+pub run-more : {Q : Type 0} (s : QuorumSystem Q) (founders : Q) (sts : List (Step Q)) (st : Step Q) → refusal s (run s founders sts) st ≡ None → run s founders (sts ++ st ∷ []) ≡ (turn (run s founders sts) st).world
 run-more s founders sts st e =
     run_is s founders (sts ++ st ∷ []) ∙ run_from-more s (first_world s founders) sts st
     ∙ ap (λ w. after s w st) (sym (run_is s founders sts)) ∙ after-taken s (run s founders sts) st e
 
 -- a step of a world that steps made
-pub kept_run : {Q : Type 0} (s : QuorumSystem Q) (founders : Q) (old : List Step) (st : Step) (w new : WorldState Q) (e : Effect) (steps : List Step)
+pub kept_run : {Q : Type 0} (s : QuorumSystem Q) (founders : Q) (old : List (Step Q)) (st : Step Q) (w new : WorldState Q) (e : Effect Q) (steps : List (Step Q))
     → w ≡ run s founders old → refusal s w st ≡ None → turn w st ≡ record { world = new; effect = e } → steps ≡ old ++ st ∷ [] → new ≡ run s founders steps
 kept_run s founders old st w new e steps is accepted done more =
     ap (λ (t : Turn _). t.world) (sym done)
@@ -79,7 +79,7 @@ pub accepted_none : {Q : Type 0} (s : QuorumSystem Q) (founders : Q) → AreAcce
 accepted_none s founders place st e = absurd (false≢true (ap is_some e))
 
 -- the accepted steps, and one more
-pub accepted_more : {Q : Type 0} (s : QuorumSystem Q) (founders : Q) (old : List Step) (st : Step) (w : WorldState Q) (steps : List Step)
+pub accepted_more : {Q : Type 0} (s : QuorumSystem Q) (founders : Q) (old : List (Step Q)) (st : Step Q) (w : WorldState Q) (steps : List (Step Q))
     → w ≡ run s founders old → AreAccepted s founders old → refusal s w st ≡ None → steps ≡ old ++ st ∷ [] → AreAccepted s founders steps
 accepted_more s founders old st w steps is all accepted more =
     let still : (n : ℕ) → n ≤ length old → take n (old ++ st ∷ []) ≡ take n old = λ n within. take-append-le n old (st ∷ []) within in
@@ -94,7 +94,7 @@ no_more : {X A : Type 0} (h : List A) (e : A) → h ≡ h ++ e ∷ [] → X
 no_more h e is = absurd (let l : length h ≡ length h + 1 = ap length is ∙ length-append h (e ∷ []) in omega (arith, l))
 
 -- what a run puts at the end of the history fits there
-pub events_fit_run : {Q : Type 0} (s : QuorumSystem Q) (founders : Q) (ss : List Step) → EventsFit s (run s founders ss)
+pub events_fit_run : {Q : Type 0} (s : QuorumSystem Q) (founders : Q) (ss : List (Step Q)) → EventsFit s (run s founders ss)
 events_fit_run {Q} s founders ss st e accepted grown =
     let w = run s founders ss in
     elim (events_fit s founders ss st) [
@@ -102,19 +102,19 @@ events_fit_run {Q} s founders ss st e accepted grown =
       | inr f ↦ subst (λ e. fault_of w.history e ≡ None) (same_from_push w.history w.history f.event e (sym f.history ∙ grown)).1 f.fault
     ]
 
-pub events_fit_from : {Q : Type 0} (s : QuorumSystem Q) (founders : Q) (w : WorldState Q) → w ≡ first_world s founders → (done : List Step) → EventsFit s (run_from s w done)
+pub events_fit_from : {Q : Type 0} (s : QuorumSystem Q) (founders : Q) (w : WorldState Q) → w ≡ first_world s founders → (done : List (Step Q)) → EventsFit s (run_from s w done)
 events_fit_from s founders w first done =
     subst (EventsFit s) (run_is s founders done ∙ ap (λ w. run_from s w done) (sym first)) (events_fit_run s founders done)
 
 -- the outcome of a run
-pub outcome_is : {Q : Type 0} (s : QuorumSystem Q) (founders : Q) (ss : List Step) (first w : WorldState Q) (effects : List (Result Effect Refusal))
+pub outcome_is : {Q : Type 0} (s : QuorumSystem Q) (founders : Q) (ss : List (Step Q)) (first w : WorldState Q) (effects : List (Result (Effect Q) Refusal))
     → first ≡ first_world s founders → effects ≡ results_from s first ss → w ≡ run_from s first ss → outcome_at effects w ≡ outcome_of s founders ss
 unfolding outcome_of
 outcome_is s founders ss first w effects is told then =
     λ i. outcome_at ((told ∙ ap (λ w. results_from s w ss) is) i) ((then ∙ ap (λ w. run_from s w ss) is ∙ sym (run_is s founders ss)) i)
 
 -- whose sequences are proper
-pub outcome_proper : {Q : Type 0} (s : QuorumSystem Q) → IsSound s → (founders : Q) (ss : List Step) (o : OutcomeState Q) → o ≡ outcome_of s founders ss
+pub outcome_proper : {Q : Type 0} (s : QuorumSystem Q) → IsSound s → (founders : Q) (ss : List (Step Q)) (o : OutcomeState Q) → o ≡ outcome_of s founders ss
     → (key : List ℕ) → IsProper o.history key (sequence_in o.sequences key)
 unfolding outcome_of
 outcome_proper s law founders ss o is key =
@@ -123,36 +123,36 @@ outcome_proper s law founders ss o is key =
     (subst (IsProper w.history key) (sym (sequence_in-sequences_of w.history w.marks key)) (is_atomic s law founders ss key))
 
 -- and so for the outcome that there is, if there is one
-pub told_outcome : {Q : Type 0} (s : QuorumSystem Q) (founders : Q) (ss : List Step) (first : WorldState Q) (r : Result (OutcomeState Q) Refusal)
+pub told_outcome : {Q : Type 0} (s : QuorumSystem Q) (founders : Q) (ss : List (Step Q)) (first : WorldState Q) (r : Result (OutcomeState Q) Refusal)
     → first ≡ first_world s founders → IfOk r (λ o. o ≡ outcome_at (results_from s first ss) (run_from s first ss)) → IfOk r (λ o. o ≡ outcome_of s founders ss)
 told_outcome s founders ss first (Ok o) is e = e ∙ outcome_is s founders ss first _ _ is refl refl
 told_outcome s founders ss first (Err f) is e = e
 
-pub told_proper : {Q : Type 0} (s : QuorumSystem Q) → IsSound s → (founders : Q) (ss : List Step) (r : Result (OutcomeState Q) Refusal)
+pub told_proper : {Q : Type 0} (s : QuorumSystem Q) → IsSound s → (founders : Q) (ss : List (Step Q)) (r : Result (OutcomeState Q) Refusal)
     → IfOk r (λ o. o ≡ outcome_of s founders ss) → IfOk r (λ o. (key : List ℕ) → IsProper o.history key (sequence_in o.sequences key))
 told_proper s law founders ss (Ok o) e = outcome_proper s law founders ss o e
 told_proper s law founders ss (Err f) e = e
 
 -- the results of one step more
-results_from-more : {Q : Type 0} (s : QuorumSystem Q) (w : WorldState Q) (sts : List Step) (st : Step)
+results_from-more : {Q : Type 0} (s : QuorumSystem Q) (w : WorldState Q) (sts : List (Step Q)) (st : Step Q)
     → results_from s w (sts ++ st ∷ []) ≡ results_from s w sts ++ result_of (refusal s (run_from s w sts) st) (run_from s w sts) st ∷ []
 unfolding results_from run_from
 results_from-more s w [] st = refl
 results_from-more s w (x ∷ sts) st = ap (λ rs. result_of (refusal s w x) w x ∷ rs) (results_from-more s (after s w x) sts st)
 
-module _ {Q : Type 0} (s : QuorumSystem Q) (w : WorldState Q) (steps : List Step) (i : ℕ) (x : Step) (below : i < length steps) (is : x ≡ get_or steps i x) (now : WorldState Q) (then : now ≡ run_from s w (take i steps)) where
+module _ {Q : Type 0} (s : QuorumSystem Q) (w : WorldState Q) (steps : List (Step Q)) (i : ℕ) (x : Step Q) (below : i < length steps) (is : x ≡ get_or steps i x) (now : WorldState Q) (then : now ≡ run_from s w (take i steps)) where
   next_steps : take (i + 1) steps ≡ take i steps ++ x ∷ []
   next_steps = take_more steps i x below ∙ ap (λ x. take i steps ++ x ∷ []) (sym is)
 
   pub next_state : (new : WorldState Q) → new ≡ after s now x → new ≡ run_from s w (take (i + 1) steps)
   next_state new e = e ∙ ap (λ w. after s w x) then ∙ sym (run_from-more s w (take i steps) x) ∙ ap (run_from s w) (sym next_steps)
 
-  pub next_results : (results new : List (Result Effect Refusal)) (r : Result Effect Refusal) → results ≡ results_from s w (take i steps) → r ≡ result_of (refusal s now x) now x → new ≡ results ++ r ∷ []
+  pub next_results : (results new : List (Result (Effect Q) Refusal)) (r : Result (Effect Q) Refusal) → results ≡ results_from s w (take i steps) → r ≡ result_of (refusal s now x) now x → new ≡ results ++ r ∷ []
       → new ≡ results_from s w (take (i + 1) steps)
   next_results results new r told e more =
       more ∙ (λ k. told k ++ (e ∙ ap (λ w. result_of (refusal s w x) w x) then) k ∷ []) ∙ sym (results_from-more s w (take i steps) x) ∙ ap (results_from s w) (sym next_steps)
 
 -- an outcome by its parts
-pub outcome_made : {Q : Type 0} (effects : List (Result Effect Refusal)) (w : WorldState Q) (history : List Event) (sequences : List SequenceOf) (maps : List (MapOf Q))
+pub outcome_made : {Q : Type 0} (effects : List (Result (Effect Q) Refusal)) (w : WorldState Q) (history : List Event) (sequences : List SequenceOf) (maps : List (MapOf Q))
     → history ≡ w.history → sequences ≡ sequences_of w.history w.marks → maps ≡ maps_of w.nodes → record { effects = effects; history = history; sequences = sequences; maps = maps } ≡ outcome_at effects w
 outcome_made effects w history sequences maps h s m = λ i. record { effects = effects; history = h i; sequences = s i; maps = m i }

@@ -48,7 +48,7 @@ kept_there ks zero x e = absurd (false≢true (ap is_some e))
 kept_there ks (suc i) x e = kept_some (kept_at ks (suc i)) x (sym (state_at-kept ks (suc i) (omega arith)) ∙ e)
 
 -- a step that means a change of a node
-module _ {Q : Type 0} (w : WorldState Q) (st : Step) (n : ℕ) (c : Change Q) (means : meant w st ≡ Some (record { name = n; change = c })) where
+module _ {Q : Type 0} (w : WorldState Q) (st : Step Q) (n : ℕ) (c : Change Q) (means : meant w st ≡ Some (record { name = n; change = c })) where
   pub step_turn : turn w st ≡ turn_at w n (node_at w n) c
   unfolding turn
   step_turn = ap (turn_of w) means

@@ -21,6 +21,11 @@ copies_brought (change.Send to) = copies.empty
 copies_brought (change.Deliver l) = copies_in l.kind
 copies_brought (change.Advance id) = copies.empty
 copies_brought (change.Again id) = copies.empty
+copies_brought change.Collect = copies.empty
+copies_brought change.AdvanceCollect = copies.empty
+copies_brought (change.Recon wish) = copies.empty
+copies_brought change.Rebid = copies.empty
+copies_brought change.AdvanceRecon = copies.empty
 copies_brought change.Stop = copies.empty
 
 -- a copy, if there is one, as a list

@@ -1,27 +1,32 @@
--- Letters as they are kept share their configuration maps: each tells the place of its own
+-- Letters as they are kept share what their senders told of configurations: each tells the place of its own
 use Rattle.std.specs.Prelude.{◌≡◌, ◌<◌, ℕ, true, if◌then◌else◌, List, Option, None, slice_get, Some}
 use Rattle.std.specs.Option.{option_map}
 use Rattle.std.specs.FinMap as copies
-use Rattle.rambo_config_map.specs.Maps.{MapState}
 use Rattle.rambo_gossip.specs.declared.letter.Gossip.{Gossip}
+use Rattle.rambo_gossip.specs.declared.outline.GossipOutline.{GossipOutline}
 use Rattle.rambo_world.specs.declared.sent.Sent.{Sent}
+use Rattle.rambo_world.specs.declared.standing.Standing.{Standing}
 use Rattle.rambo_world.specs.Kept.{SentState, kind_of}
 
--- what an active node knew, with this map
-abbrev pub gossip_with : {Q : Type 0} → Sent → MapState Q → Gossip Q
-gossip_with s m = record { known = s.known; copies = copies.empty; map = m; number = s.number; heard = s.heard }
+-- what gossip tells of configurations
+abbrev pub standing_of : {Q : Type 0} → GossipOutline Q → Standing Q
+standing_of g = record { vote = g.vote; offer = g.offer; map = g.map.now }
 
--- with the map of its place
-abbrev pub gossip_in : {Q : Type 0} → List (MapState Q) → Sent → Option (Gossip Q)
-gossip_in maps s = if s.gossips then option_map (gossip_with s) (slice_get maps s.map) else None
+-- what an active node knew, with this told of configurations
+abbrev pub gossip_with : {Q : Type 0} → Sent → Standing Q → Gossip Q
+gossip_with s t = record { known = s.known; copies = copies.empty; map = t.map; number = s.number; heard = s.heard; vote = t.vote; offer = t.offer }
 
--- the letter that is kept so, where the maps are these
-abbrev pub sent_in : {Q : Type 0} → List (MapState Q) → Sent → SentState Q
-sent_in maps s = record { letter = record { sender = s.sender; addressee = s.addressee; kind = kind_of (gossip_in maps s) }; told = s.told }
+-- with what stands in its place
+abbrev pub gossip_in : {Q : Type 0} → List (Standing Q) → Sent → Option (Gossip Q)
+gossip_in standings s = if s.gossips then option_map (gossip_with s) (slice_get standings s.standing) else None
 
--- its map is one of so many
+-- the letter that is kept so, where the standings are these
+abbrev pub sent_in : {Q : Type 0} → List (Standing Q) → Sent → SentState Q
+sent_in standings s = record { letter = record { sender = s.sender; addressee = s.addressee; kind = kind_of (gossip_in standings s) }; told = s.told }
+
+-- its standing is one of so many
 abbrev pub IsHeld : ℕ → Sent → Type 0
-IsHeld count s = s.gossips ≡ true → s.map < count
+IsHeld count s = s.gossips ≡ true → s.standing < count
 
 abbrev pub AreHeld : ℕ → List Sent → Type 0
 AreHeld count ss = (place : ℕ) (s : Sent) → slice_get ss place ≡ Some s → IsHeld count s

@@ -18,19 +18,19 @@ use Rattle.rambo_run.specs.Runs.{run}
 -- founders, and the accepted steps
 pub record WorldOf (Q : Type 0) : Type 0 where
   pub founders : Q
-  pub steps : List Step
+  pub steps : List (Step Q)
 
 -- the state that they make
 abbrev pub state : {Q : Type 0} → QuorumSystem Q → WorldOf Q → WorldState Q
 state s w = run s w.founders w.steps
 
 -- none of these steps is refused in the world that the steps before it make
-abbrev pub AreAccepted : {Q : Type 0} → QuorumSystem Q → Q → List Step → Type 0
-AreAccepted s founders steps = (place : ℕ) (st : Step) → slice_get steps place ≡ Some st → refusal s (run s founders (take place steps)) st ≡ None
+abbrev pub AreAccepted : {Q : Type 0} → QuorumSystem Q → Q → List (Step Q) → Type 0
+AreAccepted {Q} s founders steps = (place : ℕ) (st : Step Q) → slice_get steps place ≡ Some st → refusal s (run s founders (take place steps)) st ≡ None
 
 -- what a step that isn't refused puts at the end of the history can stand there
 abbrev pub EventsFit : {Q : Type 0} → QuorumSystem Q → WorldState Q → Type 0
-EventsFit s w = (st : Step) (e : Event) → refusal s w st ≡ None → (turn w st).world.history ≡ w.history ++ e ∷ [] → fault_of w.history e ≡ None
+EventsFit {Q} s w = (st : Step Q) (e : Event) → refusal s w st ≡ None → (turn w st).world.history ≡ w.history ++ e ∷ [] → fault_of w.history e ≡ None
 
 -- the event of a change of a node, if it has one, can stand at the history's end
 abbrev pub EventFits : {Q : Type 0} → WorldState Q → ℕ → Change Q → Type 0
@@ -44,6 +44,11 @@ sends (change.Send to) = true
 sends (change.Deliver l) = false
 sends (change.Advance id) = false
 sends (change.Again id) = false
+sends change.Collect = false
+sends change.AdvanceCollect = false
+sends (change.Recon wish) = false
+sends change.Rebid = false
+sends change.AdvanceRecon = false
 sends change.Stop = false
 
 -- why founders are refused

@@ -29,7 +29,7 @@ impl<Q: Quorums, S: Replica> State<Q, S> {
     }
 
     // A node sends a letter to another.
-    pub(crate) fn send(&mut self, from: Name, to: Name) -> Result<Effect, Refusal>
+    pub(crate) fn send(&mut self, from: Name, to: Name) -> Result<Effect<Q>, Refusal>
         requires accepted { refusal Q.system self.old (step.Send from to) ≡ None }
         ensures ok { IfOk result (λ e. turn self.old (step.Send from to) ≡ record { world = self.new; effect = e }) }
         ensures err { OnErr result (self.new ≡ self.old) }
@@ -40,7 +40,7 @@ impl<Q: Quorums, S: Replica> State<Q, S> {
     }
 
     // The letter of a number comes to its addressee.
-    pub(crate) fn deliver(&mut self, number: u64) -> Result<Effect, Refusal>
+    pub(crate) fn deliver(&mut self, number: u64) -> Result<Effect<Q>, Refusal>
         requires accepted { refusal Q.system self.old (step.Deliver number) ≡ None }
         ensures ok { IfOk result (λ e. turn self.old (step.Deliver number) ≡ record { world = self.new; effect = e }) }
         ensures err { OnErr result (self.new ≡ self.old) }

@@ -1,25 +1,25 @@
 //! All letters that were ever sent.
 ghost use Rattle.std.specs.Prelude.{◌≡◌, ◌++◌, ◌∷◌, [], List, Some, length, slice_get, OnOk, OnErr, IfErr, IfOk};
-ghost use Rattle.rambo_config_map.specs.Maps.{MapState};
 ghost use Rattle.rambo_gossip.specs.Outlines.{outlined};
+ghost use Rattle.rambo_world.specs.declared.standing.Standing.{Standing};
 ghost use Rattle.rambo_world.specs.Kept.{kind_of, sent_at};
-ghost use Rattle.rambo_world.specs.Shared.{gossip_in, sent_in, IsHeld};
+ghost use Rattle.rambo_world.specs.Shared.{gossip_in, sent_in, standing_of, IsHeld};
 
 use crate::outline::Outline;
 use crate::sent::Sent;
-use rambo_config_map::ConfigMap;
+use crate::standing::Standing;
 use rambo_gossip::{GossipOutline, LetterOutline};
 use rambo_names::{Members, Quorums, Refusal};
 use std::alloc::Global;
 use std::marker::Model;
 
-/// The letters, the first one sent is letter 1. Letters that follow each other share a map that is the same.
+/// The letters, the first one sent is letter 1. Letters that follow each other share a standing that is the same.
 #[derive(Drop)]
 pub(crate) struct Letters<Q: Quorums> {
     list: Vec<Sent>,
-    maps: Vec<ConfigMap<Q>>,
-    // Never filled: it tells the prover that a map has a size, which it doesn't see behind a `Vec`.
-    spare: Option<ConfigMap<Q>>,
+    standings: Vec<Standing<Q>>,
+    // Never filled: it tells the prover that a standing has a size, which it doesn't see behind a `Vec`.
+    spare: Option<Standing<Q>>,
 }
 
 impl<Q: Quorums> Model for Letters<Q> {
@@ -34,9 +34,9 @@ impl<Q: Quorums> Model for Letters<Q> {
 
     ghost coded = { Prim.hlevel (codes, names_code, copies_code, Q.code) };
 
-    ghost view = { λ l. map (sent_in l.maps.items) l.list.items };
+    ghost view = { λ l. map (sent_in l.standings.items) l.list.items };
 
-    ghost invariant = { λ l. AreHeld (length l.maps.items) l.list.items };
+    ghost invariant = { λ l. AreHeld (length l.standings.items) l.list.items };
 }
 
 impl<Q: Quorums> Letters<Q> {
@@ -45,7 +45,7 @@ impl<Q: Quorums> Letters<Q> {
     {
         Letters {
             list: Vec::new(alloc),
-            maps: Vec::new(alloc),
+            standings: Vec::new(alloc),
             spare: None,
         }
     }
@@ -75,7 +75,7 @@ impl<Q: Quorums> Letters<Q> {
         if place >= self.list.len() {
             return None;
         }
-        Some(read(self.maps.as_slice(), self.list[place]))
+        Some(read(self.standings.as_slice(), self.list[place]))
     }
 
     // Keeps a letter.
@@ -85,18 +85,18 @@ impl<Q: Quorums> Letters<Q> {
         ensures refused { IfErr result (λ r. r ≡ Refusal.OutOfMemory) }
     {
         self.list.reserve(1)?;
-        let sent = keep(&mut self.maps, outline)?;
+        let sent = keep(&mut self.standings, outline)?;
         self.list.push_reserved(sent);
         Ok(())
     }
 }
 
 // A letter that is kept.
-fn read<Q: Quorums>(maps: &[ConfigMap<Q>], sent: Sent) -> Outline<'_, Q>
-    ensures { result ≡ sent_in maps.now sent }
+fn read<Q: Quorums>(standings: &[Standing<Q>], sent: Sent) -> Outline<'_, Q>
+    ensures { result ≡ sent_in standings.now sent }
 {
     let (sender, addressee, told) = (sent.sender, sent.addressee, sent.told);
-    let gossip = read_gossip(maps, sent);
+    let gossip = read_gossip(standings, sent);
     let letter = LetterOutline {
         sender,
         addressee,
@@ -106,26 +106,33 @@ fn read<Q: Quorums>(maps: &[ConfigMap<Q>], sent: Sent) -> Outline<'_, Q>
 }
 
 // What a letter that is kept says.
-fn read_gossip<Q: Quorums>(maps: &[ConfigMap<Q>], sent: Sent) -> Option<GossipOutline<'_, Q>>
-    ensures { outlined result ≡ kind_of (gossip_in maps.now sent) }
+fn read_gossip<Q: Quorums>(standings: &[Standing<Q>], sent: Sent) -> Option<GossipOutline<'_, Q>>
+    ensures { outlined result ≡ kind_of (gossip_in standings.now sent) }
 {
     if !sent.gossips {
         return None;
     }
-    let map = maps.get(sent.map)?;
-    Some(GossipOutline {
-        known: sent.known,
-        map,
-        number: sent.number,
-        heard: sent.heard,
-    })
+    match standings.get(sent.standing) {
+        Some(standing) => Some(GossipOutline {
+            known: sent.known,
+            map: &standing.map,
+            number: sent.number,
+            heard: sent.heard,
+            vote: standing.vote,
+            offer: standing.offer,
+        }),
+        None => None,
+    }
 }
 
 // A letter as it is kept.
-fn keep<Q: Quorums>(maps: &mut Vec<ConfigMap<Q>>, outline: &Outline<'_, Q>) -> Result<Sent, Refusal>
-    ensures kept { IfOk result (λ s. sent_in maps.new.items s ≡ outline.now) }
-    ensures held { IfOk result (IsHeld (length maps.new.items)) }
-    ensures grows { (more : List (MapState _)) × (maps.new.items ≡ maps.old.items ++ more) }
+fn keep<Q: Quorums>(
+    standings: &mut Vec<Standing<Q>>,
+    outline: &Outline<'_, Q>,
+) -> Result<Sent, Refusal>
+    ensures kept { IfOk result (λ s. sent_in standings.new.items s ≡ outline.now) }
+    ensures held { IfOk result (IsHeld (length standings.new.items)) }
+    ensures grows { (more : List (Standing _)) × (standings.new.items ≡ standings.old.items ++ more) }
     ensures refused { IfErr result (λ r. r ≡ Refusal.OutOfMemory) }
 {
     let letter = &outline.letter;
@@ -133,7 +140,7 @@ fn keep<Q: Quorums>(maps: &mut Vec<ConfigMap<Q>>, outline: &Outline<'_, Q>) -> R
         None => Ok(Sent {
             told: outline.told,
             known: Members::empty(),
-            map: 0,
+            standing: 0,
             number: 0,
             heard: 0,
             sender: letter.sender,
@@ -143,7 +150,7 @@ fn keep<Q: Quorums>(maps: &mut Vec<ConfigMap<Q>>, outline: &Outline<'_, Q>) -> R
         Some(gossip) => Ok(Sent {
             told: outline.told,
             known: gossip.known,
-            map: shared(maps, gossip.map)?,
+            standing: shared(standings, gossip)?,
             number: gossip.number,
             heard: gossip.heard,
             sender: letter.sender,
@@ -153,16 +160,19 @@ fn keep<Q: Quorums>(maps: &mut Vec<ConfigMap<Q>>, outline: &Outline<'_, Q>) -> R
     }
 }
 
-// The place of a map: the last one where that is the same, and else a new one.
-fn shared<Q: Quorums>(maps: &mut Vec<ConfigMap<Q>>, map: &ConfigMap<Q>) -> Result<usize, Refusal>
-    ensures at { IfOk result (λ place. slice_get maps.new.items place ≡ Some map.now) }
-    ensures grows { (more : List (MapState _)) × (maps.new.items ≡ maps.old.items ++ more) }
+// The place of what gossip tells of configurations: the last one where that is the same, and else a new one.
+fn shared<Q: Quorums>(
+    standings: &mut Vec<Standing<Q>>,
+    gossip: &GossipOutline<'_, Q>,
+) -> Result<usize, Refusal>
+    ensures at { IfOk result (λ place. slice_get standings.new.items place ≡ Some (standing_of gossip.now)) }
+    ensures grows { (more : List (Standing _)) × (standings.new.items ≡ standings.old.items ++ more) }
     ensures refused { IfErr result (λ r. r ≡ Refusal.OutOfMemory) }
 {
-    let count = maps.len();
-    if count > 0 && maps[count - 1].same(map) {
+    let count = standings.len();
+    if count > 0 && standings[count - 1].is_told_by(gossip) {
         return Ok(count - 1);
     }
-    maps.push(map.copy())?;
+    standings.push(Standing::of(gossip))?;
     Ok(count)
 }

@@ -10,6 +10,7 @@ mod nodes;
 mod outline;
 mod runs;
 mod sent;
+mod standing;
 mod state;
 mod world;
 

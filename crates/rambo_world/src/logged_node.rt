@@ -87,7 +87,7 @@ impl<Q: Quorums, S: Replica> LoggedNode<Q, S> {
 
     // Takes a change that isn't refused, and logs the copies that its registers take on. The deed is told without the
     // copy.
-    pub(crate) fn act(&mut self, change: &Change<Q>) -> Result<Deed, Refusal>
+    pub(crate) fn act(&mut self, change: &Change<Q>) -> Result<Deed<Q>, Refusal>
         requires { refusal_of Q.system self.old.state change.now ≡ None }
         ensures node { OnOk result (self.new.state ≡ (made_by self.old.state change.now).node) }
         ensures deed { IfOk result (λ d. (d.effect ≡ (made_by self.old.state change.now).deed.effect) × (d.event ≡ (made_by self.old.state change.now).deed.event) × (d.mark ≡ (made_by self.old.state change.now).deed.mark)) }

@@ -16,7 +16,7 @@ use rambo_tag::Replica;
 
 impl<Q: Quorums, S: Replica> State<Q, S> {
     // A node takes a change that isn't refused and that sends no letter.
-    pub(crate) fn change(&mut self, name: Name, change: &Change<Q>) -> Result<Effect, Refusal>
+    pub(crate) fn change(&mut self, name: Name, change: &Change<Q>) -> Result<Effect<Q>, Refusal>
         requires accepted { least (causes_at Q.system (node_at self.old name) change.now) ≡ None }
         requires fits { EventFits self.old name change.now }
         requires quiet { sends change.now ≡ false }

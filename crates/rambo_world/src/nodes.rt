@@ -103,7 +103,7 @@ impl<Q: Quorums, S: Replica> Nodes<Q, S> {
     }
 
     // A node takes a change that isn't refused.
-    pub(crate) fn act(&mut self, name: Name, change: &Change<Q>) -> Result<Deed, Refusal>
+    pub(crate) fn act(&mut self, name: Name, change: &Change<Q>) -> Result<Deed<Q>, Refusal>
         requires { least (causes_at Q.system (state_at self.old name) change.now) ≡ None }
         ensures nodes { OnOk result (states_of self.new ≡ moved self.old name (λ x. (made_by x change.now).node)) }
         ensures deed { IfOk result (λ d. (x : NodeState Q) → state_at self.old name ≡ Some x → (d.effect ≡ (made_by x change.now).deed.effect) × (d.event ≡ (made_by x change.now).deed.event) × (d.mark ≡ (made_by x change.now).deed.mark)) }

@@ -25,7 +25,11 @@ use std::hash::{BuildHasherDefault, FoldHasher};
 /// and Shvartsman, "RAMBO", DISC 2002). No two nodes hold different configurations at one place.
 ///
 /// Refused are 18 where there is no founder, 22 where memory runs out.
-pub fn run(alloc: Global, founders: Majority, steps: &[Step]) -> Result<Outcome<Majority>, Refusal>
+pub fn run(
+    alloc: Global,
+    founders: Majority,
+    steps: &[Step<Majority>],
+) -> Result<Outcome<Majority>, Refusal>
     ensures founded { OnOk result (least (founding_causes majorities founders) ≡ None) }
     ensures outcome { IfOk result (λ o. o ≡ outcome_of majorities founders steps.now) }
     ensures proper { IfOk result (λ o. (key : List ℕ) → IsProper o.history key (sequence_in o.sequences key)) }
@@ -42,9 +46,9 @@ pub fn run(alloc: Global, founders: Majority, steps: &[Step]) -> Result<Outcome<
 fn outcome(
     alloc: Global,
     state: &mut State<Majority, Registers<BuildHasherDefault<FoldHasher>>>,
-    steps: &[Step],
+    steps: &[Step<Majority>],
 ) -> Result<Outcome<Majority>, Refusal>
-    requires fits { (done : List Step) → EventsFit majorities (run_from majorities state.old done) }
+    requires fits { (done : List (Step _)) → EventsFit majorities (run_from majorities state.old done) }
     ensures outcome { IfOk result (λ o. o ≡ outcome_at (results_from majorities state.old steps.now) (run_from majorities state.old steps.now)) }
     ensures refused { IfErr result (λ r. r ≡ Refusal.OutOfMemory) }
 {

@@ -51,7 +51,7 @@ impl<Q: Quorums, S: Replica> Model for State<Q, S> {
 
 impl<Q: Quorums, S: Replica> State<Q, S> {
     // Why a step is refused, if it is.
-    pub(crate) fn judge(&self, step: &Step) -> Result<(), Refusal>
+    pub(crate) fn judge(&self, step: &Step<Q>) -> Result<(), Refusal>
         ensures ok { OnOk result (refusal Q.system self.now step.now ≡ None) }
         ensures refused { IfErr result (λ r. refusal Q.system self.now step.now ≡ Some r) }
     {
@@ -62,6 +62,11 @@ impl<Q: Quorums, S: Replica> State<Q, S> {
             Step::Deliver(number) => self.may_deliver(*number),
             Step::Advance(id) => self.nodes.judge(id.name, &Change::Advance(*id)),
             Step::Again(id) => self.nodes.judge(id.name, &Change::Again(*id)),
+            Step::Collect(name) => self.nodes.judge(*name, &Change::Collect),
+            Step::AdvanceCollect(name) => self.nodes.judge(*name, &Change::AdvanceCollect),
+            Step::Recon(name, wish) => self.nodes.judge(*name, &Change::Recon(*wish)),
+            Step::Rebid(name) => self.nodes.judge(*name, &Change::Rebid),
+            Step::AdvanceRecon(name) => self.nodes.judge(*name, &Change::AdvanceRecon),
             Step::Stop(name) => self.nodes.judge(*name, &Change::Stop),
         }
     }
@@ -86,7 +91,7 @@ impl<Q: Quorums, S: Replica> State<Q, S> {
     }
 
     // Takes a step that isn't refused.
-    pub(crate) fn act(&mut self, step: &Step) -> Result<Effect, Refusal>
+    pub(crate) fn act(&mut self, step: &Step<Q>) -> Result<Effect<Q>, Refusal>
         requires accepted { refusal Q.system self.old step.now ≡ None }
         requires fits { EventsFit Q.system self.old }
         ensures ok { IfOk result (λ e. turn self.old step.now ≡ record { world = self.new; effect = e }) }
@@ -100,12 +105,17 @@ impl<Q: Quorums, S: Replica> State<Q, S> {
             Step::Deliver(number) => self.deliver(*number),
             Step::Advance(id) => self.change(id.name, &Change::Advance(*id)),
             Step::Again(id) => self.change(id.name, &Change::Again(*id)),
+            Step::Collect(name) => self.change(*name, &Change::Collect),
+            Step::AdvanceCollect(name) => self.change(*name, &Change::AdvanceCollect),
+            Step::Recon(name, wish) => self.change(*name, &Change::Recon(*wish)),
+            Step::Rebid(name) => self.change(*name, &Change::Rebid),
+            Step::AdvanceRecon(name) => self.change(*name, &Change::AdvanceRecon),
             Step::Stop(name) => self.change(*name, &Change::Stop),
         }
     }
 
     // Takes a step of a run: what it did, or why it was refused.
-    pub(crate) fn take(&mut self, step: &Step) -> Result<Result<Effect, Refusal>, Refusal>
+    pub(crate) fn take(&mut self, step: &Step<Q>) -> Result<Result<Effect<Q>, Refusal>, Refusal>
         requires fits { EventsFit Q.system self.old }
         ensures told { IfOk result (λ r. r ≡ result_of (refusal Q.system self.old step.now) self.old step.now) }
         ensures after { OnOk result (self.new ≡ after Q.system self.old step.now) }
@@ -122,9 +132,9 @@ impl<Q: Quorums, S: Replica> State<Q, S> {
     pub(crate) fn take_all(
         &mut self,
         alloc: Global,
-        steps: &[Step],
-    ) -> Result<Vec<Result<Effect, Refusal>>, Refusal>
-        requires fits { (done : List Step) → EventsFit Q.system (run_from Q.system self.old done) }
+        steps: &[Step<Q>],
+    ) -> Result<Vec<Result<Effect<Q>, Refusal>>, Refusal>
+        requires fits { (done : List (Step _)) → EventsFit Q.system (run_from Q.system self.old done) }
         ensures told { IfOk result (λ rs. rs.items ≡ results_from Q.system self.old steps.now) }
         ensures after { OnOk result (self.new ≡ run_from Q.system self.old steps.now) }
         ensures refused { IfErr result (λ r. r ≡ Refusal.OutOfMemory) }
@@ -140,7 +150,7 @@ impl<Q: Quorums, S: Replica> State<Q, S> {
     }
 
     // Makes room for what steps may send, call and answer, at once: lists that grow bit by bit leave holes behind.
-    fn reserve(&mut self, steps: &[Step]) -> Result<(), Refusal>
+    fn reserve(&mut self, steps: &[Step<Q>]) -> Result<(), Refusal>
         ensures same { self.new ≡ self.old }
         ensures refused { IfErr result (λ r. r ≡ Refusal.OutOfMemory) }
     {

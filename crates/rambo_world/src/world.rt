@@ -28,7 +28,7 @@ use std::marker::Model;
 #[derive(Drop)]
 pub struct World<Q: Quorums, S: Replica> {
     founders: Q,
-    steps: Vec<Step>,
+    steps: Vec<Step<Q>>,
     state: State<Q, S>,
 }
 
@@ -68,7 +68,7 @@ impl<Q: Quorums, S: Replica> World<Q, S> {
     /// Takes a step, and says what it did.
     ///
     /// Refused is what the rules of its kind say, and 22 where there is no room for it.
-    pub fn step(&mut self, step: Step) -> Result<Effect, Refusal>
+    pub fn step(&mut self, step: Step<Q>) -> Result<Effect<Q>, Refusal>
         ensures judged { OnOk result (refusal Q.system (state Q.system self.old) step ≡ None) }
         ensures ok { OnOk result (self.new ≡ record self.old { steps = self.old.steps ++ step ∷ [] }) }
         ensures effect { IfOk result (λ e. e ≡ (turn (state Q.system self.old) step).effect) }
@@ -83,7 +83,7 @@ impl<Q: Quorums, S: Replica> World<Q, S> {
     }
 
     /// The accepted steps, the first of them first: none of them is refused where it stands.
-    pub fn steps(&self) -> &[Step]
+    pub fn steps(&self) -> &[Step<Q>]
         ensures steps { result.now ≡ self.now.steps }
         ensures accepted { AreAccepted Q.system self.now.founders self.now.steps }
     {

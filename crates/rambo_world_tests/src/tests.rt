@@ -1,5 +1,5 @@
 use crate::host::{Host, begins_empty, new_world, set_of};
-use rambo_atomic::{CallId, Op};
+use rambo_atomic::{Answer, CallId, Op};
 use rambo_names::{Bytes, Majority, Members, Name, Refusal};
 use rambo_node::Effect;
 use rambo_world::{Outcome, Step, run};
@@ -34,10 +34,16 @@ enum Move {
     Send(u64, u64),
     Deliver(u64),
     Join(u64, u64),
+    Collect(u64),
+    AdvanceCollect(u64),
+    // The next configuration is this one node.
+    Recon(u64, u64),
+    Rebid(u64),
+    AdvanceRecon(u64),
     Stop(u64),
 }
 
-fn step(alloc: Global, by: Move) -> Result<Step, Refusal> {
+fn step(alloc: Global, by: Move) -> Result<Step<Majority>, Refusal> {
     match by {
         Move::Get(name) => {
             let key = again!(Bytes::from_slice(alloc, b"k"));
@@ -56,6 +62,14 @@ fn step(alloc: Global, by: Move) -> Result<Step, Refusal> {
             Name::new(name)?,
             Members::empty().with(Name::new(contact)?),
         )),
+        Move::Collect(name) => Ok(Step::Collect(Name::new(name)?)),
+        Move::AdvanceCollect(name) => Ok(Step::AdvanceCollect(Name::new(name)?)),
+        Move::Recon(name, member) => {
+            let wish = Majority::of(Members::empty().with(Name::new(member)?));
+            Ok(Step::Recon(Name::new(name)?, wish))
+        }
+        Move::Rebid(name) => Ok(Step::Rebid(Name::new(name)?)),
+        Move::AdvanceRecon(name) => Ok(Step::AdvanceRecon(Name::new(name)?)),
         Move::Stop(name) => Ok(Step::Stop(Name::new(name)?)),
     }
 }
@@ -88,15 +102,35 @@ const LOST_WRITER: [Move; 20] = [
 #[derive(Clone, Copy, PartialEq, Eq, Debug)]
 enum Came {
     Done,
+    Called,
     Sent(u64),
-    Other,
+    Moved,
+    Answered,
+    // The value begins with this byte.
+    Value(u8),
+    Collected(u64),
+    Decided(u64),
 }
 
-fn told_by(effect: &Effect) -> Came {
+fn told_by(effect: &Effect<Majority>) -> Came {
     match effect {
         Effect::Done => Came::Done,
+        Effect::Called(_) => Came::Called,
         Effect::Sent(letter) => Came::Sent(*letter),
-        _ => Came::Other,
+        Effect::Moved => Came::Moved,
+        Effect::Answered(_, answer) => told_by_answer(answer),
+        Effect::Collected(_, place) => Came::Collected(*place),
+        Effect::Decided(_, decided) => Came::Decided(decided.place),
+    }
+}
+
+fn told_by_answer(answer: &Answer) -> Came {
+    match answer {
+        Answer::Value(value) => match value.as_slice().first() {
+            Some(first) => Came::Value(*first),
+            None => Came::Answered,
+        },
+        _ => Came::Answered,
     }
 }
 
@@ -155,7 +189,7 @@ fn is_whole(outcome: &Outcome<Majority>) -> bool {
         && outcome.maps.len() == 3
 }
 
-fn steps_of(alloc: Global, moves: &[Move]) -> Result<Vec<Step>, Fail> {
+fn steps_of(alloc: Global, moves: &[Move]) -> Result<Vec<Step<Majority>>, Fail> {
     let mut steps = again!(Vec::with_capacity(alloc, moves.len()));
     for by in moves {
         steps.push(step(alloc, *by)?)?;
@@ -170,6 +204,104 @@ fn run_of_writer_that_stops(rt: HostRuntime) -> Result<(), Fail> {
     let outcome = again!(run(rt.alloc(), founders, steps.as_slice()));
     let whole = is_whole(&outcome);
     assert!(rt; whole);
+    Ok(())
+}
+
+// Node 4 joins and sets a value while node 1 has the configuration 4 chosen and the founders' collected; the set
+// counts the new configuration too, and a get that asks this one alone still finds the value.
+const CARRIED_OVER: [(Move, Result<Came, Refusal>); 44] = [
+    (Move::Join(4, 1), Ok(Came::Done)),
+    (Move::Send(4, 1), Ok(Came::Sent(1))),
+    (Move::Deliver(1), Ok(Came::Done)),
+    (Move::Send(1, 4), Ok(Came::Sent(2))),
+    (Move::Deliver(2), Ok(Came::Done)),
+    (Move::Set(4), Ok(Came::Called)),
+    (Move::Send(4, 3), Ok(Came::Sent(3))),
+    (Move::Deliver(3), Ok(Came::Done)),
+    (Move::Send(3, 4), Ok(Came::Sent(4))),
+    (Move::Deliver(4), Ok(Came::Done)),
+    (Move::Send(4, 2), Ok(Came::Sent(5))),
+    (Move::Deliver(5), Ok(Came::Done)),
+    (Move::Recon(1, 4), Ok(Came::Done)),
+    (Move::Send(1, 2), Ok(Came::Sent(6))),
+    (Move::Deliver(6), Ok(Came::Done)),
+    (Move::Send(2, 1), Ok(Came::Sent(7))),
+    (Move::Deliver(7), Ok(Came::Done)),
+    (Move::AdvanceRecon(1), Ok(Came::Moved)),
+    (Move::Send(1, 2), Ok(Came::Sent(8))),
+    (Move::Deliver(8), Ok(Came::Done)),
+    (Move::Send(2, 1), Ok(Came::Sent(9))),
+    (Move::Deliver(9), Ok(Came::Done)),
+    (Move::AdvanceRecon(1), Ok(Came::Decided(1))),
+    (Move::Collect(1), Ok(Came::Done)),
+    (Move::Send(1, 2), Ok(Came::Sent(10))),
+    (Move::Deliver(10), Ok(Came::Done)),
+    (Move::Send(2, 1), Ok(Came::Sent(11))),
+    (Move::Deliver(11), Ok(Came::Done)),
+    (Move::AdvanceCollect(1), Ok(Came::Moved)),
+    (Move::Send(1, 4), Ok(Came::Sent(12))),
+    (Move::Deliver(12), Ok(Came::Done)),
+    (Move::Send(4, 1), Ok(Came::Sent(13))),
+    (Move::Deliver(13), Ok(Came::Done)),
+    (Move::AdvanceCollect(1), Ok(Came::Collected(0))),
+    (Move::Send(1, 2), Ok(Came::Sent(14))),
+    (Move::Deliver(14), Ok(Came::Done)),
+    (Move::Advance(4, 1), Err(Refusal::NotYet)),
+    (Move::Send(2, 4), Ok(Came::Sent(15))),
+    (Move::Deliver(15), Ok(Came::Done)),
+    (Move::Advance(4, 1), Ok(Came::Moved)),
+    (Move::Advance(4, 1), Ok(Came::Answered)),
+    (Move::Get(4), Ok(Came::Called)),
+    (Move::Advance(4, 2), Ok(Came::Moved)),
+    (Move::Advance(4, 2), Ok(Came::Value(118))),
+];
+
+fn carries_over(rt: &impl Abort, alloc: Global, world: &mut Host) {
+    for (by, outcome) in CARRIED_OVER {
+        assert_eq!(rt; take(rt, world, alloc, by), outcome);
+    }
+    assert_eq!(rt; world.steps().len(), 43);
+}
+
+// Node 4 has its own configuration alone, and the value is in the sequence.
+fn is_carried(rt: &impl Abort, alloc: Global, world: &Host) -> Result<(), Fail> {
+    let calls = again!(world.sequence(alloc, b"k"));
+    assert_eq!(rt; calls.as_slice(), [id(4, 1)?, id(4, 2)?].as_slice());
+    assert_eq!(rt; world.map(Name::new(4)?).floor(), 1);
+    assert_eq!(rt; world.map(Name::new(4)?).top(), 1);
+    Ok(())
+}
+
+#[test]
+fn value_outlives_its_configuration(rt: HostRuntime) -> Result<(), Fail> {
+    let mut world = again!(new_world(rt.alloc(), &[1, 2, 3]));
+    carries_over(&rt, rt.alloc(), &mut world);
+    is_carried(&rt, rt.alloc(), &world)
+}
+
+// Steps of the member set that are refused.
+fn refuses_members(rt: &impl Abort, alloc: Global, world: &mut Host) {
+    let rows = [
+        (Move::Collect(1), Err(Refusal::NothingToCollect)),
+        (Move::AdvanceCollect(1), Err(Refusal::NoCollect)),
+        (Move::Rebid(1), Err(Refusal::NoRecon)),
+        (Move::AdvanceRecon(1), Err(Refusal::NoRecon)),
+        (Move::Recon(3, 1), Err(Refusal::NotActive)),
+        (Move::Recon(1, 2), Ok(Came::Done)),
+        (Move::Recon(1, 2), Err(Refusal::ReconOpen)),
+        (Move::AdvanceRecon(1), Err(Refusal::NotYet)),
+        (Move::Rebid(1), Ok(Came::Done)),
+    ];
+    for (by, outcome) in rows {
+        assert_eq!(rt; take(rt, world, alloc, by), outcome);
+    }
+    assert_eq!(rt; world.steps().len(), 2);
+}
+
+#[test]
+fn refused_steps_of_members(rt: HostRuntime) -> Result<(), Fail> {
+    let mut world = again!(new_world(rt.alloc(), &[1, 2]));
+    refuses_members(&rt, rt.alloc(), &mut world);
     Ok(())
 }
 

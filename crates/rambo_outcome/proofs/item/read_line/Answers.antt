@@ -2,8 +2,8 @@ use Rattle.std.proofs.Common.{inr, ap, ◌∙◌}
 use Rattle.std.specs.Option.{option_copied}
 use Rattle.std.specs.Str.{bytes_eq}
 use Rattle.std.proofs.lemmas.Result.{err_from_is_err_and}
-use Rattle.rambo_outcome.specs.Plans.{call_plan, answer_plan, refused_plan, sequence_plan, map_plan}
-use Rattle.rambo_outcome.proofs.LineFaults.{line_fault, plan_call, plan_answer, plan_refused, plan_sequence, plan_map, plan_unknown}
+use Rattle.rambo_outcome.specs.Plans.{call_plan, answer_plan, collected_plan, decided_plan, refused_plan, sequence_plan, map_plan}
+use Rattle.rambo_outcome.proofs.LineFaults.{line_fault, plan_call, plan_answer, plan_collected, plan_decided, plan_refused, plan_sequence, plan_map, plan_unknown}
 use Rattle.rambo_outcome.proofs.item.read_line.Goals as goal
 
 pub returns-in_err-read_called-clause-fault : goal.returns-in_err-read_called-clause-fault
@@ -20,26 +20,40 @@ returns-in_err-read_answered-clause-fault c =
     (line_fault c.args.line.now c.next_word.result.0.now (option_copied c.next_word.result.1) answer_plan _ c.next_word.ensures
     (plan_answer c.next_word.result.0.now (c.if-eq.ensures ∙ ap (bytes_eq c.next_word.result.0.now) c.as_slice.ensures) (c.if-eq-2.ensures ∙ ap (bytes_eq c.next_word.result.0.now) c.as_slice-2.ensures)) c.in_err-read_answered.ensures.fault)
 
+pub returns-in_err-read_collected-clause-fault : goal.returns-in_err-read_collected-clause-fault
+returns-in_err-read_collected-clause-fault c =
+    let p = err_from_is_err_and c.from_residual-in_err-read_collected.result c.from_residual-in_err-read_collected.ensures.1 in
+    rw (p.1, p.2)
+    (line_fault c.args.line.now c.next_word.result.0.now (option_copied c.next_word.result.1) collected_plan _ c.next_word.ensures
+    (plan_collected c.next_word.result.0.now (c.if-eq.ensures ∙ ap (bytes_eq c.next_word.result.0.now) c.as_slice.ensures) (c.if-eq-2.ensures ∙ ap (bytes_eq c.next_word.result.0.now) c.as_slice-2.ensures) (c.if-eq-3.ensures ∙ ap (bytes_eq c.next_word.result.0.now) c.as_slice-3.ensures)) c.in_err-read_collected.ensures.fault)
+
+pub returns-in_err-read_decided-clause-fault : goal.returns-in_err-read_decided-clause-fault
+returns-in_err-read_decided-clause-fault c =
+    let p = err_from_is_err_and c.from_residual-in_err-read_decided.result c.from_residual-in_err-read_decided.ensures.1 in
+    rw (p.1, p.2)
+    (line_fault c.args.line.now c.next_word.result.0.now (option_copied c.next_word.result.1) decided_plan _ c.next_word.ensures
+    (plan_decided c.next_word.result.0.now (c.if-eq.ensures ∙ ap (bytes_eq c.next_word.result.0.now) c.as_slice.ensures) (c.if-eq-2.ensures ∙ ap (bytes_eq c.next_word.result.0.now) c.as_slice-2.ensures) (c.if-eq-3.ensures ∙ ap (bytes_eq c.next_word.result.0.now) c.as_slice-3.ensures) (c.if-eq-4.ensures ∙ ap (bytes_eq c.next_word.result.0.now) c.as_slice-4.ensures)) c.in_err-read_decided.ensures.fault)
+
 pub returns-in_err-read_refused-clause-fault : goal.returns-in_err-read_refused-clause-fault
 returns-in_err-read_refused-clause-fault c =
     let p = err_from_is_err_and c.from_residual-in_err-read_refused.result c.from_residual-in_err-read_refused.ensures.1 in
     rw (p.1, p.2)
     (line_fault c.args.line.now c.next_word.result.0.now (option_copied c.next_word.result.1) refused_plan _ c.next_word.ensures
-    (plan_refused c.next_word.result.0.now (c.if-eq.ensures ∙ ap (bytes_eq c.next_word.result.0.now) c.as_slice.ensures) (c.if-eq-2.ensures ∙ ap (bytes_eq c.next_word.result.0.now) c.as_slice-2.ensures) (c.if-eq-3.ensures ∙ ap (bytes_eq c.next_word.result.0.now) c.as_slice-3.ensures)) c.in_err-read_refused.ensures.fault)
+    (plan_refused c.next_word.result.0.now (c.if-eq.ensures ∙ ap (bytes_eq c.next_word.result.0.now) c.as_slice.ensures) (c.if-eq-2.ensures ∙ ap (bytes_eq c.next_word.result.0.now) c.as_slice-2.ensures) (c.if-eq-3.ensures ∙ ap (bytes_eq c.next_word.result.0.now) c.as_slice-3.ensures) (c.if-eq-4.ensures ∙ ap (bytes_eq c.next_word.result.0.now) c.as_slice-4.ensures) (c.if-eq-5.ensures ∙ ap (bytes_eq c.next_word.result.0.now) c.as_slice-5.ensures)) c.in_err-read_refused.ensures.fault)
 
 pub returns-in_err-key-clause-fault : goal.returns-in_err-key-clause-fault
 returns-in_err-key-clause-fault c =
     let p = err_from_is_err_and c.from_residual-in_err-key.result c.from_residual-in_err-key.ensures.1 in
     rw (p.1, p.2)
     (line_fault c.args.line.now c.next_word.result.0.now (option_copied c.next_word.result.1) sequence_plan _ c.next_word.ensures
-    (plan_sequence c.next_word.result.0.now (c.if-eq.ensures ∙ ap (bytes_eq c.next_word.result.0.now) c.as_slice.ensures) (c.if-eq-2.ensures ∙ ap (bytes_eq c.next_word.result.0.now) c.as_slice-2.ensures) (c.if-eq-3.ensures ∙ ap (bytes_eq c.next_word.result.0.now) c.as_slice-3.ensures) (c.if-eq-4.ensures ∙ ap (bytes_eq c.next_word.result.0.now) c.as_slice-4.ensures)) c.in_err-key.ensures.fault)
+    (plan_sequence c.next_word.result.0.now (c.if-eq.ensures ∙ ap (bytes_eq c.next_word.result.0.now) c.as_slice.ensures) (c.if-eq-2.ensures ∙ ap (bytes_eq c.next_word.result.0.now) c.as_slice-2.ensures) (c.if-eq-3.ensures ∙ ap (bytes_eq c.next_word.result.0.now) c.as_slice-3.ensures) (c.if-eq-4.ensures ∙ ap (bytes_eq c.next_word.result.0.now) c.as_slice-4.ensures) (c.if-eq-5.ensures ∙ ap (bytes_eq c.next_word.result.0.now) c.as_slice-5.ensures) (c.if-eq-6.ensures ∙ ap (bytes_eq c.next_word.result.0.now) c.as_slice-6.ensures)) c.in_err-key.ensures.fault)
 
 pub returns-in_err-read_map-clause-fault : goal.returns-in_err-read_map-clause-fault
 returns-in_err-read_map-clause-fault c =
     let p = err_from_is_err_and c.from_residual-in_err-read_map.result c.from_residual-in_err-read_map.ensures.1 in
     rw (p.1, p.2)
     (line_fault c.args.line.now c.next_word.result.0.now (option_copied c.next_word.result.1) map_plan _ c.next_word.ensures
-    (plan_map c.next_word.result.0.now (c.if-eq.ensures ∙ ap (bytes_eq c.next_word.result.0.now) c.as_slice.ensures) (c.if-eq-2.ensures ∙ ap (bytes_eq c.next_word.result.0.now) c.as_slice-2.ensures) (c.if-eq-3.ensures ∙ ap (bytes_eq c.next_word.result.0.now) c.as_slice-3.ensures) (c.if-eq-4.ensures ∙ ap (bytes_eq c.next_word.result.0.now) c.as_slice-4.ensures) (c.if-eq-5.ensures ∙ ap (bytes_eq c.next_word.result.0.now) c.as_slice-5.ensures)) c.in_err-read_map.ensures.fault)
+    (plan_map c.next_word.result.0.now (c.if-eq.ensures ∙ ap (bytes_eq c.next_word.result.0.now) c.as_slice.ensures) (c.if-eq-2.ensures ∙ ap (bytes_eq c.next_word.result.0.now) c.as_slice-2.ensures) (c.if-eq-3.ensures ∙ ap (bytes_eq c.next_word.result.0.now) c.as_slice-3.ensures) (c.if-eq-4.ensures ∙ ap (bytes_eq c.next_word.result.0.now) c.as_slice-4.ensures) (c.if-eq-5.ensures ∙ ap (bytes_eq c.next_word.result.0.now) c.as_slice-5.ensures) (c.if-eq-6.ensures ∙ ap (bytes_eq c.next_word.result.0.now) c.as_slice-6.ensures) (c.if-eq-7.ensures ∙ ap (bytes_eq c.next_word.result.0.now) c.as_slice-7.ensures)) c.in_err-read_map.ensures.fault)
 
 pub returns-clause-fault : goal.returns-clause-fault
 returns-clause-fault c =
@@ -48,4 +62,6 @@ returns-clause-fault c =
     (c.if-eq-2.ensures ∙ ap (bytes_eq c.next_word.result.0.now) c.as_slice-2.ensures)
     (c.if-eq-3.ensures ∙ ap (bytes_eq c.next_word.result.0.now) c.as_slice-3.ensures)
     (c.if-eq-4.ensures ∙ ap (bytes_eq c.next_word.result.0.now) c.as_slice-4.ensures)
-    (c.if-eq-5.ensures ∙ ap (bytes_eq c.next_word.result.0.now) c.as_slice-5.ensures))
+    (c.if-eq-5.ensures ∙ ap (bytes_eq c.next_word.result.0.now) c.as_slice-5.ensures)
+    (c.if-eq-6.ensures ∙ ap (bytes_eq c.next_word.result.0.now) c.as_slice-6.ensures)
+    (c.if-eq-7.ensures ∙ ap (bytes_eq c.next_word.result.0.now) c.as_slice-7.ensures))

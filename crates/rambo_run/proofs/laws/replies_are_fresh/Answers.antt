@@ -1,4 +1,4 @@
-use Rattle.rambo_run.proofs.EveryRun.{replies_are_fresh}
+use Rattle.rambo_run.proofs.FreshReplies.{replies_are_fresh}
 use Rattle.rambo_run.proofs.laws.replies_are_fresh.Goals as goal
 
 pub returns : goal.returns

@@ -4,7 +4,7 @@ use Rattle.rambo_tag.specs.Tags.{is_newer}
 use Rattle.rambo_tag.specs.Copies.{joined}
 use Rattle.rambo_tag.specs.Logs.{greatest_of}
 use Rattle.rambo_world.proofs.Logging.{lacking_more, lacking_same}
-use Rattle.std.proofs.lemmas.List.{take_more}
+use Rattle.std.proofs.lemmas.List.{take_more, take_all}
 use Rattle.rambo_world.proofs.logged_node.lacking.Goals.{then-is_newer+in_ok-clone+in_ok-push, else-is_newer}
 use Rattle.rambo_world.proofs.logged_node.lacking.Goals as goal
 
@@ -26,3 +26,7 @@ loop-copy-preserved g c =
           ∙ lacking_same r c.loop-copy.lacked.items seen k (sym newer ∙ w.if-is_newer.false) c.loop-copy.invariant
           ∙ ap (λ l. joined r (greatest_of l)) (sym next)
     ]
+
+pub returns-clause-lacked : goal.returns-clause-lacked
+returns-clause-lacked g c =
+    c.loop-copy.invariant ∙ ap (λ l. joined c.args.node.now.registers (greatest_of l)) (take_all c.loop-copy.copy-index c.args.copies.now c.loop-copy-test.false)

@@ -29,13 +29,13 @@ pub returns-clause-maps : goal.returns-clause-maps
 returns-clause-maps g c = c.loop-node.invariant ∙ ap (λ l. maps_of (states_of l)) (take_all c.loop-node.node-index c.args.nodes.now c.loop-node-test.false)
 
 pub map-map-requires : goal.map-map-requires
-map-map-requires g c = (c.requires-raw.1.1, back_fits _ _ _ (next _ _ _ _ (next _ _ _ _ (next _ _ _ _ (next _ _ _ _ (up_fits _ _ _ (first_fits _ _ _ _ _ _ c.requires-raw.1.1)))))))
+map-map-requires g c = (c.requires-raw.1.1, back_fits _ _ _ (up_fits _ _ _ (first_fits _ _ _ _ _ _ c.requires-raw.1.1)))
 
 pub floor-requires : goal.floor-requires
-floor-requires g c = back_fits _ _ _ (next _ _ _ _ (next _ _ _ _ (next _ _ _ _ (next _ _ _ _ (up_fits _ _ _ (first_fits _ _ _ _ _ _ c.requires-raw.1.1))))))
+floor-requires g c = back_fits _ _ _ (up_fits _ _ _ (first_fits _ _ _ _ _ _ c.requires-raw.1.1))
 
 pub places-requires : goal.places-requires
-places-requires g c = (back_fits _ _ _ (next _ _ _ _ (next _ _ _ _ (next _ _ _ _ (next _ _ _ _ (up_fits _ _ _ (first_fits _ _ _ _ _ _ c.requires-raw.1.1)))))), back_fits _ _ _ (up_fits _ _ _ (back_fits _ _ _ (next _ _ _ _ (next _ _ _ _ (next _ _ _ _ (next _ _ _ _ (up_fits _ _ _ (first_fits _ _ _ _ _ _ c.requires-raw.1.1)))))))))
+places-requires g c = (back_fits _ _ _ (up_fits _ _ _ (first_fits _ _ _ _ _ _ c.requires-raw.1.1)), back_fits _ _ _ (up_fits _ _ _ (back_fits _ _ _ (up_fits _ _ _ (first_fits _ _ _ _ _ _ c.requires-raw.1.1)))))
 
 pub configs_of-requires : goal.configs_of-requires
-configs_of-requires g c = back_fits _ _ _ (up_fits _ _ _ (back_fits _ _ _ (next _ _ _ _ (next _ _ _ _ (next _ _ _ _ (next _ _ _ _ (up_fits _ _ _ (first_fits _ _ _ _ _ _ c.requires-raw.1.1))))))))
+configs_of-requires g c = back_fits _ _ _ (up_fits _ _ _ (back_fits _ _ _ (up_fits _ _ _ (first_fits _ _ _ _ _ _ c.requires-raw.1.1))))

@@ -19,10 +19,10 @@ pub returns-clause-refused : goal.returns-clause-refused
 returns-clause-refused c = err_alone c.outcome.result _ c.in_ok-may_found.ensures.ok c.outcome.ensures.refused
 
 pub returns-clause-agreed : goal.returns-clause-agreed
-returns-clause-agreed c = agrees majorities c.args.founders c.args.steps.now
+returns-clause-agreed c = agrees majorities majorities_sound c.args.founders c.args.steps.now
 
 pub returns-in_err-may_found-clause-agreed : goal.returns-in_err-may_found-clause-agreed
-returns-in_err-may_found-clause-agreed c = agrees majorities c.args.founders c.args.steps.now
+returns-in_err-may_found-clause-agreed c = agrees majorities majorities_sound c.args.founders c.args.steps.now
 
 pub returns-in_err-state-clause-agreed : goal.returns-in_err-state-clause-agreed
-returns-in_err-state-clause-agreed c = agrees majorities c.args.founders c.args.steps.now
+returns-in_err-state-clause-agreed c = agrees majorities majorities_sound c.args.founders c.args.steps.now

@@ -2,12 +2,39 @@ use Rattle.std.proofs.Common.{◌≡◌, None, IfOk, sym, ap, ◌∙◌, subst, 
 use Rattle.rambo_node.specs.Changes.{refusal_of, made_by}
 use Rattle.rambo_node.specs.Nodes.{open_call}
 use Rattle.rambo_node.specs.declared.change.Change.TheVariants as change
-use Rattle.rambo_node.proofs.Advances.{quiet_again}
+use Rattle.rambo_node.proofs.Advances.{quiet_again, quiet_rebid}
 use Rattle.rambo_node.proofs.Sizes.{deliver_fits}
 use Rattle.rambo_node.proofs.node.Node.act.Goals as goal
 
 pub do_hear-requires : goal.do_hear-requires
-do_hear-requires g c = (search rules, deliver_fits _ _ _ _ c.requires-raw.1.1.1.0)
+do_hear-requires g c = (search rules, deliver_fits _ _ _ _ _ c.requires-raw.1.1.1.0)
+
+pub do_call-requires : goal.do_call-requires
+do_call-requires g c = (
+  search rules,
+  subst (λ ch. refusal_of g.Q.Quorums.system c.args.self.now ch ≡ None) (c.in-Call.is ∙ ap change.Call (sym c.in_ok-clone-in-Call.ensures.same)) c.requires,
+)
+
+pub do_advance-requires : goal.do_advance-requires
+do_advance-requires g c = (search rules, subst (λ ch. refusal_of g.Q.Quorums.system c.args.self.now ch ≡ None) c.in-Advance.is c.requires)
+
+pub do_again-requires : goal.do_again-requires
+do_again-requires g c = (search rules, subst (λ ch. refusal_of g.Q.Quorums.system c.args.self.now ch ≡ None) c.in-Again.is c.requires)
+
+pub do_collect-requires : goal.do_collect-requires
+do_collect-requires g c = (search rules, subst (λ ch. refusal_of g.Q.Quorums.system c.args.self.now ch ≡ None) c.in-Collect.is c.requires)
+
+pub do_advance_collect-requires : goal.do_advance_collect-requires
+do_advance_collect-requires g c = (search rules, subst (λ ch. refusal_of g.Q.Quorums.system c.args.self.now ch ≡ None) c.in-AdvanceCollect.is c.requires)
+
+pub do_recon-requires : goal.do_recon-requires
+do_recon-requires g c = (search rules, subst (λ ch. refusal_of g.Q.Quorums.system c.args.self.now ch ≡ None) c.in-Recon.is c.requires)
+
+pub do_rebid-requires : goal.do_rebid-requires
+do_rebid-requires g c = (search rules, subst (λ ch. refusal_of g.Q.Quorums.system c.args.self.now ch ≡ None) c.in-Rebid.is c.requires)
+
+pub do_advance_recon-requires : goal.do_advance_recon-requires
+do_advance_recon-requires g c = (search rules, subst (λ ch. refusal_of g.Q.Quorums.system c.args.self.now ch ≡ None) c.in-AdvanceRecon.is c.requires)
 
 pub returns-in_ok-clone-in-Call-clause-deed : goal.returns-in_ok-clone-in-Call-clause-deed
 returns-in_ok-clone-in-Call-clause-deed g c =
@@ -29,3 +56,9 @@ unfolding made_by
 returns-in-Again-clause-deed g c =
     let x = c.args.self.now in
     c.quiet-in-Again.ensures ∙ quiet_again x (open_call x c.in-Again.id) ∙ sym (ap (λ ch. (made_by x ch).deed) c.in-Again.is)
+
+pub returns-in-Rebid-clause-deed : goal.returns-in-Rebid-clause-deed
+unfolding made_by
+returns-in-Rebid-clause-deed g c =
+    let x = c.args.self.now in
+    c.quiet-in-Rebid.ensures ∙ quiet_rebid x x.attempt ∙ sym (ap (λ ch. (made_by x ch).deed) c.in-Rebid.is)

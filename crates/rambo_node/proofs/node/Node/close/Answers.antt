@@ -3,6 +3,7 @@ use Rattle.std.specs.List.{remove}
 use Rattle.rambo_node.specs.Calls.{place_of, find_call}
 use Rattle.rambo_node.specs.Kept.{calls_of, answered_from}
 use Rattle.rambo_node.proofs.Advances.{call_closes, with_calls}
+use Rattle.rambo_node.proofs.Sizes.{up_fits, back_fits, next}
 use Rattle.rambo_node.proofs.node.Node.close.Goals as goal
 
 pub returns-clause-node : goal.returns-clause-node
@@ -18,3 +19,6 @@ returns-clause-deed g c =
     let x = c.args.self.now in
     c.in_ok-deed.ensures.ok ∙ ap (λ y. answered_from c.args.id (find_call c.args.id.number y.calls)) c.self.view_is
     ∙ (call_closes x c.args.id c.requires.open c.requires.told).1
+
+pub close-requires : goal.close-requires
+close-requires g c = back_fits _ _ _ (next _ _ _ _ (up_fits _ _ _ c.requires-raw.1.1.0))

@@ -6,6 +6,7 @@ use Rattle.rambo_node.specs.Kept.{calls_of, with_call}
 use Rattle.rambo_node.specs.Refusals.{is_last}
 use Rattle.rambo_node.proofs.Advances.{begins_again, next_calls}
 use Rattle.rambo_node.proofs.Judged.{again_next, has_next}
+use Rattle.rambo_node.proofs.Sizes.{up_fits, back_fits, next}
 use Rattle.rambo_node.proofs.node.Node.do_again.Goals as goal
 
 pub overflow_add-self : goal.overflow_add-self
@@ -21,3 +22,6 @@ returns g c =
     ∙ ap (λ cs. next_calls cs x)
     (c.restart.ensures ∙ ap (λ n. with_call (place_of m n.calls) (find_call m n.calls) (restarted (n.number + 1) n.map n.name) n.calls) c.self.view_is)
     ∙ begins_again x c.args.id (again_next x c.args.id c.requires).0
+
+pub restart-requires : goal.restart-requires
+restart-requires g c = (back_fits _ _ _ (next _ _ _ _ (up_fits _ _ _ c.requires-raw.1.1.0)), back_fits _ _ _ (up_fits _ _ _ c.requires-raw.1.1.0))

@@ -1,6 +1,7 @@
 use Rattle.std.proofs.Common.{◌∙◌, ap, rules}
 use Rattle.rambo_node.specs.Refusals.{is_last}
 use Rattle.rambo_node.proofs.Judged.{call_next, has_next}
+use Rattle.rambo_node.proofs.Sizes.{up_fits, back_fits, next}
 use Rattle.rambo_node.proofs.node.Node.do_call.Goals as goal
 
 pub overflow_add-id : goal.overflow_add-id
@@ -11,3 +12,6 @@ overflow_add-self-inside g c = has_next c.self.inside.number (search rules) (ap 
 
 pub overflow_add-self : goal.overflow_add-self
 overflow_add-self g c = has_next c.self.inside.number (search rules) (ap (λ x. is_last x.number) c.self.view_is ∙ (call_next c.args.self.now c.args.op c.requires).0)
+
+pub open-requires : goal.open-requires
+open-requires g c = (back_fits _ _ _ (next _ _ _ _ (up_fits _ _ _ c.requires-raw.1.1.0)), back_fits _ _ _ (up_fits _ _ _ c.requires-raw.1.1.0))

@@ -24,5 +24,20 @@ returns-in-Again-clause-refused g c = subst (λ ch. IfErr c.may_restart.result (
 pub returns-in-Stop-clause-refused : goal.returns-in-Stop-clause-refused
 returns-in-Stop-clause-refused g c = subst (λ ch. IfErr c.may_stop.result (λ r. refusal_of g.Q.Quorums.system c.args.self.now ch ≡ Some r)) (sym c.in-Stop.is) c.may_stop.ensures.refused
 
+pub returns-in-Collect-clause-refused : goal.returns-in-Collect-clause-refused
+returns-in-Collect-clause-refused g c = subst (λ ch. IfErr c.may_collect.result (λ r. refusal_of g.Q.Quorums.system c.args.self.now ch ≡ Some r)) (sym c.in-Collect.is) c.may_collect.ensures.refused
+
+pub returns-in-AdvanceCollect-clause-refused : goal.returns-in-AdvanceCollect-clause-refused
+returns-in-AdvanceCollect-clause-refused g c = subst (λ ch. IfErr c.may_advance_collect.result (λ r. refusal_of g.Q.Quorums.system c.args.self.now ch ≡ Some r)) (sym c.in-AdvanceCollect.is) c.may_advance_collect.ensures.refused
+
+pub returns-in-Recon-clause-refused : goal.returns-in-Recon-clause-refused
+returns-in-Recon-clause-refused g c = subst (λ ch. IfErr c.may_recon.result (λ r. refusal_of g.Q.Quorums.system c.args.self.now ch ≡ Some r)) (sym c.in-Recon.is) c.may_recon.ensures.refused
+
+pub returns-in-Rebid-clause-refused : goal.returns-in-Rebid-clause-refused
+returns-in-Rebid-clause-refused g c = subst (λ ch. IfErr c.may_rebid.result (λ r. refusal_of g.Q.Quorums.system c.args.self.now ch ≡ Some r)) (sym c.in-Rebid.is) c.may_rebid.ensures.refused
+
+pub returns-in-AdvanceRecon-clause-refused : goal.returns-in-AdvanceRecon-clause-refused
+returns-in-AdvanceRecon-clause-refused g c = subst (λ ch. IfErr c.may_advance_recon.result (λ r. refusal_of g.Q.Quorums.system c.args.self.now ch ≡ Some r)) (sym c.in-AdvanceRecon.is) c.may_advance_recon.ensures.refused
+
 pub may_hear-requires : goal.may_hear-requires
-may_hear-requires g c = (search rules, deliver_fits _ _ _ _ c.requires-raw.1.1.1)
+may_hear-requires g c = (search rules, deliver_fits _ _ _ _ _ c.requires-raw.1.1.1)

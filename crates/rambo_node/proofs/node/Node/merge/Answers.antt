@@ -5,6 +5,7 @@ use Rattle.rambo_config_map.specs.Maps.{merged_map}
 use Rattle.rambo_joiner.specs.Statuses.{woken}
 use Rattle.rambo_node.specs.Hearing.{heard_gossip, heard_call}
 use Rattle.rambo_node.specs.Nodes.{raised}
+use Rattle.rambo_node.proofs.Sizes.{up_fits, back_fits, next}
 use Rattle.rambo_node.proofs.node.Node.merge.Goals as goal
 
 pub returns-clause-ok : goal.returns-clause-ok
@@ -12,19 +13,32 @@ unfolding heard_gossip
 returns-clause-ok g c next =
     let v = c.self.view_is in
     let from = c.args.from in
+    let gossip = c.args.gossip.now in
     let name = ap (λ n. n.name) v in
     let number = c.number_after-own.ensures next in
-    let merged = c.merge-2.ensures ∙ ap (λ n. merged_map n.map c.args.map.now) v in
+    let merged = c.merge-2.ensures ∙ ap (λ n. merged_map n.map gossip.map.now) v in
     let kept = c.make_room.ensures.same ∙ ap (λ n. n.calls) v in
-    let calls = c.hear.ensures c.in_ok-make_room.ensures.ok ∙ λ i. map (heard_call c.args.heard from c.args.map.now (number i) (merged i) (name i)) (kept i) in
+    let calls = c.hear.ensures c.in_ok-make_room.ensures.ok ∙ λ i. map (heard_call gossip.heard from gossip.map.now (number i) (merged i) (name i)) (kept i) in
     λ i. record {
       name = name i;
       status = (c.wake.ensures ∙ ap (λ n. woken n.status) v) i;
-      known = (c.union-self-inside.ensures ∙ ap (λ n. set.union n.known c.args.known) v) i;
+      known = (c.union-self-inside.ensures ∙ ap (λ n. set.union n.known gossip.known) v) i;
       registers = (c.in_ok-merge.ensures.ok ∙ ap (λ n. joined n.registers c.args.copies.now) v) i;
       map = merged i;
       number = number i;
       made = (v i).made;
-      heard = (c.raise.ensures ∙ ap (λ n. raised n.heard from c.args.number) v) i;
+      heard = (c.raise.ensures ∙ ap (λ n. raised n.heard from gossip.number) v) i;
       calls = calls i;
+      collection = c.collection_after-collection.ensures i;
+      attempt = c.attempt_after-attempt.ensures.after i;
+      vote = c.vote_after-vote.ensures i;
     }
+
+pub number_after-own-requires : goal.number_after-own-requires
+number_after-own-requires g c = (c.requires-raw.1.1, back_fits _ _ _ (up_fits _ _ _ c.requires-raw.1.1))
+
+pub make_room-requires : goal.make_room-requires
+make_room-requires g c = (back_fits _ _ _ (next _ _ _ _ (up_fits _ _ _ c.requires-raw.1.1)), back_fits _ _ _ (up_fits _ _ _ c.requires-raw.1.1))
+
+pub hear-requires : goal.hear-requires
+hear-requires g c = (back_fits _ _ _ (next _ _ _ _ (up_fits _ _ _ c.requires-raw.1.1)), back_fits _ _ _ (up_fits _ _ _ c.requires-raw.1.1))

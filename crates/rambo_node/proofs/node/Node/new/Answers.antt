@@ -1,4 +1,4 @@
-use Rattle.std.proofs.Common.{ap, ◌∙◌}
+use Rattle.std.proofs.Common.{None, ap, ◌∙◌}
 use Rattle.rambo_node.specs.Nodes.{first_node, first_status, first_known}
 use Rattle.rambo_node.specs.Kept.{calls_of}
 use Rattle.rambo_node.proofs.node.Node.new.Goals as goal
@@ -17,4 +17,7 @@ returns g c =
       made = 0;
       heard = c.new-2.ensures i;
       calls = calls_of (c.new-3.ensures i);
+      collection = None;
+      attempt = None;
+      vote = c.new-4.ensures i;
     }

@@ -1,4 +1,5 @@
 use Rattle.std.proofs.Common.{◌≡◌, ◌+◌, Some, Fits, w64, sym, ap, ◌∙◌, rules}
+use Rattle.std.proofs.lemmas.Result.{IfOk-weaker}
 use Rattle.std.specs.FinMap as map
 use Rattle.std.specs.Option.{option_copied}
 use Rattle.rambo_tag.specs.Tags.{tag_of}
@@ -21,3 +22,10 @@ returns-in_ok-clone-in-Set-clause-ok g c free =
       tag = record { sequence = (next ∙ ap (λ m. m + 1) sequence) i; name = (c.self.view_is i).name };
       value = Some (c.in_ok-clone-in-Set.ensures.cases i);
     })) ∙ sym (ap (taken x) c.in-Set.is)
+
+pub returns-in-Get-clause-ok : goal.returns-in-Get-clause-ok
+returns-in-Get-clause-ok g c =
+    let x = c.args.self.now in
+    let key = c.in-Get.field-0 in
+    let held : option_copied c.copy-held.result ≡ map.get x.registers key = c.copy-held.ensures ∙ ap (map.get _) (c.as_slice.ensures ∙ c.key.ensures ∙ ap key_of c.in-Get.is) ∙ ap (λ y. map.get y.registers key) c.self.view_is in
+    IfOk-weaker c.clone_of.result _ _ (λ v e free. e ∙ held ∙ sym (ap (taken x) c.in-Get.is)) c.clone_of.ensures.same

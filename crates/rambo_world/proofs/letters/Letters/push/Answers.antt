@@ -6,35 +6,35 @@ use Rattle.rambo_world.proofs.Sharing.{all_held, all_stay, pushed_view}
 use Rattle.rambo_world.proofs.letters.Letters.push.Goals as goal
 
 pub invariant_of-self : goal.invariant_of-self
-invariant_of-self g c = subst (AreHeld (length c.self.inside.maps.items)) (sym c.reserve.ensures.items) c.self.invariant
+invariant_of-self g c = subst (AreHeld (length c.self.inside.standings.items)) (sym c.reserve.ensures.items) c.self.invariant
 
 pub invariant_of-self-in_err-sent : goal.invariant_of-self-in_err-sent
 invariant_of-self-in_err-sent g c =
-    let maps = c.self.inside.maps.items in
+    let standings = c.self.inside.standings.items in
     let grows = c.keep.ensures.grows in
     subst (λ ms. AreHeld (length ms) c.reserve.new.self.items) (sym grows.1)
-    (subst (AreHeld (length (maps ++ grows.0))) (sym c.reserve.ensures.items) (all_held maps grows.0 c.self.inside.list.items c.self.invariant))
+    (subst (AreHeld (length (standings ++ grows.0))) (sym c.reserve.ensures.items) (all_held standings grows.0 c.self.inside.list.items c.self.invariant))
 
 pub returns-in_err-sent-clause-err : goal.returns-in_err-sent-clause-err
 returns-in_err-sent-clause-err g c =
-    let maps = c.self.inside.maps.items in
+    let standings = c.self.inside.standings.items in
     let grows = c.keep.ensures.grows in
     on_err_all c.from_residual-in_err-sent.result
-    ((λ i. map (sent_in (grows.1 i)) (c.reserve.ensures.items i)) ∙ all_stay maps grows.0 c.self.inside.list.items c.self.invariant ∙ c.self.view_is)
+    ((λ i. map (sent_in (grows.1 i)) (c.reserve.ensures.items i)) ∙ all_stay standings grows.0 c.self.inside.list.items c.self.invariant ∙ c.self.view_is)
 
 pub invariant_of-self-2 : goal.invariant_of-self-2
 invariant_of-self-2 g c place s found =
-    let maps = c.self.inside.maps.items in
+    let standings = c.self.inside.standings.items in
     let grows = c.keep.ensures.grows in
-    let held : AreHeld (length c.keep.new.maps.items) c.reserve.new.self.items = subst (λ ms. AreHeld (length ms) c.reserve.new.self.items) (sym grows.1)
-    (subst (AreHeld (length (maps ++ grows.0))) (sym c.reserve.ensures.items) (all_held maps grows.0 c.self.inside.list.items c.self.invariant)) in
-    sent_push (IsHeld (length c.keep.new.maps.items)) c.reserve.new.self.items _ held c.in_ok-sent.ensures.held place s
+    let held : AreHeld (length c.keep.new.standings.items) c.reserve.new.self.items = subst (λ ms. AreHeld (length ms) c.reserve.new.self.items) (sym grows.1)
+    (subst (AreHeld (length (standings ++ grows.0))) (sym c.reserve.ensures.items) (all_held standings grows.0 c.self.inside.list.items c.self.invariant)) in
+    sent_push (IsHeld (length c.keep.new.standings.items)) c.reserve.new.self.items _ held c.in_ok-sent.ensures.held place s
     (ap (λ l. slice_get l place) (sym c.push_reserved.ensures.items) ∙ found)
 
 pub returns-clause-ok : goal.returns-clause-ok
 returns-clause-ok g c =
-    let maps = c.self.inside.maps.items in
+    let standings = c.self.inside.standings.items in
     let grows = c.keep.ensures.grows in
-    pushed_view c.keep.new.maps.items c.reserve.new.self.items c.push_reserved.new.self.items _ c.args.self.now c.args.outline.now c.push_reserved.ensures.items
-    ((λ i. map (sent_in (grows.1 i)) (c.reserve.ensures.items i)) ∙ all_stay maps grows.0 c.self.inside.list.items c.self.invariant ∙ c.self.view_is)
+    pushed_view c.keep.new.standings.items c.reserve.new.self.items c.push_reserved.new.self.items _ c.args.self.now c.args.outline.now c.push_reserved.ensures.items
+    ((λ i. map (sent_in (grows.1 i)) (c.reserve.ensures.items i)) ∙ all_stay standings grows.0 c.self.inside.list.items c.self.invariant ∙ c.self.view_is)
     c.in_ok-sent.ensures.kept

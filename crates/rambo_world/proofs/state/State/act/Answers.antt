@@ -88,3 +88,73 @@ returns-in-Send-clause-ok g c = subst (λ st. IfOk c.send.result (λ e. turn c.a
 
 pub returns-in-Deliver-clause-ok : goal.returns-in-Deliver-clause-ok
 returns-in-Deliver-clause-ok g c = subst (λ st. IfOk c.deliver.result (λ e. turn c.args.self.now st ≡ record { world = c.deliver.new.self; effect = e })) (sym c.in-Deliver.is) c.deliver.ensures.ok
+
+pub change-requires-in-Collect : goal.change-requires-in-Collect
+change-requires-in-Collect g c =
+    let s = g.Q.Quorums.system in
+    let w = c.args.self.now in
+    let st = (step.Collect c.in-Collect.name) in
+    let accepted : refusal s w st ≡ None = subst (λ st. refusal s w st ≡ None) c.in-Collect.is c.requires.accepted in
+    (c.requires-raw.1.1.0, (variant_fits _ _ _ _ (back_fits _ _ _ (up_fits _ _ _ c.requires-raw.1.1.0)), (sym (step_refusal w st c.in-Collect.name change.Collect refl s) ∙ accepted, (step_fits w st c.in-Collect.name change.Collect refl s c.requires.fits accepted, refl))))
+
+pub returns-in-Collect-clause-ok : goal.returns-in-Collect-clause-ok
+returns-in-Collect-clause-ok g c =
+    let w = c.args.self.now in
+    let st = (step.Collect c.in-Collect.name) in
+    IfOk-weaker c.change-in-Collect.result _ _ (λ e done. ap (turn w) c.in-Collect.is ∙ step_turn w st c.in-Collect.name change.Collect refl ∙ done) c.change-in-Collect.ensures.ok
+
+pub change-requires-in-AdvanceCollect : goal.change-requires-in-AdvanceCollect
+change-requires-in-AdvanceCollect g c =
+    let s = g.Q.Quorums.system in
+    let w = c.args.self.now in
+    let st = (step.AdvanceCollect c.in-AdvanceCollect.name) in
+    let accepted : refusal s w st ≡ None = subst (λ st. refusal s w st ≡ None) c.in-AdvanceCollect.is c.requires.accepted in
+    (c.requires-raw.1.1.0, (variant_fits _ _ _ _ (back_fits _ _ _ (up_fits _ _ _ c.requires-raw.1.1.0)), (sym (step_refusal w st c.in-AdvanceCollect.name change.AdvanceCollect refl s) ∙ accepted, (step_fits w st c.in-AdvanceCollect.name change.AdvanceCollect refl s c.requires.fits accepted, refl))))
+
+pub returns-in-AdvanceCollect-clause-ok : goal.returns-in-AdvanceCollect-clause-ok
+returns-in-AdvanceCollect-clause-ok g c =
+    let w = c.args.self.now in
+    let st = (step.AdvanceCollect c.in-AdvanceCollect.name) in
+    IfOk-weaker c.change-in-AdvanceCollect.result _ _ (λ e done. ap (turn w) c.in-AdvanceCollect.is ∙ step_turn w st c.in-AdvanceCollect.name change.AdvanceCollect refl ∙ done) c.change-in-AdvanceCollect.ensures.ok
+
+pub change-requires-in-Rebid : goal.change-requires-in-Rebid
+change-requires-in-Rebid g c =
+    let s = g.Q.Quorums.system in
+    let w = c.args.self.now in
+    let st = (step.Rebid c.in-Rebid.name) in
+    let accepted : refusal s w st ≡ None = subst (λ st. refusal s w st ≡ None) c.in-Rebid.is c.requires.accepted in
+    (c.requires-raw.1.1.0, (variant_fits _ _ _ _ (back_fits _ _ _ (up_fits _ _ _ c.requires-raw.1.1.0)), (sym (step_refusal w st c.in-Rebid.name change.Rebid refl s) ∙ accepted, (step_fits w st c.in-Rebid.name change.Rebid refl s c.requires.fits accepted, refl))))
+
+pub returns-in-Rebid-clause-ok : goal.returns-in-Rebid-clause-ok
+returns-in-Rebid-clause-ok g c =
+    let w = c.args.self.now in
+    let st = (step.Rebid c.in-Rebid.name) in
+    IfOk-weaker c.change-in-Rebid.result _ _ (λ e done. ap (turn w) c.in-Rebid.is ∙ step_turn w st c.in-Rebid.name change.Rebid refl ∙ done) c.change-in-Rebid.ensures.ok
+
+pub change-requires-in-AdvanceRecon : goal.change-requires-in-AdvanceRecon
+change-requires-in-AdvanceRecon g c =
+    let s = g.Q.Quorums.system in
+    let w = c.args.self.now in
+    let st = (step.AdvanceRecon c.in-AdvanceRecon.name) in
+    let accepted : refusal s w st ≡ None = subst (λ st. refusal s w st ≡ None) c.in-AdvanceRecon.is c.requires.accepted in
+    (c.requires-raw.1.1.0, (variant_fits _ _ _ _ (back_fits _ _ _ (up_fits _ _ _ c.requires-raw.1.1.0)), (sym (step_refusal w st c.in-AdvanceRecon.name change.AdvanceRecon refl s) ∙ accepted, (step_fits w st c.in-AdvanceRecon.name change.AdvanceRecon refl s c.requires.fits accepted, refl))))
+
+pub returns-in-AdvanceRecon-clause-ok : goal.returns-in-AdvanceRecon-clause-ok
+returns-in-AdvanceRecon-clause-ok g c =
+    let w = c.args.self.now in
+    let st = (step.AdvanceRecon c.in-AdvanceRecon.name) in
+    IfOk-weaker c.change-in-AdvanceRecon.result _ _ (λ e done. ap (turn w) c.in-AdvanceRecon.is ∙ step_turn w st c.in-AdvanceRecon.name change.AdvanceRecon refl ∙ done) c.change-in-AdvanceRecon.ensures.ok
+
+pub change-requires-in-Recon : goal.change-requires-in-Recon
+change-requires-in-Recon g c =
+    let s = g.Q.Quorums.system in
+    let w = c.args.self.now in
+    let st = (step.Recon c.in-Recon.name c.in-Recon.wish) in
+    let accepted : refusal s w st ≡ None = subst (λ st. refusal s w st ≡ None) c.in-Recon.is c.requires.accepted in
+    (c.requires-raw.1.1.0, (variant_fits _ _ _ _ (back_fits _ _ _ (up_fits _ _ _ c.requires-raw.1.1.0)), (sym (step_refusal w st c.in-Recon.name (change.Recon c.in-Recon.wish) refl s) ∙ accepted, (step_fits w st c.in-Recon.name (change.Recon c.in-Recon.wish) refl s c.requires.fits accepted, refl))))
+
+pub returns-in-Recon-clause-ok : goal.returns-in-Recon-clause-ok
+returns-in-Recon-clause-ok g c =
+    let w = c.args.self.now in
+    let st = (step.Recon c.in-Recon.name c.in-Recon.wish) in
+    IfOk-weaker c.change-in-Recon.result _ _ (λ e done. ap (turn w) c.in-Recon.is ∙ step_turn w st c.in-Recon.name (change.Recon c.in-Recon.wish) refl ∙ done) c.change-in-Recon.ensures.ok

@@ -121,3 +121,88 @@ pub returns-in-Deliver-clause-refused : goal.returns-in-Deliver-clause-refused
 returns-in-Deliver-clause-refused g c =
     let s = g.Q.Quorums.system in
     subst (λ st. IfErr c.may_deliver.result (λ r. refusal s c.args.self.now st ≡ Some r)) (sym c.in-Deliver.is) (subst (λ o. IfErr c.may_deliver.result (λ r. o ≡ Some r)) (sym (deliver_refusal s c.args.self.now c.in-Deliver.number)) c.may_deliver.ensures.refused)
+
+pub judge-requires-in-Collect : goal.judge-requires-in-Collect
+judge-requires-in-Collect g c = (back_fits _ _ _ (next _ _ _ _ (next _ _ _ _ (next _ _ _ _ (next _ _ _ _ (next _ _ _ _ (up_fits _ _ _ c.requires-raw.1.1)))))), variant_fits _ _ _ _ (back_fits _ _ _ (up_fits _ _ _ c.requires-raw.1.1)))
+
+pub returns-in-Collect-clause-ok : goal.returns-in-Collect-clause-ok
+returns-in-Collect-clause-ok g c =
+    let s = g.Q.Quorums.system in
+    let w = world_of c.self.inside.nodes c.self.inside.letters c.self.inside.history.events c.self.inside.marks.items in
+    subst (λ st. OnOk c.judge-in-Collect.result (refusal s c.args.self.now st ≡ None)) (sym c.in-Collect.is)
+    (subst (λ w. OnOk c.judge-in-Collect.result (refusal s w (step.Collect c.in-Collect.name) ≡ None)) c.self.view_is (subst (λ o. OnOk c.judge-in-Collect.result (o ≡ None)) (sym (step_refusal w (step.Collect c.in-Collect.name) c.in-Collect.name change.Collect refl s)) c.judge-in-Collect.ensures.ok))
+
+pub returns-in-Collect-clause-refused : goal.returns-in-Collect-clause-refused
+returns-in-Collect-clause-refused g c =
+    let s = g.Q.Quorums.system in
+    let w = world_of c.self.inside.nodes c.self.inside.letters c.self.inside.history.events c.self.inside.marks.items in
+    subst (λ st. IfErr c.judge-in-Collect.result (λ r. refusal s c.args.self.now st ≡ Some r)) (sym c.in-Collect.is)
+    (subst (λ w. IfErr c.judge-in-Collect.result (λ r. refusal s w (step.Collect c.in-Collect.name) ≡ Some r)) c.self.view_is (subst (λ o. IfErr c.judge-in-Collect.result (λ r. o ≡ Some r)) (sym (step_refusal w (step.Collect c.in-Collect.name) c.in-Collect.name change.Collect refl s)) c.judge-in-Collect.ensures.refused))
+
+pub judge-requires-in-AdvanceCollect : goal.judge-requires-in-AdvanceCollect
+judge-requires-in-AdvanceCollect g c = (back_fits _ _ _ (next _ _ _ _ (next _ _ _ _ (next _ _ _ _ (next _ _ _ _ (next _ _ _ _ (up_fits _ _ _ c.requires-raw.1.1)))))), variant_fits _ _ _ _ (back_fits _ _ _ (up_fits _ _ _ c.requires-raw.1.1)))
+
+pub returns-in-AdvanceCollect-clause-ok : goal.returns-in-AdvanceCollect-clause-ok
+returns-in-AdvanceCollect-clause-ok g c =
+    let s = g.Q.Quorums.system in
+    let w = world_of c.self.inside.nodes c.self.inside.letters c.self.inside.history.events c.self.inside.marks.items in
+    subst (λ st. OnOk c.judge-in-AdvanceCollect.result (refusal s c.args.self.now st ≡ None)) (sym c.in-AdvanceCollect.is)
+    (subst (λ w. OnOk c.judge-in-AdvanceCollect.result (refusal s w (step.AdvanceCollect c.in-AdvanceCollect.name) ≡ None)) c.self.view_is (subst (λ o. OnOk c.judge-in-AdvanceCollect.result (o ≡ None)) (sym (step_refusal w (step.AdvanceCollect c.in-AdvanceCollect.name) c.in-AdvanceCollect.name change.AdvanceCollect refl s)) c.judge-in-AdvanceCollect.ensures.ok))
+
+pub returns-in-AdvanceCollect-clause-refused : goal.returns-in-AdvanceCollect-clause-refused
+returns-in-AdvanceCollect-clause-refused g c =
+    let s = g.Q.Quorums.system in
+    let w = world_of c.self.inside.nodes c.self.inside.letters c.self.inside.history.events c.self.inside.marks.items in
+    subst (λ st. IfErr c.judge-in-AdvanceCollect.result (λ r. refusal s c.args.self.now st ≡ Some r)) (sym c.in-AdvanceCollect.is)
+    (subst (λ w. IfErr c.judge-in-AdvanceCollect.result (λ r. refusal s w (step.AdvanceCollect c.in-AdvanceCollect.name) ≡ Some r)) c.self.view_is (subst (λ o. IfErr c.judge-in-AdvanceCollect.result (λ r. o ≡ Some r)) (sym (step_refusal w (step.AdvanceCollect c.in-AdvanceCollect.name) c.in-AdvanceCollect.name change.AdvanceCollect refl s)) c.judge-in-AdvanceCollect.ensures.refused))
+
+pub judge-requires-in-Rebid : goal.judge-requires-in-Rebid
+judge-requires-in-Rebid g c = (back_fits _ _ _ (next _ _ _ _ (next _ _ _ _ (next _ _ _ _ (next _ _ _ _ (next _ _ _ _ (up_fits _ _ _ c.requires-raw.1.1)))))), variant_fits _ _ _ _ (back_fits _ _ _ (up_fits _ _ _ c.requires-raw.1.1)))
+
+pub returns-in-Rebid-clause-ok : goal.returns-in-Rebid-clause-ok
+returns-in-Rebid-clause-ok g c =
+    let s = g.Q.Quorums.system in
+    let w = world_of c.self.inside.nodes c.self.inside.letters c.self.inside.history.events c.self.inside.marks.items in
+    subst (λ st. OnOk c.judge-in-Rebid.result (refusal s c.args.self.now st ≡ None)) (sym c.in-Rebid.is)
+    (subst (λ w. OnOk c.judge-in-Rebid.result (refusal s w (step.Rebid c.in-Rebid.name) ≡ None)) c.self.view_is (subst (λ o. OnOk c.judge-in-Rebid.result (o ≡ None)) (sym (step_refusal w (step.Rebid c.in-Rebid.name) c.in-Rebid.name change.Rebid refl s)) c.judge-in-Rebid.ensures.ok))
+
+pub returns-in-Rebid-clause-refused : goal.returns-in-Rebid-clause-refused
+returns-in-Rebid-clause-refused g c =
+    let s = g.Q.Quorums.system in
+    let w = world_of c.self.inside.nodes c.self.inside.letters c.self.inside.history.events c.self.inside.marks.items in
+    subst (λ st. IfErr c.judge-in-Rebid.result (λ r. refusal s c.args.self.now st ≡ Some r)) (sym c.in-Rebid.is)
+    (subst (λ w. IfErr c.judge-in-Rebid.result (λ r. refusal s w (step.Rebid c.in-Rebid.name) ≡ Some r)) c.self.view_is (subst (λ o. IfErr c.judge-in-Rebid.result (λ r. o ≡ Some r)) (sym (step_refusal w (step.Rebid c.in-Rebid.name) c.in-Rebid.name change.Rebid refl s)) c.judge-in-Rebid.ensures.refused))
+
+pub judge-requires-in-AdvanceRecon : goal.judge-requires-in-AdvanceRecon
+judge-requires-in-AdvanceRecon g c = (back_fits _ _ _ (next _ _ _ _ (next _ _ _ _ (next _ _ _ _ (next _ _ _ _ (next _ _ _ _ (up_fits _ _ _ c.requires-raw.1.1)))))), variant_fits _ _ _ _ (back_fits _ _ _ (up_fits _ _ _ c.requires-raw.1.1)))
+
+pub returns-in-AdvanceRecon-clause-ok : goal.returns-in-AdvanceRecon-clause-ok
+returns-in-AdvanceRecon-clause-ok g c =
+    let s = g.Q.Quorums.system in
+    let w = world_of c.self.inside.nodes c.self.inside.letters c.self.inside.history.events c.self.inside.marks.items in
+    subst (λ st. OnOk c.judge-in-AdvanceRecon.result (refusal s c.args.self.now st ≡ None)) (sym c.in-AdvanceRecon.is)
+    (subst (λ w. OnOk c.judge-in-AdvanceRecon.result (refusal s w (step.AdvanceRecon c.in-AdvanceRecon.name) ≡ None)) c.self.view_is (subst (λ o. OnOk c.judge-in-AdvanceRecon.result (o ≡ None)) (sym (step_refusal w (step.AdvanceRecon c.in-AdvanceRecon.name) c.in-AdvanceRecon.name change.AdvanceRecon refl s)) c.judge-in-AdvanceRecon.ensures.ok))
+
+pub returns-in-AdvanceRecon-clause-refused : goal.returns-in-AdvanceRecon-clause-refused
+returns-in-AdvanceRecon-clause-refused g c =
+    let s = g.Q.Quorums.system in
+    let w = world_of c.self.inside.nodes c.self.inside.letters c.self.inside.history.events c.self.inside.marks.items in
+    subst (λ st. IfErr c.judge-in-AdvanceRecon.result (λ r. refusal s c.args.self.now st ≡ Some r)) (sym c.in-AdvanceRecon.is)
+    (subst (λ w. IfErr c.judge-in-AdvanceRecon.result (λ r. refusal s w (step.AdvanceRecon c.in-AdvanceRecon.name) ≡ Some r)) c.self.view_is (subst (λ o. IfErr c.judge-in-AdvanceRecon.result (λ r. o ≡ Some r)) (sym (step_refusal w (step.AdvanceRecon c.in-AdvanceRecon.name) c.in-AdvanceRecon.name change.AdvanceRecon refl s)) c.judge-in-AdvanceRecon.ensures.refused))
+
+pub judge-requires-in-Recon : goal.judge-requires-in-Recon
+judge-requires-in-Recon g c = (back_fits _ _ _ (next _ _ _ _ (next _ _ _ _ (next _ _ _ _ (next _ _ _ _ (next _ _ _ _ (up_fits _ _ _ c.requires-raw.1.1)))))), variant_fits _ _ _ _ (back_fits _ _ _ (up_fits _ _ _ c.requires-raw.1.1)))
+
+pub returns-in-Recon-clause-ok : goal.returns-in-Recon-clause-ok
+returns-in-Recon-clause-ok g c =
+    let s = g.Q.Quorums.system in
+    let w = world_of c.self.inside.nodes c.self.inside.letters c.self.inside.history.events c.self.inside.marks.items in
+    subst (λ st. OnOk c.judge-in-Recon.result (refusal s c.args.self.now st ≡ None)) (sym c.in-Recon.is)
+    (subst (λ w. OnOk c.judge-in-Recon.result (refusal s w (step.Recon c.in-Recon.name c.in-Recon.wish) ≡ None)) c.self.view_is (subst (λ o. OnOk c.judge-in-Recon.result (o ≡ None)) (sym (step_refusal w (step.Recon c.in-Recon.name c.in-Recon.wish) c.in-Recon.name (change.Recon c.in-Recon.wish) refl s)) c.judge-in-Recon.ensures.ok))
+
+pub returns-in-Recon-clause-refused : goal.returns-in-Recon-clause-refused
+returns-in-Recon-clause-refused g c =
+    let s = g.Q.Quorums.system in
+    let w = world_of c.self.inside.nodes c.self.inside.letters c.self.inside.history.events c.self.inside.marks.items in
+    subst (λ st. IfErr c.judge-in-Recon.result (λ r. refusal s c.args.self.now st ≡ Some r)) (sym c.in-Recon.is)
+    (subst (λ w. IfErr c.judge-in-Recon.result (λ r. refusal s w (step.Recon c.in-Recon.name c.in-Recon.wish) ≡ Some r)) c.self.view_is (subst (λ o. IfErr c.judge-in-Recon.result (λ r. o ≡ Some r)) (sym (step_refusal w (step.Recon c.in-Recon.name c.in-Recon.wish) c.in-Recon.name (change.Recon c.in-Recon.wish) refl s)) c.judge-in-Recon.ensures.refused))

@@ -12,4 +12,4 @@ pub returns-clause-map : goal.returns-clause-map
 returns-clause-map g c x found = c.map.ensures x (subst (λ w. node_at w c.args.name ≡ Some x) (sym (c.self.invariant.0 ∙ ap (state g.Q.Quorums.system) c.self.view_is)) found)
 
 pub returns-clause-agreed : goal.returns-clause-agreed
-returns-clause-agreed g c = agrees g.Q.Quorums.system c.args.self.now.founders c.args.self.now.steps
+returns-clause-agreed g c = agrees g.Q.Quorums.system g.met.Q.Quorums.sound c.args.self.now.founders c.args.self.now.steps

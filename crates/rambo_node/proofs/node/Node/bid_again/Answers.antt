@@ -1,0 +1,29 @@
+use Rattle.std.proofs.Common.{Some, sym, ap, ◌∙◌, subst}
+use Rattle.rambo_node.specs.Kept.{AttemptFits}
+use Rattle.rambo_node.specs.Nodes.{NodeState}
+use Rattle.rambo_node.specs.Reconfigurations.{attempt_rebid}
+use Rattle.rambo_paxos.specs.Attempts.{AttemptState, rebid, vote_opened}
+use Rattle.rambo_paxos.specs.Votes.{VoteState, is_spent}
+use Rattle.rambo_node.proofs.Merged.{fits_rebid}
+use Rattle.rambo_node.proofs.node.Node.bid_again.Goals as goal
+
+abbrev bidding : {Q : Type 0} → AttemptState Q → VoteState Q → NodeState Q → NodeState Q
+bidding a v x = record x { attempt = Some a; vote = v }
+
+pub rebid-requires : goal.rebid-requires
+rebid-requires g c = ap (λ n. is_spent n.vote) c.self.view_is ∙ c.requires.next
+
+pub invariant_of-self : goal.invariant_of-self
+invariant_of-self g c =
+    let m = c.self.inside.map in
+    subst (λ a. AttemptFits m (Some a)) (sym c.rebid.ensures.attempt)
+    (fits_rebid m c.args.attempt _ (subst (AttemptFits m) (ap (λ n. n.attempt) c.self.view_is ∙ c.requires.held) c.self.invariant))
+
+pub returns : goal.returns
+unfolding attempt_rebid
+returns g c =
+    let a = c.args.attempt in
+    let x = c.args.self.now in
+    ap (bidding c.rebid.result c.rebid.new.vote) c.self.view_is
+    ∙ ap (λ b. bidding b c.rebid.new.vote x) (c.rebid.ensures.attempt ∙ ap (λ n. rebid a n.vote) c.self.view_is)
+    ∙ ap (λ v. bidding (rebid a x.vote) v x) (c.rebid.ensures.vote ∙ ap (λ n. vote_opened n.vote a.ballot.name) c.self.view_is)

@@ -1,0 +1,23 @@
+use Rattle.std.proofs.Common.{◌+◌, Some, nat_le, length, ap, ◌∙◌, rules}
+use Rattle.rambo_gc.specs.Collections.{CollectionState, opened}
+use Rattle.rambo_node.specs.Nodes.{NodeState}
+use Rattle.rambo_node.specs.Reconfigurations.{collection_opened}
+use Rattle.rambo_node.specs.Refusals.{is_last}
+use Rattle.rambo_node.proofs.Judged.{collect_next, has_next}
+use Rattle.rambo_node.proofs.node.Node.do_collect.Goals as goal
+
+abbrev numbered : {Q : Type 0} → CollectionState → NodeState Q → NodeState Q
+numbered g x = record x { number = x.number + 1; collection = Some g }
+
+pub overflow_add-self : goal.overflow_add-self
+overflow_add-self g c =
+    has_next c.self.inside.number (search rules) (ap (λ n. is_last n.number) c.self.view_is ∙ (collect_next c.args.self.now c.requires).1)
+
+pub collection_of-requires : goal.collection_of-requires
+collection_of-requires g c = (search rules, ap (λ n. nat_le (length n.map.configs) 1) c.self.view_is ∙ (collect_next c.args.self.now c.requires).0)
+
+pub returns : goal.returns
+unfolding collection_opened
+returns g c =
+    ap (numbered c.collection_of.result) c.self.view_is
+    ∙ ap (λ o. numbered o c.args.self.now) (c.collection_of.ensures ∙ ap (λ n. opened n.map (n.number + 1) n.name) c.self.view_is)

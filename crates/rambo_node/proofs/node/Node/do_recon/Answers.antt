@@ -1,0 +1,25 @@
+use Rattle.std.proofs.Common.{◌≡◌, Some, nat_le, arith, length, sym, ap, ◌∙◌, subst, rules}
+use Rattle.rambo_config_map.specs.Maps.{top_of}
+use Rattle.rambo_config_map.specs.MapLaws.{top_below}
+use Rattle.rambo_node.specs.Kept.{AttemptFits}
+use Rattle.rambo_node.specs.Refusals.{is_last}
+use Rattle.rambo_paxos.specs.Votes.{is_spent}
+use Rattle.rambo_node.proofs.Judged.{recon_next, has_next}
+use Rattle.rambo_node.proofs.Merged.{fits_opened}
+use Rattle.rambo_node.proofs.node.Node.do_recon.Goals as goal
+
+pub overflow_add-place : goal.overflow_add-place
+overflow_add-place g c =
+    let x = c.args.self.now in
+    let own : c.top_of-place.result ≡ top_of c.self.inside.map = omega (arith, top_below c.self.inside.map, c.top_of-place.ensures.next) in
+    let top = own ∙ ap (λ n. top_of n.map) c.self.view_is in
+    has_next c.top_of-place.result (search rules) (ap is_last top ∙ (recon_next x g.Q.Quorums.system c.args.wish c.requires).2)
+
+pub attempt_of-requires : goal.attempt_of-requires
+attempt_of-requires g c = ap (λ n. is_spent n.vote) c.self.view_is ∙ (recon_next c.args.self.now g.Q.Quorums.system c.args.wish c.requires).1
+
+pub invariant_of-self : goal.invariant_of-self
+invariant_of-self g c =
+    let m = c.self.inside.map in
+    subst (λ a. AttemptFits m (Some a)) (sym c.attempt_of.ensures.attempt)
+    (fits_opened m _ _ _ _ (sym c.top_of-place.ensures.next) (ap (λ n. nat_le 8 (length n.map.configs)) c.self.view_is ∙ (recon_next c.args.self.now g.Q.Quorums.system c.args.wish c.requires).0))

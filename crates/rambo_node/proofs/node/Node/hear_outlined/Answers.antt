@@ -1,0 +1,21 @@
+use Rattle.std.proofs.Common.{◌&&◌, sym, ap, ◌∙◌}
+use Rattle.std.proofs.lemmas.Result.{on_ok_weaker}
+use Rattle.rambo_gossip.specs.Letters.{letter_with, kind_with}
+use Rattle.rambo_gossip.specs.Outlines.{outlined}
+use Rattle.rambo_node.specs.Changes.{made_by}
+use Rattle.rambo_node.specs.Hearing.{heard_kind, heard_letter}
+use Rattle.rambo_node.specs.Refusals.{restarts, is_last}
+use Rattle.rambo_node.proofs.Judged.{hear_next}
+use Rattle.rambo_node.proofs.node.Node.hear_outlined.Goals as goal
+
+pub returns-in-Some-clause-node : goal.returns-in-Some-clause-node
+unfolding made_by
+returns-in-Some-clause-node g c =
+    let x = c.args.self.now in
+    let copies = c.args.copies.now in
+    let j = c.outline.inside.sender in
+    let kind_is = sym (ap (λ l. l.kind) c.outline.view_is) ∙ ap outlined c.in-Some.is in
+    let gap = sym (ap (λ k. restarts x k && is_last x.number) kind_is) ∙ hear_next x c.args.outline.now.kind c.requires in
+    on_ok_weaker c.merge.result
+    (λ e. e gap ∙ sym (ap (λ o. heard_kind x j (kind_with (outlined o) copies)) c.in-Some.is) ∙ ap (λ l. heard_letter x (letter_with l copies)) c.outline.view_is)
+    c.merge.ensures.ok

@@ -1,0 +1,177 @@
+//! How a node has the next configuration chosen, and its lowest place removed. Nothing here takes memory.
+ghost use Rattle.std.specs.Prelude.{◌≡◌, ◌≤◌, Some, None, true, false};
+ghost use Rattle.rambo_config_map.specs.Maps.{active_at, end_of, top_of};
+ghost use Rattle.rambo_gc.specs.Collections.{has_quorum, move_of};
+ghost use Rattle.rambo_paxos.specs.Attempts.{bid_of};
+ghost use Rattle.rambo_paxos.specs.Votes.{is_spent};
+ghost use Rattle.rambo_node.specs.Changes.{refusal_of, told, collection_advanced, rebid_made, attempt_advanced, bid_made};
+ghost use Rattle.rambo_node.specs.Reconfigurations.{attempt_opened, attempt_rebid, attempt_ended, collection_opened, collection_moved, collection_ended};
+ghost use Rattle.rambo_node.specs.Refusals.{is_last};
+ghost use Rattle.rambo_node.specs.declared.change.Change.TheVariants as change;
+
+use crate::bids::{is_known, top_of};
+use crate::decided::Decided;
+use crate::deed::Deed;
+use crate::effect::Effect;
+use crate::judging_turns::active_at;
+use crate::node::Node;
+use crate::turns::{attempt_of, collection_of, go_on, learn, moved, rebid, remove};
+use rambo_gc::{Collection, GcMove};
+use rambo_names::Quorums;
+use rambo_paxos::{Attempt, Bid};
+use rambo_tag::Replica;
+
+impl<Q: Quorums, S: Replica> Node<Q, S> {
+    // A collection that isn't refused begins.
+    #[tactic(auto, unfolding(crate::specs::Reconfigurations::collection_opened))]
+    pub(crate) fn do_collect(&mut self)
+        requires { refusal_of Q.system self.old change.Collect ≡ None }
+        ensures { self.new ≡ collection_opened self.old }
+    {
+        self.number += 1;
+        self.collection = Some(collection_of(&self.map, self.number, self.name));
+    }
+
+    // A collection that isn't refused goes on.
+    pub(crate) fn do_advance_collect(&mut self) -> Deed<Q>
+        requires { refusal_of Q.system self.old change.AdvanceCollect ≡ None }
+        ensures node { self.new ≡ (collection_advanced self.old self.old.collection).node }
+        ensures deed { result ≡ (collection_advanced self.old self.old.collection).deed }
+    {
+        match self.collection {
+            Some(collection) => self.turn_collection(collection),
+            None => unreachable!(),
+        }
+    }
+
+    // What its collection does that isn't refused.
+    fn turn_collection(&mut self, collection: Collection) -> Deed<Q>
+        requires held { self.old.collection ≡ Some collection }
+        requires judged { refusal_of Q.system self.old change.AdvanceCollect ≡ None }
+        ensures node { self.new ≡ (collection_advanced self.old (Some collection)).node }
+        ensures deed { result ≡ (collection_advanced self.old (Some collection)).deed }
+    {
+        match collection.would_advance(&self.map) {
+            Some(GcMove::Propagating) => self.move_collection(collection),
+            Some(GcMove::Done) => self.end_collection(&collection),
+            None => unreachable!(),
+        }
+    }
+
+    // The first quorum of its collection is there: the second one is asked for, under a new number.
+    #[tactic(auto, unfolding(crate::specs::Reconfigurations::collection_moved))]
+    fn move_collection(&mut self, collection: Collection) -> Deed<Q>
+        requires met { move_of Q.system self.old.map collection ≡ Some GcMove.Propagating }
+        requires next { is_last self.old.number ≡ false }
+        ensures node { self.new ≡ collection_moved self.old collection }
+        ensures deed { result ≡ told Effect.Moved }
+    {
+        self.number += 1;
+        self.collection = Some(moved(collection, &self.map, self.number));
+        Deed::told(Effect::Moved)
+    }
+
+    // Its collection is done: the place is removed, unless it is so already.
+    #[tactic(auto, unfolding(crate::specs::Reconfigurations::collection_ended))]
+    fn end_collection(&mut self, collection: &Collection) -> Deed<Q>
+        requires { move_of Q.system self.old.map collection.now ≡ Some GcMove.Done }
+        ensures node { self.new ≡ collection_ended self.old collection.now }
+        ensures deed { result ≡ told (Effect.Collected self.old.name collection.now.place) }
+    {
+        let place = collection.place();
+        remove(&mut self.map, place);
+        self.collection = None;
+        Deed::told(Effect::Collected(self.name, place))
+    }
+
+    // An attempt that isn't refused begins.
+    #[tactic(auto, unfolding(crate::specs::Reconfigurations::attempt_opened))]
+    pub(crate) fn do_recon(&mut self, wish: Q)
+        requires { refusal_of Q.system self.old (change.Recon wish) ≡ None }
+        ensures { self.new ≡ attempt_opened self.old wish }
+    {
+        let place = top_of(&self.map) + 1;
+        self.attempt = Some(attempt_of(place, wish, &mut self.vote, self.name));
+    }
+
+    // An attempt that isn't refused begins again.
+    pub(crate) fn do_rebid(&mut self)
+        requires { refusal_of Q.system self.old change.Rebid ≡ None }
+        ensures { self.new ≡ (rebid_made self.old self.old.attempt).node }
+    {
+        match self.attempt {
+            Some(attempt) => self.bid_again(attempt),
+            None => unreachable!(),
+        }
+    }
+
+    // Its attempt begins again with a fresh ballot.
+    #[tactic(auto, unfolding(crate::specs::Reconfigurations::attempt_rebid))]
+    fn bid_again(&mut self, attempt: Attempt<Q>)
+        requires held { self.old.attempt ≡ Some attempt }
+        requires next { is_spent self.old.vote ≡ false }
+        ensures { self.new ≡ attempt_rebid self.old attempt }
+    {
+        self.attempt = Some(rebid(attempt, &mut self.vote));
+    }
+
+    // An attempt that isn't refused goes on.
+    pub(crate) fn do_advance_recon(&mut self) -> Deed<Q>
+        requires { refusal_of Q.system self.old change.AdvanceRecon ≡ None }
+        ensures node { self.new ≡ (attempt_advanced self.old self.old.attempt).node }
+        ensures deed { result ≡ (attempt_advanced self.old self.old.attempt).deed }
+    {
+        match self.attempt {
+            Some(attempt) => self.turn_attempt(attempt),
+            None => unreachable!(),
+        }
+    }
+
+    // What its attempt does that isn't refused.
+    fn turn_attempt(&mut self, attempt: Attempt<Q>) -> Deed<Q>
+        requires held { self.old.attempt ≡ Some attempt }
+        requires judged { refusal_of Q.system self.old change.AdvanceRecon ≡ None }
+        ensures node { self.new ≡ (attempt_advanced self.old (Some attempt)).node }
+        ensures deed { result ≡ (attempt_advanced self.old (Some attempt)).deed }
+    {
+        if is_known(&self.map, attempt.place()) {
+            return self.end_attempt(attempt.place());
+        }
+        self.bid(attempt)
+    }
+
+    // Its attempt for a place that has come to be known ends: what stands there is told.
+    #[tactic(auto, unfolding(crate::specs::Reconfigurations::attempt_ended))]
+    fn end_attempt(&mut self, place: u64) -> Deed<Q>
+        ensures node { self.new ≡ attempt_ended self.old }
+        ensures deed { result ≡ told (Effect.Decided self.old.name (record { place = place; config = active_at self.old.map place })) }
+    {
+        self.attempt = None;
+        let config = active_at(&self.map, place);
+        Deed::told(Effect::Decided(self.name, Decided { place, config }))
+    }
+
+    // Its attempt, whose quorum is there, proposes, or its configuration is chosen and learnt.
+    fn bid(&mut self, attempt: Attempt<Q>) -> Deed<Q>
+        requires held { self.old.attempt ≡ Some attempt }
+        requires unknown { end_of self.old.map ≤ attempt.place }
+        requires met { has_quorum Q.system (active_at self.old.map (top_of self.old.map)) attempt.repliers ≡ true }
+        ensures node { self.new ≡ (bid_made self.old attempt (bid_of attempt)).node }
+        ensures deed { result ≡ (bid_made self.old attempt (bid_of attempt)).deed }
+    {
+        let place = attempt.place();
+        let mut next = attempt;
+        match go_on(&mut next, &mut self.vote, &self.map) {
+            Bid::Propose => {
+                self.attempt = Some(next);
+                Deed::told(Effect::Moved)
+            }
+            Bid::Chosen(config) => {
+                self.attempt = None;
+                learn(&mut self.map, config);
+                let config = Some(config);
+                Deed::told(Effect::Decided(self.name, Decided { place, config }))
+            }
+        }
+    }
+}

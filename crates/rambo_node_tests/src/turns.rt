@@ -1,0 +1,297 @@
+//! Runs in which the member set changes.
+
+use crate::seen::Seen;
+use crate::step::{Forged, Step};
+use crate::twins::{Row, run};
+use rambo_joiner::Status;
+use rambo_names::Refusal;
+use std::test::Fail;
+
+// A letter of node 2 to node 1, with two active places of node 1 alone.
+const TWO_PLACES: Forged = Forged {
+    from: 2,
+    to: 1,
+    active: 2,
+    member: 1,
+    copies: [(122, 1, 1, 0); 5],
+    offered: 0,
+};
+
+const ONE_PLACE: Forged = Forged {
+    from: 2,
+    to: 1,
+    active: 1,
+    member: 1,
+    copies: [(122, 1, 1, 0); 5],
+    offered: 0,
+};
+
+const EIGHT_PLACES: Forged = Forged {
+    from: 2,
+    to: 1,
+    active: 8,
+    member: 1,
+    copies: [(122, 1, 1, 0); 5],
+    offered: 0,
+};
+
+// It asks for a promise of the greatest round.
+const LAST_ROUND: Forged = Forged {
+    from: 2,
+    to: 1,
+    active: 1,
+    member: 1,
+    copies: [(122, 1, 1, 0); 5],
+    offered: u64::MAX,
+};
+
+// What a wish is refused for, and what an attempt that isn't open is.
+const WISHES: [Row; 20] = [
+    (Step::Recon(2, 1, 1), Err(Refusal::NotActive)),
+    (Step::Recon(1, 1, 0), Err(Refusal::EmptyMembers)),
+    (Step::Recon(1, 5, 5), Err(Refusal::UnknownMember)),
+    (Step::AdvanceRecon(1), Err(Refusal::NoRecon)),
+    (Step::Rebid(1), Err(Refusal::NoRecon)),
+    (Step::Join(2, 1), Ok(Seen::Done)),
+    (Step::Send(2, 1), Ok(Seen::Done)),
+    (Step::Deliver(0), Ok(Seen::Done)),
+    (Step::Send(1, 2), Ok(Seen::Done)),
+    (Step::Deliver(1), Ok(Seen::Done)),
+    (Step::Recon(2, 1, 1), Err(Refusal::NotMember)),
+    (Step::Recon(1, 1, 2), Ok(Seen::Done)),
+    (Step::Recon(1, 1, 1), Err(Refusal::ReconOpen)),
+    (Step::AdvanceRecon(1), Ok(Seen::Moved)),
+    (Step::AdvanceRecon(1), Ok(Seen::Decided(1, 1, 2))),
+    (Step::Forge(0, 0, 0, EIGHT_PLACES), Ok(Seen::Done)),
+    (Step::Deliver(2), Ok(Seen::Done)),
+    (Step::Recon(1, 1, 1), Err(Refusal::TooManyActive)),
+    (Step::Stop(1), Ok(Seen::Done)),
+    (Step::Recon(1, 1, 1), Err(Refusal::Stopped)),
+];
+
+#[test]
+fn wishes(rt: HostRuntime) -> Result<(), Fail> {
+    run(&rt, rt.alloc(), &[1], &WISHES)
+}
+
+// A vote that promised the greatest round lets no attempt begin again, nor its proposal pass.
+const LAST_ROUNDS: [Row; 14] = [
+    (Step::Recon(1, 1, 1), Ok(Seen::Done)),
+    (Step::Rebid(1), Ok(Seen::Done)),
+    (Step::Forge(0, 0, 0, LAST_ROUND), Ok(Seen::Done)),
+    (Step::Deliver(0), Ok(Seen::Done)),
+    (Step::Rebid(1), Err(Refusal::NumbersSpent)),
+    (Step::AdvanceRecon(1), Ok(Seen::Moved)),
+    (Step::AdvanceRecon(1), Err(Refusal::NotYet)),
+    (Step::Forge(0, 0, 0, TWO_PLACES), Ok(Seen::Done)),
+    (Step::Deliver(1), Ok(Seen::Done)),
+    (Step::Rebid(1), Err(Refusal::NoRecon)),
+    (Step::AdvanceRecon(1), Ok(Seen::Decided(1, 1, 1))),
+    (Step::Forge(0, 0, 1, LAST_ROUND), Ok(Seen::Done)),
+    (Step::Deliver(2), Ok(Seen::Done)),
+    (Step::Recon(1, 1, 1), Err(Refusal::NumbersSpent)),
+];
+
+#[test]
+fn last_rounds(rt: HostRuntime) -> Result<(), Fail> {
+    run(&rt, rt.alloc(), &[1], &LAST_ROUNDS)
+}
+
+// Node 3 is told of what node 1 proposed, and both come to it. A vote is emptied where its place comes to be known, and not before.
+const TWO_PROPOSERS: [Row; 31] = [
+    (Step::Recon(1, 1, 2), Ok(Seen::Done)),
+    (Step::Send(1, 2), Ok(Seen::Done)),
+    (Step::Deliver(0), Ok(Seen::Done)),
+    (Step::Send(2, 1), Ok(Seen::Done)),
+    (Step::Deliver(1), Ok(Seen::Done)),
+    (Step::AdvanceRecon(1), Ok(Seen::Moved)),
+    (Step::Send(1, 2), Ok(Seen::Done)),
+    (Step::Deliver(2), Ok(Seen::Done)),
+    (Step::Recon(3, 2, 3), Ok(Seen::Done)),
+    (Step::Send(3, 2), Ok(Seen::Done)),
+    (Step::Deliver(3), Ok(Seen::Done)),
+    (Step::Send(2, 3), Ok(Seen::Done)),
+    (Step::ReadVote(4), Ok(Seen::Votes(1, 1, 0))),
+    (Step::Deliver(4), Ok(Seen::Done)),
+    (Step::AdvanceRecon(3), Ok(Seen::Moved)),
+    (Step::Send(3, 2), Ok(Seen::Done)),
+    (Step::ReadVote(5), Ok(Seen::Votes(1, 1, 1))),
+    (Step::Deliver(5), Ok(Seen::Done)),
+    (Step::Send(2, 3), Ok(Seen::Done)),
+    (Step::Deliver(6), Ok(Seen::Done)),
+    (Step::AdvanceRecon(3), Ok(Seen::Decided(1, 1, 2))),
+    (Step::Send(3, 1), Ok(Seen::Done)),
+    (Step::ReadVote(7), Ok(Seen::Votes(0, 0, 0))),
+    (Step::Deliver(7), Ok(Seen::Done)),
+    (Step::AdvanceRecon(1), Ok(Seen::Decided(1, 1, 2))),
+    (Step::Send(2, 1), Ok(Seen::Done)),
+    (Step::ReadVote(8), Ok(Seen::Votes(1, 1, 0))),
+    (Step::Send(1, 2), Ok(Seen::Done)),
+    (Step::Deliver(9), Ok(Seen::Done)),
+    (Step::Send(2, 1), Ok(Seen::Done)),
+    (Step::ReadVote(10), Ok(Seen::Votes(0, 0, 0))),
+];
+
+#[test]
+fn two_proposers(rt: HostRuntime) -> Result<(), Fail> {
+    run(&rt, rt.alloc(), &[1, 2, 3], &TWO_PROPOSERS)
+}
+
+// A vote for another place, or of another ballot, isn't counted, and an offer for another place isn't taken.
+const OTHER_VOTES: [Row; 28] = [
+    (Step::Recon(1, 1, 2), Ok(Seen::Done)),
+    (Step::Send(1, 2), Ok(Seen::Done)),
+    (Step::Deliver(0), Ok(Seen::Done)),
+    (Step::Send(2, 1), Ok(Seen::Done)),
+    (Step::Deliver(1), Ok(Seen::Done)),
+    (Step::AdvanceRecon(1), Ok(Seen::Moved)),
+    (Step::Send(1, 2), Ok(Seen::Done)),
+    (Step::Deliver(2), Ok(Seen::Done)),
+    (Step::Send(2, 1), Ok(Seen::Done)),
+    (Step::Deliver(3), Ok(Seen::Done)),
+    (Step::AdvanceRecon(1), Ok(Seen::Decided(1, 1, 2))),
+    (Step::Recon(1, 1, 2), Ok(Seen::Done)),
+    (Step::Deliver(1), Ok(Seen::Done)),
+    (Step::AdvanceRecon(1), Err(Refusal::NotYet)),
+    (Step::Send(1, 2), Ok(Seen::Done)),
+    (Step::Deliver(4), Ok(Seen::Done)),
+    (Step::Send(2, 1), Ok(Seen::Done)),
+    (Step::Rebid(1), Ok(Seen::Done)),
+    (Step::Deliver(5), Ok(Seen::Done)),
+    (Step::AdvanceRecon(1), Err(Refusal::NotYet)),
+    (Step::Send(1, 2), Ok(Seen::Done)),
+    (Step::ReadVote(6), Ok(Seen::Votes(2, 0, 2))),
+    (Step::Deliver(6), Ok(Seen::Done)),
+    (Step::Deliver(2), Ok(Seen::Done)),
+    (Step::Send(2, 1), Ok(Seen::Done)),
+    (Step::ReadVote(7), Ok(Seen::Votes(2, 0, 0))),
+    (Step::Deliver(7), Ok(Seen::Done)),
+    (Step::AdvanceRecon(1), Ok(Seen::Moved)),
+];
+
+#[test]
+fn other_votes(rt: HostRuntime) -> Result<(), Fail> {
+    run(&rt, rt.alloc(), &[1, 2], &OTHER_VOTES)
+}
+
+// A place is removed once a quorum of its own configuration has answered, and then one of the next.
+const COLLECTS: [Row; 32] = [
+    (Step::Collect(3), Err(Refusal::NotActive)),
+    (Step::Collect(1), Err(Refusal::NothingToCollect)),
+    (Step::AdvanceCollect(1), Err(Refusal::NoCollect)),
+    (Step::Recon(1, 2, 2), Ok(Seen::Done)),
+    (Step::Send(1, 2), Ok(Seen::Done)),
+    (Step::Deliver(0), Ok(Seen::Done)),
+    (Step::Send(2, 1), Ok(Seen::Done)),
+    (Step::Deliver(1), Ok(Seen::Done)),
+    (Step::AdvanceRecon(1), Ok(Seen::Moved)),
+    (Step::Send(1, 2), Ok(Seen::Done)),
+    (Step::Deliver(2), Ok(Seen::Done)),
+    (Step::Send(2, 1), Ok(Seen::Done)),
+    (Step::Deliver(3), Ok(Seen::Done)),
+    (Step::AdvanceRecon(1), Ok(Seen::Decided(1, 2, 2))),
+    (Step::Collect(1), Ok(Seen::Done)),
+    (Step::Collect(1), Err(Refusal::CollectOpen)),
+    (Step::AdvanceCollect(1), Err(Refusal::NotYet)),
+    (Step::Send(1, 2), Ok(Seen::Done)),
+    (Step::Deliver(4), Ok(Seen::Done)),
+    (Step::Send(2, 1), Ok(Seen::Done)),
+    (Step::Deliver(5), Ok(Seen::Done)),
+    (Step::AdvanceCollect(1), Ok(Seen::Moved)),
+    (Step::Look(1), Ok(Seen::Looks(Status::Active, 0, 1))),
+    (Step::Deliver(5), Ok(Seen::Done)),
+    (Step::AdvanceCollect(1), Err(Refusal::NotYet)),
+    (Step::Send(1, 2), Ok(Seen::Done)),
+    (Step::Deliver(6), Ok(Seen::Done)),
+    (Step::Send(2, 1), Ok(Seen::Done)),
+    (Step::Deliver(7), Ok(Seen::Done)),
+    (Step::AdvanceCollect(1), Ok(Seen::Collected(0))),
+    (Step::Look(1), Ok(Seen::Looks(Status::Active, 1, 1))),
+    (Step::AdvanceCollect(1), Err(Refusal::NoCollect)),
+];
+
+#[test]
+fn collects(rt: HostRuntime) -> Result<(), Fail> {
+    run(&rt, rt.alloc(), &[1, 2], &COLLECTS)
+}
+
+// A collection and an attempt whose places others removed end at once, and an attempt whose place others filled.
+const SETTLED_BY_OTHERS: [Row; 15] = [
+    (Step::Forge(0, 0, 0, TWO_PLACES), Ok(Seen::Done)),
+    (Step::Deliver(0), Ok(Seen::Done)),
+    (Step::Collect(1), Ok(Seen::Done)),
+    (Step::Recon(1, 1, 2), Ok(Seen::Done)),
+    (Step::Forge(0, 0, 3, ONE_PLACE), Ok(Seen::Done)),
+    (Step::Deliver(1), Ok(Seen::Done)),
+    (Step::Look(1), Ok(Seen::Looks(Status::Active, 3, 3))),
+    (Step::AdvanceCollect(1), Ok(Seen::Collected(0))),
+    (Step::Look(1), Ok(Seen::Looks(Status::Active, 3, 3))),
+    (Step::AdvanceRecon(1), Ok(Seen::Decided(2, 0, 0))),
+    (Step::Recon(1, 1, 2), Ok(Seen::Done)),
+    (Step::Forge(0, 0, 3, TWO_PLACES), Ok(Seen::Done)),
+    (Step::Deliver(2), Ok(Seen::Done)),
+    (Step::AdvanceRecon(1), Ok(Seen::Decided(4, 1, 1))),
+    (Step::AdvanceRecon(1), Err(Refusal::NoRecon)),
+];
+
+#[test]
+fn settled_by_others(rt: HostRuntime) -> Result<(), Fail> {
+    run(&rt, rt.alloc(), &[1, 2], &SETTLED_BY_OTHERS)
+}
+
+// Letters of node 2 to node 1: two copies, and then two newer ones and three new ones, with an offer.
+const HELD: Forged = Forged {
+    from: 2,
+    to: 1,
+    active: 3,
+    member: 1,
+    copies: [
+        (97, 1, 2, 49),
+        (98, 1, 2, 50),
+        (98, 1, 2, 50),
+        (98, 1, 2, 50),
+        (98, 1, 2, 50),
+    ],
+    offered: 0,
+};
+
+const BROUGHT: Forged = Forged {
+    from: 2,
+    to: 1,
+    active: 3,
+    member: 1,
+    copies: [
+        (99, 4, 2, 53),
+        (97, 2, 2, 51),
+        (100, 1, 2, 54),
+        (98, 3, 2, 52),
+        (101, 1, 2, 55),
+    ],
+    offered: 9,
+};
+
+// A letter with five copies comes while a call, a collection and an attempt are open, and each takes what it brings.
+const ALL_OPEN: [Row; 17] = [
+    (Step::Forge(0, 0, 0, HELD), Ok(Seen::Done)),
+    (Step::Deliver(0), Ok(Seen::Done)),
+    (Step::Collect(1), Ok(Seen::Done)),
+    (Step::Get(1, 97), Ok(Seen::Made(1))),
+    (Step::Recon(1, 1, 2), Ok(Seen::Done)),
+    (Step::Advance(1, 1), Err(Refusal::NotYet)),
+    (Step::AdvanceCollect(1), Err(Refusal::NotYet)),
+    (Step::Forge(7, 2, 0, BROUGHT), Ok(Seen::Done)),
+    (Step::Deliver(1), Ok(Seen::Done)),
+    (Step::Send(1, 2), Ok(Seen::Done)),
+    (Step::Read(2), Ok(Seen::Tells(3, 5, 2, 7))),
+    (Step::ReadVote(2), Ok(Seen::Votes(9, 0, 1))),
+    (Step::Advance(1, 1), Ok(Seen::Moved)),
+    (Step::AdvanceCollect(1), Ok(Seen::Moved)),
+    (Step::AdvanceRecon(1), Ok(Seen::Moved)),
+    (Step::AdvanceRecon(1), Err(Refusal::NotYet)),
+    (Step::Copy(1, 97), Ok(Seen::Holds(2, 2, Some(51)))),
+];
+
+#[test]
+fn all_open(rt: HostRuntime) -> Result<(), Fail> {
+    run(&rt, rt.alloc(), &[1, 2], &ALL_OPEN)
+}
