@@ -107,8 +107,9 @@ impl Client {
     }
 }
 
-/// The founders of a world, which each of its nodes holds at place 0.
+/// The founders of a world just made, whose nodes all hold them at place 0.
 pub fn founders_of(world: &Host) -> Result<Members, Refusal>
+    requires { world.now.steps ≡ [] }
     ensures { IfOk result (λ founders. founders ≡ world.now.founders) }
 {
     match world.map(Name::new(1)?).entry(0) {

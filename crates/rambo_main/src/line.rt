@@ -20,15 +20,20 @@ node, 1 to 64. A SET is names in rising order with commas between, or - for
 none. A CALL is the name of its node, a dot and its number there, from 1. Keys
 and values are HEX, pairs of digits 0 to 9 and a to f, or - for no bytes.
 
-  founders SET        the first line: the nodes that are active from the start
-  join NAME SET       an idle node asks to join, by way of these contacts
-  get NAME KEY        a client asks a node for the value of a key
-  set NAME KEY VALUE  a client asks a node to set a key to a value
-  send NAME NAME      the first node sends a letter to the second
-  deliver NUMBER      a letter comes to its addressee; they are counted from 1
-  advance CALL        a call whose replies suffice goes on, or is answered
-  again CALL          a call begins its present phase anew
-  stop NAME           a node stops for good
+  founders SET          the first line: the nodes that are active from the start
+  join NAME SET         an idle node asks to join, by way of these contacts
+  get NAME KEY          a client asks a node for the value of a key
+  set NAME KEY VALUE    a client asks a node to set a key to a value
+  send NAME NAME        the first node sends a letter to the second
+  deliver NUMBER        a letter comes to its addressee; they count from 1
+  advance CALL          a call whose replies suffice goes on, or is answered
+  again CALL            a call begins its present phase anew
+  recon NAME SET        a node begins to have this set chosen as next members
+  rebid NAME            the node begins this anew, with a higher ballot
+  advance-recon NAME    it goes on where its replies suffice, to the decision
+  collect NAME          a node begins to remove its oldest set of members
+  advance-collect NAME  it goes on where its replies suffice, to the removal
+  stop NAME             a node stops for good
 
 The first faulty line is told with its number, as script fault S2 at line 3:
   S1  the first line names no founders
@@ -46,8 +51,8 @@ Exit statuses:
 
 const OUTCOMES: &str =
     "What replay writes is read: the calls and their answers in order, for each key
-the sequence of its calls, and lines on refusals and maps, which are passed
-over.
+the sequence of its calls, and lines on members, refusals and maps, which are
+passed over.
 
   call CALL get KEY
   call CALL set KEY VALUE
@@ -55,6 +60,9 @@ over.
   answer CALL nil
   answer CALL value VALUE
   sequence KEY CALL CALL ..
+  decided NAME PLACE SET
+  decided NAME PLACE removed
+  collected NAME PLACE
   refused STEP REFUSAL
   map NAME FLOOR SET SET ..
 
