@@ -47,8 +47,8 @@ def count(program, word, source, target):
 def counted(programs):
     """Instructions for each script and program, their ratio, and how they grow where the steps double."""
     folder = tempfile.mkdtemp(prefix="rambo-count-")
-    for kind, sizes in (("calls", (25000, 50000)), ("letters", (62500, 125000))):
-        for keys in (16, 1000):
+    for kind, sizes, key_counts in (("calls", (25000, 50000), (16, 1000)), ("letters", (62500, 125000), (16, 1000)), ("moves", (62500, 125000), (16,))):
+        for keys in key_counts:
             before = {}
             for steps in sizes:
                 script = os.path.join(folder, "script")
@@ -77,7 +77,8 @@ def main():
     programs = sys.argv[1:]
     folder = tempfile.mkdtemp(prefix="rambo-bench-")
     print("%-8s %-8s %8s %5s  %s" % ("word", "script", "steps", "keys", "seconds, steps a second, megabytes; ratio to the other"))
-    for kind, sizes, key_counts in (("calls", (100000, 200000, 400000), (16, 1000)), ("letters", (250000, 500000, 1000000), (1, 16, 100, 1000))):
+    for kind, sizes, key_counts in (("calls", (100000, 200000, 400000), (16, 1000)), ("letters", (250000, 500000, 1000000), (1, 16, 100, 1000)),
+                                     ("moves", (250000, 500000, 1000000), (16,))):
         for keys in key_counts:
             before = {}
             for steps in sizes:

@@ -62,7 +62,11 @@ impl<Q: Quorums, S: Replica> Node<Q, S> {
     }
 
     // Its attempt after gossip of a node.
-    pub(crate) fn attempt_after(&self, from: Name, gossip: &GossipOutline<'_, Q>) -> Option<Attempt<Q>>
+    pub(crate) fn attempt_after(
+        &self,
+        from: Name,
+        gossip: &GossipOutline<'_, Q>,
+    ) -> Option<Attempt<Q>>
         ensures after { result ≡ attempt_after self.now from (gossip_outlined gossip.now) }
         ensures fits { AttemptFits (merged_map self.now.map gossip.now.map.now) result }
     {
