@@ -8,6 +8,8 @@ mod deeds;
 #[cfg(test)]
 mod mail;
 #[cfg(test)]
+mod places;
+#[cfg(test)]
 mod scripts;
 #[cfg(test)]
 mod seen;

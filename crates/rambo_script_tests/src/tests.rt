@@ -64,19 +64,30 @@ fn each_kind_of_step(rt: HostRuntime) {
 }
 
 // The line of a step, and its first fault.
-const FAULTS: [(&[u8], Fault); 16] = [
+const FAULTS: [(&[u8], Fault); 27] = [
     (b"collect", Fault::WrongCount),
     (b"collect 1 2", Fault::WrongCount),
+    (b"collect 0 1", Fault::WrongCount),
     (b"collect 1,2", Fault::BadNumber),
+    (b"collect ", Fault::BadNumber),
+    (b"advance-collect", Fault::WrongCount),
     (b"advance-collect 1.1", Fault::BadNumber),
     (b"advance-collect 1 ", Fault::WrongCount),
+    (b"recon", Fault::WrongCount),
     (b"recon 1", Fault::WrongCount),
     (b"recon 1 1 2", Fault::WrongCount),
+    (b"recon 0 2,1 1", Fault::WrongCount),
     (b"recon 0 2,1", Fault::BadNumber),
+    (b"recon 0 1", Fault::BadNumber),
+    (b"recon  1", Fault::BadNumber),
     (b"recon 1 2,1", Fault::BadNumber),
+    (b"recon 1 65", Fault::BadNumber),
+    (b"recon 1 ", Fault::BadNumber),
     (b"recon 1 removed", Fault::BadNumber),
+    (b"rebid", Fault::WrongCount),
     (b"rebid 65", Fault::BadNumber),
     (b"rebid 1 -", Fault::WrongCount),
+    (b"advance-recon", Fault::WrongCount),
     (b"advance-recon -", Fault::BadNumber),
     (b"advance-recon 1 1", Fault::WrongCount),
     (b"advance-", Fault::UnknownWord),

@@ -1,8 +1,9 @@
 use rambo_atomic::{CallId, StreamFault};
-use rambo_names::{Name, Refusal};
+use rambo_names::{Members, Name, Refusal};
 use rambo_text::{
     Fault, ReplayFault, ScriptFault, next_line, next_word, one_word, read_call, read_hex,
-    read_name, three_words, two_words, write_call, write_hex, write_name, write_num,
+    read_name, read_standing, three_words, two_words, write_call, write_hex, write_name, write_num,
+    write_standing,
 };
 use std::alloc::{AllocError, Global};
 use std::env::Env;
@@ -92,6 +93,60 @@ fn reads_names_and_calls(rt: HostRuntime) -> Result<(), Fail> {
         b"1.18446744073709551616",
     ] {
         assert_eq!(rt; read_call(word), None);
+    }
+    Ok(())
+}
+
+fn set(names: &[u64]) -> Result<Members, Refusal> {
+    let mut members = Members::empty();
+    for name in names {
+        members = members.with(Name::new(*name)?);
+    }
+    Ok(members)
+}
+
+fn standing_text(alloc: Global, members: Option<Members>) -> Result<Vec<u8>, Refusal> {
+    let mut out = Vec::new(alloc);
+    write_standing(members, &mut out)?;
+    Ok(out)
+}
+
+#[test]
+fn standings(rt: HostRuntime) -> Result<(), Fail> {
+    let is_short = is_short(&rt);
+    let rows = [
+        (None, b"removed".as_slice()),
+        (Some(set(&[])?), b"-"),
+        (Some(set(&[64])?), b"64"),
+        (Some(set(&[10, 9])?), b"9,10"),
+        (Some(set(&[1, 64, 3, 2])?), b"1,2,3,64"),
+    ];
+    for (members, text) in rows {
+        assert_eq!(rt; read_standing(text), Some(members));
+        let out = again!(is_short, standing_text(rt.alloc(), members))?;
+        assert_eq!(rt; out.as_slice(), text);
+    }
+    for word in [
+        b"".as_slice(),
+        b"Removed",
+        b"remove",
+        b"removed ",
+        b" removed",
+        b"removed,1",
+        b"1,removed",
+        b"-removed",
+        b"--",
+        b"-,1",
+        b"0",
+        b"65",
+        b"01",
+        b"1,1",
+        b"10,9",
+        b"1,",
+        b",1",
+        b"1 2",
+    ] {
+        assert_eq!(rt; read_standing(word), None);
     }
     Ok(())
 }
