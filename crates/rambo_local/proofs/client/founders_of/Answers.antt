@@ -15,7 +15,7 @@ returns-in-Active c =
     let one = c.in_ok-new.ensures.made.0 in
     let n = c.in_ok-new.field-0 in
     let first : node_at (run majorities w.founders w.steps) n ≡ Some (first_node majorities w.founders n)
-    = ap (λ sts. node_at (run majorities w.founders sts) n) c.args.requires
+    = ap (λ sts. node_at (run majorities w.founders sts) n) c.requires
     ∙ ap (λ v. node_at v n) (run-none majorities w.founders)
     ∙ first_named majorities w.founders n (omega (arith, one), omega (arith, one)) in
     let is : c.map.result.now ≡ first_map w.founders = c.map.ensures.map (first_node majorities w.founders n) first in
