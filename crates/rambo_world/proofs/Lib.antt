@@ -12,3 +12,4 @@ mod Sharing
 mod Deliveries
 mod Longer
 mod Starting
+mod Reached
