@@ -1,4 +1,5 @@
-use Rattle.std.proofs.Common.{◌≡◌, Some, ap, ◌∙◌, arith}
+use Rattle.std.proofs.Common.{◌≡◌, ℕ, Some, refl, ap, ◌∙◌, arith}
+use Rattle.rambo_names.specs.Names.{NameSet}
 use Rattle.rambo_names.specs.Quorums.{majorities}
 use Rattle.rambo_config_map.specs.Maps.{entry_at, first_map}
 use Rattle.rambo_config_map.specs.declared.entry.Entry.TheVariants.{Active}
@@ -9,6 +10,10 @@ use Rattle.rambo_run.proofs.FirstWorlds.{first_named}
 use Rattle.rambo_local.proofs.RunSteps.{run-none}
 use Rattle.rambo_local.proofs.client.founders_of.Goals as goal
 
+first-map : (founders : NameSet) (n : ℕ) → (first_node majorities founders n).map ≡ first_map founders
+unfolding first_node
+first-map founders n = refl
+
 pub returns-in-Active : goal.returns-in-Active
 returns-in-Active c =
     let w = c.args.world.now in
@@ -18,7 +23,7 @@ returns-in-Active c =
     = ap (λ sts. node_at (run majorities w.founders sts) n) c.requires
     ∙ ap (λ v. node_at v n) (run-none majorities w.founders)
     ∙ first_named majorities w.founders n (omega (arith, one), omega (arith, one)) in
-    let is : c.map.result.now ≡ first_map w.founders = c.map.ensures.map (first_node majorities w.founders n) first in
+    let is : c.map.result.now ≡ first_map w.founders = c.map.ensures.map (first_node majorities w.founders n) first ∙ first-map w.founders n in
     let e : Active c.in-Active.founders ≡ Active w.founders = c.in-Active.ensures ∙ ap (λ m. entry_at m 0) is in
     let same : c.in-Active.founders ≡ w.founders = cc in
     c.members.ensures ∙ same
