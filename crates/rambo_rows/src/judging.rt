@@ -18,13 +18,15 @@ use std::alloc::{AllocError, Global};
 pub fn is_right(alloc: Global, row: Row) -> Result<bool, AllocError>
     ensures { IfOk result (λ right. IsTrue right → Shows row.entry.word.now row.entry.ending.now row.entry.input.items row.entry.output.items) }
 {
-    match row.word {
-        b"replay" => is_right_replay(alloc, row),
-        b"check" => is_right_check(alloc, row),
-        word => match founders_of(word) {
-            Some(founders) => is_right_local(alloc, founders, row),
-            None => Ok(false),
-        },
+    if row.word == b"replay".as_slice() {
+        return is_right_replay(alloc, row);
+    }
+    if row.word == b"check".as_slice() {
+        return is_right_check(alloc, row);
+    }
+    match founders_of(row.word) {
+        Some(founders) => is_right_local(alloc, founders, row),
+        None => Ok(false),
     }
 }
 
