@@ -1,4 +1,4 @@
-use Rattle.std.proofs.Common.{◌≡◌, ◌+◌, ◌*◌, ◌-◌, ◌<◌, ◌≤◌, ◌^◌, ℕ, true, get_or, length, take, decimal, IfNone, subst, sym, ap, ◌∙◌, true≢false, arith, inl, inr, ⊎_elim}
+use Rattle.std.proofs.Common.{◌≡◌, ◌<◌, ◌^◌, ℕ, take, decimal, IfNone, subst, sym, ap, ◌∙◌, true≢false, arith, ⊎_elim}
 use Rattle.std.proofs.lemmas.List.{take_all}
 use Rattle.std.specs.Str.Parse.{AllDigits, digits_value}
 use Rattle.rambo_names.specs.Signs.{starts_plainly}
