@@ -192,11 +192,13 @@ fn are_places(world: &Host, wanted: &[(u64, u64, u64)]) -> Result<bool, Refusal>
 }
 
 fn ends(world: &Host, alloc: Global, end: &End) -> Result<bool, Refusal> {
-    Ok(world.steps().len() == end.steps
-        && world.history().events().len() == end.events
-        && are_places(world, end.places)?
-        && is_sequence(world, alloc, b"k", end.sequence)?
-        && is_sequence(world, alloc, b"l", &[])?)
+    Ok(
+        world.steps().len() == end.steps
+            && world.history().events().len() == end.events
+            && are_places(world, end.places)?
+            && is_sequence(world, alloc, b"k", end.sequence)?
+            && is_sequence(world, alloc, b"l", &[])?,
+    )
 }
 
 // The place of the first row that comes out otherwise, or the number of rows where the end does.
@@ -283,9 +285,12 @@ fn runs_whole(alloc: Global, rows: &[Row]) -> Result<bool, Refusal> {
 
 #[test]
 fn writer_that_stops(rt: HostRuntime) {
-    let rows = LOST_WRITER.as_slice();
+    let rows = &LOST_WRITER;
     assert_eq!(rt; first_wrong(&rt, &[1, 2, 3], rows, &LOST_WRITER_END), None);
-    assert_eq!(rt; again!(is_short(&rt), runs_whole(rt.alloc(), rows)), Ok(true));
+    assert_eq!(rt;
+        again!(is_short(&rt), runs_whole(rt.alloc(), rows)),
+        Ok(true)
+    );
 }
 
 // Node 4 joins and sets a value while node 1 has the configuration 4 chosen and the founders' collected; the set
@@ -347,7 +352,10 @@ static CARRIED_OVER_END: End = End {
 
 #[test]
 fn set_over_two_configurations(rt: HostRuntime) {
-    assert_eq!(rt; first_wrong(&rt, &[1, 2, 3], CARRIED_OVER.as_slice(), &CARRIED_OVER_END), None);
+    assert_eq!(rt;
+        first_wrong(&rt, &[1, 2, 3], &CARRIED_OVER, &CARRIED_OVER_END),
+        None
+    );
 }
 
 // Node 2 has the configuration 4 chosen. Nodes 1 and 3, which don't know of it, keep a value, and node 1 stops. Node 2
@@ -416,7 +424,10 @@ static LEFT_BEHIND_END: End = End {
 
 #[test]
 fn value_outlives_its_members(rt: HostRuntime) {
-    assert_eq!(rt; first_wrong(&rt, &[1, 2, 3], LEFT_BEHIND.as_slice(), &LEFT_BEHIND_END), None);
+    assert_eq!(rt;
+        first_wrong(&rt, &[1, 2, 3], &LEFT_BEHIND, &LEFT_BEHIND_END),
+        None
+    );
 }
 
 // Node 1 alone is each configuration. It collects two of them while node 2 waits for a reply to its get. A reply that
@@ -480,7 +491,7 @@ static LATE_END: End = End {
 
 #[test]
 fn letters_over_collections(rt: HostRuntime) {
-    assert_eq!(rt; first_wrong(&rt, &[1], LATE.as_slice(), &LATE_END), None);
+    assert_eq!(rt; first_wrong(&rt, &[1], &LATE, &LATE_END), None);
 }
 
 // Steps of the member set that are refused: of an idle node, before an attempt and a collection, while they are open, and
@@ -525,7 +536,7 @@ static REFUSED_MEMBERS: [Row; 37] = [
     (Move::AdvanceRecon(1), Err(Refusal::Stopped)),
 ];
 
-static REFUSED_MEMBERS_END: End = End {
+static MEMBERS_END: End = End {
     steps: 14,
     events: 0,
     sequence: &[],
@@ -534,7 +545,10 @@ static REFUSED_MEMBERS_END: End = End {
 
 #[test]
 fn refused_steps_of_members(rt: HostRuntime) {
-    assert_eq!(rt; first_wrong(&rt, &[1, 2], REFUSED_MEMBERS.as_slice(), &REFUSED_MEMBERS_END), None);
+    assert_eq!(rt;
+        first_wrong(&rt, &[1, 2], &REFUSED_MEMBERS, &MEMBERS_END),
+        None
+    );
 }
 
 // Steps that are refused, and that leave the world as it was.
@@ -560,7 +574,7 @@ static REFUSED_END: End = End {
 
 #[test]
 fn refused_steps(rt: HostRuntime) {
-    assert_eq!(rt; first_wrong(&rt, &[1, 2], REFUSED.as_slice(), &REFUSED_END), None);
+    assert_eq!(rt; first_wrong(&rt, &[1, 2], &REFUSED, &REFUSED_END), None);
 }
 
 #[test]
