@@ -55,20 +55,21 @@ impl<Q: Quorums, S: Replica> State<Q, S> {
         ensures ok { OnOk result (refusal Q.system self.now step.now ≡ None) }
         ensures refused { IfErr result (λ r. refusal Q.system self.now step.now ≡ Some r) }
     {
-        match step {
-            Step::Join(name, contacts) => self.nodes.judge(*name, &Change::Join(*contacts)),
-            Step::Call(name, op) => self.nodes.may_call(*name, op),
-            Step::Send(from, to) => self.nodes.judge(*from, &Change::Send(*to)),
-            Step::Deliver(number) => self.may_deliver(*number),
-            Step::Advance(id) => self.nodes.judge(id.name, &Change::Advance(*id)),
-            Step::Again(id) => self.nodes.judge(id.name, &Change::Again(*id)),
-            Step::Collect(name) => self.nodes.judge(*name, &Change::Collect),
-            Step::AdvanceCollect(name) => self.nodes.judge(*name, &Change::AdvanceCollect),
-            Step::Recon(name, wish) => self.nodes.judge(*name, &Change::Recon(*wish)),
-            Step::Rebid(name) => self.nodes.judge(*name, &Change::Rebid),
-            Step::AdvanceRecon(name) => self.nodes.judge(*name, &Change::AdvanceRecon),
-            Step::Stop(name) => self.nodes.judge(*name, &Change::Stop),
-        }
+        let (name, change) = match step {
+            Step::Call(name, op) => return self.nodes.may_call(*name, op),
+            Step::Deliver(number) => return self.may_deliver(*number),
+            Step::Join(name, contacts) => (*name, Change::Join(*contacts)),
+            Step::Send(from, to) => (*from, Change::Send(*to)),
+            Step::Advance(id) => (id.name, Change::Advance(*id)),
+            Step::Again(id) => (id.name, Change::Again(*id)),
+            Step::Collect(name) => (*name, Change::Collect),
+            Step::AdvanceCollect(name) => (*name, Change::AdvanceCollect),
+            Step::Recon(name, wish) => (*name, Change::Recon(*wish)),
+            Step::Rebid(name) => (*name, Change::Rebid),
+            Step::AdvanceRecon(name) => (*name, Change::AdvanceRecon),
+            Step::Stop(name) => (*name, Change::Stop),
+        };
+        self.nodes.judge(name, &change)
     }
 }
 
@@ -98,20 +99,21 @@ impl<Q: Quorums, S: Replica> State<Q, S> {
         ensures err { OnErr result (self.new ≡ self.old) }
         ensures refused { IfErr result (λ r. r ≡ Refusal.OutOfMemory) }
     {
-        match step {
-            Step::Join(name, contacts) => self.change(*name, &Change::Join(*contacts)),
-            Step::Call(name, op) => self.change(*name, &Change::Call(op.clone()?)),
-            Step::Send(from, to) => self.send(*from, *to),
-            Step::Deliver(number) => self.deliver(*number),
-            Step::Advance(id) => self.change(id.name, &Change::Advance(*id)),
-            Step::Again(id) => self.change(id.name, &Change::Again(*id)),
-            Step::Collect(name) => self.change(*name, &Change::Collect),
-            Step::AdvanceCollect(name) => self.change(*name, &Change::AdvanceCollect),
-            Step::Recon(name, wish) => self.change(*name, &Change::Recon(*wish)),
-            Step::Rebid(name) => self.change(*name, &Change::Rebid),
-            Step::AdvanceRecon(name) => self.change(*name, &Change::AdvanceRecon),
-            Step::Stop(name) => self.change(*name, &Change::Stop),
-        }
+        let (name, change) = match step {
+            Step::Send(from, to) => return self.send(*from, *to),
+            Step::Deliver(number) => return self.deliver(*number),
+            Step::Join(name, contacts) => (*name, Change::Join(*contacts)),
+            Step::Call(name, op) => (*name, Change::Call(op.clone()?)),
+            Step::Advance(id) => (id.name, Change::Advance(*id)),
+            Step::Again(id) => (id.name, Change::Again(*id)),
+            Step::Collect(name) => (*name, Change::Collect),
+            Step::AdvanceCollect(name) => (*name, Change::AdvanceCollect),
+            Step::Recon(name, wish) => (*name, Change::Recon(*wish)),
+            Step::Rebid(name) => (*name, Change::Rebid),
+            Step::AdvanceRecon(name) => (*name, Change::AdvanceRecon),
+            Step::Stop(name) => (*name, Change::Stop),
+        };
+        self.change(name, &change)
     }
 
     // Takes a step of a run: what it did, or why it was refused.
