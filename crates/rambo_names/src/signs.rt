@@ -18,10 +18,16 @@ pub fn read_num(bytes: &[u8]) -> Option<u64>
     if !starts_plainly(bytes) {
         return None;
     }
-    let Ok(text) = std::str::from_utf8(bytes) else {
-        return None;
-    };
-    text.parse().ok()
+    let mut number = 0u64;
+    for byte in bytes {
+        if !byte.is_ascii_digit() {
+            return None;
+        }
+        number = number
+            .checked_mul(10)?
+            .checked_add(u64::from(*byte - b'0'))?;
+    }
+    Some(number)
 }
 
 // Whether a number may start so: with no sign, and with a zero only where it is all.

@@ -5,5 +5,6 @@ pub mod Judged
 pub mod LineFaults
 pub mod Loops
 pub mod Rows
+pub mod Telling
 pub mod TextLaws
 pub mod TextSteps

@@ -43,8 +43,11 @@ fn write_steps<Q: Quorums>(
     Ok(())
 }
 
-// What is told of a step, by its number.
-fn write_step<Q: Quorums>(
+/// Appends what is told of a step, by its number: the line of a call, an answer, an ended collection, an ended attempt or
+/// a refusal, or none. What a call asked is looked up in the history.
+///
+/// `OutOfMemory` where there is no room for it.
+pub fn write_step<Q: Quorums>(
     step: u64,
     told: &Result<Effect<Q>, Refusal>,
     history: &History,
@@ -66,7 +69,10 @@ fn write_step<Q: Quorums>(
     }
 }
 
-fn write_sequences(sequences: &[KeySequence], out: &mut Vec<u8>) -> Result<(), Refusal>
+/// Appends a line for each sequence.
+///
+/// `OutOfMemory` where there is no room for them.
+pub fn write_sequences(sequences: &[KeySequence], out: &mut Vec<u8>) -> Result<(), Refusal>
     ensures ok { OnOk result (out.new.items ≡ out.old.items ++ items_text (map Ordered sequences.now)) }
     ensures refused { IfErr result (λ r. r ≡ Refusal.OutOfMemory) }
 {
@@ -76,7 +82,10 @@ fn write_sequences(sequences: &[KeySequence], out: &mut Vec<u8>) -> Result<(), R
     Ok(())
 }
 
-fn write_maps<Q: Quorums>(maps: &[NodeMap<Q>], out: &mut Vec<u8>) -> Result<(), Refusal>
+/// Appends a line for each map. Of a configuration the members are told.
+///
+/// `OutOfMemory` where there is no room for them.
+pub fn write_maps<Q: Quorums>(maps: &[NodeMap<Q>], out: &mut Vec<u8>) -> Result<(), Refusal>
     ensures ok { OnOk result (out.new.items ≡ out.old.items ++ items_text (map (map_item Q.system) maps.now)) }
     ensures refused { IfErr result (λ r. r ≡ Refusal.OutOfMemory) }
 {

@@ -1,19 +1,32 @@
 //! Whether a row came out as it is wanted.
-ghost use Rattle.std.specs.Prelude.{◌≡◌, true, false, codes, IfOk, IsTrue, OnOk, Ok as AnOk};
+ghost use Rattle.std.specs.Prelude.{◌≡◌, ◌≤◌, ◌++◌, None, true, false, codes, IfOk, IfSome, IsTrue, OnOk, Ok as AnOk, List, ℕ};
+ghost use Rattle.rambo_names.specs.Names.{count_of};
+ghost use Rattle.rambo_names.specs.Signs.{set_text};
+ghost use Rattle.rambo_local.specs.Talks.{Served};
 ghost use Rattle.rambo_outcome.specs.Checks.{IsChecked};
+ghost use Rattle.rambo_rows.specs.Rows.{IsServed, Shows};
 ghost use Rattle.rambo_script.specs.Replays.{IsReplay, Replays};
 
-use crate::row::Row;
+use crate::row::{LOCAL, Row};
 use rambo_atomic::{Sink, Source, Tape};
+use rambo_local::{LocalFault, local};
+use rambo_names::{Majority, read_set};
 use rambo_script::{ReplayFault, check_text, replay};
 use std::alloc::{AllocError, Global};
 
 /// Runs a row, and answers whether it wrote and ended as the row wants. A row of any other word is wrong.
-pub fn is_right(alloc: Global, row: Row) -> Result<bool, AllocError> {
-    match row.word {
-        b"replay" => is_right_replay(alloc, row),
-        b"check" => is_right_check(alloc, row),
-        _ => Ok(false),
+pub fn is_right(alloc: Global, row: Row) -> Result<bool, AllocError>
+    ensures { IfOk result (λ right. IsTrue right → Shows row.entry.word.now row.entry.ending.now row.entry.input.items row.entry.output.items) }
+{
+    if row.word == b"replay".as_slice() {
+        return is_right_replay(alloc, row);
+    }
+    if row.word == b"check".as_slice() {
+        return is_right_check(alloc, row);
+    }
+    match founders_of(row.word) {
+        Some(founders) => is_right_local(alloc, founders, row),
+        None => Ok(false),
     }
 }
 
@@ -60,6 +73,53 @@ fn is_right_check(alloc: Global, row: Row) -> Result<bool, AllocError>
         writer.bytes(),
         row.output.as_slice(),
     )
+}
+
+// The founders of the store that a word has a client served by, if it does.
+fn founders_of(word: &[u8]) -> Option<Majority>
+    ensures some { IfSome result (λ founders. 1 ≤ count_of founders) }
+    ensures founders { IfSome result (λ founders. word.now ≡ codes "local " ++ set_text founders) }
+{
+    let set = read_set(word.strip_prefix(LOCAL)?)?;
+    if set.count() == 0 {
+        return None;
+    }
+    Some(Majority::of(set))
+}
+
+// Where it is done and right, the wanted output is what an ordinary map replies to the commands of the input.
+fn is_right_local(alloc: Global, founders: Majority, row: Row) -> Result<bool, AllocError>
+    requires { 1 ≤ count_of founders }
+    ensures done { IfOk result (λ right. IsTrue right → row.entry.ending.now ≡ codes "done" → IsServed row.entry.input.items row.entry.output.items) }
+{
+    let mut reader = Tape::new(row.input);
+    let mut writer = Tape::new(Vec::new(alloc));
+    let ended = local_all(alloc, founders, &mut reader, &mut writer);
+    is_wanted(
+        alloc,
+        ended,
+        row.ending,
+        writer.bytes(),
+        row.output.as_slice(),
+    )
+}
+
+// A client that is served, and answers yes where that is done.
+fn local_all<R: Source, W: Sink>(
+    alloc: Global,
+    founders: Majority,
+    reader: &mut R,
+    writer: &mut W,
+) -> Result<bool, ReplayFault>
+    requires { 1 ≤ count_of founders }
+    ensures { OnOk result (Served (R.left reader.old) (R.left reader.new) (W.taken writer.old) (W.taken writer.new)) }
+{
+    match local(alloc, founders, reader, writer) {
+        Ok(()) => Ok(true),
+        Err(LocalFault::Read) => Err(ReplayFault::Read),
+        Err(LocalFault::Write) => Err(ReplayFault::Write),
+        Err(LocalFault::Memory) => Err(ReplayFault::Memory),
+    }
 }
 
 // Whether a run ended in these words, and wrote what is wanted.

@@ -4,12 +4,15 @@ ghost use Rattle.std.specs.Prelude.{◌<◌, length, IfOk};
 use rambo_text::next_line;
 use std::alloc::{AllocError, Global};
 
-/// A script or an outcome text, and what must come of it.
+/// How the word of a row begins that has a client served; behind it stand the founders.
+pub const LOCAL: &[u8] = b"local ";
+
+/// A script, an outcome text or the commands of a client, and what must come of it.
 #[derive(Drop)]
 pub struct Row<'a> {
     /// What the row shows.
     pub name: &'a [u8],
-    /// `replay` or `check`.
+    /// `replay`, `check`, or `local` and the founders.
     pub word: &'a [u8],
     pub input: Vec<u8>,
     /// The output that is wanted.
@@ -36,9 +39,9 @@ pub fn read_row(alloc: Global, text: &[u8]) -> Result<(Row<'_>, &[u8]), AllocErr
         rest = behind;
         match line.split_first() {
             None => return Ok((row, rest)),
-            Some((b'>', text)) => add_line(&mut row.input, text)?,
+            Some((b'>', text)) => add_line(&mut row.input, text, row.word)?,
             Some((b'~', text)) => row.input.extend_from_slice(text)?,
-            Some((b'<', text)) => add_line(&mut row.output, text)?,
+            Some((b'<', text)) => add_line(&mut row.output, text, row.word)?,
             Some((b'=', text)) => row.ending = text,
             Some((_, text)) => row.word = text,
         }
@@ -46,9 +49,12 @@ pub fn read_row(alloc: Global, text: &[u8]) -> Result<(Row<'_>, &[u8]), AllocErr
     Ok((row, rest))
 }
 
-// Appends a line and its line feed.
-fn add_line(lines: &mut Vec<u8>, line: &[u8]) -> Result<(), AllocError> {
+// Appends a line and its end: CR LF in a row that has a client served, else a line feed.
+fn add_line(lines: &mut Vec<u8>, line: &[u8], word: &[u8]) -> Result<(), AllocError> {
     lines.extend_from_slice(line)?;
+    if word.starts_with(LOCAL) {
+        lines.push(b'\r')?;
+    }
     lines.push(b'\n')?;
     Ok(())
 }

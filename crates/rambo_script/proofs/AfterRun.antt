@@ -1,26 +1,10 @@
--- The text of a run, and what is left after a fault of the writer
-use Rattle.std.proofs.Common.{◌≡◌, ℕ, List, Option, None, Some, IfSome, subst, sym, ap, ◌∙◌}
-use Rattle.rambo_names.specs.Names.{NameSet}
-use Rattle.rambo_names.specs.Quorums.{majorities}
+-- What is left after a fault of the writer
+use Rattle.std.proofs.Common.{◌≡◌, ℕ, List, Option, None, Some, IfSome, subst, sym, ◌∙◌}
 use Rattle.rambo_atomic.specs.Streams.{Begins}
 use Rattle.rambo_atomic.specs.declared.whole.StreamFault.{StreamFault}
 use Rattle.rambo_atomic.specs.declared.whole.StreamFault.TheVariants as stream
-use Rattle.rambo_run.specs.declared.step.Step.{Step}
-use Rattle.rambo_run.specs.Runs.{OutcomeState, outcome_of}
 use Rattle.rambo_text.specs.Faults.{of_stream}
-use Rattle.rambo_outcome.specs.Outcomes.{outcome_lines}
-use Rattle.rambo_script.specs.Scripts.{ScriptState, IsScript}
 use Rattle.rambo_script.specs.Replays.{IsReplay, Leaves}
-
--- the text is that of the run of the script that was read
-pub replay_of : (bytes : List ℕ) (s : ScriptState) (founders : NameSet) (items steps : List (Step NameSet)) (o : OutcomeState NameSet) (text : List ℕ) → IsScript bytes s
-    → record { founders = founders; steps = items } ≡ s → steps ≡ items → o ≡ outcome_of majorities founders steps → text ≡ outcome_lines majorities o → IsReplay bytes text
-replay_of bytes s founders items steps o text is view same ran told =
-    record {
-      script = s;
-      is_script = is;
-      text_is = told ∙ ap (outcome_lines majorities) (ran ∙ ap (λ sts. outcome_of majorities founders sts) same ∙ ap (λ (t : ScriptState). outcome_of majorities t.founders t.steps) view);
-    }
 
 known : (input : Option (List ℕ)) (bytes read text : List ℕ) → IfSome input (λ b. bytes ≡ b) → read ≡ bytes → IsReplay read text → IfSome input (λ b. IsReplay b text)
 known None bytes read text is same replay = tt

@@ -74,7 +74,7 @@ line_once Tell once line f g (inr a) (inl b) = absurd (let long = b.0 in let sho
 line_once Tell once line f g (inr a) (inr b) =
     once a.1.0 f g a.1.2 (subst (λ ws. Tell ws g) (same_words line b.1.0 a.1.0 b.1.1 a.1.1) b.1.2)
 
-same_first : (text l r m s : List ℕ) → IsFirstLine text l r → IsFirstLine text m s → l ≡ m
+pub same_first : (text l r m s : List ℕ) → IsFirstLine text l r → IsFirstLine text m s → l ≡ m
 same_first text l r m s a b = elim a.whole [
   | inl feed ↦ elim b.whole [
     | inl other ↦ (cut 10 l m r s a.no_feed b.no_feed (sym feed ∙ other)).0

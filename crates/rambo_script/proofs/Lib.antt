@@ -6,4 +6,5 @@ pub mod StepShapes
 pub mod Texts
 pub mod FaultOnce
 mod AfterRun
+mod RunAlong
 pub mod Words

@@ -6,7 +6,7 @@ use Rattle.rambo_run.specs.declared.step.Step.{Step}
 use Rattle.rambo_text.specs.Words.{IsFirstLine}
 use Rattle.rambo_script.specs.StepLines.{step_line}
 use Rattle.rambo_script.specs.Scripts.{ScriptState, HasLine, HasLines, AreFounders, IsScript, founders_line, steps_text, script_text}
-use Rattle.rambo_script.specs.Faults.{IsNextLine, IsLineFault, TellNoStep, IsScriptFault, RanOut}
+use Rattle.rambo_script.specs.Faults.{IsNextLine, IsLineFault, TellNoFounders, TellNoStep, IsScriptFault, RanOut}
 use Rattle.rambo_text.specs.declared.fault.Fault.TheVariants.{OutOfMemory}
 use Rattle.rambo_text.specs.declared.fault.ScriptFault.{ScriptFault}
 use Rattle.rambo_script.specs.Pushes.{PushesStep}
@@ -95,6 +95,10 @@ reads-line bytes rest line more founders steps number now some first is =
         | inr last ↦ absurd (some last.1)
       ];
     }
+
+-- the first line has a fault
+pub first-fault : (bytes line rest : List ℕ) (f : ScriptFault) → IsFirstLine bytes line rest → f.line ≡ 1 → IsLineFault TellNoFounders line f.fault → IsScriptFault bytes f ⊎ RanOut bytes f
+first-fault bytes line rest f first number fault = inl (inl (record { line = line; rest = rest; is_first = first; fault = fault; number = number }))
 
 -- the line has a fault, or no room
 pub reads-fault : (bytes rest line more : List ℕ) (founders : NameSet) (steps : List (Step NameSet)) (f : ScriptFault) → Reads bytes founders steps rest → rest ≢ [] → IsFirstLine rest line more

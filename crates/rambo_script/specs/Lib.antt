@@ -5,3 +5,4 @@ pub mod Parts
 pub mod Pushes
 pub mod Laws
 pub mod Replays
+pub mod Runs

@@ -1,21 +1,28 @@
 //! From a script to the text of what its run gives.
-ghost use Rattle.std.specs.Prelude.{◌≡◌, ◌⊎◌, OnOk, IfOk, IfErr};
+ghost use Rattle.std.specs.Prelude.{◌≡◌, ◌⊎◌, ◌+◌, ◌<◌, ◌^◌, Ok, OnOk, IfOk, IfErr};
 ghost use Rattle.std.specs.Io.KnownBytes.{IsAtEnd};
-ghost use Rattle.rambo_script.specs.Faults.{IsScriptFault, RanOut};
-ghost use Rattle.rambo_script.specs.Scripts.{IsScript};
+ghost use Rattle.rambo_script.specs.Faults.{IsLineFault, TellNoStep};
 ghost use Rattle.rambo_script.specs.Replays.{IsReplay, Replays, Leaves, GivesUp, reads_failed, writes_failed};
+ghost use Rattle.rambo_script.specs.Runs.{IsFounded, TakesStep, ended, IsFaultAt};
 
-use crate::script::{Script, read_script};
+use crate::reading::read_step;
+use crate::script::{at_line, read_founders};
 use rambo_atomic::{Sink, Source, read_all, write_all};
-use rambo_names::Refusal;
-use rambo_outcome::outcome_text;
-use rambo_text::{ReplayFault, ScriptFault};
-use rambo_world::run;
+use rambo_names::{Majority, Refusal};
+use rambo_outcome::{write_maps, write_sequences, write_step};
+use rambo_tag::Registers;
+use rambo_text::{Fault, ReplayFault, next_line};
+use rambo_world::Running;
 use std::alloc::Global;
+use std::hash::{BuildHasherDefault, FoldHasher};
+
+// A run over majority quorums.
+type MajorityRun = Running<Majority, Registers<BuildHasherDefault<FoldHasher>>>;
 
 /// Reads a script, runs it over majority quorums, and writes the text of what the run gives.
 ///
-/// The whole input is read and run before the first byte is written. `Script` where the input is no script, or where
+/// The whole input is read and run before the first byte is written. Each step is taken as its line is read: neither the
+/// steps nor what they did are kept. `Script` where the input is no script, or where
 /// memory runs out while it is read; `Read` and `Write` where a call of that stream fails; `Memory` where there is no room
 /// for the input, the run or its text. After `Write` a beginning of the text was written, and after another fault nothing.
 pub fn replay<R: Source, W: Sink>(
@@ -32,27 +39,80 @@ pub fn replay<R: Source, W: Sink>(
     ensures writes { IfErr result (λ f. W.failures writer.new ≡ writes_failed f (W.failures writer.old)) }
 {
     let input = read_all(alloc, reader)?;
-    let text = replayed(alloc, input)?;
+    let text = replayed(alloc, input.as_slice())?;
     write_all(writer, text.as_slice())?;
     Ok(())
 }
 
-// The text of what the run of a script gives. The bytes are let go before it runs.
-fn replayed(alloc: Global, input: Vec<u8>) -> Result<Vec<u8>, ReplayFault>
-    ensures ok { IfOk result (λ text. IsReplay input.items text.items) }
-    ensures fault { IfErr result (λ f. GivesUp input.items f) }
+// The text of what the run of a script gives.
+fn replayed(alloc: Global, input: &[u8]) -> Result<Vec<u8>, ReplayFault>
+    ensures ok { IfOk result (λ text. IsReplay input.now text.items) }
+    ensures fault { IfErr result (λ f. GivesUp input.now f) }
 {
-    let script = read(alloc, input)?;
-    let outcome = in_memory(run(alloc, script.founders, script.steps.as_slice()))?;
-    in_memory(outcome_text(alloc, &outcome))
+    let mut running = founded(alloc, input)?;
+    run_through(alloc, input, &mut running)
 }
 
-// The script that bytes spell.
-fn read(alloc: Global, input: Vec<u8>) -> Result<Script, ScriptFault>
-    ensures script { IfOk result (λ s. IsScript input.items s) }
-    ensures fault { IfErr result (λ f. IsScriptFault input.items f ⊎ RanOut input.items f) }
+// The run of the founders that the first line of a script tells, before any step.
+fn founded(alloc: Global, input: &[u8]) -> Result<MajorityRun, ReplayFault>
+    ensures founded { IfOk result (λ r. IsFounded input.now r) }
+    ensures fault { IfErr result (λ f. GivesUp input.now f) }
 {
-    read_script(alloc, input.as_slice())
+    let (line, _) = next_line(input);
+    let founders = at_line(1, read_founders(line))?;
+    let replica = Registers::new(alloc, BuildHasherDefault::<FoldHasher>::new());
+    in_memory(Running::new(alloc, Majority::of(founders), &replica))
+}
+
+// Takes the steps that the lines behind the first tell: the text of what the run gives.
+fn run_through(
+    alloc: Global,
+    input: &[u8],
+    running: &mut MajorityRun,
+) -> Result<Vec<u8>, ReplayFault>
+    requires { IsFounded input.now running.old }
+    ensures ok { IfOk result (λ text. IsReplay input.now text.items) }
+    ensures fault { IfErr result (λ f. GivesUp input.now f) }
+{
+    let (_, mut rest) = next_line(input);
+    let mut text = Vec::new(alloc);
+    let mut number = 0;
+    while !rest.is_empty() {
+        let (line, behind) = next_line(rest);
+        number += 1;
+        take_line(alloc, number, line, running, &mut text)?;
+        rest = behind;
+    }
+    end(alloc, running, &mut text)?;
+    Ok(text)
+}
+
+// Takes the step of this number, which a line tells, and appends what is told of it.
+fn take_line(
+    alloc: Global,
+    number: u64,
+    line: &[u8],
+    running: &mut MajorityRun,
+    text: &mut Vec<u8>,
+) -> Result<(), ReplayFault>
+    requires { number < 2 ^ 63 }
+    ensures taken { OnOk result (TakesStep line.now number running.old running.new text.old.items text.new.items) }
+    ensures fault { IfErr result (λ f. IsFaultAt (number + 1) (λ g. (g ≡ Fault.OutOfMemory) ⊎ IsLineFault TellNoStep line.now g) f) }
+{
+    let step = at_line(number + 1, read_step(alloc, line))?;
+    let told = in_memory(running.take(&step))?;
+    in_memory(write_step(number, &told, running.history(), text))
+}
+
+// Appends the sequences and the maps of a run.
+fn end(alloc: Global, running: &MajorityRun, text: &mut Vec<u8>) -> Result<(), ReplayFault>
+    ensures ok { OnOk result (text.new.items ≡ ended running.now.state text.old.items) }
+    ensures fault { IfErr result (λ f. f ≡ ReplayFault.Memory) }
+{
+    let sequences = in_memory(running.sequences(alloc))?;
+    in_memory(write_sequences(sequences.as_slice(), text))?;
+    let maps = in_memory(running.maps(alloc))?;
+    in_memory(write_maps(maps.as_slice(), text))
 }
 
 // What was refused for want of memory.

@@ -1,5 +1,5 @@
 //! Whole scripts.
-ghost use Rattle.std.specs.Prelude.{◌≡◌, ◌⊎◌, IfOk, IfErr, OnOk, OnErr, ◌++◌, [], ◌∷◌};
+ghost use Rattle.std.specs.Prelude.{◌≡◌, ◌⊎◌, Ok, Err, IfOk, IfErr, OnOk, OnErr, ◌++◌, [], ◌∷◌};
 ghost use Rattle.rambo_script.specs.Faults.{IsLineFault, TellNoStep, TellNoFounders, IsScriptFault, RanOut};
 ghost use Rattle.rambo_script.specs.Scripts.{AreFounders, founders_line, IsScript};
 ghost use Rattle.rambo_script.specs.Pushes.{PushesStep};
@@ -43,20 +43,12 @@ pub fn read_script(alloc: Global, text: &[u8]) -> Result<Script, ScriptFault>
     ensures fault { IfErr result (λ f. IsScriptFault text.now f ⊎ RanOut text.now f) }
 {
     let (first, mut rest) = next_line(text);
-    let founders = match read_founders(first) {
-        Ok(founders) => founders,
-        Err(fault) => return Err(ScriptFault { fault, line: 1 }),
-    };
+    let founders = at_line(1, read_founders(first))?;
     let mut steps = Vec::new(alloc);
     while !rest.is_empty() {
         let (line, behind) = next_line(rest);
         let number = steps.len() as u64 + 2;
-        if let Err(fault) = push_step(alloc, line, &mut steps) {
-            return Err(ScriptFault {
-                fault,
-                line: number,
-            });
-        }
+        at_line(number, push_step(alloc, line, &mut steps))?;
         rest = behind;
     }
     Ok(Script {
@@ -65,8 +57,16 @@ pub fn read_script(alloc: Global, text: &[u8]) -> Result<Script, ScriptFault>
     })
 }
 
-// The founders that the first line of a script tells.
-fn read_founders(line: &[u8]) -> Result<Members, Fault>
+/// What a line tells; a fault with the number of the line.
+pub(crate) fn at_line<T>(line: u64, told: Result<T, Fault>) -> Result<T, ScriptFault>
+    ensures ok { IfOk result (λ x. told ≡ Ok x) }
+    ensures fault { IfErr result (λ f. (f.line ≡ line) × (told ≡ Err f.fault)) }
+{
+    told.map_err(|fault| ScriptFault { fault, line })
+}
+
+/// The founders that the first line of a script tells.
+pub(crate) fn read_founders(line: &[u8]) -> Result<Members, Fault>
     ensures found { IfOk result (λ s. AreFounders s × (line.now ≡ founders_line s)) }
     ensures fault { IfErr result (λ f. IsLineFault TellNoFounders line.now f) }
 {

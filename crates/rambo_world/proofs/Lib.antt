@@ -5,10 +5,11 @@ mod Stepping
 mod Merging
 mod Delivering
 mod Turns
-mod Sizes
+pub mod Sizes
 mod Changing
 mod Sendings
 mod Sharing
 mod Deliveries
-mod Longer
+pub mod Longer
 mod Starting
+mod Reached

@@ -1,10 +1,11 @@
 //! All letters that were ever sent.
-ghost use Rattle.std.specs.Prelude.{◌≡◌, ◌++◌, ◌∷◌, [], List, Some, length, slice_get, OnOk, OnErr, IfErr, IfOk};
+ghost use Rattle.std.specs.Prelude.{◌≡◌, ◌++◌, ◌∷◌, [], List, Some, length, slice_get, OnOk, OnErr, IfErr, IfOk, IsTrue};
 ghost use Rattle.rambo_gossip.specs.Outlines.{outlined};
 ghost use Rattle.rambo_world.specs.declared.standing.Standing.{Standing};
 ghost use Rattle.rambo_world.specs.Kept.{kind_of, sent_at};
 ghost use Rattle.rambo_world.specs.Shared.{gossip_in, sent_in, standing_of, IsHeld};
 
+use crate::nodes::place_of;
 use crate::outline::Outline;
 use crate::sent::Sent;
 use crate::standing::Standing;
@@ -13,11 +14,13 @@ use rambo_names::{Members, Quorums, Refusal};
 use std::alloc::Global;
 use std::marker::Model;
 
-/// The letters, the first one sent is letter 1. Letters that follow each other share a standing that is the same.
+/// The letters, the first one sent is letter 1. A sender's letters share a standing as long as it stays the same.
 #[derive(Drop)]
 pub(crate) struct Letters<Q: Quorums> {
     list: Vec<Sent>,
     standings: Vec<Standing<Q>>,
+    // The place of what each sender told last, of the names 1, 2, .. in turn; 0 before that.
+    latest: [usize; 64],
     // Never filled: it tells the prover that a standing has a size, which it doesn't see behind a `Vec`.
     spare: Option<Standing<Q>>,
 }
@@ -46,6 +49,7 @@ impl<Q: Quorums> Letters<Q> {
         Letters {
             list: Vec::new(alloc),
             standings: Vec::new(alloc),
+            latest: [0; 64],
             spare: None,
         }
     }
@@ -84,8 +88,10 @@ impl<Q: Quorums> Letters<Q> {
         ensures err { OnErr result (self.new ≡ self.old) }
         ensures refused { IfErr result (λ r. r ≡ Refusal.OutOfMemory) }
     {
+        let sender = place_of(outline.letter.sender);
         self.list.reserve(1)?;
-        let sent = keep(&mut self.standings, outline)?;
+        let sent = keep(&mut self.standings, self.latest[sender], outline)?;
+        self.latest[sender] = sent.standing;
         self.list.push_reserved(sent);
         Ok(())
     }
@@ -125,9 +131,10 @@ fn read_gossip<Q: Quorums>(standings: &[Standing<Q>], sent: Sent) -> Option<Goss
     }
 }
 
-// A letter as it is kept.
+// A letter as it is kept, where its sender told last what stands at a place.
 fn keep<Q: Quorums>(
     standings: &mut Vec<Standing<Q>>,
+    latest: usize,
     outline: &Outline<'_, Q>,
 ) -> Result<Sent, Refusal>
     ensures kept { IfOk result (λ s. sent_in standings.new.items s ≡ outline.now) }
@@ -150,7 +157,7 @@ fn keep<Q: Quorums>(
         Some(gossip) => Ok(Sent {
             told: outline.told,
             known: gossip.known,
-            standing: shared(standings, gossip)?,
+            standing: shared(standings, latest, gossip)?,
             number: gossip.number,
             heard: gossip.heard,
             sender: letter.sender,
@@ -160,19 +167,34 @@ fn keep<Q: Quorums>(
     }
 }
 
-// The place of what gossip tells of configurations: the last one where that is the same, and else a new one.
+// The place of what gossip tells of configurations: the latest one where that is the same, and else a new one.
 fn shared<Q: Quorums>(
     standings: &mut Vec<Standing<Q>>,
+    latest: usize,
     gossip: &GossipOutline<'_, Q>,
 ) -> Result<usize, Refusal>
     ensures at { IfOk result (λ place. slice_get standings.new.items place ≡ Some (standing_of gossip.now)) }
     ensures grows { (more : List (Standing _)) × (standings.new.items ≡ standings.old.items ++ more) }
     ensures refused { IfErr result (λ r. r ≡ Refusal.OutOfMemory) }
 {
-    let count = standings.len();
-    if count > 0 && standings[count - 1].is_told_by(gossip) {
-        return Ok(count - 1);
+    if is_told_at(standings.as_slice(), latest, gossip) {
+        return Ok(latest);
     }
+    let count = standings.len();
     standings.push(Standing::of(gossip))?;
     Ok(count)
+}
+
+// Whether gossip tells of configurations what stands at a place.
+fn is_told_at<Q: Quorums>(
+    standings: &[Standing<Q>],
+    place: usize,
+    gossip: &GossipOutline<'_, Q>,
+) -> bool
+    ensures { IsTrue result → slice_get standings.now place ≡ Some (standing_of gossip.now) }
+{
+    match standings.get(place) {
+        Some(standing) => standing.is_told_by(gossip),
+        None => false,
+    }
 }

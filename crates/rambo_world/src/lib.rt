@@ -8,6 +8,7 @@ mod merged_counts;
 mod node_steps;
 mod nodes;
 mod outline;
+mod running;
 mod runs;
 mod sent;
 mod standing;
@@ -16,5 +17,6 @@ mod world;
 
 pub use rambo_run::{NodeMap, Outcome, Step};
 pub use rambo_sequence::KeySequence;
+pub use running::Running;
 pub use runs::run;
 pub use world::World;

@@ -201,7 +201,7 @@ fn configs_of<Q: Quorums>(alloc: Global, places: &Places<Q>) -> Result<Vec<Q>, R
 }
 
 // Where the node of a name stands.
-fn place_of(name: Name) -> usize
+pub(crate) fn place_of(name: Name) -> usize
     ensures place { result ≡ name - 1 }
     ensures within { result < 64 }
     ensures named { IsName name }

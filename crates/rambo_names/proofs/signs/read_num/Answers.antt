@@ -1,35 +1,50 @@
-use Rattle.std.proofs.Common.{◌≡◌, ℕ, ◌^◌, ◌<◌, List, true, Option, Result, Ok, Err, decimal, IfSome, IfNone, subst, sym, ap, ◌∙◌, true≢false}
-use Rattle.std.proofs.lemmas.Fmt.{IsAscii-decimal}
-use Rattle.std.proofs.lemmas.Str.{IsUtf8-from_ascii}
-use Rattle.std.specs.Str.{IsUtf8}
-use Rattle.std.specs.Result.{result_ok}
-use Rattle.std.specs.Str.Parse.{ParsesUnsigned}
-use Rattle.std.specs.declared.num.ParseIntError.{ParseIntError}
+use Rattle.std.proofs.Common.{◌≡◌, ◌<◌, ◌^◌, ℕ, take, decimal, IfNone, subst, sym, ap, ◌∙◌, true≢false, arith, ⊎_elim}
+use Rattle.std.proofs.lemmas.List.{take_all}
+use Rattle.std.specs.Str.Parse.{AllDigits, digits_value}
 use Rattle.rambo_names.specs.Signs.{starts_plainly}
-use Rattle.rambo_names.proofs.Numerals.{is_numeral, plain_numeral, no_numeral}
+use Rattle.rambo_names.proofs.Numerals.{is_numeral, plain_numeral, more_digits, more_value, digit_in, fits_more}
 use Rattle.rambo_names.proofs.signs.read_num.Goals as goal
-
--- what `parse` gives, as an option
-found : (bs : List ℕ) (r : Result ℕ ParseIntError) (o : Option ℕ) → o ≡ result_ok r → starts_plainly bs ≡ true → ParsesUnsigned 64 10 bs r → IfSome o (λ n. bs ≡ decimal n)
-found bs (Ok n) o e p parses = subst (λ o. IfSome o (λ n. bs ≡ decimal n)) (sym e) (is_numeral bs n p parses)
-found bs (Err x) o e p parses = subst (λ o. IfSome o (λ n. bs ≡ decimal n)) (sym e) tt
-
-none : (bs : List ℕ) (r : Result ℕ ParseIntError) (o : Option ℕ) → o ≡ result_ok r → ParsesUnsigned 64 10 bs r → IfNone o ((n : ℕ) → n < 2 ^ 64 → bs ≡ decimal n → ⊥)
-none bs (Ok n) o e parses = subst (λ o. IfNone o ((n : ℕ) → n < 2 ^ 64 → bs ≡ decimal n → ⊥)) (sym e) tt
-none bs (Err x) o e parses = subst (λ o. IfNone o ((n : ℕ) → n < 2 ^ 64 → bs ≡ decimal n → ⊥)) (sym e) (λ n h is. no_numeral n bs x h is parses)
 
 pub returns-then-not-starts_plainly-clause-none : goal.returns-then-not-starts_plainly-clause-none
 returns-then-not-starts_plainly-clause-none c n h e = true≢false (sym (plain_numeral n h) ∙ ap starts_plainly (sym e) ∙ sym c.starts_plainly.ensures ∙ c.if-not-starts_plainly.true)
 
-pub returns-in_default-clause-none : goal.returns-in_default-clause-none
-returns-in_default-clause-none c n h e =
-    c.in_default.ensures.cases.0 (subst IsUtf8 (sym e) (IsUtf8-from_ascii (decimal n) (IsAscii-decimal n h)))
+pub returns-then-not-is_ascii_digit-clause-none : goal.returns-then-not-is_ascii_digit-clause-none
+returns-then-not-is_ascii_digit-clause-none c n h e =
+    let range = digit_in n c.args.bytes.now c.loop-byte.byte-index h e c.loop-byte-test.true in
+    ⊎_elim (λ l. omega (arith, l, range)) (λ l. omega (arith, l, range)) c.if-not-is_ascii_digit.ensures.cases
+
+pub returns-in_err-checked_mul-clause-none : goal.returns-in_err-checked_mul-clause-none
+returns-in_err-checked_mul-clause-none c =
+    subst (λ o. IfNone o ((n : ℕ) → n < 2 ^ 64 → c.args.bytes.now ≡ decimal n → ⊥)) (sym c.from_residual.ensures)
+    (λ n h e. let fits = fits_more n c.args.bytes.now c.loop-byte.byte-index h e c.loop-byte-test.true in
+    let value = c.loop-byte.invariant.1 in
+    c.in_err-checked_mul.ensures (omega (arith, fits, value)))
+
+pub returns-in_err-number-clause-none : goal.returns-in_err-number-clause-none
+returns-in_err-number-clause-none c =
+    subst (λ o. IfNone o ((n : ℕ) → n < 2 ^ 64 → c.args.bytes.now ≡ decimal n → ⊥)) (sym c.from_residual-in_err-number.ensures)
+    (λ n h e. let fits = fits_more n c.args.bytes.now c.loop-byte.byte-index h e c.loop-byte-test.true in
+    let value = c.loop-byte.invariant.1 in
+    let tens = c.in_ok-checked_mul.ensures.1 in
+    let digit = c.from.ensures in
+    c.in_err-number.ensures (omega (arith, fits, value, tens, digit)))
+
+pub loop-byte-preserved : goal.loop-byte-preserved
+loop-byte-preserved c =
+    let bs = c.args.bytes.now in
+    let i = c.loop-byte.byte-index in
+    let more = more_value bs i c.loop-byte-test.true c.if-not-is_ascii_digit.ensures.cases in
+    let value = c.loop-byte.invariant.1 in
+    let tens = c.in_ok-checked_mul.ensures.1 in
+    let digit = c.from.ensures in
+    let sum = c.in_ok-number.ensures in
+    let sum_fits = sum.0 in
+    let sum_is = sum.1 in
+    (more_digits bs i c.loop-byte-test.true c.if-not-is_ascii_digit.ensures.bound c.loop-byte.invariant.0, omega (arith, more, value, tens, digit, sum_is), omega (arith, sum_fits, sum_is))
 
 pub returns-clause-found : goal.returns-clause-found
 returns-clause-found c =
-    found c.args.bytes.now c.parse.result c.ok.result c.ok.ensures.value (sym c.starts_plainly.ensures ∙ c.if-not-starts_plainly.false)
-    (subst (λ bs. ParsesUnsigned 64 10 bs c.parse.result) c.in-Ok.ensures.cases.0 c.parse.ensures.value.0)
-
-pub returns-clause-none : goal.returns-clause-none
-returns-clause-none c =
-    none c.args.bytes.now c.parse.result c.ok.result c.ok.ensures.value (subst (λ bs. ParsesUnsigned 64 10 bs c.parse.result) c.in-Ok.ensures.cases.0 c.parse.ensures.value.0)
+    let bs = c.args.bytes.now in
+    let all : take c.loop-byte.byte-index bs ≡ bs = take_all c.loop-byte.byte-index bs c.loop-byte-test.false in
+    is_numeral bs c.loop-byte.number (sym c.starts_plainly.ensures ∙ c.if-not-starts_plainly.false)
+    (subst (AllDigits 10) all c.loop-byte.invariant.0) (c.loop-byte.invariant.1 ∙ ap (digits_value 10) all) c.loop-byte.invariant.2

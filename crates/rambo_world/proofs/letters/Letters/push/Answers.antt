@@ -2,8 +2,12 @@ use Rattle.std.proofs.Common.{◌∙◌, ◌++◌, map, length, slice_get, sym, 
 use Rattle.rambo_world.specs.Shared.{sent_in, IsHeld, AreHeld}
 use Rattle.rambo_world.proofs.Growth.{on_err_all}
 use Rattle.rambo_world.proofs.Sendings.{sent_push}
+use Rattle.rambo_world.proofs.Sizes.{up_fits, back_fits, variant_fits}
 use Rattle.rambo_world.proofs.Sharing.{all_held, all_stay, pushed_view}
 use Rattle.rambo_world.proofs.letters.Letters.push.Goals as goal
+
+pub keep-requires : goal.keep-requires
+keep-requires g c = variant_fits _ _ _ _ (back_fits _ _ _ (up_fits _ _ _ c.requires-raw.1))
 
 pub invariant_of-self : goal.invariant_of-self
 invariant_of-self g c = subst (AreHeld (length c.self.inside.standings.items)) (sym c.reserve.ensures.items) c.self.invariant

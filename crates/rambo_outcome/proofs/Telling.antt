@@ -1,0 +1,227 @@
+-- What is told of a step right after it stays as it is: so the text of a run may be written step by step
+use Rattle.std.proofs.Common.{◌≡◌, ℕ, map, ◌+◌, Bool, true, false, if◌then◌else◌, List, [], ◌∷◌, ◌++◌, length, nat_lt, Option, None, Some, Result, Ok, refl, sym, ap, ◌∙◌, append_assoc, append-nil, inl, inr, arith}
+use Rattle.rambo_names.specs.declared.refusal.Refusal.{Refusal}
+use Rattle.rambo_names.specs.Quorums.{QuorumSystem}
+use Rattle.rambo_atomic.specs.declared.operation.Op.{Op}
+use Rattle.rambo_atomic.specs.declared.event.CallId.{CallId}
+use Rattle.rambo_atomic.specs.declared.event.Event.{Event}
+use Rattle.rambo_atomic.specs.declared.event.Event.TheVariants as event
+use Rattle.rambo_atomic.specs.Histories.{call_in}
+use Rattle.rambo_config_map.specs.Maps.{active_at, end_of}
+use Rattle.rambo_gc.specs.declared.gc_move.GcMove.{GcMove}
+use Rattle.rambo_gc.specs.declared.gc_move.GcMove.TheVariants.{Propagating, Done}
+use Rattle.rambo_gc.specs.Collections.{CollectionState}
+use Rattle.rambo_paxos.specs.declared.bid.Bid.{Bid}
+use Rattle.rambo_paxos.specs.declared.bid.Bid.TheVariants as bid
+use Rattle.rambo_paxos.specs.Attempts.{AttemptState, bid_of}
+use Rattle.rambo_node.specs.declared.change.Change.{Change}
+use Rattle.rambo_node.specs.declared.change.Change.TheVariants as change
+use Rattle.rambo_node.specs.declared.effect.Effect.{Effect}
+use Rattle.rambo_node.specs.declared.effect.Effect.TheVariants as effect
+use Rattle.rambo_node.specs.declared.stage.Stage.{Stage}
+use Rattle.rambo_node.specs.declared.stage.Stage.TheVariants.{Query, Propagation}
+use Rattle.rambo_node.specs.Calls.{CallState}
+use Rattle.rambo_node.specs.Changes.{told, decided, stage_met, advanced, begun_again, collection_turned, collection_advanced, rebid_made, bid_made, attempt_advanced, made_by}
+use Rattle.rambo_node.specs.Nodes.{NodeState, open_call}
+use Rattle.rambo_node.specs.Reconfigurations.{attempt_ended, collection_move}
+use Rattle.rambo_run.specs.declared.step.Step.{Step}
+use Rattle.rambo_run.specs.Worlds.{WorldState, first_world, node_at}
+use Rattle.rambo_run.specs.Steps.{Meant, Turn, meant, with_event, refusal, turn_by, turn_at, turn_of, turn}
+use Rattle.rambo_run.specs.Runs.{MapOf, after, unless_refused, run_from, run, result_of, results_from, maps_of, outcome_at, outcome_of}
+use Rattle.rambo_run.proofs.Events.{none_or_some, call_kept, call_last}
+use Rattle.rambo_sequence.specs.Sequences.{SequenceOf, sequences_of}
+use Rattle.rambo_outcome.specs.Lines.{Item, Ordered, items_text}
+use Rattle.rambo_outcome.specs.Outcomes.{call_items, step_items, steps_items, map_item, outcome_lines}
+use Rattle.rambo_outcome.proofs.Loops.{items-append, whole_text}
+
+-- a history, and a longer one that begins with it
+abbrev Grows : List Event → List Event → Type 0
+Grows h k = (more : List Event) × (k ≡ h ++ more)
+
+grows-refl : (h : List Event) → Grows h h
+grows-refl h = ([], sym (append-nil h))
+
+grows-trans : (h k l : List Event) → Grows h k → Grows k l → Grows h l
+grows-trans h k l a b = (a.0 ++ b.0, b.1 ∙ ap (λ t. t ++ b.0) a.1 ∙ append_assoc h a.0 b.0)
+
+event_grows : (h : List Event) (e : Option Event) → Grows h (with_event h e)
+event_grows h None = grows-refl h
+event_grows h (Some e) = (e ∷ [], refl)
+
+-- of a call that is told the history has what it asked
+abbrev IsTold : {Q : Type 0} → List Event → Effect Q → Type 0
+IsTold h effect.Done = Unit {0}
+IsTold h (effect.Called c) = (o : Op) × (call_in h c ≡ Some o)
+IsTold h (effect.Sent l) = Unit {0}
+IsTold h effect.Moved = Unit {0}
+IsTold h (effect.Answered c a) = Unit {0}
+IsTold h (effect.Collected name place) = Unit {0}
+IsTold h (effect.Decided name d) = Unit {0}
+
+-- as the history grows, the same is told
+abbrev Stays : {Q : Type 0} → QuorumSystem Q → List Event → Result (Effect Q) Refusal → Type 0
+Stays s h r = (k : List Event) (n : ℕ) → Grows h k → step_items s k n r ≡ step_items s h n r
+
+told_stays : {Q : Type 0} (s : QuorumSystem Q) (h : List Event) (e : Effect Q) → IsTold h e → Stays s h (Ok e)
+told_stays s h effect.Done is k n more = refl
+told_stays s h (effect.Called c) is k n more =
+    ap (call_items c) (ap (λ l. call_in l c) more.1 ∙ call_kept h more.0 c is.0 is.1 ∙ sym is.1)
+told_stays s h (effect.Sent l) is k n more = refl
+told_stays s h effect.Moved is k n more = refl
+told_stays s h (effect.Answered c a) is k n more = refl
+told_stays s h (effect.Collected name place) is k n more = refl
+told_stays s h (effect.Decided name d) is k n more = refl
+
+called_there : (h : List Event) (c : CallId) (o : Op) → (p : Op) × (call_in (h ++ event.Call c o ∷ []) c ≡ Some p)
+called_there h c o = elim (none_or_some (call_in h c)) [
+  | inl none ↦ (o, call_last h c o none)
+  | inr p ↦ (p.0, call_kept h (event.Call c o ∷ []) c p.0 p.1)
+]
+
+module _ {Q : Type 0} (w : WorldState Q) where
+  -- what a turn tells is told of its world, whose history is longer
+  abbrev TellsTrue : Turn Q → Type 0
+  TellsTrue t = IsTold t.world.history t.effect × Grows w.history t.world.history
+
+  stage_true : (n : ℕ) (x : NodeState Q) (id : CallId) (c : CallState Q) (g : Stage) → TellsTrue (turn_by w n (stage_met x id c g))
+  stage_true n x id c Query = (tt, grows-refl w.history)
+  stage_true n x id c (Propagation kept) = (tt, event_grows w.history (stage_met x id c (Propagation kept)).deed.event)
+
+  advanced_true : (n : ℕ) (x : NodeState Q) (id : CallId) (o : Option (CallState Q)) → TellsTrue (turn_by w n (advanced x id o))
+  advanced_true n x id None = (tt, grows-refl w.history)
+  advanced_true n x id (Some c) = stage_true n x id c c.stage
+
+  again_true : (n : ℕ) (x : NodeState Q) (o : Option (CallState Q)) → TellsTrue (turn_by w n (begun_again x o))
+  again_true n x None = (tt, grows-refl w.history)
+  again_true n x (Some c) = (tt, grows-refl w.history)
+
+  turned_true : (n : ℕ) (x : NodeState Q) (g : CollectionState) (m : GcMove) → TellsTrue (turn_by w n (collection_turned x g m))
+  turned_true n x g Propagating = (tt, grows-refl w.history)
+  turned_true n x g Done = (tt, grows-refl w.history)
+
+  collection_true : (n : ℕ) (x : NodeState Q) (o : Option CollectionState) → TellsTrue (turn_by w n (collection_advanced x o))
+  collection_true n x None = (tt, grows-refl w.history)
+  collection_true n x (Some g) = turned_true n x g (collection_move x.map g)
+
+  rebid_true : (n : ℕ) (x : NodeState Q) (o : Option (AttemptState Q)) → TellsTrue (turn_by w n (rebid_made x o))
+  rebid_true n x None = (tt, grows-refl w.history)
+  rebid_true n x (Some a) = (tt, grows-refl w.history)
+
+  bid_true : (n : ℕ) (x : NodeState Q) (a : AttemptState Q) (b : Bid Q) → TellsTrue (turn_by w n (bid_made x a b))
+  bid_true n x a bid.Propose = (tt, grows-refl w.history)
+  bid_true n x a (bid.Chosen c) = (tt, grows-refl w.history)
+
+  known_true : (n : ℕ) (x : NodeState Q) (a : AttemptState Q) (t : Bool)
+      → TellsTrue (turn_by w n (if t then record { node = attempt_ended x; deed = told (decided x a (active_at x.map a.place)); letter = None } else bid_made x a (bid_of a)))
+  known_true n x a true = (tt, grows-refl w.history)
+  known_true n x a false = bid_true n x a (bid_of a)
+
+  attempt_true : (n : ℕ) (x : NodeState Q) (o : Option (AttemptState Q)) → TellsTrue (turn_by w n (attempt_advanced x o))
+  attempt_true n x None = (tt, grows-refl w.history)
+  attempt_true n x (Some a) = known_true n x a (nat_lt a.place (end_of x.map))
+
+  change_true : (n : ℕ) (x : NodeState Q) (c : Change Q) → TellsTrue (turn_by w n (made_by x c))
+  unfolding made_by
+  change_true n x (change.Join contacts) = (tt, grows-refl w.history)
+  change_true n x (change.Call o) =
+      let id : CallId = record { name = x.name; number = x.made + 1 } in
+      (called_there w.history id o, event_grows w.history (Some (event.Call id o)))
+  change_true n x (change.Send to) = (tt, grows-refl w.history)
+  change_true n x (change.Deliver l) = (tt, grows-refl w.history)
+  change_true n x (change.Advance id) = advanced_true n x id (open_call x id)
+  change_true n x (change.Again id) = again_true n x (open_call x id)
+  change_true n x change.Collect = (tt, grows-refl w.history)
+  change_true n x change.AdvanceCollect = collection_true n x x.collection
+  change_true n x (change.Recon wish) = (tt, grows-refl w.history)
+  change_true n x change.Rebid = rebid_true n x x.attempt
+  change_true n x change.AdvanceRecon = attempt_true n x x.attempt
+  change_true n x change.Stop = (tt, grows-refl w.history)
+
+  at_true : (n : ℕ) (c : Change Q) (o : Option (NodeState Q)) → TellsTrue (turn_at w n o c)
+  at_true n c None = (tt, grows-refl w.history)
+  at_true n c (Some x) = change_true n x c
+
+  of_true : (o : Option (Meant Q)) → TellsTrue (turn_of w o)
+  of_true None = (tt, grows-refl w.history)
+  of_true (Some m) = at_true m.name m.change (node_at w m.name)
+
+  turn_true : (st : Step Q) → TellsTrue (turn w st)
+  unfolding turn
+  turn_true st = of_true (meant w st)
+
+module _ {Q : Type 0} (s : QuorumSystem Q) where
+  after_grows : (w : WorldState Q) (st : Step Q) → Grows w.history (after s w st).history
+  unfolding after
+  after_grows w st = by_refusal (refusal s w st)
+    where
+      by_refusal : (o : Option Refusal) → Grows w.history (unless_refused o w (turn w st).world).history
+      by_refusal None = (turn_true w st).1
+      by_refusal (Some r) = grows-refl w.history
+
+  run_grows : (w : WorldState Q) (sts : List (Step Q)) → Grows w.history (run_from s w sts).history
+  unfolding run_from
+  run_grows w [] = grows-refl w.history
+  run_grows w (st ∷ sts) = grows-trans w.history (after s w st).history (run_from s (after s w st) sts).history (after_grows w st) (run_grows (after s w st) sts)
+
+  -- what a step of a run tells
+  abbrev pub result : WorldState Q → Step Q → Result (Effect Q) Refusal
+  result w st = result_of (refusal s w st) w st
+
+  result_stays : (w : WorldState Q) (st : Step Q) → Stays s (after s w st).history (result w st)
+  unfolding after
+  result_stays w st = by_refusal (refusal s w st)
+    where
+      by_refusal : (o : Option Refusal) → Stays s (unless_refused o w (turn w st).world).history (result_of o w st)
+      by_refusal None = told_stays s (turn w st).world.history (turn w st).effect (turn_true w st).0
+      by_refusal (Some r) = λ k n more. refl
+
+  -- of each step what is told right after it, from a number on
+  abbrev pub told_along : WorldState Q → ℕ → List (Step Q) → List Item
+  told_along w n [] = []
+  told_along w n (st ∷ sts) = step_items s (after s w st).history n (result w st) ++ told_along (after s w st) (n + 1) sts
+
+  -- it is what is told at the end
+  pub told_at_end : (w : WorldState Q) (n : ℕ) (sts : List (Step Q)) → told_along w n sts ≡ steps_items s (run_from s w sts).history n (results_from s w sts)
+  unfolding run_from results_from
+  told_at_end w n [] = refl
+  told_at_end w n (st ∷ sts) =
+      let next = after s w st in
+      λ i. sym (result_stays w st (run_from s next sts).history n (run_grows next sts)) i ++ told_at_end next (n + 1) sts i
+
+  -- and of one step more
+  pub told_more : (w : WorldState Q) (n m : ℕ) (sts : List (Step Q)) (st : Step Q) → m ≡ n + length sts
+      → told_along w n (sts ++ st ∷ []) ≡ told_along w n sts ++ step_items s (after s (run_from s w sts) st).history m (result (run_from s w sts) st)
+  unfolding run_from
+  told_more w n m [] st e =
+      let here : n ≡ m = omega (arith, e) in
+      append-nil (step_items s (after s w st).history n (result w st)) ∙ ap (λ k. step_items s (after s w st).history k (result w st)) here
+  told_more w n m (x ∷ sts) st e =
+      let next = after s w x in
+      let first = step_items s next.history n (result w x) in
+      ap (λ is. first ++ is) (told_more next (n + 1) m sts st (omega (arith, e)))
+      ∙ sym (append_assoc first (told_along next (n + 1) sts) (step_items s (after s (run_from s next sts) st).history m (result (run_from s next sts) st)))
+
+  -- the text after one step more
+  pub text_more : (first : WorldState Q) (sts : List (Step Q)) (st : Step Q) (w next : WorldState Q) (r : Result (Effect Q) Refusal) (number : ℕ) (out new : List ℕ)
+      → w ≡ run_from s first sts → next ≡ after s w st → r ≡ result w st → number ≡ length sts + 1
+      → out ≡ items_text (told_along first 1 sts) → new ≡ out ++ items_text (step_items s next.history number r) → new ≡ items_text (told_along first 1 (sts ++ st ∷ []))
+  text_more first sts st w next r number out new is goes told counted before more =
+      let here : step_items s next.history number r ≡ step_items s (after s (run_from s first sts) st).history number (result (run_from s first sts) st) =
+      (λ i. step_items s (goes i).history number (told i)) ∙ ap (λ w. step_items s (after s w st).history number (result w st)) is in
+      more ∙ (λ i. before i ++ items_text (here i))
+      ∙ sym (items-append (told_along first 1 sts) (step_items s (after s (run_from s first sts) st).history number (result (run_from s first sts) st)))
+      ∙ ap items_text (sym (told_more first 1 number sts st (omega (arith, counted))))
+
+  -- behind the steps the sequences and the maps
+  pub text_whole : (founders : Q) (sts : List (Step Q)) (w : WorldState Q) (sequences : List SequenceOf) (maps : List (MapOf Q)) (a b c : List ℕ)
+      → w ≡ run_from s (first_world s founders) sts → sequences ≡ sequences_of w.history w.marks → maps ≡ maps_of w.nodes
+      → a ≡ items_text (told_along (first_world s founders) 1 sts) → b ≡ a ++ items_text (map Ordered sequences) → c ≡ b ++ items_text (map (map_item s) maps)
+      → c ≡ outcome_lines s (outcome_of s founders sts)
+  unfolding outcome_of run
+  text_whole founders sts w sequences maps a b c is given told steps first second =
+      let first_w = first_world s founders in
+      let o = outcome_at (results_from s first_w sts) (run_from s first_w sts) in
+      whole_text s o [] a b c refl
+      (steps ∙ ap items_text (told_at_end first_w 1 sts))
+      (first ∙ ap (λ ss. a ++ items_text (map Ordered ss)) (given ∙ ap (λ (w : WorldState Q). sequences_of w.history w.marks) is))
+      (second ∙ ap (λ ms. b ++ items_text (map (map_item s) ms)) (told ∙ ap (λ (w : WorldState Q). maps_of w.nodes) is))

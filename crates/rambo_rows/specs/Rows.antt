@@ -1,0 +1,18 @@
+-- What a right row shows
+use Rattle.std.specs.Prelude.{◌≡◌, ◌⊎◌, ◌++◌, true, false, ℕ, List, [], Option, Some, codes}
+use Rattle.rambo_names.specs.Names.{NameSet}
+use Rattle.rambo_names.specs.Signs.{set_text}
+use Rattle.rambo_local.specs.Talks.{Served}
+use Rattle.rambo_outcome.specs.Checks.{IsChecked}
+use Rattle.rambo_script.specs.Replays.{IsReplay}
+
+-- of a client that sent an input, or more than was read of it behind a fault, this is all that was replied
+abbrev pub IsServed : List ℕ → List ℕ → Type 0
+IsServed input output = (left : Option (List ℕ)) × Served (Some input) left (Some []) (Some output)
+
+-- a row of each word that ends with done, or with no: its output is that of its input by the definitions
+abbrev pub Shows : List ℕ → List ℕ → List ℕ → List ℕ → Type 0
+Shows word ending input output =
+    ((word ≡ codes "replay") × (ending ≡ codes "done" → IsReplay input output))
+    ⊎ ((word ≡ codes "check") × (ending ≡ codes "done" → IsChecked input output true) × (ending ≡ codes "no" → IsChecked input output false))
+    ⊎ ((founders : NameSet) × (word ≡ codes "local " ++ set_text founders) × (ending ≡ codes "done" → IsServed input output))

@@ -1,0 +1,115 @@
+-- A run that goes on as the lines of a script are read
+use Rattle.std.proofs.Common.{◌≡◌, ◌≢◌, ◌⊎◌, ℕ, ◌+◌, ◌≤◌, List, [], ◌∷◌, ◌++◌, length, inl, inr, refl, sym, ap, subst, ◌∙◌, arith, length-append, map}
+use Rattle.rambo_names.specs.Names.{NameSet}
+use Rattle.rambo_names.specs.Quorums.{majorities}
+use Rattle.rambo_sequence.specs.Sequences.{sequences_of}
+use Rattle.rambo_run.specs.declared.step.Step.{Step}
+use Rattle.rambo_run.specs.Worlds.{first_world}
+use Rattle.rambo_run.specs.Steps.{refusal}
+use Rattle.rambo_run.specs.Runs.{after, maps_of, result_of, run_from}
+use Rattle.rambo_world.specs.Worlds.{RunningOf}
+use Rattle.rambo_world.proofs.Longer.{run_from-more, run_from-none}
+use Rattle.rambo_text.specs.declared.fault.Fault.TheVariants.{OutOfMemory}
+use Rattle.rambo_text.specs.declared.fault.ReplayFault.{ReplayFault}
+use Rattle.rambo_text.specs.declared.fault.ReplayFault.TheVariants.{Script}
+use Rattle.rambo_text.specs.declared.fault.ScriptFault.{ScriptFault}
+use Rattle.rambo_text.specs.Words.{IsFirstLine}
+use Rattle.rambo_outcome.specs.Lines.{Ordered, items_text}
+use Rattle.rambo_outcome.proofs.Telling.{told_along, text_more, text_whole}
+use Rattle.rambo_script.specs.Scripts.{AreFounders, founders_line}
+use Rattle.rambo_script.specs.Faults.{IsLineFault, TellNoFounders, TellNoStep}
+use Rattle.rambo_script.specs.Replays.{IsReplay, GivesUp}
+use Rattle.rambo_script.specs.Runs.{IsFounded, TakesStep, IsFaultAt, ended}
+use Rattle.rambo_script.proofs.FaultOnce.{same_first}
+use Rattle.rambo_script.proofs.LineByLine.{Reads, script, less_left, reads-first, reads-next, reads-all, first-fault, reads-fault}
+
+-- some steps: their lines were read, the run took them, and the text is what was told of them
+pub record Runs (bytes : List ℕ) (r : RunningOf NameSet) (number : ℕ) (text rest : List ℕ) : Type 0 where
+  pub steps : List (Step NameSet)
+  pub reads : Reads bytes r.founders steps rest
+  pub ran : r.state ≡ run_from majorities (first_world majorities r.founders) steps
+  pub told : text ≡ items_text (told_along majorities (first_world majorities r.founders) 1 steps)
+  pub counted : number ≡ length steps
+  pub within : number + length rest ≤ length bytes
+
+-- no more is left than there was
+rest_within : (bytes line rest : List ℕ) → IsFirstLine bytes line rest → length rest ≤ length bytes
+rest_within bytes line rest first = elim first.whole [
+  | inl feed ↦ omega (arith, length-append line (10 ∷ rest), ap length feed)
+  | inr last ↦ (let none : length rest ≡ 0 = ap length last.1 in omega (arith, none))
+]
+
+-- a run of the founders of the first line
+pub founded_by : (bytes line rest : List ℕ) (s founders : NameSet) (r : RunningOf NameSet) → IsFirstLine bytes line rest → AreFounders s × (line ≡ founders_line s) → founders ≡ s
+    → r ≡ record { founders = founders; state = first_world majorities founders } → IsFounded bytes r
+founded_by bytes line rest s founders r first found same is =
+    let own : r.founders ≡ founders = ap (λ (v : RunningOf NameSet). v.founders) is in
+    let told : r.founders ≡ s = own ∙ same in
+    record {
+      line = line;
+      rest = rest;
+      is_first = first;
+      founders = subst AreFounders (sym told) found.0;
+      line_is = found.1 ∙ ap founders_line (sym told);
+      state_is = ap (λ (v : RunningOf NameSet). v.state) is ∙ ap (first_world majorities) (sym own);
+    }
+
+-- the first line was read
+pub runs_first : (bytes line rest : List ℕ) (r : RunningOf NameSet) (text : List ℕ) → IsFirstLine bytes line rest → IsFounded bytes r → text ≡ [] → Runs bytes r 0 text rest
+runs_first bytes line rest r text first founded none =
+    let is : line ≡ founders_line r.founders = same_first bytes line rest founded.line founded.rest first founded.is_first ∙ founded.line_is in
+    record {
+      steps = [];
+      reads = reads-first bytes line rest r.founders first founded.founders is;
+      ran = founded.state_is ∙ sym (run_from-none majorities (first_world majorities r.founders));
+      told = none;
+      counted = refl;
+      within = let h = rest_within bytes line rest first in omega (arith, h);
+    }
+
+-- the step of one line more was taken
+pub runs_next : (bytes rest line more : List ℕ) (r new : RunningOf NameSet) (number next : ℕ) (text longer : List ℕ) → Runs bytes r number text rest → rest ≢ [] → IsFirstLine rest line more
+    → next ≡ number + 1 → TakesStep line next r new text longer → Runs bytes new next longer more
+runs_next bytes rest line more r new number next text longer now some first is takes =
+    let s = majorities in
+    let st = takes.step in
+    let steps = now.steps ++ st ∷ [] in
+    let founders : new.founders ≡ r.founders = ap (λ (v : RunningOf NameSet). v.founders) takes.taken in
+    let state : new.state ≡ after s r.state st = ap (λ (v : RunningOf NameSet). v.state) takes.taken in
+    let first_w = first_world s r.founders in
+    let fewer = less_left rest line more some first in
+    record {
+      steps = steps;
+      reads = subst (λ f. Reads bytes f steps more) (sym founders)
+          (reads-next bytes rest line more r.founders now.steps steps now.reads some first (record { step = st; new_is = refl; has_line = takes.has_line; line_is = takes.line_is }));
+      ran = state ∙ ap (λ w. after s w st) now.ran ∙ sym (run_from-more s first_w now.steps st) ∙ ap (λ f. run_from s (first_world s f) steps) (sym founders);
+      told = text_more s first_w now.steps st r.state new.state (result_of (refusal s r.state st) r.state st) next text longer now.ran state refl (is ∙ ap (λ n. n + 1) now.counted) now.told takes.told
+          ∙ ap (λ f. items_text (told_along s (first_world s f) 1 steps)) (sym founders);
+      counted = is ∙ ap (λ n. n + 1) now.counted ∙ sym (length-append now.steps (st ∷ []));
+      within = let h = now.within in omega (arith, h, fewer, is);
+    }
+
+nothing : (xs : List ℕ) → length xs ≡ 0 → xs ≡ []
+nothing [] none = refl
+nothing (x ∷ xs) none = absurd (omega arith)
+
+-- all was read, and the sequences and the maps came behind it
+pub runs_all : (bytes rest : List ℕ) (r : RunningOf NameSet) (number : ℕ) (text whole : List ℕ) → Runs bytes r number text rest → length rest ≡ 0 → whole ≡ ended r.state text → IsReplay bytes whole
+runs_all bytes rest r number text whole now none is = record {
+  script = script r.founders now.steps;
+  is_script = reads-all bytes rest r.founders now.steps now.reads (nothing rest none);
+  text_is = text_whole majorities r.founders now.steps r.state (sequences_of r.state.history r.state.marks) (maps_of r.state.nodes) text
+      (text ++ items_text (map Ordered (sequences_of r.state.history r.state.marks))) whole now.ran refl refl now.told refl is;
+}
+
+-- the first line has a fault
+pub first_fault : (bytes line rest : List ℕ) (g : ScriptFault) → IsFirstLine bytes line rest → g.line ≡ 1 → IsLineFault TellNoFounders line g.fault → GivesUp bytes (Script g)
+first_fault bytes line rest g first number fault = inr (g, refl, first-fault bytes line rest g first number fault)
+
+-- a later line has one, or there was no room for its step
+pub later_fault : (bytes rest line more : List ℕ) (r : RunningOf NameSet) (number next : ℕ) (text : List ℕ) (f : ReplayFault) → Runs bytes r number text rest → rest ≢ [] → IsFirstLine rest line more
+    → next ≡ number + 1 → IsFaultAt (next + 1) (λ g. (g ≡ OutOfMemory) ⊎ IsLineFault TellNoStep line g) f → GivesUp bytes f
+later_fault bytes rest line more r number next text f now some first is (inl spent) = inl spent
+later_fault bytes rest line more r number next text f now some first is (inr found) =
+    let counted = now.counted in
+    inr (found.0, found.1, reads-fault bytes rest line more r.founders now.steps found.0 now.reads some first (found.2 ∙ omega (arith, is, counted)) found.3)

@@ -1,0 +1,44 @@
+-- A run that goes on as the lines of a script are read
+use Rattle.std.specs.Prelude.{◌≡◌, ◌⊎◌, ℕ, List, ◌++◌, map}
+use Rattle.rambo_names.specs.Names.{NameSet}
+use Rattle.rambo_names.specs.Quorums.{majorities}
+use Rattle.rambo_sequence.specs.Sequences.{sequences_of}
+use Rattle.rambo_run.specs.declared.step.Step.{Step}
+use Rattle.rambo_run.specs.Worlds.{WorldState, first_world}
+use Rattle.rambo_run.specs.Steps.{refusal}
+use Rattle.rambo_run.specs.Runs.{after, maps_of, result_of}
+use Rattle.rambo_world.specs.Worlds.{RunningOf}
+use Rattle.rambo_text.specs.declared.fault.Fault.{Fault}
+use Rattle.rambo_text.specs.declared.fault.ScriptFault.{ScriptFault}
+use Rattle.rambo_text.specs.declared.fault.ReplayFault.{ReplayFault}
+use Rattle.rambo_text.specs.declared.fault.ReplayFault.TheVariants.{Script, Memory}
+use Rattle.rambo_text.specs.Words.{IsFirstLine}
+use Rattle.rambo_outcome.specs.Lines.{Ordered, items_text}
+use Rattle.rambo_outcome.specs.Outcomes.{step_items, map_item}
+use Rattle.rambo_script.specs.StepLines.{step_line}
+use Rattle.rambo_script.specs.Scripts.{AreFounders, HasLine, founders_line}
+
+-- the first line tells the founders of a run that took no step
+pub record IsFounded (bytes : List ℕ) (r : RunningOf NameSet) : Type 0 where
+  pub line : List ℕ
+  pub rest : List ℕ
+  pub is_first : IsFirstLine bytes line rest
+  pub founders : AreFounders r.founders
+  pub line_is : line ≡ founders_line r.founders
+  pub state_is : r.state ≡ first_world majorities r.founders
+
+-- a run took the step of this number, which a line tells, and what is told of it came to the end of a text
+pub record TakesStep (line : List ℕ) (number : ℕ) (old new : RunningOf NameSet) (text longer : List ℕ) : Type 0 where
+  pub step : Step NameSet
+  pub has_line : HasLine step
+  pub line_is : line ≡ step_line step
+  pub taken : new ≡ record old { state = after majorities old.state step }
+  pub told : longer ≡ text ++ items_text (step_items majorities new.state.history number (result_of (refusal majorities old.state step) old.state step))
+
+-- a text, with the sequences and the maps behind it
+abbrev pub ended : WorldState NameSet → List ℕ → List ℕ
+ended w text = (text ++ items_text (map Ordered (sequences_of w.history w.marks))) ++ items_text (map (map_item majorities) (maps_of w.nodes))
+
+-- a line has a fault, or memory ran out
+abbrev pub IsFaultAt : ℕ → (Fault → Type 0) → ReplayFault → Type 0
+IsFaultAt line IsFaulty f = (f ≡ Memory) ⊎ ((g : ScriptFault) × (f ≡ Script g) × (g.line ≡ line) × IsFaulty g.fault)

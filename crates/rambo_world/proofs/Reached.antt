@@ -1,0 +1,61 @@
+-- Worlds that some steps of a run lead to
+use Rattle.std.proofs.Common.{◌≡◌, ℕ, List, [], ◌∷◌, ◌++◌, Result, Ok, Err, IfOk, OnOk, OnErr, sym, ap, ◌∙◌, subst}
+use Rattle.rambo_names.specs.declared.refusal.Refusal.{Refusal}
+use Rattle.rambo_names.specs.Quorums.{QuorumSystem, IsSound}
+use Rattle.rambo_atomic.specs.Proper.{IsProper}
+use Rattle.rambo_sequence.specs.Sequences.{SequenceOf, sequence_in, sequence_of, sequences_of}
+use Rattle.rambo_sequence.proofs.Outcomes.{sequence_in-sequences_of}
+use Rattle.rambo_run.specs.declared.step.Step.{Step}
+use Rattle.rambo_run.specs.Worlds.{WorldState, first_world}
+use Rattle.rambo_run.specs.Runs.{after, run}
+use Rattle.rambo_run.proofs.EveryRun.{agrees, is_atomic}
+use Rattle.rambo_world.specs.Worlds.{EventsFit, RunningOf, IsReached, AgreesSoFar}
+use Rattle.rambo_world.proofs.Longer.{run_is, run_none, run_from-more, events_fit_run}
+
+-- the run of one step more
+pub run-after : {Q : Type 0} (s : QuorumSystem Q) (founders : Q) (sts : List (Step Q)) (st : Step Q) → run s founders (sts ++ st ∷ []) ≡ after s (run s founders sts) st
+run-after s founders sts st =
+    run_is s founders (sts ++ st ∷ []) ∙ run_from-more s (first_world s founders) sts st ∙ ap (λ w. after s w st) (sym (run_is s founders sts))
+
+pub reached_first : {Q : Type 0} (s : QuorumSystem Q) (founders : Q) (w : WorldState Q) → w ≡ first_world s founders → IsReached s founders w
+reached_first s founders w first = ([], first ∙ sym (run_none s founders))
+
+pub reached_next : {Q : Type 0} (s : QuorumSystem Q) (founders : Q) (w new : WorldState Q) (st : Step Q) → IsReached s founders w → new ≡ after s w st → IsReached s founders new
+reached_next s founders w new st before e = (before.0 ++ st ∷ [], e ∙ ap (λ w. after s w st) before.1 ∙ sym (run-after s founders before.0 st))
+
+-- whether or not there was room for the step
+pub reached_on : {Q A B : Type 0} (s : QuorumSystem Q) (founders : Q) (w new : WorldState Q) (st : Step Q) (r : Result A B) → IsReached s founders w
+    → OnOk r (new ≡ after s w st) → OnErr r (new ≡ w) → IsReached s founders new
+reached_on s founders w new st (Ok x) before done same = reached_next s founders w new st before done
+reached_on s founders w new st (Err e) before done same = subst (IsReached s founders) (sym same) before
+
+-- events fit there
+pub reached_fits : {Q : Type 0} (s : QuorumSystem Q) (founders : Q) (w : WorldState Q) → IsReached s founders w → EventsFit s w
+reached_fits s founders w reached = subst (EventsFit s) (sym reached.1) (events_fit_run s founders reached.0)
+
+-- the given sequences are proper
+reached_proper : {Q : Type 0} (s : QuorumSystem Q) → IsSound s → (founders : Q) (w : WorldState Q) → IsReached s founders w
+    → (key : List ℕ) → IsProper w.history key (sequence_in (sequences_of w.history w.marks) key)
+reached_proper s law founders w reached key =
+    subst (IsProper w.history key) (sym (sequence_in-sequences_of w.history w.marks key))
+    (subst (λ (w : WorldState _). IsProper w.history key (sequence_of w.history w.marks key)) (sym reached.1) (is_atomic s law founders reached.0 key))
+
+pub given_proper : {Q S : Type 0} (s : QuorumSystem Q) → IsSound s → (founders : Q) (w : WorldState Q) (items : S → List SequenceOf) (r : Result S Refusal) → IsReached s founders w
+    → IfOk r (λ x. items x ≡ sequences_of w.history w.marks) → IfOk r (λ x. (key : List ℕ) → IsProper w.history key (sequence_in (items x) key))
+given_proper s law founders w items (Ok x) reached e = λ key. subst (λ ss. IsProper w.history key (sequence_in ss key)) (sym e) (reached_proper s law founders w reached key)
+given_proper s law founders w items (Err f) reached e = e
+
+-- no two nodes held different configurations
+pub reached_agrees : {Q : Type 0} (s : QuorumSystem Q) → IsSound s → (founders : Q) (w : WorldState Q) → IsReached s founders w → AgreesSoFar s founders w
+reached_agrees s law founders w reached = (reached.0, reached.1, agrees s law founders reached.0)
+
+-- what a step makes of a run that goes on
+pub goes_on : {Q A B : Type 0} (s : QuorumSystem Q) (founders : Q) (w new : WorldState Q) (v : RunningOf Q) (st : Step Q) (r : Result A B) → record { founders = founders; state = w } ≡ v
+    → OnOk r (new ≡ after s w st) → OnOk r (record { founders = founders; state = new } ≡ record v { state = after s v.state st })
+goes_on s founders w new v st (Ok x) is e = λ i. record { founders = (is i).founders; state = (e ∙ ap (λ (v : RunningOf _). after s v.state st) is) i }
+goes_on s founders w new v st (Err f) is e = e
+
+pub stays : {Q A B : Type 0} (founders : Q) (w new : WorldState Q) (v : RunningOf Q) (r : Result A B) → record { founders = founders; state = w } ≡ v
+    → OnErr r (new ≡ w) → OnErr r (record { founders = founders; state = new } ≡ v)
+stays founders w new v (Ok x) is e = e
+stays founders w new v (Err f) is e = (λ i. record { founders = founders; state = e i }) ∙ is

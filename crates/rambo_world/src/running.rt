@@ -1,0 +1,103 @@
+//! Runs that go on.
+ghost use Rattle.std.specs.Prelude.{◌≡◌, List, ℕ, None, IfOk, IfErr, OnOk, OnErr};
+ghost use Rattle.rambo_names.specs.Refusals.{least, IsRefusal};
+ghost use Rattle.rambo_atomic.specs.Proper.{IsProper};
+ghost use Rattle.rambo_sequence.specs.Sequences.{sequences_of, sequence_in};
+ghost use Rattle.rambo_run.specs.Runs.{after, result_of, maps_of};
+ghost use Rattle.rambo_run.specs.Steps.{refusal};
+ghost use Rattle.rambo_run.specs.Worlds.{first_world};
+ghost use Rattle.rambo_world.specs.Worlds.{founding_causes, AgreesSoFar};
+
+use crate::state::State;
+use crate::world::may_found;
+use rambo_atomic::History;
+use rambo_names::{Quorums, Refusal};
+use rambo_node::Effect;
+use rambo_run::{NodeMap, Step};
+use rambo_sequence::KeySequence;
+use rambo_tag::Replica;
+use std::alloc::Global;
+use std::marker::Model;
+
+/// A run that goes on step by step. The steps that it took aren't kept: what they made of the world of its founders is.
+#[derive(Drop)]
+pub struct Running<Q: Quorums, S: Replica> {
+    founders: Q,
+    state: State<Q, S>,
+}
+
+impl<Q: Quorums, S: Replica> Model for Running<Q, S> {
+    ghost use Rattle.std.specs.Coded.{codes};
+    ghost use Rattle.rambo_names.specs.Names.{names_code};
+    ghost use Rattle.rambo_tag.specs.Copies.{copies_code};
+    ghost use Rattle.rambo_world.specs.Worlds.{RunningOf, IsReached};
+
+    ghost Value = { RunningOf Q };
+
+    ghost coded = { Prim.hlevel (codes, names_code, copies_code, Q.code) };
+
+    ghost view = { λ r. record { founders = r.founders; state = r.state } };
+
+    ghost invariant = { λ r. IsReached Q.system r.founders r.state };
+}
+
+impl<Q: Quorums, S: Replica> Running<Q, S> {
+    /// The run of these founders, before any step. The copies of each node are made by `fresh` of a replica.
+    ///
+    /// Refused are 18 where there is no founder, 22 where there is no room for it.
+    pub fn new(alloc: Global, founders: Q, replica: &S) -> Result<Running<Q, S>, Refusal>
+        ensures founded { OnOk result (least (founding_causes Q.system founders) ≡ None) }
+        ensures made { IfOk result (λ r. r ≡ record { founders = founders; state = first_world Q.system founders }) }
+        ensures refused { IfErr result (IsRefusal (least (founding_causes Q.system founders))) }
+    {
+        may_found(founders)?;
+        Ok(Running {
+            founders,
+            state: State::new(alloc, founders, replica)?,
+        })
+    }
+
+    /// Takes a step: what it did, or why it was refused, after which the run goes on.
+    ///
+    /// `OutOfMemory` where there is no room for what it does; then nothing changes.
+    pub fn take(&mut self, step: &Step<Q>) -> Result<Result<Effect<Q>, Refusal>, Refusal>
+        ensures told { IfOk result (λ r. r ≡ result_of (refusal Q.system self.old.state step.now) self.old.state step.now) }
+        ensures after { OnOk result (self.new ≡ record self.old { state = after Q.system self.old.state step.now }) }
+        ensures err { OnErr result (self.new ≡ self.old) }
+        ensures refused { IfErr result (λ r. r ≡ Refusal.OutOfMemory) }
+    {
+        self.state.take(step)
+    }
+
+    /// The calls and answers, in order.
+    pub fn history(&self) -> &History
+        ensures { result.now.events ≡ self.now.state.history }
+    {
+        &self.state.history
+    }
+
+    /// The given sequences of all keys that have one. The answered operations of each key, with some sets that weren't
+    /// answered, stand in its sequence: each get answers the latest set before it, or nil, and what was answered before
+    /// another operation was called stands before it.
+    ///
+    /// `OutOfMemory` where there is no room for them.
+    pub fn sequences(&self, alloc: Global) -> Result<Vec<KeySequence>, Refusal>
+        ensures given { IfOk result (λ s. s.items ≡ sequences_of self.now.state.history self.now.state.marks) }
+        ensures proper { IfOk result (λ s. (key : List ℕ) → IsProper self.now.state.history key (sequence_in s.items key)) }
+        ensures refused { IfErr result (λ r. r ≡ Refusal.OutOfMemory) }
+    {
+        self.state.sequences(alloc)
+    }
+
+    /// The maps of the nodes that aren't idle. No two nodes, at one moment of the run or at two, hold different
+    /// configurations at one place.
+    ///
+    /// `OutOfMemory` where there is no room for them.
+    pub fn maps(&self, alloc: Global) -> Result<Vec<NodeMap<Q>>, Refusal>
+        ensures maps { IfOk result (λ maps. maps.items ≡ maps_of self.now.state.nodes) }
+        ensures agreed { AgreesSoFar Q.system self.now.founders self.now.state }
+        ensures refused { IfErr result (λ r. r ≡ Refusal.OutOfMemory) }
+    {
+        self.state.maps(alloc)
+    }
+}
