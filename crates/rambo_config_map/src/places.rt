@@ -103,6 +103,9 @@ impl<Q: Quorums> Places<Q> {
         ensures configs { self.new.configs ≡ drop count self.old.configs }
         ensures capacity { self.new.capacity ≡ self.old.capacity }
     {
+        if count == 0 {
+            return;
+        }
         let slots = self.slots.as_mut_slice();
         let len = slots.len();
         let start = count.min(len);
@@ -151,6 +154,9 @@ impl<Q: Quorums> Places<Q> {
         let slots = other.slots.as_slice();
         let start = from.min(slots.len());
         let more = &slots[start..];
+        if more.is_empty() {
+            return Ok(());
+        }
         self.slots.reserve(more.len())?;
         append_slots(&mut self.slots, more);
         Ok(())

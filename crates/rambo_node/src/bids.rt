@@ -1,9 +1,8 @@
 //! What a node makes of the votes and offers of others, and of replies to its collection.
-ghost use Rattle.std.specs.Prelude.{◌≡◌, ◌≤◌, ◌+◌, nat_eq, nat_lt, length};
+ghost use Rattle.std.specs.Prelude.{◌≡◌, ◌≤◌, ◌+◌, if◌then◌else◌, nat_eq, nat_lt, length};
 ghost use Rattle.rambo_config_map.specs.Maps.{end_of, merged_map};
-ghost use Rattle.rambo_gossip.specs.Outlines.{gossip_outlined};
-ghost use Rattle.rambo_paxos.specs.Votes.{taken_if};
-ghost use Rattle.rambo_node.specs.Hearing.{collection_after, attempt_after, vote_after, vote_kept, heard_for};
+ghost use Rattle.rambo_paxos.specs.Votes.{empty_vote, taken_if};
+ghost use Rattle.rambo_node.specs.Hearing.{collection_after, heard_for};
 ghost use Rattle.rambo_node.specs.Kept.{AttemptFits};
 ghost use Rattle.rambo_node.specs.Letters.{offer_for};
 
@@ -25,87 +24,78 @@ impl<Q: Quorums, S: Replica> Node<Q, S> {
             _ => None,
         }
     }
-
-    // Its collection after a letter of a node that had heard this number.
-    pub(crate) fn collection_after(&self, from: Name, heard: u64) -> Option<Collection>
-        ensures { result ≡ collection_after self.now.collection from heard }
-    {
-        match self.collection {
-            Some(mut collection) => {
-                collection.hear(from, heard);
-                Some(collection)
-            }
-            None => None,
-        }
-    }
-
-    // Its vote after gossip.
-    pub(crate) fn vote_after(&self, gossip: &GossipOutline<'_, Q>) -> Vote<Q>
-        ensures { result ≡ vote_after self.now (gossip_outlined gossip.now) }
-    {
-        let kept = self.vote_kept(gossip);
-        if is_level(&self.map, gossip.map) {
-            taken_if(kept, &gossip.offer)
-        } else {
-            kept
-        }
-    }
-
-    // Its vote where the first unknown place is still the same, and else an empty one.
-    fn vote_kept(&self, gossip: &GossipOutline<'_, Q>) -> Vote<Q>
-        ensures { result ≡ vote_kept self.now (gossip_outlined gossip.now) }
-    {
-        if is_longer(gossip.map, &self.map) {
-            return Vote::new();
-        }
-        self.vote
-    }
-
-    // Its attempt after gossip of a node.
-    pub(crate) fn attempt_after(
-        &self,
-        from: Name,
-        gossip: &GossipOutline<'_, Q>,
-    ) -> Option<Attempt<Q>>
-        ensures after { result ≡ attempt_after self.now from (gossip_outlined gossip.now) }
-        ensures fits { AttemptFits (merged_map self.now.map gossip.now.map.now) result }
-    {
-        if is_level(&self.map, gossip.map) {
-            heard_for(self.attempt, gossip.map, from, &gossip.vote)
-        } else {
-            self.attempt
-        }
-    }
 }
 
-// The vote after an offer, if there is one.
-fn taken_if<Q: Quorums>(vote: Vote<Q>, offer: &Option<Offer<Q>>) -> Vote<Q>
-    ensures { result ≡ taken_if vote offer.now }
+// A collection, if there is one, hears a letter of a node that had heard this number.
+pub(crate) fn hear_reply(collection: &mut Option<Collection>, from: Name, heard: u64)
+    ensures { collection.new ≡ collection_after collection.old from heard }
 {
-    let mut taken = vote;
-    if let Some(offer) = offer {
-        taken.take(offer);
+    if let Some(collection) = collection {
+        collection.hear(from, heard);
     }
-    taken
 }
 
-// The attempt after a vote of a node for the first place that a map doesn't know.
-fn heard_for<Q: Quorums>(
-    attempt: Option<Attempt<Q>>,
+// The attempt of a node with this map, if there is one, hears gossip: a vote that is for its place.
+pub(crate) fn hear_vote<Q: Quorums>(
+    attempt: &mut Option<Attempt<Q>>,
+    map: &ConfigMap<Q>,
+    from: Name,
+    gossip: &GossipOutline<'_, Q>,
+)
+    ensures after { attempt.new ≡ (if nat_eq (end_of gossip.now.map.now) (end_of (merged_map map.now gossip.now.map.now)) then heard_for (end_of gossip.now.map.now) attempt.old from gossip.now.vote else attempt.old) }
+    ensures fits { AttemptFits map.now attempt.old → AttemptFits (merged_map map.now gossip.now.map.now) attempt.new }
+{
+    if is_level(map, gossip.map) {
+        hear_vote_for(attempt, gossip.map, from, &gossip.vote);
+    }
+}
+
+// The vote of a node with this map hears gossip: it is emptied where its place has come to be known, and takes an
+// offer that is for the same place.
+pub(crate) fn hear_offer<Q: Quorums>(
+    vote: &mut Vote<Q>,
+    map: &ConfigMap<Q>,
+    gossip: &GossipOutline<'_, Q>,
+)
+    ensures { vote.new ≡ (if nat_eq (end_of gossip.now.map.now) (end_of (merged_map map.now gossip.now.map.now)) then taken_if (if nat_lt (end_of map.now) (end_of gossip.now.map.now) then empty_vote else vote.old) gossip.now.offer else (if nat_lt (end_of map.now) (end_of gossip.now.map.now) then empty_vote else vote.old)) }
+{
+    keep_if_next(vote, map, gossip.map);
+    if is_level(map, gossip.map) {
+        take_if(vote, &gossip.offer);
+    }
+}
+
+// Keeps a vote where the first unknown place is still the same, and else empties it.
+fn keep_if_next<Q: Quorums>(vote: &mut Vote<Q>, map: &ConfigMap<Q>, other: &ConfigMap<Q>)
+    ensures { vote.new ≡ (if nat_lt (end_of map.now) (end_of other.now) then empty_vote else vote.old) }
+{
+    if is_longer(other, map) {
+        *vote = Vote::new();
+    }
+}
+
+// Takes an offer, if there is one.
+fn take_if<Q: Quorums>(vote: &mut Vote<Q>, offer: &Option<Offer<Q>>)
+    ensures { vote.new ≡ taken_if vote.old offer.now }
+{
+    if let Some(offer) = offer {
+        vote.take(offer);
+    }
+}
+
+// An attempt, if there is one, hears a vote of a node for the first place that a map doesn't know.
+fn hear_vote_for<Q: Quorums>(
+    attempt: &mut Option<Attempt<Q>>,
     map: &ConfigMap<Q>,
     from: Name,
     vote: &Vote<Q>,
-) -> Option<Attempt<Q>>
-    ensures { result ≡ heard_for (end_of map.now) attempt from vote.now }
+)
+    ensures { attempt.new ≡ heard_for (end_of map.now) attempt.old from vote.now }
 {
-    match attempt {
-        Some(mut attempt) => {
-            if is_next(map, attempt.place()) {
-                attempt.hear_vote(from, vote);
-            }
-            Some(attempt)
+    if let Some(attempt) = attempt {
+        if is_next(map, attempt.place()) {
+            attempt.hear_vote(from, vote);
         }
-        None => None,
     }
 }
 

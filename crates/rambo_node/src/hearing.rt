@@ -10,6 +10,7 @@ ghost use Rattle.rambo_node.specs.Letters.{letter_for};
 ghost use Rattle.rambo_node.specs.Refusals.{is_last};
 ghost use Rattle.rambo_node.specs.declared.change.Change.TheVariants as change;
 
+use crate::bids::{hear_offer, hear_reply, hear_vote};
 use crate::node::Node;
 use rambo_config_map::ConfigMap;
 use rambo_gossip::{Gossip, GossipOutline, Kind, Letter, LetterOutline};
@@ -163,11 +164,13 @@ impl<Q: Quorums, S: Replica> Node<Q, S> {
         ensures err { OnErr result (self.new ≡ self.old) }
     {
         let own = self.number_after(gossip.heard, gossip.map);
-        let collection = self.collection_after(from, gossip.heard);
-        let attempt = self.attempt_after(from, gossip);
-        let vote = self.vote_after(gossip);
         self.calls.make_room(gossip.map)?;
         self.registers.merge(copies)?;
+
+        // From here on nothing fails. What goes by the map as it was comes before the map.
+        hear_reply(&mut self.collection, from, gossip.heard);
+        hear_vote(&mut self.attempt, &self.map, from, gossip);
+        hear_offer(&mut self.vote, &self.map, gossip);
         self.map.merge(gossip.map);
         self.calls
             .hear(from, gossip.heard, gossip.map, own, &self.map, self.name);
@@ -175,9 +178,6 @@ impl<Q: Quorums, S: Replica> Node<Q, S> {
         self.known = self.known.union(gossip.known);
         self.heard.raise(from, gossip.number);
         self.number = own;
-        self.collection = collection;
-        self.attempt = attempt;
-        self.vote = vote;
         Ok(())
     }
 }

@@ -102,6 +102,9 @@ impl<H: BuildHasher + Clone + Drop> Replica for Registers<H> {
 
     fn merge(&mut self, pack: &Pack) -> Result<(), Refusal> {
         let rows = self.newer_rows(pack)?;
+        if rows.is_empty() {
+            return Ok(());
+        }
         self.table.reserve(rows.len())?;
         put_newer_rows(&mut self.table, rows);
         Ok(())

@@ -3,7 +3,8 @@ use Rattle.std.specs.FinSet as set
 use Rattle.rambo_tag.specs.Copies.{joined}
 use Rattle.rambo_config_map.specs.Maps.{merged_map}
 use Rattle.rambo_joiner.specs.Statuses.{woken}
-use Rattle.rambo_node.specs.Hearing.{heard_gossip, heard_call}
+use Rattle.rambo_gossip.specs.Outlines.{gossip_outlined}
+use Rattle.rambo_node.specs.Hearing.{heard_gossip, heard_call, collection_after, attempt_after, vote_after}
 use Rattle.rambo_node.specs.Nodes.{raised}
 use Rattle.rambo_node.proofs.Sizes.{up_fits, back_fits, next}
 use Rattle.rambo_node.proofs.node.Node.merge.Goals as goal
@@ -29,9 +30,9 @@ returns-clause-ok g c next =
       made = (v i).made;
       heard = (c.raise.ensures ∙ ap (λ n. raised n.heard from gossip.number) v) i;
       calls = calls i;
-      collection = c.collection_after-collection.ensures i;
-      attempt = c.attempt_after-attempt.ensures.after i;
-      vote = c.vote_after-vote.ensures i;
+      collection = (c.hear_reply.ensures ∙ ap (λ n. collection_after n.collection from gossip.heard) v) i;
+      attempt = (c.hear_vote.ensures.after ∙ ap (λ n. attempt_after n from (gossip_outlined gossip)) v) i;
+      vote = (c.hear_offer.ensures ∙ ap (λ n. vote_after n (gossip_outlined gossip)) v) i;
     }
 
 pub number_after-own-requires : goal.number_after-own-requires
