@@ -130,7 +130,10 @@ fn count<'a>(counts: &mut IndexMap<&'a [u8], usize>, key: &'a [u8]) -> Result<()
     ensures counted { OnOk result ((q : List ℕ) → count_at counts.new.entries q ≡ count_at counts.old.entries q + (if bytes_eq key.now q then 1 else 0)) }
     ensures refused { IfErr result (λ r. r ≡ Refusal.OutOfMemory) }
 {
-    let before = count_at(counts, key);
-    counts.insert(key, before + 1)?;
+    if let Some(count) = counts.get_mut(&key) {
+        *count += 1;
+        return Ok(());
+    }
+    counts.insert(key, 1)?;
     Ok(())
 }

@@ -130,9 +130,9 @@ impl History {
                 Some(_) => Some(HistoryFault::CalledTwice),
                 None => None,
             },
-            Event::Answer(id, answer) => match (self.call(id), self.answer(id)) {
-                (Some(op), None) if answer.fits(op) => None,
-                (Some(_), None) => Some(HistoryFault::WrongKind),
+            Event::Answer(id, answer) => match self.exchange(id) {
+                Some((op, None)) if answer.fits(op) => None,
+                Some((_, None)) => Some(HistoryFault::WrongKind),
                 _ => Some(HistoryFault::NotOpen),
             },
         }
@@ -196,12 +196,8 @@ fn note(index: &mut IndexMap<CallId, Places>, event: &Event, place: usize)
             let _ = index.insert(*id, places);
         }
         Event::Answer(id, _) => {
-            if let Some(places) = index.get(id) {
-                let places = Places {
-                    called: places.called,
-                    answered: Some(place),
-                };
-                let _ = index.insert(*id, places);
+            if let Some(places) = index.get_mut(id) {
+                places.answered = Some(place);
             }
         }
     }
