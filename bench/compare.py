@@ -1,109 +1,184 @@
 #!/usr/bin/env python3
-"""Times `rambo` on long scripts, side by side with another program that takes the same words.
+"""Times `rambo replay` and `rambo check` on long scripts, side by side with another program that takes the same words.
 
     bench/compare.py RAMBO [OTHER]
     bench/compare.py --count RAMBO [OTHER]
+    bench/compare.py --write RAMBO OTHER
 
-Prints for each script the best of three times, steps a second and peak memory of each program, the ratio of the two,
-and how the time grows where the steps double. With --count it prints instructions in place of times, on scripts of an
-eighth of the length, by valgrind: these are the same on a busy machine. It asserts nothing.
+Prints for each script, and for the outcome that RAMBO gives of it, the best of five times and the peak memory of each
+program, the ratios of the two, and how both grow from a script of half the steps. With --count it prints instructions in
+place of times, on scripts of an eighth of the length, by valgrind: these are the same on a busy machine. It asserts
+nothing.
+
+With --write it does both, and clients.py's part as well, and writes the tables into docs/BENCHMARKS.md and the picture
+docs/benchmarks.svg.
 """
 import os
+import platform
 import re
-import subprocess
+import shutil
 import sys
 import tempfile
-import time
 
-HERE = os.path.dirname(os.path.abspath(__file__))
+import bars
+import clients
+import scripts
+from measuring import best, instructions, megabytes, ratio, run, table
+
+DOCS = os.path.join(os.path.dirname(os.path.abspath(__file__)), "..", "docs")
+# Kind of script, steps, keys, and the ratios of time and of memory that replay is to come down to.
+SCRIPTS = [
+    ("calls", 400000, 16, 1.5, 1.5),
+    ("calls", 400000, 1000, 1.5, 1.5),
+    ("letters", 1000000, 1, 1.5, 1.5),
+    ("letters", 1000000, 16, 1.5, 1.5),
+    ("letters", 1000000, 100, 1.5, 1.5),
+    ("letters", 1000000, 1000, 1.5, 1.5),
+    ("joined", 1000000, 16, 2.0, 1.5),
+    ("founders", 1000000, 16, 2.0, 1.5),
+    ("values", 200000, 16, 1.2, 1.3),
+    ("moves", 1000000, 16, 1.5, 1.5),
+]
+CHECK_AIMS = (1.5, 1.5)
+# The second is that of a check which says no of some key.
+STATUSES = (0, 3)
 
 
-def measure(program, word, source, target):
-    """Best time of three, and the peak memory in megabytes."""
-    best, peak = None, 0
-    for _ in range(3):
-        with open(source, "rb") as reader, open(target, "wb") as writer:
-            start = time.perf_counter()
-            child = subprocess.Popen([program, word], stdin=reader, stdout=writer)
-            _, status, usage = os.wait4(child.pid, 0)
-            spent = time.perf_counter() - start
-            child.returncode = os.waitstatus_to_exitcode(status)
-        if child.returncode not in (0, 3):
-            raise SystemExit("%s %s ended with status %d" % (program, word, child.returncode))
-        best = spent if best is None else min(best, spent)
-        peak = max(peak, usage.ru_maxrss / 1024)
-    return best, peak
+class Row:
+    """One word of the programs on one script: its figures of the whole script, and of half of it."""
+
+    def __init__(self, word, kind, steps, keys, aims):
+        self.word, self.kind, self.steps, self.keys, self.aims = word, kind, steps, keys, aims
+
+    def name(self):
+        return "%s, %s steps, %s %s" % (self.kind, "{:,}".format(self.steps), "{:,}".format(self.keys), "key" if self.keys == 1 else "keys")
 
 
-def count(program, word, source, target):
-    """The instructions of one run."""
-    with open(source, "rb") as reader, open(target, "wb") as writer:
-        ran = subprocess.run(
-            ["valgrind", "--tool=callgrind", "--callgrind-out-file=/dev/null", program, word],
-            stdin=reader, stdout=writer, stderr=subprocess.PIPE, text=True)
-    return int(re.search(r"refs:\s*([\d,]+)", ran.stderr).group(1).replace(",", ""))
+def lines_of(path):
+    with open(path, "rb") as reader:
+        return sum(1 for _ in reader)
+
+
+def compared(programs, part, measure, shown):
+    """Rows with figures of scripts of this part of their lengths and of half of that, in the order of SCRIPTS."""
+    rows = []
+    with tempfile.TemporaryDirectory(prefix="rambo-bench-") as folder:
+        outcomes = [os.path.join(folder, "outcome %d" % place) for place in range(len(programs))]
+        verdicts = [os.path.join(folder, "verdicts %d" % place) for place in range(len(programs))]
+        script = os.path.join(folder, "script")
+        for kind, steps, keys, *aims in SCRIPTS:
+            steps = steps // part
+            pair = Row("replay", kind, steps, keys, tuple(aims)), Row("check", kind, steps, keys, CHECK_AIMS)
+            for length in (steps // 2, steps):
+                with open(script, "w", encoding="ascii") as writer:
+                    writer.write(scripts.script(kind, length, keys))
+                for row, source, targets in zip(pair, (script, outcomes[0]), (outcomes, verdicts)):
+                    figures = measure(programs, [row.word], source, targets)
+                    if length == steps:
+                        row.figures, row.lines = figures, lines_of(source)
+                        print("%-7s %-42s %s" % (row.word, row.name(), shown(row)), flush=True)
+                    else:
+                        row.half = figures
+            rows.extend(pair)
+    return rows
+
+
+def timed(programs):
+    def shown(row):
+        text = "; ".join("%.3f s %9d lines/s %6s MB" % (spent, row.lines / spent, megabytes(peak)) for spent, peak in row.figures)
+        if len(row.figures) == 2:
+            text += "; time x%.2f, memory x%.2f" % (ratio([spent for spent, _ in row.figures]), ratio([peak for _, peak in row.figures]))
+        (spent, peak), (half_spent, half_peak) = row.figures[0], row.half[0]
+        return text + "; time x%.2f, memory x%.2f of half the steps" % (spent / half_spent, peak / half_peak)
+
+    return compared(programs, 1, lambda *run_of: best(*run_of, STATUSES), shown)
 
 
 def counted(programs):
-    """Instructions for each script and program, their ratio, and how they grow where the steps double."""
-    folder = tempfile.mkdtemp(prefix="rambo-count-")
-    for kind, sizes, key_counts in (("calls", (25000, 50000), (16, 1000)), ("letters", (62500, 125000), (16, 1000)), ("moves", (62500, 125000), (16,))):
-        for keys in key_counts:
-            before = {}
-            for steps in sizes:
-                script = os.path.join(folder, "script")
-                with open(script, "wb") as writer:
-                    subprocess.run([sys.executable, os.path.join(HERE, "scripts.py"), kind, str(steps), str(keys)], stdout=writer, check=True)
-                for word in ("replay", "check"):
-                    source = script if word == "replay" else script + "-outcome"
-                    target = script + "-outcome" if word == "replay" else os.path.join(folder, "out")
-                    figures = [count(program, word, source, target) for program in programs]
-                    text = "; ".join("%.1f million" % (figure / 1e6) for figure in figures)
-                    if len(figures) == 2:
-                        text += "; x%.2f" % (figures[0] / figures[1])
-                    if word in before:
-                        text += "; x%.2f of half the steps" % (figures[0] / before[word])
-                    before[word] = figures[0]
-                    print("%-8s %-8s %8d %5d  %s" % (word, kind, steps, keys, text), flush=True)
-    return 0
+    def shown(row):
+        text = "; ".join("%8.1f million, %5d a line" % (figure / 1e6, figure / row.lines) for figure in row.figures)
+        if len(row.figures) == 2:
+            text += "; x%.2f" % ratio(row.figures)
+        return text + "; x%.2f of half the steps" % (row.figures[0] / row.half[0])
+
+    return compared(programs, 8, instructions, shown)
+
+
+def in_order(rows):
+    return [row for word in ("replay", "check") for row in rows if row.word == word]
+
+
+def machine():
+    """What the figures were taken on."""
+    with open("/proc/cpuinfo", encoding="ascii", errors="replace") as reader:
+        found = re.search(r"^model name\s*:\s*(.*)$", reader.read(), re.MULTILINE)
+    model = found.group(1) if found else platform.machine()
+    with open("/proc/meminfo", encoding="ascii") as reader:
+        memory = int(re.search(r"MemTotal:\s*(\d+)", reader.read()).group(1)) / 2**20
+    _, nothing, _ = run(["/bin/true"], os.devnull, os.devnull)
+    return ("Taken on %d virtual processors (%s) with %d GB, %s %s; other work there had a load of %.1f when it began. "
+            "A program that does nothing (`/bin/true`) is measured with %s MB." % (
+                os.cpu_count(), model, round(memory), platform.system(), platform.release().split("-")[0], os.getloadavg()[0], megabytes(nothing)))
+
+
+def time_table(rows):
+    heads = ["Work", "Time", "of the other", "ratio", "aim", "Memory", "of the other", "ratio", "aim"]
+    return table(heads, [
+        ["`%s` %s" % (row.word, row.name())]
+        + ["%.3f s" % row.figures[0][0], "%.3f s" % row.figures[1][0], "**%.2f**" % (row.figures[0][0] / row.figures[1][0]), "%.1f" % row.aims[0]]
+        + [megabytes(row.figures[0][1]) + " MB", megabytes(row.figures[1][1]) + " MB", "**%.2f**" % (row.figures[0][1] / row.figures[1][1]), "%.1f" % row.aims[1]]
+        for row in in_order(rows)])
+
+
+def growth_table(rows):
+    return table(["Work", "Time", "of the other", "Memory", "of the other"], [
+        ["`%s` %s" % (row.word, row.name())] + ["%.2f" % (row.figures[place][part] / row.half[place][part]) for part in range(2) for place in range(2)]
+        for row in in_order(rows)])
+
+
+def count_table(rows):
+    return table(["Work", "Instructions a line", "of the other", "ratio", "of half the steps"], [
+        ["`%s` %s" % (row.word, row.name())] + ["{:,}".format(figure // row.lines) for figure in row.figures] + [
+         "**%.2f**" % ratio(row.figures), "%.2f" % (row.figures[0] / row.half[0])]
+        for row in in_order(rows)])
+
+
+def write(programs):
+    """All figures, into the document between its two marks, and the picture."""
+    path = os.path.join(DOCS, "BENCHMARKS.md")
+    with open(path, encoding="utf-8") as reader:
+        before, rest = reader.read().split("<!-- figures -->\n")
+        after = rest.split("<!-- end of figures -->\n")[1]
+    taken_on = machine()
+    rows = timed(programs)
+    lines = [taken_on, "", "## Replay and check", ""] + time_table(rows)
+    lines += ["", "![The ratios of the table as bars: of time and of memory, for each work.](benchmarks.svg)"]
+    lines += ["", "What twice the steps take, as a multiple (2.00 is in proportion):", ""] + growth_table(rows)
+    clients_rows = clients.timed(programs)
+    lines += ["", "## Commands of a client", "", clients.ABOUT, ""] + clients.time_table(clients_rows)
+    if shutil.which("valgrind"):
+        lines += ["", "## Instructions", "", "Scripts of an eighth of the length; the same on a busy machine:", ""] + count_table(counted(programs))
+        lines += ["", "The client's commands, %s of them:" % "{:,}".format(clients.COUNTED), ""] + clients.count_table(clients.counted(programs))
+    with open(path, "w", encoding="utf-8") as writer:
+        writer.write(before + "<!-- figures -->\n" + "\n".join(lines) + "\n<!-- end of figures -->\n" + after)
+    with open(os.path.join(DOCS, "benchmarks.svg"), "w", encoding="utf-8") as writer:
+        writer.write(bars.drawn([
+            ("%s %s" % (row.word, row.name()), [(ratio([figure[part] for figure in row.figures]), row.aims[part]) for part in range(2)])
+            for row in in_order(rows)]))
 
 
 def main():
-    if sys.argv[1:2] == ["--count"] and len(sys.argv) in (3, 4):
-        return counted(sys.argv[2:])
-    if len(sys.argv) not in (2, 3):
+    words = sys.argv[1:]
+    option = words.pop(0) if words and words[0] in ("--count", "--write") else None
+    if len(words) not in ((2,) if option == "--write" else (1, 2)) or any(word.startswith("-") for word in words):
         sys.stderr.write(__doc__)
         return 2
-    programs = sys.argv[1:]
-    folder = tempfile.mkdtemp(prefix="rambo-bench-")
-    print("%-8s %-8s %8s %5s  %s" % ("word", "script", "steps", "keys", "seconds, steps a second, megabytes; ratio to the other"))
-    for kind, sizes, key_counts in (("calls", (100000, 200000, 400000), (16, 1000)), ("letters", (250000, 500000, 1000000), (1, 16, 100, 1000)),
-                                     ("moves", (250000, 500000, 1000000), (16,))):
-        for keys in key_counts:
-            before = {}
-            for steps in sizes:
-                if kind == "letters" and keys not in (16, 1000) and steps != sizes[-1]:
-                    continue
-                script = os.path.join(folder, "%s-%d-%d" % (kind, steps, keys))
-                with open(script, "wb") as writer:
-                    subprocess.run([sys.executable, os.path.join(HERE, "scripts.py"), kind, str(steps), str(keys)], stdout=writer, check=True)
-                for word in ("replay", "check"):
-                    source = script if word == "replay" else script + "-outcome"
-                    figures = []
-                    for place, program in enumerate(programs):
-                        target = script + "-outcome" if word == "replay" and place == 0 else os.path.join(folder, "out")
-                        figures.append(measure(program, word, source, target))
-                    lines = steps if word == "replay" else sum(1 for _ in open(source, "rb"))
-                    text = "; ".join("%.3f s %9d/s %6.0f MB" % (spent, lines / spent, peak) for spent, peak in figures)
-                    if len(figures) == 2:
-                        text += "; time x%.2f, memory x%.2f" % (figures[0][0] / figures[1][0], figures[0][1] / figures[1][1])
-                    if word in before:
-                        text += "; x%.2f of half the steps" % (figures[0][0] / before[word])
-                    before[word] = figures[0][0]
-                    print("%-8s %-8s %8d %5d  %s" % (word, kind, steps, keys, text), flush=True)
-                os.remove(script)
-                os.remove(script + "-outcome")
+    if option == "--write":
+        write(words)
+    else:
+        (counted if option else timed)(words)
     return 0
 
 
-sys.exit(main())
+if __name__ == "__main__":
+    sys.exit(main())
