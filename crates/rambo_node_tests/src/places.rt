@@ -2,9 +2,10 @@
 
 use crate::seen::Seen;
 use crate::step::{Forged, Step};
-use crate::twins::{Row, first_wrong};
+use crate::twins::{Row, run};
 use rambo_joiner::Status;
 use rambo_names::Refusal;
+use std::test::Fail;
 
 // A letter of node 2 to node 1, with eight active places of node 2 alone.
 const EIGHT_PLACES: Forged = Forged {
@@ -18,7 +19,7 @@ const EIGHT_PLACES: Forged = Forged {
 
 // A letter that leaves a gap restarts each call whose number it had heard, all under one new number. The last such
 // letter comes while all phases have eight places.
-static GAPS: [Row; 40] = [
+const GAPS: [Row; 40] = [
     (Step::Get(1, 97), Ok(Seen::Made(1))),
     (Step::Get(1, 98), Ok(Seen::Made(2))),
     (Step::Set(1, 99, 118), Ok(Seen::Made(3))),
@@ -62,13 +63,13 @@ static GAPS: [Row; 40] = [
 ];
 
 #[test]
-fn gaps(rt: HostRuntime) {
-    assert_eq!(rt; first_wrong(&rt, &[1, 2], &GAPS), None);
+fn gaps(rt: HostRuntime) -> Result<(), Fail> {
+    run(&rt, rt.alloc(), &[1, 2], &GAPS)
 }
 
 // Nodes 2 and 3 have node 3 alone chosen for place 1. Node 1 is told by a reply to its set, whose phase then waits for
 // node 3 too.
-static TOLD_OF_A_PLACE: [Row; 29] = [
+const TOLD_OF_A_PLACE: [Row; 29] = [
     (Step::Recon(2, 3, 3), Ok(Seen::Done)),
     (Step::Send(2, 3), Ok(Seen::Done)),
     (Step::Deliver(0), Ok(Seen::Done)),
@@ -101,6 +102,6 @@ static TOLD_OF_A_PLACE: [Row; 29] = [
 ];
 
 #[test]
-fn told_of_a_place(rt: HostRuntime) {
-    assert_eq!(rt; first_wrong(&rt, &[1, 2, 3], &TOLD_OF_A_PLACE), None);
+fn told_of_a_place(rt: HostRuntime) -> Result<(), Fail> {
+    run(&rt, rt.alloc(), &[1, 2, 3], &TOLD_OF_A_PLACE)
 }

@@ -1,14 +1,14 @@
 //! Runs of three nodes.
 
-use crate::memory::is_short;
 use crate::seen::Seen;
 use crate::step::{Forged, Step};
-use crate::twins::{Row, Twins, first_wrong};
+use crate::twins::{Row, Twins, run};
 use rambo_joiner::Status;
 use rambo_names::Refusal;
+use std::test::Fail;
 
 // A founder that is alone answers each call by itself.
-static ALONE: [Row; 10] = [
+const ALONE: [Row; 10] = [
     (Step::Get(1, 107), Ok(Seen::Made(1))),
     (Step::Advance(1, 1), Ok(Seen::Moved)),
     (Step::Advance(1, 1), Ok(Seen::Nil)),
@@ -22,12 +22,12 @@ static ALONE: [Row; 10] = [
 ];
 
 #[test]
-fn alone(rt: HostRuntime) {
-    assert_eq!(rt; first_wrong(&rt, &[1], &ALONE), None);
+fn alone(rt: HostRuntime) -> Result<(), Fail> {
+    run(&rt, rt.alloc(), &[1], &ALONE)
 }
 
 // A set waits for a majority of three. A letter that comes again does nothing more.
-static WAITS: [Row; 14] = [
+const WAITS: [Row; 14] = [
     (Step::Set(1, 107, 118), Ok(Seen::Made(1))),
     (Step::Advance(1, 1), Err(Refusal::NotYet)),
     (Step::Send(2, 1), Ok(Seen::Done)),
@@ -45,12 +45,12 @@ static WAITS: [Row; 14] = [
 ];
 
 #[test]
-fn waits_for_majority(rt: HostRuntime) {
-    assert_eq!(rt; first_wrong(&rt, &[1, 2, 3], &WAITS), None);
+fn waits_for_majority(rt: HostRuntime) -> Result<(), Fail> {
+    run(&rt, rt.alloc(), &[1, 2, 3], &WAITS)
 }
 
 // The writer stops after its copy reached node 2. Both gets that follow answer it.
-static STOPPED_WRITER: [Row; 31] = [
+const STOPPED_WRITER: [Row; 31] = [
     (Step::Set(1, 107, 118), Ok(Seen::Made(1))),
     (Step::Send(1, 2), Ok(Seen::Done)),
     (Step::Deliver(0), Ok(Seen::Done)),
@@ -85,12 +85,12 @@ static STOPPED_WRITER: [Row; 31] = [
 ];
 
 #[test]
-fn stopped_writer(rt: HostRuntime) {
-    assert_eq!(rt; first_wrong(&rt, &[1, 2, 3], &STOPPED_WRITER), None);
+fn stopped_writer(rt: HostRuntime) -> Result<(), Fail> {
+    run(&rt, rt.alloc(), &[1, 2, 3], &STOPPED_WRITER)
 }
 
 // Two sets at once take the tags (1, 1) and (1, 2), and a later get answers the greater one's value.
-static TWO_WRITERS: [Row; 34] = [
+const TWO_WRITERS: [Row; 34] = [
     (Step::Set(1, 107, 98), Ok(Seen::Made(1))),
     (Step::Set(2, 107, 97), Ok(Seen::Made(1))),
     (Step::Send(1, 2), Ok(Seen::Done)),
@@ -128,12 +128,12 @@ static TWO_WRITERS: [Row; 34] = [
 ];
 
 #[test]
-fn two_writers(rt: HostRuntime) {
-    assert_eq!(rt; first_wrong(&rt, &[1, 2], &TWO_WRITERS), None);
+fn two_writers(rt: HostRuntime) -> Result<(), Fail> {
+    run(&rt, rt.alloc(), &[1, 2], &TWO_WRITERS)
 }
 
 // Nodes 2 and 3 join. What a joining node says makes it known, and wakes none.
-static JOINS: [Row; 20] = [
+const JOINS: [Row; 20] = [
     (Step::Send(2, 1), Err(Refusal::NotActive)),
     (Step::JoinAlone(2), Err(Refusal::EmptyMembers)),
     (Step::Join(2, 3), Ok(Seen::Done)),
@@ -157,12 +157,12 @@ static JOINS: [Row; 20] = [
 ];
 
 #[test]
-fn joins(rt: HostRuntime) {
-    assert_eq!(rt; first_wrong(&rt, &[1], &JOINS), None);
+fn joins(rt: HostRuntime) -> Result<(), Fail> {
+    run(&rt, rt.alloc(), &[1], &JOINS)
 }
 
 // What an idle, a joining and a stopped node refuse, and a call that isn't there.
-static REFUSALS: [Row; 22] = [
+const REFUSALS: [Row; 22] = [
     (Step::Send(1, 1), Err(Refusal::NotKnown)),
     (Step::Advance(1, 1), Err(Refusal::NoSuchCall)),
     (Step::Again(1, 1), Err(Refusal::NoSuchCall)),
@@ -188,8 +188,8 @@ static REFUSALS: [Row; 22] = [
 ];
 
 #[test]
-fn refusals(rt: HostRuntime) {
-    assert_eq!(rt; first_wrong(&rt, &[1, 2], &REFUSALS), None);
+fn refusals(rt: HostRuntime) -> Result<(), Fail> {
+    run(&rt, rt.alloc(), &[1, 2], &REFUSALS)
 }
 
 // A letter of node 1 to node 2.
@@ -203,7 +203,7 @@ const FROM_ONE: Forged = Forged {
 };
 
 // A reply whose floor is two above the phase's top begins the phase anew, and counts no more.
-static GAP: [Row; 21] = [
+const GAP: [Row; 21] = [
     (Step::Join(2, 1), Ok(Seen::Done)),
     (Step::Send(2, 1), Ok(Seen::Done)),
     (Step::Deliver(0), Ok(Seen::Done)),
@@ -228,12 +228,12 @@ static GAP: [Row; 21] = [
 ];
 
 #[test]
-fn gap(rt: HostRuntime) {
-    assert_eq!(rt; first_wrong(&rt, &[1], &GAP), None);
+fn gap(rt: HostRuntime) -> Result<(), Fail> {
+    run(&rt, rt.alloc(), &[1], &GAP)
 }
 
 // A call that begins its phase anew forgets who replied, and counts only letters that heard of the new number.
-static BEGINS_ANEW: [Row; 15] = [
+const BEGINS_ANEW: [Row; 15] = [
     (Step::Set(1, 107, 118), Ok(Seen::Made(1))),
     (Step::Send(1, 2), Ok(Seen::Done)),
     (Step::Deliver(0), Ok(Seen::Done)),
@@ -252,12 +252,12 @@ static BEGINS_ANEW: [Row; 15] = [
 ];
 
 #[test]
-fn begins_anew(rt: HostRuntime) {
-    assert_eq!(rt; first_wrong(&rt, &[1, 2], &BEGINS_ANEW), None);
+fn begins_anew(rt: HostRuntime) -> Result<(), Fail> {
+    run(&rt, rt.alloc(), &[1, 2], &BEGINS_ANEW)
 }
 
 // An outline brings all but the copies.
-static OUTLINES: [Row; 13] = [
+const OUTLINES: [Row; 13] = [
     (Step::Set(1, 107, 118), Ok(Seen::Made(1))),
     (Step::Advance(1, 1), Ok(Seen::Moved)),
     (Step::Join(2, 1), Ok(Seen::Done)),
@@ -274,8 +274,8 @@ static OUTLINES: [Row; 13] = [
 ];
 
 #[test]
-fn outlines(rt: HostRuntime) {
-    assert_eq!(rt; first_wrong(&rt, &[1], &OUTLINES), None);
+fn outlines(rt: HostRuntime) -> Result<(), Fail> {
+    run(&rt, rt.alloc(), &[1], &OUTLINES)
 }
 
 // Letters of node 2 to node 1: two copies, and then two newer ones and three new ones.
@@ -310,7 +310,7 @@ const BROUGHT: Forged = Forged {
 };
 
 // A letter with five copies replies to two open calls, whose phases get four places more.
-static HEARS: [Row; 15] = [
+const HEARS: [Row; 15] = [
     (Step::Forge(5, 0, 0, HELD), Ok(Seen::Done)),
     (Step::Deliver(0), Ok(Seen::Done)),
     (Step::Look(1), Ok(Seen::Looks(Status::Active, 0, 7))),
@@ -329,71 +329,47 @@ static HEARS: [Row; 15] = [
 ];
 
 #[test]
-fn hears_all_or_nothing(rt: HostRuntime) {
-    assert_eq!(rt; first_wrong(&rt, &[1, 2], &HEARS), None);
+fn hears_all_or_nothing(rt: HostRuntime) -> Result<(), Fail> {
+    run(&rt, rt.alloc(), &[1, 2], &HEARS)
 }
 
 // Sets of more and more keys by a founder that is alone, and one that is the second of its key.
-static SETS_OF_KEYS: [Row; 24] = [
-    (Step::Set(1, 97, 118), Ok(Seen::Made(1))),
-    (Step::Advance(1, 1), Ok(Seen::Moved)),
-    (Step::Copy(1, 97), Ok(Seen::Holds(1, 1, Some(118)))),
-    (Step::Advance(1, 1), Ok(Seen::Ok)),
-    (Step::Set(1, 98, 118), Ok(Seen::Made(2))),
-    (Step::Advance(1, 2), Ok(Seen::Moved)),
-    (Step::Copy(1, 98), Ok(Seen::Holds(1, 1, Some(118)))),
-    (Step::Advance(1, 2), Ok(Seen::Ok)),
-    (Step::Set(1, 99, 118), Ok(Seen::Made(3))),
-    (Step::Advance(1, 3), Ok(Seen::Moved)),
-    (Step::Copy(1, 99), Ok(Seen::Holds(1, 1, Some(118)))),
-    (Step::Advance(1, 3), Ok(Seen::Ok)),
-    (Step::Set(1, 100, 118), Ok(Seen::Made(4))),
-    (Step::Advance(1, 4), Ok(Seen::Moved)),
-    (Step::Copy(1, 100), Ok(Seen::Holds(1, 1, Some(118)))),
-    (Step::Advance(1, 4), Ok(Seen::Ok)),
-    (Step::Set(1, 101, 118), Ok(Seen::Made(5))),
-    (Step::Advance(1, 5), Ok(Seen::Moved)),
-    (Step::Copy(1, 101), Ok(Seen::Holds(1, 1, Some(118)))),
-    (Step::Advance(1, 5), Ok(Seen::Ok)),
-    (Step::Set(1, 97, 118), Ok(Seen::Made(6))),
-    (Step::Advance(1, 6), Ok(Seen::Moved)),
-    (Step::Copy(1, 97), Ok(Seen::Holds(2, 1, Some(118)))),
-    (Step::Advance(1, 6), Ok(Seen::Ok)),
-];
-
 #[test]
-fn sets_of_keys(rt: HostRuntime) {
-    assert_eq!(rt; first_wrong(&rt, &[1], &SETS_OF_KEYS), None);
-}
-
-// Makes as many calls as may be open, each of the longest key and value, and then one more.
-fn first_wrong_of_many(twins: &mut Twins, is_short: bool) -> Option<u64> {
-    for number in 1..65 {
-        let row = (Step::SetLong(1, 256, 4096), Ok(Seen::Made(number)));
-        if !twins.comes(is_short, &row) {
-            return Some(number);
+fn sets_of_keys(rt: HostRuntime) -> Result<(), Fail> {
+    let mut twins = Twins::new(rt.alloc(), &[1])?;
+    for (place, key) in [97, 98, 99, 100, 101, 97].iter().enumerate() {
+        let number = place as u64 + 1;
+        let sequence = if number == 6 { 2 } else { 1 };
+        let rows = [
+            (Step::Set(1, *key, 118), Seen::Made(number)),
+            (Step::Advance(1, number), Seen::Moved),
+            (Step::Copy(1, *key), Seen::Holds(sequence, 1, Some(118))),
+            (Step::Advance(1, number), Seen::Ok),
+        ];
+        for (step, wanted) in rows {
+            let seen = twins.take(&rt, step)?;
+            assert_eq!(rt; seen, Ok(wanted));
         }
     }
-    let row = (Step::SetLong(1, 257, 4097), Err(Refusal::Busy));
-    if !twins.comes(is_short, &row) {
-        return Some(65);
-    }
-    None
+    Ok(())
 }
 
 // The longest key and value, as often as calls may be open.
 #[test]
-fn limits(rt: HostRuntime) {
-    let is_short = is_short(&rt);
-    let wrong = match again!(is_short, Twins::new(rt.alloc(), &[1, 2])) {
-        Ok(mut twins) => first_wrong_of_many(&mut twins, is_short),
-        Err(_) => Some(0),
-    };
-    assert_eq!(rt; wrong, None);
+fn limits(rt: HostRuntime) -> Result<(), Fail> {
+    let mut twins = Twins::new(rt.alloc(), &[1, 2])?;
+    for number in 1..65 {
+        let step = Step::SetLong(1, 256, 4096);
+        let seen = twins.take(&rt, step)?;
+        assert_eq!(rt; seen, Ok(Seen::Made(number)));
+    }
+    let seen = twins.take(&rt, Step::SetLong(1, 257, 4097))?;
+    assert_eq!(rt; seen, Err(Refusal::Busy));
+    Ok(())
 }
 
 // What is too long, and a tag that can't rise any more.
-static SPENT: [Row; 14] = [
+const SPENT: [Row; 14] = [
     (Step::SetLong(1, 257, 4097), Err(Refusal::KeyTooLong)),
     (Step::SetLong(1, 256, 4097), Err(Refusal::ValueTooLong)),
     (Step::Get(1, 107), Ok(Seen::Made(1))),
@@ -421,6 +397,6 @@ const LAST_TAG: Forged = Forged {
 };
 
 #[test]
-fn spent(rt: HostRuntime) {
-    assert_eq!(rt; first_wrong(&rt, &[1], &SPENT), None);
+fn spent(rt: HostRuntime) -> Result<(), Fail> {
+    run(&rt, rt.alloc(), &[1], &SPENT)
 }

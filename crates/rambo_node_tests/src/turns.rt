@@ -2,9 +2,10 @@
 
 use crate::seen::Seen;
 use crate::step::{Forged, Step};
-use crate::twins::{Row, first_wrong};
+use crate::twins::{Row, run};
 use rambo_joiner::Status;
 use rambo_names::Refusal;
+use std::test::Fail;
 
 // A letter of node 2 to node 1, with two active places of node 1 alone.
 const TWO_PLACES: Forged = Forged {
@@ -45,7 +46,7 @@ const LAST_ROUND: Forged = Forged {
 };
 
 // What a wish is refused for, and what an attempt that isn't open is.
-static WISHES: [Row; 20] = [
+const WISHES: [Row; 20] = [
     (Step::Recon(2, 1, 1), Err(Refusal::NotActive)),
     (Step::Recon(1, 1, 0), Err(Refusal::EmptyMembers)),
     (Step::Recon(1, 5, 5), Err(Refusal::UnknownMember)),
@@ -69,12 +70,12 @@ static WISHES: [Row; 20] = [
 ];
 
 #[test]
-fn wishes(rt: HostRuntime) {
-    assert_eq!(rt; first_wrong(&rt, &[1], &WISHES), None);
+fn wishes(rt: HostRuntime) -> Result<(), Fail> {
+    run(&rt, rt.alloc(), &[1], &WISHES)
 }
 
 // A vote that promised the greatest round lets no attempt begin again, nor its proposal pass.
-static LAST_ROUNDS: [Row; 14] = [
+const LAST_ROUNDS: [Row; 14] = [
     (Step::Recon(1, 1, 1), Ok(Seen::Done)),
     (Step::Rebid(1), Ok(Seen::Done)),
     (Step::Forge(0, 0, 0, LAST_ROUND), Ok(Seen::Done)),
@@ -92,12 +93,12 @@ static LAST_ROUNDS: [Row; 14] = [
 ];
 
 #[test]
-fn last_rounds(rt: HostRuntime) {
-    assert_eq!(rt; first_wrong(&rt, &[1], &LAST_ROUNDS), None);
+fn last_rounds(rt: HostRuntime) -> Result<(), Fail> {
+    run(&rt, rt.alloc(), &[1], &LAST_ROUNDS)
 }
 
 // Node 3 is told of what node 1 proposed, and both come to it. A vote is emptied where its place comes to be known, and not before.
-static TWO_PROPOSERS: [Row; 31] = [
+const TWO_PROPOSERS: [Row; 31] = [
     (Step::Recon(1, 1, 2), Ok(Seen::Done)),
     (Step::Send(1, 2), Ok(Seen::Done)),
     (Step::Deliver(0), Ok(Seen::Done)),
@@ -132,12 +133,12 @@ static TWO_PROPOSERS: [Row; 31] = [
 ];
 
 #[test]
-fn two_proposers(rt: HostRuntime) {
-    assert_eq!(rt; first_wrong(&rt, &[1, 2, 3], &TWO_PROPOSERS), None);
+fn two_proposers(rt: HostRuntime) -> Result<(), Fail> {
+    run(&rt, rt.alloc(), &[1, 2, 3], &TWO_PROPOSERS)
 }
 
 // A vote for another place, or of another ballot, isn't counted, and an offer for another place isn't taken.
-static OTHER_VOTES: [Row; 28] = [
+const OTHER_VOTES: [Row; 28] = [
     (Step::Recon(1, 1, 2), Ok(Seen::Done)),
     (Step::Send(1, 2), Ok(Seen::Done)),
     (Step::Deliver(0), Ok(Seen::Done)),
@@ -169,12 +170,12 @@ static OTHER_VOTES: [Row; 28] = [
 ];
 
 #[test]
-fn other_votes(rt: HostRuntime) {
-    assert_eq!(rt; first_wrong(&rt, &[1, 2], &OTHER_VOTES), None);
+fn other_votes(rt: HostRuntime) -> Result<(), Fail> {
+    run(&rt, rt.alloc(), &[1, 2], &OTHER_VOTES)
 }
 
 // A place is removed once a quorum of its own configuration has answered, and then one of the next.
-static COLLECTS: [Row; 32] = [
+const COLLECTS: [Row; 32] = [
     (Step::Collect(3), Err(Refusal::NotActive)),
     (Step::Collect(1), Err(Refusal::NothingToCollect)),
     (Step::AdvanceCollect(1), Err(Refusal::NoCollect)),
@@ -210,12 +211,12 @@ static COLLECTS: [Row; 32] = [
 ];
 
 #[test]
-fn collects(rt: HostRuntime) {
-    assert_eq!(rt; first_wrong(&rt, &[1, 2], &COLLECTS), None);
+fn collects(rt: HostRuntime) -> Result<(), Fail> {
+    run(&rt, rt.alloc(), &[1, 2], &COLLECTS)
 }
 
 // A collection and an attempt whose places others removed end at once, and an attempt whose place others filled.
-static SETTLED_BY_OTHERS: [Row; 15] = [
+const SETTLED_BY_OTHERS: [Row; 15] = [
     (Step::Forge(0, 0, 0, TWO_PLACES), Ok(Seen::Done)),
     (Step::Deliver(0), Ok(Seen::Done)),
     (Step::Collect(1), Ok(Seen::Done)),
@@ -234,8 +235,8 @@ static SETTLED_BY_OTHERS: [Row; 15] = [
 ];
 
 #[test]
-fn settled_by_others(rt: HostRuntime) {
-    assert_eq!(rt; first_wrong(&rt, &[1, 2], &SETTLED_BY_OTHERS), None);
+fn settled_by_others(rt: HostRuntime) -> Result<(), Fail> {
+    run(&rt, rt.alloc(), &[1, 2], &SETTLED_BY_OTHERS)
 }
 
 // Letters of node 2 to node 1: two copies, and then two newer ones and three new ones, with an offer.
@@ -270,7 +271,7 @@ const BROUGHT: Forged = Forged {
 };
 
 // A letter with five copies comes while a call, a collection and an attempt are open, and each takes what it brings.
-static ALL_OPEN: [Row; 17] = [
+const ALL_OPEN: [Row; 17] = [
     (Step::Forge(0, 0, 0, HELD), Ok(Seen::Done)),
     (Step::Deliver(0), Ok(Seen::Done)),
     (Step::Collect(1), Ok(Seen::Done)),
@@ -291,6 +292,6 @@ static ALL_OPEN: [Row; 17] = [
 ];
 
 #[test]
-fn all_open(rt: HostRuntime) {
-    assert_eq!(rt; first_wrong(&rt, &[1, 2], &ALL_OPEN), None);
+fn all_open(rt: HostRuntime) -> Result<(), Fail> {
+    run(&rt, rt.alloc(), &[1, 2], &ALL_OPEN)
 }
