@@ -1,1 +1,2 @@
 mod Shorter
+mod Shown

@@ -37,11 +37,12 @@ pub fn read_row(alloc: Global, text: &[u8]) -> Result<(Row<'_>, &[u8]), AllocErr
     while !rest.is_empty() {
         let (line, behind) = next_line(rest);
         rest = behind;
+        let word = row.word;
         match line.split_first() {
             None => return Ok((row, rest)),
-            Some((b'>', text)) => add_line(&mut row.input, text, row.word)?,
+            Some((b'>', text)) => add_line(&mut row.input, text, word)?,
             Some((b'~', text)) => row.input.extend_from_slice(text)?,
-            Some((b'<', text)) => add_line(&mut row.output, text, row.word)?,
+            Some((b'<', text)) => add_line(&mut row.output, text, word)?,
             Some((b'=', text)) => row.ending = text,
             Some((_, text)) => row.word = text,
         }

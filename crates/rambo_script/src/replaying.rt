@@ -21,10 +21,10 @@ type MajorityRun = Running<Majority, Registers<BuildHasherDefault<FoldHasher>>>;
 
 /// Reads a script, runs it over majority quorums, and writes the text of what the run gives.
 ///
-/// The whole input is read and run before the first byte is written. Each step is taken as its line is read: neither the
-/// steps nor what they did are kept. `Script` where the input is no script, or where
-/// memory runs out while it is read; `Read` and `Write` where a call of that stream fails; `Memory` where there is no room
-/// for the input, the run or its text. After `Write` a beginning of the text was written, and after another fault nothing.
+/// The whole input is read and run before the first byte is written. Each step is taken as its line is read: neither
+/// the steps nor what they did are kept. `Script` where the input is no script, or where memory runs out while it is
+/// read; `Read` and `Write` where a call of that stream fails; `Memory` where there is no room for the input, the run
+/// or its text. After `Write` a beginning of the text was written, and after another fault nothing.
 pub fn replay<R: Source, W: Sink>(
     alloc: Global,
     reader: &mut R,
