@@ -97,19 +97,9 @@ impl<Q: Quorums, S: Replica> LoggedNode<Q, S> {
     {
         let more = lacking_of(&self.node, *self.log.allocator(), change)?;
         self.log.reserve(more.len() + 1)?;
-        let Deed {
-            effect,
-            event,
-            mark,
-            copy,
-        } = self.node.act(change)?;
-        log_all(&mut self.log, more, copy);
-        Ok(Deed {
-            effect,
-            event,
-            mark,
-            copy: None,
-        })
+        let mut deed = self.node.act(change)?;
+        log_all(&mut self.log, more, deed.copy.take());
+        Ok(deed)
     }
 
     // Hears a letter that isn't refused, which has these copies, and logs them.
@@ -198,8 +188,10 @@ fn log_all(log: &mut Vec<KeyedVersion>, more: Vec<KeyedVersion>, copy: Option<Ke
     requires room { vec_len log.old + (vec_len more + 1) ≤ vec_capacity log.old }
     ensures { log.new.items ≡ log.old.items ++ (more.items ++ listed copy) }
 {
-    let mut more = more;
-    let _kept = log.append(&mut more);
+    if !more.is_empty() {
+        let mut more = more;
+        let _kept = log.append(&mut more);
+    }
     if let Some(copy) = copy {
         log.push_reserved(copy);
     }

@@ -99,6 +99,22 @@ impl<Q: Quorums, S: Replica> State<Q, S> {
         ensures err { OnErr result (self.new ≡ self.old) }
         ensures refused { IfErr result (λ r. r ≡ Refusal.OutOfMemory) }
     {
+        match step {
+            Step::Send(from, to) => self.send(*from, *to),
+            Step::Deliver(number) => self.deliver(*number),
+            _ => self.act_by_change(step),
+        }
+    }
+
+    // The same, by the change that the step means where it has one: most steps are those of letters, and they needn't pay
+    // for the room of a change.
+    fn act_by_change(&mut self, step: &Step<Q>) -> Result<Effect<Q>, Refusal>
+        requires accepted { refusal Q.system self.old step.now ≡ None }
+        requires fits { EventsFit Q.system self.old }
+        ensures ok { IfOk result (λ e. turn self.old step.now ≡ record { world = self.new; effect = e }) }
+        ensures err { OnErr result (self.new ≡ self.old) }
+        ensures refused { IfErr result (λ r. r ≡ Refusal.OutOfMemory) }
+    {
         let (name, change) = match step {
             Step::Send(from, to) => return self.send(*from, *to),
             Step::Deliver(number) => return self.deliver(*number),

@@ -20,10 +20,10 @@ returns-in_err-reserve-clause-grows g c =
     grows_same c.args.self.now (record { state = c.self.inside.node; log = c.reserve.new.self.items })
     ((λ i. record { state = c.self.inside.node; log = c.reserve.ensures.items i }) ∙ c.self.view_is)
 
-pub returns-in_err-effect-clause-grows : goal.returns-in_err-effect-clause-grows
-returns-in_err-effect-clause-grows g c =
+pub returns-in_err-deed-clause-grows : goal.returns-in_err-deed-clause-grows
+returns-in_err-deed-clause-grows g c =
     grows_same c.args.self.now (record { state = c.act.new.self; log = c.reserve.new.self.items })
-    ((λ i. record { state = c.in_err-effect.ensures.err i; log = c.reserve.ensures.items i }) ∙ c.self.view_is)
+    ((λ i. record { state = c.in_err-deed.ensures.err i; log = c.reserve.ensures.items i }) ∙ c.self.view_is)
 
 pub log_all-requires : goal.log_all-requires
 log_all-requires g c = record { room = subst (λ n. vec_len c.reserve.new.self + (n + 1) ≤ vec_capacity c.reserve.new.self) c.len.ensures c.in_ok-reserve.ensures.ok }
@@ -31,14 +31,14 @@ log_all-requires g c = record { room = subst (λ n. vec_len c.reserve.new.self +
 log_is : (g : _) (c : goal.After-log_all g) → c.log_all.new.log.items ≡ c.self.inside.log.items ++ (c.in_ok-more.more.items ++ listed (made_by c.self.inside.node c.args.change.now).deed.copy)
 log_is g c =
     let more : List KeyedVersion = c.in_ok-more.more.items in
-    let put : c.log_all.new.log.items ≡ c.reserve.new.self.items ++ (more ++ listed c.in_ok-effect.field-0.copy) = c.log_all.ensures in
+    let put : c.log_all.new.log.items ≡ c.reserve.new.self.items ++ (more ++ listed c.take.result) = c.log_all.ensures in
     let kept : c.reserve.new.self.items ≡ c.self.inside.log.items = c.reserve.ensures.items in
-    let own : c.in_ok-effect.field-0.copy ≡ (made_by c.self.inside.node c.args.change.now).deed.copy = ap (λ d. d.copy) c.in_ok-effect.ensures.deed in
-    put ∙ ap (λ (l : List KeyedVersion). l ++ (more ++ listed c.in_ok-effect.field-0.copy)) kept ∙ ap (λ o. c.self.inside.log.items ++ (more ++ listed o)) own
+    let own : c.take.result ≡ (made_by c.self.inside.node c.args.change.now).deed.copy = c.take.ensures.value ∙ ap (λ d. d.copy) c.in_ok-deed.ensures.deed in
+    put ∙ ap (λ (l : List KeyedVersion). l ++ (more ++ listed c.take.result)) kept ∙ ap (λ o. c.self.inside.log.items ++ (more ++ listed o)) own
 
 recorded : (g : _) (c : goal.After-log_all g) → c.act.new.self.registers ≡ greatest_of c.log_all.new.log.items
 recorded g c =
-    ap (λ x. x.registers) c.in_ok-effect.ensures.node
+    ap (λ x. x.registers) c.in_ok-deed.ensures.node
     ∙ made_recorded c.self.inside.node c.self.inside.log.items c.in_ok-more.more.items c.args.change.now c.self.invariant c.in_ok-more.ensures.brought
     ∙ ap greatest_of (sym (log_is g c))
 
@@ -47,7 +47,7 @@ invariant_of-self-2 g c = recorded g c
 
 pub returns-clause-grows : goal.returns-clause-grows
 returns-clause-grows g c = record {
-  name = ap (λ x. x.name) c.in_ok-effect.ensures.node ∙ made_name c.self.inside.node c.args.change.now ∙ ap (λ k. k.state.name) c.self.view_is;
+  name = ap (λ x. x.name) c.in_ok-deed.ensures.node ∙ made_name c.self.inside.node c.args.change.now ∙ ap (λ k. k.state.name) c.self.view_is;
   extends = (
     c.in_ok-more.more.items ++ listed (made_by c.self.inside.node c.args.change.now).deed.copy,
     log_is g c ∙ ap (λ k. k.log ++ (c.in_ok-more.more.items ++ listed (made_by c.self.inside.node c.args.change.now).deed.copy)) c.self.view_is,
