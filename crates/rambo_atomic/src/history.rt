@@ -196,8 +196,8 @@ fn note(index: &mut IndexMap<CallId, Places>, event: &Event, place: usize)
             let _ = index.insert(*id, places);
         }
         Event::Answer(id, _) => {
-            if let Some(places) = index.get_mut(id) {
-                places.answered = Some(place);
+            if let Some(noted) = index.get_mut(id) {
+                noted.answered = Some(place);
             }
         }
     }

@@ -13,15 +13,15 @@ abbrev pub AreOthers : List ℕ → List StepKind → Type 0
 AreOthers w = AllByRecursion (λ k. w ≢ word_of k)
 
 abbrev pub all_kinds : List StepKind
-all_kinds = kind.Join ∷ kind.Get ∷ kind.Set ∷ kind.Send ∷ kind.Deliver ∷ kind.Advance ∷ kind.Again ∷ kind.Collect ∷ kind.AdvanceCollect ∷ kind.Recon ∷ kind.Rebid ∷ kind.AdvanceRecon ∷ kind.Stop ∷ []
+all_kinds = kind.Deliver ∷ kind.Send ∷ kind.Advance ∷ kind.Get ∷ kind.Set ∷ kind.Join ∷ kind.Again ∷ kind.Collect ∷ kind.AdvanceCollect ∷ kind.Recon ∷ kind.Rebid ∷ kind.AdvanceRecon ∷ kind.Stop ∷ []
 
 each_kind : (P : StepKind → Type 0) → AllByRecursion P all_kinds → (k : StepKind) → P k
-each_kind P all kind.Join = all.0
-each_kind P all kind.Get = all.1.0
-each_kind P all kind.Set = all.1.1.0
-each_kind P all kind.Send = all.1.1.1.0
-each_kind P all kind.Deliver = all.1.1.1.1.0
-each_kind P all kind.Advance = all.1.1.1.1.1.0
+each_kind P all kind.Join = all.1.1.1.1.1.0
+each_kind P all kind.Get = all.1.1.1.0
+each_kind P all kind.Set = all.1.1.1.1.0
+each_kind P all kind.Send = all.1.0
+each_kind P all kind.Deliver = all.0
+each_kind P all kind.Advance = all.1.1.0
 each_kind P all kind.Again = all.1.1.1.1.1.1.0
 each_kind P all kind.Collect = all.1.1.1.1.1.1.1.0
 each_kind P all kind.AdvanceCollect = all.1.1.1.1.1.1.1.1.0

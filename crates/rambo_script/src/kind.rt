@@ -19,13 +19,14 @@ pub enum StepKind {
     Stop,
 }
 
+// Those that most lines of a long script tell come first, since `of` tries them in this order.
 const KINDS: [StepKind; 13] = [
-    StepKind::Join,
+    StepKind::Deliver,
+    StepKind::Send,
+    StepKind::Advance,
     StepKind::Get,
     StepKind::Set,
-    StepKind::Send,
-    StepKind::Deliver,
-    StepKind::Advance,
+    StepKind::Join,
     StepKind::Again,
     StepKind::Collect,
     StepKind::AdvanceCollect,
