@@ -101,7 +101,7 @@ def counted(programs):
             text += "; x%.2f" % ratio(row.figures)
         return text + "; x%.2f of half the steps" % (row.figures[0] / row.half[0])
 
-    return compared(programs, 8, instructions, shown)
+    return compared(programs, 8, lambda *run_of: instructions(*run_of, STATUSES), shown)
 
 
 def in_order(rows):
@@ -116,9 +116,11 @@ def machine():
     with open("/proc/meminfo", encoding="ascii") as reader:
         memory = int(re.search(r"MemTotal:\s*(\d+)", reader.read()).group(1)) / 2**20
     _, nothing, _ = run(["/bin/true"], os.devnull, os.devnull)
-    return ("Taken on %d virtual processors (%s) with %d GB, %s %s; other work there had a load of %.1f when it began. "
+    load = os.getloadavg()[0]
+    rough = ", so its times are rough, and only memory and instructions are to be relied on" if load > 0.5 else ""
+    return ("Taken on %d virtual processors (%s) with %d GB, %s %s; other work there had a load of %.1f when it began%s. "
             "A program that does nothing (`/bin/true`) is measured with %s MB." % (
-                os.cpu_count(), model, round(memory), platform.system(), platform.release().split("-")[0], os.getloadavg()[0], megabytes(nothing)))
+                os.cpu_count(), model, round(memory), platform.system(), platform.release().split("-")[0], load, rough, megabytes(nothing)))
 
 
 def time_table(rows):
