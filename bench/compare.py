@@ -145,12 +145,18 @@ def count_table(rows):
         for row in in_order(rows)])
 
 
+def around_figures(path):
+    """What stands before and behind the figures of the document."""
+    with open(path, encoding="utf-8") as reader:
+        before, rest = reader.read().split("<!-- figures -->\n")
+    return before, rest.split("<!-- end of figures -->\n")[1]
+
+
 def write(programs):
     """All figures, into the document between its two marks, and the picture."""
     path = os.path.join(DOCS, "BENCHMARKS.md")
-    with open(path, encoding="utf-8") as reader:
-        before, rest = reader.read().split("<!-- figures -->\n")
-        after = rest.split("<!-- end of figures -->\n")[1]
+    # before the long part, so that a document without the marks is told at once
+    around_figures(path)
     taken_on = machine()
     rows = timed(programs)
     lines = [taken_on, "", "## Replay and check", ""] + time_table(rows)
@@ -161,6 +167,7 @@ def write(programs):
     if shutil.which("valgrind"):
         lines += ["", "## Instructions", "", "Scripts of an eighth of the length; the same on a busy machine:", ""] + count_table(counted(programs))
         lines += ["", "The client's commands, %s of them:" % "{:,}".format(clients.COUNTED), ""] + clients.count_table(clients.counted(programs))
+    before, after = around_figures(path)
     with open(path, "w", encoding="utf-8") as writer:
         writer.write(before + "<!-- figures -->\n" + "\n".join(lines) + "\n<!-- end of figures -->\n" + after)
     with open(os.path.join(DOCS, "benchmarks.svg"), "w", encoding="utf-8") as writer:
