@@ -101,7 +101,7 @@ def counted(programs):
             text += "; x%.2f" % ratio(row.figures)
         return text + "; x%.2f of half the steps" % (row.figures[0] / row.half[0])
 
-    return compared(programs, 8, instructions, shown)
+    return compared(programs, 8, lambda *run_of: instructions(*run_of, STATUSES), shown)
 
 
 def in_order(rows):
@@ -116,9 +116,11 @@ def machine():
     with open("/proc/meminfo", encoding="ascii") as reader:
         memory = int(re.search(r"MemTotal:\s*(\d+)", reader.read()).group(1)) / 2**20
     _, nothing, _ = run(["/bin/true"], os.devnull, os.devnull)
-    return ("Taken on %d virtual processors (%s) with %d GB, %s %s; other work there had a load of %.1f when it began. "
+    load = os.getloadavg()[0]
+    rough = ", so its times are rough, and only memory and instructions are to be relied on" if load > 0.5 else ""
+    return ("Taken on %d virtual processors (%s) with %d GB, %s %s; other work there had a load of %.1f when it began%s. "
             "A program that does nothing (`/bin/true`) is measured with %s MB." % (
-                os.cpu_count(), model, round(memory), platform.system(), platform.release().split("-")[0], os.getloadavg()[0], megabytes(nothing)))
+                os.cpu_count(), model, round(memory), platform.system(), platform.release().split("-")[0], load, rough, megabytes(nothing)))
 
 
 def time_table(rows):
@@ -143,12 +145,18 @@ def count_table(rows):
         for row in in_order(rows)])
 
 
+def around_figures(path):
+    """What stands before and behind the figures of the document."""
+    with open(path, encoding="utf-8") as reader:
+        before, rest = reader.read().split("<!-- figures -->\n")
+    return before, rest.split("<!-- end of figures -->\n")[1]
+
+
 def write(programs):
     """All figures, into the document between its two marks, and the picture."""
     path = os.path.join(DOCS, "BENCHMARKS.md")
-    with open(path, encoding="utf-8") as reader:
-        before, rest = reader.read().split("<!-- figures -->\n")
-        after = rest.split("<!-- end of figures -->\n")[1]
+    # before the long part, so that a document without the marks is told at once
+    around_figures(path)
     taken_on = machine()
     rows = timed(programs)
     lines = [taken_on, "", "## Replay and check", ""] + time_table(rows)
@@ -159,6 +167,7 @@ def write(programs):
     if shutil.which("valgrind"):
         lines += ["", "## Instructions", "", "Scripts of an eighth of the length; the same on a busy machine:", ""] + count_table(counted(programs))
         lines += ["", "The client's commands, %s of them:" % "{:,}".format(clients.COUNTED), ""] + clients.count_table(clients.counted(programs))
+    before, after = around_figures(path)
     with open(path, "w", encoding="utf-8") as writer:
         writer.write(before + "<!-- figures -->\n" + "\n".join(lines) + "\n<!-- end of figures -->\n" + after)
     with open(os.path.join(DOCS, "benchmarks.svg"), "w", encoding="utf-8") as writer:

@@ -28,7 +28,9 @@ def run(words, source, target):
         child = os.posix_spawn(STARTER, [STARTER, "-q", "-f", "%M", "-o", told.name] + words, os.environ, file_actions=streams)
         _, status = os.waitpid(child, 0)
         spent = time.perf_counter() - start
-        return spent, int(told.read().split()[-1]) * 1024, os.waitstatus_to_exitcode(status)
+        # nothing is told where that program was itself cut off, or found no room for its file
+        words_told = told.read().split()
+        return spent, int(words_told[-1]) * 1024 if words_told else None, os.waitstatus_to_exitcode(status)
 
 
 def best(programs, words, source, targets, statuses=(0,)):
@@ -39,20 +41,25 @@ def best(programs, words, source, targets, statuses=(0,)):
     for _round in range(ROUNDS):
         for place, program in enumerate(programs):
             spent, peak, status = run([program] + words, source, targets[place])
-            if status not in statuses:
-                raise SystemExit("%s %s ended with status %d" % (program, " ".join(words), status))
+            if status not in statuses or peak is None:
+                raise SystemExit("%s %s ended with status %d%s" % (program, " ".join(words), status, "" if peak else ", and no memory was told"))
             figures[place] = (min(figures[place][0], spent), max(figures[place][1], peak))
     return figures
 
 
-def instructions(programs, words, source, targets):
-    """The instructions of one run of each program."""
+def instructions(programs, words, source, targets, statuses=(0,)):
+    """The instructions of one run of each program.
+
+    valgrind prints a count of a run that was cut off, too, so the status is looked at first.
+    """
     figures = []
     for program, target in zip(programs, targets):
         with open(source, "rb") as reader, open(target, "wb") as writer:
             ran = subprocess.run(
                 ["valgrind", "--tool=callgrind", "--callgrind-out-file=/dev/null", program] + words,
                 stdin=reader, stdout=writer, stderr=subprocess.PIPE, text=True, check=False)
+        if ran.returncode not in statuses:
+            raise SystemExit("%s %s ended with status %d under valgrind" % (program, " ".join(words), ran.returncode))
         figures.append(int(re.search(r"refs:\s*([\d,]+)", ran.stderr).group(1).replace(",", "")))
     return figures
 
