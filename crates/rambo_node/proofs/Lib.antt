@@ -1,6 +1,7 @@
 pub mod Advances
 pub mod CallLists
 pub mod Judged
+pub mod Memory
 pub mod Merged
 pub mod Sizes
 pub mod Telling

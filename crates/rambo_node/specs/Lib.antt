@@ -2,6 +2,7 @@ pub mod Calls
 pub mod Kept
 pub mod Nodes
 pub mod Letters
+pub mod Memory
 pub mod Hearing
 pub mod Operations
 pub mod Reconfigurations

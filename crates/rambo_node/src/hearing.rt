@@ -50,12 +50,14 @@ impl<Q: Quorums, S: Replica> Node<Q, S> {
     /// offer, and an attempt hears the letter's vote, where these are for the same place.
     ///
     /// Refused are 3 where the node is idle, 4 where it has stopped, 21 where a phase would begin anew and the
-    /// phase number is the greatest one, 22 where there is no room for what is new.
+    /// phase number is the greatest one, 22 where there is no room for what is new. The wish of a node to join needs
+    /// none.
     #[tactic(auto, unfolding(crate::specs::Changes::made_by))]
     pub fn hear(&mut self, letter: &Letter<Q>) -> Result<(), Refusal>
         ensures judged { OnOk result (refusal_of Q.system self.old (change.Deliver letter.now) ≡ None) }
         ensures node { OnOk result (self.new ≡ (made_by self.old (change.Deliver letter.now)).node) }
         ensures refused { IfErr result (IsRefusal (refusal_of Q.system self.old (change.Deliver letter.now))) }
+        ensures join { letter.now.kind ≡ Kind.Join → IfErr result (λ r. refusal_of Q.system self.old (change.Deliver letter.now) ≡ Some r) }
         ensures err { OnErr result (self.new ≡ self.old) }
     {
         self.may_hear(letter)?;
@@ -64,7 +66,8 @@ impl<Q: Quorums, S: Replica> Node<Q, S> {
 
     /// Hears a letter that isn't refused, which is told by its outline and its copies.
     ///
-    /// `OutOfMemory` where there is no room for what is new; the node is then as it was.
+    /// `OutOfMemory` where there is no room for what is new; the node is then as it was. The wish of a node to join
+    /// needs none.
     #[tactic(auto, unfolding(crate::specs::Changes::made_by))]
     pub fn hear_outlined(
         &mut self,
@@ -74,6 +77,7 @@ impl<Q: Quorums, S: Replica> Node<Q, S> {
         requires { refusal_of Q.system self.old (change.Deliver outline.now) ≡ None }
         ensures node { OnOk result (self.new ≡ (made_by self.old (change.Deliver (letter_with outline.now copies.now))).node) }
         ensures refused { IfErr result (λ r. r ≡ Refusal.OutOfMemory) }
+        ensures join { outline.now.kind ≡ Kind.Join → IsOk result }
         ensures err { OnErr result (self.new ≡ self.old) }
     {
         match &outline.gossip {
@@ -91,6 +95,7 @@ impl<Q: Quorums, S: Replica> Node<Q, S> {
     pub(crate) fn do_hear(&mut self, letter: &Letter<Q>) -> Result<(), Refusal>
         ensures ok { OnOk result (refusal_of Q.system self.old (change.Deliver letter.now) ≡ None → self.new ≡ heard_letter self.old letter.now) }
         ensures refused { IfErr result (λ r. r ≡ Refusal.OutOfMemory) }
+        ensures join { letter.now.kind ≡ Kind.Join → IsOk result }
         ensures err { OnErr result (self.new ≡ self.old) }
     {
         match &letter.kind {

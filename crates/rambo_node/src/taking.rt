@@ -1,7 +1,8 @@
 //! The changes that a node takes.
-ghost use Rattle.std.specs.Prelude.{◌≡◌, ◌+◌, None, Some, OnOk, OnErr, IfOk, IfErr};
+ghost use Rattle.std.specs.Prelude.{◌≡◌, ◌+◌, None, Some, false, OnOk, OnErr, IsOk, IfOk, IfErr};
 ghost use Rattle.rambo_names.specs.Refusals.{IsRefusal};
 ghost use Rattle.rambo_node.specs.Changes.{refusal_of, made_by, answer_in, collected_in, decided_in};
+ghost use Rattle.rambo_node.specs.Memory.{needs_memory};
 ghost use Rattle.rambo_node.specs.Operations.{joined_by, stopped};
 ghost use Rattle.rambo_node.specs.declared.change.Change.TheVariants as change;
 
@@ -17,13 +18,15 @@ use rambo_tag::Replica;
 impl<Q: Quorums, S: Replica> Node<Q, S> {
     /// Takes a change, and tells what it did.
     ///
-    /// Refused are those of `judge`, and 22 where there is no room for what is new.
+    /// Refused are those of `judge`, and 22 where there is no room for what is new. Only a call, its advance and a
+    /// letter of an active node may need room.
     #[tactic(auto, unfolding(crate::specs::Changes::made_by))]
     pub fn take(&mut self, change: Change<Q>) -> Result<Deed<Q>, Refusal>
         ensures judged { OnOk result (refusal_of Q.system self.old change ≡ None) }
         ensures node { OnOk result (self.new ≡ (made_by self.old change).node) }
         ensures deed { IfOk result (λ d. d ≡ (made_by self.old change).deed) }
         ensures refused { IfErr result (IsRefusal (refusal_of Q.system self.old change)) }
+        ensures no_memory { needs_memory change ≡ false → IfErr result (λ r. refusal_of Q.system self.old change ≡ Some r) }
         ensures err { OnErr result (self.new ≡ self.old) }
     {
         self.judge(&change)?;
@@ -32,13 +35,15 @@ impl<Q: Quorums, S: Replica> Node<Q, S> {
 
     /// Takes a change that isn't refused, and tells what it did.
     ///
-    /// `OutOfMemory` where there is no room for what is new; the node is then as it was.
+    /// `OutOfMemory` where there is no room for what is new; the node is then as it was. Only a call, its advance and
+    /// a letter of an active node may need room.
     #[tactic(auto, unfolding(crate::specs::Changes::made_by))]
     pub fn act(&mut self, change: &Change<Q>) -> Result<Deed<Q>, Refusal>
         requires { refusal_of Q.system self.old change.now ≡ None }
         ensures node { OnOk result (self.new ≡ (made_by self.old change.now).node) }
         ensures deed { IfOk result (λ d. d ≡ (made_by self.old change.now).deed) }
         ensures refused { IfErr result (λ r. r ≡ Refusal.OutOfMemory) }
+        ensures no_memory { needs_memory change.now ≡ false → IsOk result }
         ensures err { OnErr result (self.new ≡ self.old) }
     {
         match change {
@@ -78,14 +83,14 @@ impl<Q: Quorums, S: Replica> Node<Q, S> {
         }
     }
 
-    /// An idle node begins to join, with these contacts: it knows them and itself.
+    /// An idle node begins to join, with these contacts: it knows them and itself. It takes no memory.
     ///
     /// Refused are 2 where it isn't idle, 18 where there is no contact.
     #[tactic(auto, unfolding(crate::specs::Changes::made_by))]
     pub fn join(&mut self, contacts: Members) -> Result<(), Refusal>
         ensures judged { OnOk result (refusal_of Q.system self.old (change.Join contacts) ≡ None) }
         ensures node { OnOk result (self.new ≡ (made_by self.old (change.Join contacts)).node) }
-        ensures refused { IfErr result (IsRefusal (refusal_of Q.system self.old (change.Join contacts))) }
+        ensures refused { IfErr result (λ r. refusal_of Q.system self.old (change.Join contacts) ≡ Some r) }
         ensures err { OnErr result (self.new ≡ self.old) }
     {
         self.may_join(contacts)?;
@@ -134,14 +139,14 @@ impl<Q: Quorums, S: Replica> Node<Q, S> {
     }
 
     /// The present phase of the open call of this id begins anew, under a new number, with the node's present
-    /// map, and with the node alone as a replier.
+    /// map, and with the node alone as a replier. It takes no memory.
     ///
     /// Refused are 3 where the node is idle or joining, 4 where it has stopped, 7 where there is no such open
     /// call, 21 where the phase number is the greatest one.
     pub fn again(&mut self, id: CallId) -> Result<(), Refusal>
         ensures judged { OnOk result (refusal_of Q.system self.old (change.Again id) ≡ None) }
         ensures node { OnOk result (self.new ≡ (made_by self.old (change.Again id)).node) }
-        ensures refused { IfErr result (IsRefusal (refusal_of Q.system self.old (change.Again id))) }
+        ensures refused { IfErr result (λ r. refusal_of Q.system self.old (change.Again id) ≡ Some r) }
         ensures err { OnErr result (self.new ≡ self.old) }
     {
         self.may_restart(&id)?;
@@ -243,14 +248,14 @@ impl<Q: Quorums, S: Replica> Node<Q, S> {
         Ok(deed.effect.decided())
     }
 
-    /// The node stops for ever.
+    /// The node stops for ever. It takes no memory.
     ///
     /// Refused are 3 where it is idle, 4 where it has stopped.
     #[tactic(auto, unfolding(crate::specs::Changes::made_by))]
     pub fn stop(&mut self) -> Result<(), Refusal>
         ensures judged { OnOk result (refusal_of Q.system self.old change.Stop ≡ None) }
         ensures node { OnOk result (self.new ≡ (made_by self.old change.Stop).node) }
-        ensures refused { IfErr result (IsRefusal (refusal_of Q.system self.old change.Stop)) }
+        ensures refused { IfErr result (λ r. refusal_of Q.system self.old change.Stop ≡ Some r) }
         ensures err { OnErr result (self.new ≡ self.old) }
     {
         self.may_stop()?;

@@ -1,5 +1,5 @@
 //! The steps of a run.
-ghost use Rattle.std.specs.Prelude.{◌≡◌, IfOk, IfErr};
+ghost use Rattle.std.specs.Prelude.{◌≡◌, ◌≢◌, ℕ, IsOk, IfOk, IfErr};
 
 use rambo_atomic::{CallId, Op};
 use rambo_names::{Members, Name, Quorums, Refusal};
@@ -37,9 +37,10 @@ pub enum Step<Q: Quorums> {
 impl<Q: Quorums> Step<Q> {
     /// The same step, which shares its bytes.
     ///
-    /// `OutOfMemory` where a count of owners is full.
+    /// `OutOfMemory` where a count of owners is full, at a call alone: the other steps have no bytes.
     pub fn clone(&self) -> Result<Step<Q>, Refusal>
         ensures same { IfOk result (λ step. step ≡ self.now) }
+        ensures other { ((name : ℕ) (op : Op) → self.now ≢ Step.Call name op) → IsOk result }
         ensures refused { IfErr result (λ r. r ≡ Refusal.OutOfMemory) }
     {
         Ok(match self {

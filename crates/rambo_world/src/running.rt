@@ -59,10 +59,11 @@ impl<Q: Quorums, S: Replica> Running<Q, S> {
 
     /// Takes a step: what it did, or why it was refused, after which the run goes on.
     ///
-    /// `OutOfMemory` where there is no room for what it does; then nothing changes.
+    /// `OutOfMemory` where there is no room for what it does; then nothing changes. A refusal needs no room.
     pub fn take(&mut self, step: &Step<Q>) -> Result<Result<Effect<Q>, Refusal>, Refusal>
         ensures told { IfOk result (λ r. r ≡ result_of (refusal Q.system self.old.state step.now) self.old.state step.now) }
         ensures after { OnOk result (self.new ≡ record self.old { state = after Q.system self.old.state step.now }) }
+        ensures accepted { OnErr result (refusal Q.system self.old.state step.now ≡ None) }
         ensures err { OnErr result (self.new ≡ self.old) }
         ensures refused { IfErr result (λ r. r ≡ Refusal.OutOfMemory) }
     {

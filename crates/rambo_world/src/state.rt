@@ -137,6 +137,7 @@ impl<Q: Quorums, S: Replica> State<Q, S> {
         requires fits { EventsFit Q.system self.old }
         ensures told { IfOk result (λ r. r ≡ result_of (refusal Q.system self.old step.now) self.old step.now) }
         ensures after { OnOk result (self.new ≡ after Q.system self.old step.now) }
+        ensures accepted { OnErr result (refusal Q.system self.old step.now ≡ None) }
         ensures err { OnErr result (self.new ≡ self.old) }
         ensures refused { IfErr result (λ r. r ≡ Refusal.OutOfMemory) }
     {

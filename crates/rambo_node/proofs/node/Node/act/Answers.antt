@@ -1,8 +1,11 @@
-use Rattle.std.proofs.Common.{◌≡◌, None, IfOk, sym, ap, ◌∙◌, subst, rules}
+use Rattle.std.proofs.Common.{◌≡◌, None, false, IfOk, sym, ap, ◌∙◌, subst, rules}
+use Rattle.std.proofs.lemmas.Bool.{true≢false}
 use Rattle.rambo_node.specs.Changes.{refusal_of, made_by}
+use Rattle.rambo_node.specs.Memory.{needs_memory}
 use Rattle.rambo_node.specs.Nodes.{open_call}
 use Rattle.rambo_node.specs.declared.change.Change.TheVariants as change
 use Rattle.rambo_node.proofs.Advances.{quiet_again, quiet_rebid}
+use Rattle.rambo_node.proofs.Memory.{join_from_no_gossip}
 use Rattle.rambo_node.proofs.Sizes.{deliver_fits}
 use Rattle.rambo_node.proofs.node.Node.act.Goals as goal
 
@@ -62,3 +65,8 @@ unfolding made_by
 returns-in-Rebid-clause-deed g c =
     let x = c.args.self.now in
     c.quiet-in-Rebid.ensures ∙ quiet_rebid x x.attempt ∙ sym (ap (λ ch. (made_by x ch).deed) c.in-Rebid.is)
+
+pub returns-in_err-do_hear-in-Deliver-clause-no_memory : goal.returns-in_err-do_hear-in-Deliver-clause-no_memory
+returns-in_err-do_hear-in-Deliver-clause-no_memory g c = λ none.
+    let wish = join_from_no_gossip c.in-Deliver.letter.kind (subst (λ ch. needs_memory ch ≡ false) c.in-Deliver.is none) in
+    absurd (true≢false (sym (c.in_err-do_hear-in-Deliver.ensures.join wish)))

@@ -2,6 +2,7 @@ use Rattle.std.proofs.Common.{sym, subst}
 use Rattle.std.proofs.lemmas.Result.{on_ok_weaker, IfErr-weaker}
 use Rattle.rambo_names.specs.Refusals.{IsRefusal}
 use Rattle.rambo_node.specs.Changes.{made_by}
+use Rattle.rambo_node.proofs.Memory.{IfErr-from_ok}
 use Rattle.rambo_node.proofs.node.Node.hear.Goals as goal
 
 pub returns-clause-judged : goal.returns-clause-judged
@@ -13,3 +14,6 @@ returns-clause-node g c = on_ok_weaker c.do_hear.result (λ e. e c.in_ok-may_hea
 
 pub returns-clause-refused : goal.returns-clause-refused
 returns-clause-refused g c = IfErr-weaker c.do_hear.result _ _ (λ r e. subst (λ o. IsRefusal o r) (sym c.in_ok-may_hear.ensures.ok) e) c.do_hear.ensures.refused
+
+pub returns-clause-join : goal.returns-clause-join
+returns-clause-join g c = λ wish. IfErr-from_ok c.do_hear.result _ (c.do_hear.ensures.join wish)

@@ -1,4 +1,4 @@
-use Rattle.std.proofs.Common.{◌≡◌, IfOk, subst}
+use Rattle.std.proofs.Common.{◌≡◌, None, IfOk, OnErr, subst}
 use Rattle.rambo_run.specs.Runs.{result_of}
 use Rattle.rambo_run.specs.Steps.{refusal}
 use Rattle.rambo_world.specs.Worlds.{RunningOf}
@@ -22,3 +22,8 @@ returns-clause-after g c = goes_on g.Q.Quorums.system c.self.inside.founders c.s
 
 pub returns-clause-err : goal.returns-clause-err
 returns-clause-err g c = stays c.self.inside.founders c.self.inside.state c.take.new.self c.args.self.now c.take.result c.self.view_is c.take.ensures.err
+
+pub returns-clause-accepted : goal.returns-clause-accepted
+returns-clause-accepted g c =
+    let s = g.Q.Quorums.system in
+    subst (λ (v : RunningOf _). OnErr c.take.result (refusal s v.state c.args.step.now ≡ None)) c.self.view_is c.take.ensures.accepted

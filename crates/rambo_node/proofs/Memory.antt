@@ -1,0 +1,16 @@
+-- What follows where no memory is needed
+use Rattle.std.proofs.Common.{◌≡◌, Bool, true, false, Result, Ok, Err, IsOk, IfErr, refl, sym}
+use Rattle.std.proofs.lemmas.Bool.{true≢false}
+use Rattle.rambo_gossip.specs.declared.letter.Kind.{Kind}
+use Rattle.rambo_gossip.specs.declared.letter.Kind.TheVariants as kind
+use Rattle.rambo_node.specs.Memory.{is_gossip}
+
+-- what succeeds has no error of which to say anything
+pub IfErr-from_ok : {T E : Type 0} (r : Result T E) (Q : E → Type 0) → IsOk r → IfErr r Q
+IfErr-from_ok (Ok x) Q ok = tt
+IfErr-from_ok (Err y) Q ok = absurd (true≢false (sym ok))
+
+-- a letter that is no gossip is the wish to join
+pub join_from_no_gossip : {Q : Type 0} (k : Kind Q) → is_gossip k ≡ false → k ≡ kind.Join
+join_from_no_gossip kind.Join e = refl
+join_from_no_gossip (kind.Gossip g) e = absurd (true≢false e)
