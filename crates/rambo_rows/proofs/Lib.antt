@@ -1,2 +1,3 @@
+mod RowLines
 mod Shorter
 mod Shown

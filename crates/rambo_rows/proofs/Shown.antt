@@ -1,5 +1,5 @@
 -- What a row that came out right shows, by its word
-use Rattle.std.proofs.Common.{◌≡◌, ◌++◌, ℕ, List, Bool, true, false, inl, inr}
+use Rattle.std.proofs.Common.{◌≡◌, ◌++◌, ℕ, List, Bool, inl, inr}
 use Rattle.std.specs.Prelude.{Result, Ok, Err, IfOk, IsTrue, codes}
 use Rattle.rambo_names.specs.Names.{NameSet}
 use Rattle.rambo_names.specs.Signs.{set_text}

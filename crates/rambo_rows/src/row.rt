@@ -1,5 +1,6 @@
 //! How a row is written.
-ghost use Rattle.std.specs.Prelude.{◌<◌, length, IfOk};
+ghost use Rattle.std.specs.Prelude.{◌≡◌, ◌<◌, ◌++◌, List, ℕ, length, drop, cond, IfOk, OnOk};
+ghost use Rattle.rambo_rows.specs.RowTexts.{IsRow, RowText, line_end, input_of, output_of, has_mark, marks_word, marks_ending};
 
 use rambo_text::next_line;
 use std::alloc::{AllocError, Global};
@@ -24,9 +25,11 @@ pub struct Row<'a> {
 /// The first row of a text that isn't empty, and the text behind the empty line after it.
 pub fn read_row(alloc: Global, text: &[u8]) -> Result<(Row<'_>, &[u8]), AllocError>
     requires { 0 < length text.now }
+    ensures row { IfOk result (λ r. IsRow text.now (record { name = r.0.name.now; word = r.0.word.now; input = r.0.input.items; output = r.0.output.items; ending = r.0.ending.now }) r.1.now) }
     ensures shorter { IfOk result (λ r. length r.1.now < length text.now) }
 {
-    let (name, mut rest) = next_line(text);
+    let (name, behind) = next_line(text);
+    let end = line_end(behind);
     let mut row = Row {
         name,
         word: b"",
@@ -34,28 +37,53 @@ pub fn read_row(alloc: Global, text: &[u8]) -> Result<(Row<'_>, &[u8]), AllocErr
         output: Vec::new(alloc),
         ending: b"",
     };
+    let mut rest = behind;
     while !rest.is_empty() {
-        let (line, behind) = next_line(rest);
-        rest = behind;
-        let word = row.word;
-        match line.split_first() {
-            None => return Ok((row, rest)),
-            Some((b'>', text)) => add_line(&mut row.input, text, word)?,
-            Some((b'~', text)) => row.input.extend_from_slice(text)?,
-            Some((b'<', text)) => add_line(&mut row.output, text, word)?,
-            Some((b'=', text)) => row.ending = text,
-            Some((_, text)) => row.word = text,
+        let (line, others) = next_line(rest);
+        rest = others;
+        if line.is_empty() {
+            return Ok((row, rest));
         }
+        take_line(&mut row, line, end)?;
     }
     Ok((row, rest))
 }
 
-// Appends a line and its end: CR LF in a row that has a client served, else a line feed.
-fn add_line(lines: &mut Vec<u8>, line: &[u8], word: &[u8]) -> Result<(), AllocError> {
-    lines.extend_from_slice(line)?;
-    if word.starts_with(LOCAL) {
-        lines.push(b'\r')?;
+// How the lines of a row end, by what stands behind its name: in CR LF where a client is served, else in a line feed.
+fn line_end(behind: &[u8]) -> &'static [u8]
+    ensures { result.now ≡ line_end behind.now }
+{
+    if behind.starts_with(b":local ") {
+        b"\r\n"
+    } else {
+        b"\n"
     }
-    lines.push(b'\n')?;
+}
+
+// Adds to a row what a line of it tells.
+fn take_line<'a>(row: &mut Row<'a>, line: &'a [u8], end: &[u8]) -> Result<(), AllocError>
+    ensures name { row.new.name.now ≡ row.old.name.now }
+    ensures input { OnOk result (row.new.input.items ≡ row.old.input.items ++ input_of end.now line.now) }
+    ensures output { OnOk result (row.new.output.items ≡ row.old.output.items ++ output_of end.now line.now) }
+    ensures word { OnOk result (row.new.word.now ≡ cond (has_mark marks_word line.now) (drop 1 line.now) row.old.word.now) }
+    ensures ending { OnOk result (row.new.ending.now ≡ cond (has_mark marks_ending line.now) (drop 1 line.now) row.old.ending.now) }
+{
+    match line.split_first() {
+        None => {}
+        Some((b'>', text)) => add_line(&mut row.input, text, end)?,
+        Some((b'~', text)) => row.input.extend_from_slice(text)?,
+        Some((b'<', text)) => add_line(&mut row.output, text, end)?,
+        Some((b'=', text)) => row.ending = text,
+        Some((_, text)) => row.word = text,
+    }
+    Ok(())
+}
+
+// Appends a line and its end.
+fn add_line(lines: &mut Vec<u8>, line: &[u8], end: &[u8]) -> Result<(), AllocError>
+    ensures { OnOk result (lines.new.items ≡ lines.old.items ++ line.now ++ end.now) }
+{
+    lines.extend_from_slice(line)?;
+    lines.extend_from_slice(end)?;
     Ok(())
 }
