@@ -17,16 +17,18 @@ def key(number):
     return "%08x" % number
 
 
+def call(turn, node, keys, spelling="%08x"):
+    """The call of a turn at a node: sets and gets in turn, each kind over all keys in a circle."""
+    name = key((turn // 2 * 7919) % keys)
+    return "set %d %s %s" % (node, name, spelling % turn) if turn % 2 else "get %d %s" % (node, name)
+
+
 def calls(steps, keys):
     out = ["founders 1"]
     number = 0
     while len(out) <= steps:
         number += 1
-        name = key((number // 2 * 7919) % keys)
-        if number % 2:
-            out.append("set 1 %s %08x" % (name, number))
-        else:
-            out.append("get 1 %s" % name)
+        out.append(call(number, 1, keys))
         out.append("advance 1.%d" % number)
         out.append("advance 1.%d" % number)
     return out[: steps + 1]
@@ -41,12 +43,8 @@ def letters(steps, keys, spelling="%08x"):
         turn += 1
         me = turn % 3 + 1
         others = [n for n in (1, 2, 3) if n != me]
-        name = key((turn // 2 * 7919) % keys)
         made[me] += 1
-        if turn % 2:
-            out.append("set %d %s %s" % (me, name, spelling % turn))
-        else:
-            out.append("get %d %s" % (me, name))
+        out.append(call(turn, me, keys, spelling))
         for _phase in range(2):
             other = others[turn % 2]
             out.append("send %d %d" % (me, other))
@@ -88,11 +86,7 @@ def among(nodes, founders, steps, keys):
         circle = ((turn * 7 + place) % founders + 1 for place in range(founders))
         others = [other for other in circle if other != me][:wanted]
         made[me] += 1
-        name = key((turn // 2 * 7919) % keys)
-        if turn % 2:
-            out.append("set %d %s %08x" % (me, name, turn))
-        else:
-            out.append("get %d %s" % (me, name))
+        out.append(call(turn, me, keys))
         for _phase in range(2):
             for other in others:
                 ask(me, other)
@@ -139,11 +133,7 @@ def moves(steps, keys):
             present = members(change)
             me, other = present[turn % 3], present[(turn + 1 + turn % 2) % 3]
             made[me] += 1
-            name = key((turn // 2 * 7919) % keys)
-            if turn % 2:
-                out.append("set %d %s %08x" % (me, name, turn))
-            else:
-                out.append("get %d %s" % (me, name))
+            out.append(call(turn, me, keys))
             for _phase in range(2):
                 ask(me, other)
                 out.append("advance %d.%d" % (me, made[me]))

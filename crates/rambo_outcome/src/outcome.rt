@@ -46,7 +46,7 @@ fn write_steps<Q: Quorums>(
 /// Appends what is told of a step, by its number: the line of a call, an answer, an ended collection, an ended attempt or
 /// a refusal, or none. What a call asked is looked up in the history.
 ///
-/// `OutOfMemory` where there is no room for it.
+/// `OutOfMemory` where there is no room for it. What `out` holds then isn't said.
 pub fn write_step<Q: Quorums>(
     step: u64,
     told: &Result<Effect<Q>, Refusal>,
@@ -71,7 +71,7 @@ pub fn write_step<Q: Quorums>(
 
 /// Appends a line for each sequence.
 ///
-/// `OutOfMemory` where there is no room for them.
+/// `OutOfMemory` where there is no room for them. What `out` holds then isn't said.
 pub fn write_sequences(sequences: &[KeySequence], out: &mut Vec<u8>) -> Result<(), Refusal>
     ensures ok { OnOk result (out.new.items ≡ out.old.items ++ items_text (map Ordered sequences.now)) }
     ensures refused { IfErr result (λ r. r ≡ Refusal.OutOfMemory) }
@@ -84,7 +84,7 @@ pub fn write_sequences(sequences: &[KeySequence], out: &mut Vec<u8>) -> Result<(
 
 /// Appends a line for each map. Of a configuration the members are told.
 ///
-/// `OutOfMemory` where there is no room for them.
+/// `OutOfMemory` where there is no room for them. What `out` holds then isn't said.
 pub fn write_maps<Q: Quorums>(maps: &[NodeMap<Q>], out: &mut Vec<u8>) -> Result<(), Refusal>
     ensures ok { OnOk result (out.new.items ≡ out.old.items ++ items_text (map (map_item Q.system) maps.now)) }
     ensures refused { IfErr result (λ r. r ≡ Refusal.OutOfMemory) }
