@@ -244,81 +244,17 @@ fn takes(rt: &impl Abort, alloc: Global, world: &mut Host, rows: &[Row]) -> Resu
     Ok(())
 }
 
-// Node 4 joins and sets a value while node 1 has the configuration 4 chosen and the founders' collected; the set
-// counts the new configuration too, and a get that asks this one alone still finds the value.
-const CARRIED_OVER: [Row; 44] = [
-    (Move::Join(4, 1), Ok(Came::Done)),
-    (Move::Send(4, 1), Ok(Came::Sent(1))),
-    (Move::Deliver(1), Ok(Came::Done)),
-    (Move::Send(1, 4), Ok(Came::Sent(2))),
-    (Move::Deliver(2), Ok(Came::Done)),
-    (Move::Set(4), Ok(Came::Called)),
-    (Move::Send(4, 3), Ok(Came::Sent(3))),
-    (Move::Deliver(3), Ok(Came::Done)),
-    (Move::Send(3, 4), Ok(Came::Sent(4))),
-    (Move::Deliver(4), Ok(Came::Done)),
-    (Move::Send(4, 2), Ok(Came::Sent(5))),
-    (Move::Deliver(5), Ok(Came::Done)),
-    (Move::Recon(1, 4), Ok(Came::Done)),
-    (Move::Send(1, 2), Ok(Came::Sent(6))),
-    (Move::Deliver(6), Ok(Came::Done)),
-    (Move::Send(2, 1), Ok(Came::Sent(7))),
-    (Move::Deliver(7), Ok(Came::Done)),
-    (Move::AdvanceRecon(1), Ok(Came::Moved)),
-    (Move::Send(1, 2), Ok(Came::Sent(8))),
-    (Move::Deliver(8), Ok(Came::Done)),
-    (Move::Send(2, 1), Ok(Came::Sent(9))),
-    (Move::Deliver(9), Ok(Came::Done)),
-    (Move::AdvanceRecon(1), Ok(Came::Decided(1))),
-    (Move::Collect(1), Ok(Came::Done)),
-    (Move::Send(1, 2), Ok(Came::Sent(10))),
-    (Move::Deliver(10), Ok(Came::Done)),
-    (Move::Send(2, 1), Ok(Came::Sent(11))),
-    (Move::Deliver(11), Ok(Came::Done)),
-    (Move::AdvanceCollect(1), Ok(Came::Moved)),
-    (Move::Send(1, 4), Ok(Came::Sent(12))),
-    (Move::Deliver(12), Ok(Came::Done)),
-    (Move::Send(4, 1), Ok(Came::Sent(13))),
-    (Move::Deliver(13), Ok(Came::Done)),
-    (Move::AdvanceCollect(1), Ok(Came::Collected(0))),
-    (Move::Send(1, 2), Ok(Came::Sent(14))),
-    (Move::Deliver(14), Ok(Came::Done)),
-    (Move::Advance(4, 1), Err(Refusal::NotYet)),
-    (Move::Send(2, 4), Ok(Came::Sent(15))),
-    (Move::Deliver(15), Ok(Came::Done)),
-    (Move::Advance(4, 1), Ok(Came::Moved)),
-    (Move::Advance(4, 1), Ok(Came::Answered)),
-    (Move::Get(4), Ok(Came::Called)),
-    (Move::Advance(4, 2), Ok(Came::Moved)),
-    (Move::Advance(4, 2), Ok(Came::Value(118))),
-];
-
-// Node 4 has its own configuration alone, and the value is in the sequence.
-fn is_carried(rt: &impl Abort, alloc: Global, world: &Host) -> Result<(), Fail> {
-    let calls = again!(world.sequence(alloc, b"k"));
-    assert_eq!(rt; calls.as_slice(), [id(4, 1)?, id(4, 2)?].as_slice());
-    assert_eq!(rt; world.steps().len(), 43);
-    assert_eq!(rt; places(world, 4)?, (1, 1));
-    Ok(())
-}
-
-#[test]
-fn set_over_two_configurations(rt: HostRuntime) -> Result<(), Fail> {
-    let mut world = again!(new_world(rt.alloc(), &[1, 2, 3]));
-    takes(&rt, rt.alloc(), &mut world, CARRIED_OVER.as_slice())?;
-    is_carried(&rt, rt.alloc(), &world)
-}
-
 // Node 2 has the configuration 4 chosen. Nodes 1 and 3, which don't know of it, keep a value, and node 1 stops. Node 2
 // has the founders' configuration collected: its first question brings it the value, and its second one brings it to node
 // 4. All founders have stopped then, and a get still finds the value.
-const LEFT_BEHIND: [Row; 49] = [
+const LEFT_BEHIND: [Row; 50] = [
     (Move::Join(4, 2), Ok(Came::Done)),
     (Move::Send(4, 2), Ok(Came::Sent(1))),
     (Move::Deliver(1), Ok(Came::Done)),
     (Move::Send(2, 4), Ok(Came::Sent(2))),
     (Move::Deliver(2), Ok(Came::Done)),
     (Move::Recon(2, 4), Ok(Came::Done)),
+    (Move::Rebid(2), Ok(Came::Done)),
     (Move::AdvanceRecon(2), Err(Refusal::NotYet)),
     (Move::Send(2, 3), Ok(Came::Sent(3))),
     (Move::Deliver(3), Ok(Came::Done)),
@@ -369,7 +305,7 @@ const LEFT_BEHIND: [Row; 49] = [
 fn is_left_behind(rt: &impl Abort, alloc: Global, world: &Host) -> Result<(), Fail> {
     let calls = again!(world.sequence(alloc, b"k"));
     assert_eq!(rt; calls.as_slice(), [id(1, 1)?, id(4, 1)?].as_slice());
-    assert_eq!(rt; world.steps().len(), 46);
+    assert_eq!(rt; world.steps().len(), 47);
     for (number, wanted) in [(1, (0, 0)), (2, (1, 1)), (3, (0, 1)), (4, (1, 1))] {
         assert_eq!(rt; places(world, number)?, wanted);
     }
@@ -381,124 +317,6 @@ fn value_outlives_its_members(rt: HostRuntime) -> Result<(), Fail> {
     let mut world = again!(new_world(rt.alloc(), &[1, 2, 3]));
     takes(&rt, rt.alloc(), &mut world, LEFT_BEHIND.as_slice())?;
     is_left_behind(&rt, rt.alloc(), &world)
-}
-
-// Node 1 alone is each configuration. It collects two of them while node 2 waits for a reply to its get. A reply that
-// tells of both collections leaves a gap, so that the get begins anew. Then come, late, the replies that were sent before
-// one collection and before both, and the one with the gap again: none of them counts, and none brings a removed place
-// back.
-const LATE: [Row; 45] = [
-    (Move::Join(2, 1), Ok(Came::Done)),
-    (Move::Send(2, 1), Ok(Came::Sent(1))),
-    (Move::Deliver(1), Ok(Came::Done)),
-    (Move::Send(1, 2), Ok(Came::Sent(2))),
-    (Move::Deliver(2), Ok(Came::Done)),
-    (Move::Get(2), Ok(Came::Called)),
-    (Move::Send(2, 1), Ok(Came::Sent(3))),
-    (Move::Deliver(3), Ok(Came::Done)),
-    (Move::Send(1, 2), Ok(Came::Sent(4))),
-    (Move::Set(1), Ok(Came::Called)),
-    (Move::Advance(1, 1), Ok(Came::Moved)),
-    (Move::Advance(1, 1), Ok(Came::Answered)),
-    (Move::Recon(1, 1), Ok(Came::Done)),
-    (Move::AdvanceRecon(1), Ok(Came::Moved)),
-    (Move::AdvanceRecon(1), Ok(Came::Decided(1))),
-    (Move::Collect(1), Ok(Came::Done)),
-    (Move::AdvanceCollect(1), Ok(Came::Moved)),
-    (Move::AdvanceCollect(1), Ok(Came::Collected(0))),
-    (Move::Send(1, 2), Ok(Came::Sent(5))),
-    (Move::Recon(1, 1), Ok(Came::Done)),
-    (Move::AdvanceRecon(1), Ok(Came::Moved)),
-    (Move::AdvanceRecon(1), Ok(Came::Decided(2))),
-    (Move::Collect(1), Ok(Came::Done)),
-    (Move::AdvanceCollect(1), Ok(Came::Moved)),
-    (Move::AdvanceCollect(1), Ok(Came::Collected(1))),
-    (Move::Send(1, 2), Ok(Came::Sent(6))),
-    (Move::Deliver(6), Ok(Came::Done)),
-    (Move::Advance(2, 1), Err(Refusal::NotYet)),
-    (Move::Deliver(5), Ok(Came::Done)),
-    (Move::Deliver(4), Ok(Came::Done)),
-    (Move::Deliver(6), Ok(Came::Done)),
-    (Move::Advance(2, 1), Err(Refusal::NotYet)),
-    (Move::Send(2, 1), Ok(Came::Sent(7))),
-    (Move::Deliver(7), Ok(Came::Done)),
-    (Move::Send(1, 2), Ok(Came::Sent(8))),
-    (Move::Deliver(8), Ok(Came::Done)),
-    (Move::Advance(2, 1), Ok(Came::Moved)),
-    (Move::Deliver(8), Ok(Came::Done)),
-    (Move::Advance(2, 1), Err(Refusal::NotYet)),
-    (Move::Send(2, 1), Ok(Came::Sent(9))),
-    (Move::Deliver(9), Ok(Came::Done)),
-    (Move::Send(1, 2), Ok(Came::Sent(10))),
-    (Move::Deliver(10), Ok(Came::Done)),
-    (Move::Advance(2, 1), Ok(Came::Value(118))),
-    (Move::Deliver(2), Ok(Came::Done)),
-];
-
-fn is_late(rt: &impl Abort, alloc: Global, world: &Host) -> Result<(), Fail> {
-    let calls = again!(world.sequence(alloc, b"k"));
-    assert_eq!(rt; calls.as_slice(), [id(1, 1)?, id(2, 1)?].as_slice());
-    assert_eq!(rt; world.steps().len(), 42);
-    assert_eq!(rt; places(world, 1)?, (2, 2));
-    assert_eq!(rt; places(world, 2)?, (2, 2));
-    Ok(())
-}
-
-#[test]
-fn letters_over_collections(rt: HostRuntime) -> Result<(), Fail> {
-    let mut world = again!(new_world(rt.alloc(), &[1]));
-    takes(&rt, rt.alloc(), &mut world, LATE.as_slice())?;
-    is_late(&rt, rt.alloc(), &world)
-}
-
-// Steps of the member set that are refused: of an idle node, before an attempt and a collection, while they are open, and
-// after all.
-const REFUSED_MEMBERS: [Row; 37] = [
-    (Move::Collect(3), Err(Refusal::NotActive)),
-    (Move::AdvanceCollect(3), Err(Refusal::NotActive)),
-    (Move::Recon(3, 1), Err(Refusal::NotActive)),
-    (Move::Rebid(3), Err(Refusal::NotActive)),
-    (Move::AdvanceRecon(3), Err(Refusal::NotActive)),
-    (Move::Collect(1), Err(Refusal::NothingToCollect)),
-    (Move::AdvanceCollect(1), Err(Refusal::NoCollect)),
-    (Move::Recon(1, 3), Err(Refusal::UnknownMember)),
-    (Move::Rebid(1), Err(Refusal::NoRecon)),
-    (Move::AdvanceRecon(1), Err(Refusal::NoRecon)),
-    (Move::Recon(1, 2), Ok(Came::Done)),
-    (Move::Recon(1, 2), Err(Refusal::ReconOpen)),
-    (Move::AdvanceRecon(1), Err(Refusal::NotYet)),
-    (Move::Rebid(1), Ok(Came::Done)),
-    (Move::Send(1, 2), Ok(Came::Sent(1))),
-    (Move::Deliver(1), Ok(Came::Done)),
-    (Move::Send(2, 1), Ok(Came::Sent(2))),
-    (Move::Deliver(2), Ok(Came::Done)),
-    (Move::AdvanceRecon(1), Ok(Came::Moved)),
-    (Move::AdvanceRecon(1), Err(Refusal::NotYet)),
-    (Move::Send(1, 2), Ok(Came::Sent(3))),
-    (Move::Deliver(3), Ok(Came::Done)),
-    (Move::Send(2, 1), Ok(Came::Sent(4))),
-    (Move::Deliver(4), Ok(Came::Done)),
-    (Move::AdvanceRecon(1), Ok(Came::Decided(1))),
-    (Move::Recon(1, 2), Err(Refusal::NotMember)),
-    (Move::Rebid(1), Err(Refusal::NoRecon)),
-    (Move::AdvanceRecon(1), Err(Refusal::NoRecon)),
-    (Move::Collect(1), Ok(Came::Done)),
-    (Move::Collect(1), Err(Refusal::CollectOpen)),
-    (Move::AdvanceCollect(1), Err(Refusal::NotYet)),
-    (Move::Stop(1), Ok(Came::Done)),
-    (Move::Collect(1), Err(Refusal::Stopped)),
-    (Move::AdvanceCollect(1), Err(Refusal::Stopped)),
-    (Move::Recon(1, 2), Err(Refusal::Stopped)),
-    (Move::Rebid(1), Err(Refusal::Stopped)),
-    (Move::AdvanceRecon(1), Err(Refusal::Stopped)),
-];
-
-#[test]
-fn refused_steps_of_members(rt: HostRuntime) -> Result<(), Fail> {
-    let mut world = again!(new_world(rt.alloc(), &[1, 2]));
-    takes(&rt, rt.alloc(), &mut world, REFUSED_MEMBERS.as_slice())?;
-    assert_eq!(rt; world.steps().len(), 14);
-    Ok(())
 }
 
 // Steps that are refused, and that leave the world as it was.
