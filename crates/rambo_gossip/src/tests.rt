@@ -4,21 +4,29 @@ use rambo_names::{Bytes, Majority, Members, Name, Refusal};
 use rambo_paxos::{Ballot, Offer, Vote};
 use rambo_tag::{KeyedVersion, Pack, Tag, Version};
 use std::alloc::Global;
+use std::env::Env;
 use std::process::Abort;
 use std::test::Fail;
 
-// The value of a call, which is made once more where it is refused.
+// Whether a request for memory is refused in this run, as `tools/fail-alloc` does. In any other run there is
+// memory enough, and no call may be refused for want of it.
+fn is_short(rt: &HostRuntime) -> bool {
+    let mut number = [0; 24];
+    rt.var("FAIL_ALLOC", number.as_mut_slice()).is_ok()
+}
+
+// What a call comes to, which is made once more where it is refused in a run that may be short of memory.
 macro_rules! again {
-    ($call:expr) => {
+    ($is_short:expr, $call:expr) => {
         match $call {
-            Ok(value) => value,
-            Err(_) => $call?,
+            Err(_) if $is_short => $call,
+            told => told,
         }
     };
 }
 
 fn bytes(alloc: Global, items: &[u8]) -> Result<Bytes, Refusal> {
-    Ok(again!(Bytes::from_slice(alloc, items)))
+    Bytes::from_slice(alloc, items)
 }
 
 fn names(numbers: &[u64]) -> Result<Members, Refusal> {
@@ -32,8 +40,8 @@ fn names(numbers: &[u64]) -> Result<Members, Refusal> {
 // Keys, the sequence numbers of their tags, and their values.
 const ROWS: [(&[u8], u64, Option<&[u8]>); 2] = [(b"k", 3, Some(b"v")), (b"", 4, None)];
 
-fn copies(alloc: Global) -> Result<Pack, Fail> {
-    let mut copies = again!(Vec::with_capacity(alloc, ROWS.len()));
+fn copies(alloc: Global) -> Result<Pack, Refusal> {
+    let mut copies = Vec::with_capacity(alloc, ROWS.len())?;
     for (key, sequence, value) in ROWS {
         let value = match value {
             Some(items) => Some(bytes(alloc, items)?),
@@ -119,7 +127,7 @@ fn copies_gossip(rt: HostRuntime) -> Result<(), Fail> {
     let (sender, addressee) = (Name::new(2)?, Name::new(5)?);
     let gossip = Gossip {
         known: names(&[1, 2, 5])?,
-        copies: copies(alloc)?,
+        copies: again!(is_short(&rt), copies(alloc))?,
         map: ConfigMap::new(alloc, Majority::of(names(&[1, 2])?)),
         number: 7,
         heard: 6,
@@ -134,7 +142,7 @@ fn copies_gossip(rt: HostRuntime) -> Result<(), Fail> {
     let copy = match letter.clone() {
         Ok(copy) => Ok(copy),
         Err(refusal) => {
-            assert_eq!(rt; refusal, Refusal::OutOfMemory);
+            assert!(rt; refusal == Refusal::OutOfMemory && is_short(&rt));
             letter.clone()
         }
     };

@@ -2,7 +2,7 @@
 
 use crate::town::Host;
 use rambo_atomic::CallId;
-use rambo_gossip::GossipOutline;
+use rambo_gossip::{GossipOutline, LetterOutline};
 use rambo_names::{Majority, Members, Name, Refusal};
 use rambo_node::Change;
 
@@ -24,27 +24,33 @@ fn is_gossip_alike(
     }
 }
 
+fn is_outline_alike(
+    told: &LetterOutline<'_, Majority>,
+    others: &LetterOutline<'_, Majority>,
+) -> bool {
+    told.sender == others.sender
+        && told.addressee == others.addressee
+        && is_gossip_alike(&told.gossip, &others.gossip)
+}
+
+// Whether they judge a change the same.
+fn is_judged_alike(host: &Host, twin: &Host, change: Change<Majority>) -> bool {
+    host.judge(&change) == twin.judge(&change)
+}
+
 // Whether they tell a name the same.
-fn tell_alike(host: &Host, twin: &Host, number: u64) -> Result<bool, Refusal> {
-    let to = Name::new(number)?;
-    let told = host.outline_for(to);
-    let told_by_twin = twin.outline_for(to);
-    Ok(
-        host.judge(&Change::Send(to)) == twin.judge(&Change::Send(to))
-            && told.sender == told_by_twin.sender
-            && told.addressee == told_by_twin.addressee
-            && is_gossip_alike(&told.gossip, &told_by_twin.gossip),
-    )
+fn tell_alike(host: &Host, twin: &Host, to: Name) -> bool {
+    is_judged_alike(host, twin, Change::Send(to))
+        && is_outline_alike(&host.outline_for(to), &twin.outline_for(to))
 }
 
 // Whether they tell the same of their call of a number.
 fn is_call_alike(host: &Host, twin: &Host, number: u64) -> bool {
-    host.judge(&Change::Advance(id_of(host, number)))
-        == twin.judge(&Change::Advance(id_of(host, number)))
-        && host.judge(&Change::Again(id_of(host, number)))
-            == twin.judge(&Change::Again(id_of(host, number)))
+    is_judged_alike(host, twin, Change::Advance(id_of(host, number)))
+        && is_judged_alike(host, twin, Change::Again(id_of(host, number)))
 }
 
+// The call of a number on a node.
 fn id_of(host: &Host, number: u64) -> CallId {
     CallId {
         name: host.name(),
@@ -59,37 +65,31 @@ fn is_copy_alike(host: &Host, twin: &Host, key: u8) -> bool {
 
 // Whether what they collect and bid for is alike.
 fn turn_alike(host: &Host, twin: &Host) -> bool {
-    host.judge(&Change::Collect) == twin.judge(&Change::Collect)
-        && host.judge(&Change::AdvanceCollect) == twin.judge(&Change::AdvanceCollect)
-        && host.judge(&Change::Rebid) == twin.judge(&Change::Rebid)
-        && host.judge(&Change::AdvanceRecon) == twin.judge(&Change::AdvanceRecon)
+    is_judged_alike(host, twin, Change::Collect)
+        && is_judged_alike(host, twin, Change::AdvanceCollect)
+        && is_judged_alike(host, twin, Change::Rebid)
+        && is_judged_alike(host, twin, Change::AdvanceRecon)
 }
 
 fn stand_alike(host: &Host, twin: &Host) -> bool {
-    let nobody = Members::empty();
     host.name() == twin.name()
         && host.status() == twin.status()
         && host.map().same(twin.map())
-        && host.judge(&Change::Join(nobody)) == twin.judge(&Change::Join(nobody))
-        && host.judge(&Change::Stop) == twin.judge(&Change::Stop)
+        && is_judged_alike(host, twin, Change::Join(Members::empty()))
+        && is_judged_alike(host, twin, Change::Stop)
 }
 
 // Whether they tell each of three names, and of nine calls and the keys, the same.
 pub(crate) fn are_alike(host: &Host, twin: &Host) -> Result<bool, Refusal> {
+    let mut alike = stand_alike(host, twin) && turn_alike(host, twin);
     for number in 1..4 {
-        if !tell_alike(host, twin, number)? {
-            return Ok(false);
-        }
+        alike = alike && tell_alike(host, twin, Name::new(number)?);
     }
     for number in 1..10 {
-        if !is_call_alike(host, twin, number) {
-            return Ok(false);
-        }
+        alike = alike && is_call_alike(host, twin, number);
     }
     for key in 97..112 {
-        if !is_copy_alike(host, twin, key) {
-            return Ok(false);
-        }
+        alike = alike && is_copy_alike(host, twin, key);
     }
-    Ok(stand_alike(host, twin) && turn_alike(host, twin))
+    Ok(alike)
 }

@@ -1,69 +1,57 @@
 //! What changes did, on a founder that is alone.
 
+use crate::memory::is_short;
 use crate::seen::byte;
-use rambo_atomic::{Answer, CallId, Event, Op};
-use rambo_names::{Bytes, Majority, Members, Name, Refusal};
-use rambo_node::{Change, Deed, Effect, Node};
-use rambo_tag::{Registers, Version};
+use crate::town::{Host, get, host, id, set};
+use rambo_atomic::{Answer, Event, Op};
+use rambo_names::{Majority, Refusal};
+use rambo_node::{Change, Deed, Effect};
+use rambo_tag::Version;
 use std::alloc::Global;
-use std::hash::{BuildHasherDefault, FoldHasher};
-use std::test::Fail;
 
-type Host = Node<Majority, Registers<BuildHasherDefault<FoldHasher>>>;
-
-fn alone(alloc: Global) -> Result<Host, Refusal> {
-    let name = Name::new(1)?;
-    let founders = Majority::of(Members::empty().with(name));
-    let registers = Registers::new(alloc, BuildHasherDefault::new());
-    Ok(Node::new(alloc, name, founders, registers))
+// A set of a key and a get of it, each with its call, its query's end and its answer.
+#[derive(Clone, Copy)]
+enum Turn {
+    SetCalled,
+    SetMoved,
+    SetAnswered,
+    GetCalled,
+    GetMoved,
+    GetAnswered,
 }
 
-fn bytes(alloc: Global, byte: u8) -> Result<Bytes, Refusal> {
-    match Bytes::from_slice(alloc, &[byte]) {
-        Ok(bytes) => Ok(bytes),
-        Err(_) => Bytes::from_slice(alloc, &[byte]),
-    }
-}
+static TURNS: [Turn; 6] = [
+    Turn::SetCalled,
+    Turn::SetMoved,
+    Turn::SetAnswered,
+    Turn::GetCalled,
+    Turn::GetMoved,
+    Turn::GetAnswered,
+];
 
-// A set, or where there is no value a get, of one key.
-fn op(alloc: Global, value: Option<u8>) -> Result<Op, Refusal> {
-    let key = bytes(alloc, 107)?;
-    match value {
-        Some(value) => Ok(Op::Set(key, bytes(alloc, value)?)),
-        None => Ok(Op::Get(key)),
-    }
-}
-
-// A call is made once more where it is refused while memory is short.
-fn call(host: &mut Host, alloc: Global, value: Option<u8>) -> Result<Deed<Majority>, Refusal> {
-    match host.take(Change::Call(op(alloc, value)?)) {
-        Err(Refusal::OutOfMemory) => host.take(Change::Call(op(alloc, value)?)),
-        taken => taken,
-    }
-}
-
-fn id(number: u64) -> Result<CallId, Refusal> {
-    Ok(CallId {
-        name: Name::new(1)?,
-        number,
-    })
-}
-
-fn advance(host: &mut Host, number: u64) -> Result<Deed<Majority>, Refusal> {
-    match host.take(Change::Advance(id(number)?)) {
-        Err(Refusal::OutOfMemory) => host.take(Change::Advance(id(number)?)),
-        taken => taken,
+fn change(alloc: Global, turn: Turn) -> Result<Change<Majority>, Refusal> {
+    match turn {
+        Turn::SetCalled => Ok(Change::Call(set(alloc, 107, 118)?)),
+        Turn::GetCalled => Ok(Change::Call(get(alloc, 107)?)),
+        Turn::SetMoved | Turn::SetAnswered => Ok(Change::Advance(id(1, 1)?)),
+        Turn::GetMoved | Turn::GetAnswered => Ok(Change::Advance(id(1, 2)?)),
     }
 }
 
 // Whether a copy is the first set's.
 fn is_first(version: &Version) -> bool {
-    version.tag.sequence == 1
-        && version.tag.name.number() == 1
-        && version
-            .value
-            .as_ref()
-            .is_some_and(|value| byte(value) == 118)
+    let value = match &version.value {
+        Some(value) => byte(value),
+        None => 0,
+    };
+    version.tag.sequence == 1 && version.tag.name.number() == 1 && value == 118
+}
+
+fn is_first_kept(kept: &Option<Version>) -> bool {
+    match kept {
+        Some(version) => is_first(version),
+        None => false,
+    }
 }
 
 // The numbers of the calls that a deed tells, or 0.
@@ -107,9 +95,7 @@ fn leaves_nothing(deed: &Deed<Majority>) -> bool {
 fn is_marked(deed: &Deed<Majority>, number: u64, is_get: bool) -> bool {
     match &deed.mark {
         Some(mark) => {
-            mark.id.number == number
-                && mark.op.is_get() == is_get
-                && mark.kept.as_ref().is_some_and(is_first)
+            mark.id.number == number && mark.op.is_get() == is_get && is_first_kept(&mark.kept)
         }
         None => false,
     }
@@ -122,25 +108,40 @@ fn has_put_first(deed: &Deed<Majority>) -> bool {
     }
 }
 
+// Whether a deed is that of its turn.
+fn is_told(deed: &Deed<Majority>, turn: Turn) -> bool {
+    match turn {
+        Turn::SetCalled => called(deed) == (1, 1) && leaves_nothing(deed),
+        Turn::SetMoved => is_moved(deed) && is_marked(deed, 1, false) && has_put_first(deed),
+        Turn::SetAnswered => answered(deed) == (1, 1) && leaves_nothing(deed),
+        Turn::GetCalled => true,
+        Turn::GetMoved => is_moved(deed) && leaves_nothing(deed),
+        Turn::GetAnswered => {
+            answered(deed) == (2, 2) && is_marked(deed, 2, true) && deed.copy.is_none()
+        }
+    }
+}
+
+fn takes(host: &mut Host, alloc: Global, turn: Turn) -> Result<bool, Refusal> {
+    let deed = host.take(change(alloc, turn)?)?;
+    Ok(is_told(&deed, turn))
+}
+
+// The place of the first turn that comes out otherwise.
+fn first_wrong(host: &mut Host, alloc: Global, is_short: bool) -> Option<usize> {
+    for (place, turn) in TURNS.iter().enumerate() {
+        if !matches!(again!(is_short, takes(host, alloc, *turn)), Ok(true)) {
+            return Some(place);
+        }
+    }
+    None
+}
+
 #[test]
-fn set_and_get(rt: HostRuntime) -> Result<(), Fail> {
-    let alloc = rt.alloc();
-    let mut host = alone(alloc)?;
-
-    let deed = call(&mut host, alloc, Some(118))?;
-    assert!(rt; called(&deed) == (1, 1) && leaves_nothing(&deed));
-
-    let deed = advance(&mut host, 1)?;
-    assert!(rt; is_moved(&deed) && is_marked(&deed, 1, false) && has_put_first(&deed));
-
-    let deed = advance(&mut host, 1)?;
-    assert!(rt; answered(&deed) == (1, 1) && leaves_nothing(&deed));
-
-    let _deed = call(&mut host, alloc, None)?;
-    let deed = advance(&mut host, 2)?;
-    assert!(rt; is_moved(&deed) && leaves_nothing(&deed));
-
-    let deed = advance(&mut host, 2)?;
-    assert!(rt; answered(&deed) == (2, 2) && is_marked(&deed, 2, true) && deed.copy.is_none());
-    Ok(())
+fn set_and_get(rt: HostRuntime) {
+    let wrong = match host(rt.alloc(), 1, 1) {
+        Ok(mut host) => first_wrong(&mut host, rt.alloc(), is_short(&rt)),
+        Err(_) => Some(0),
+    };
+    assert_eq!(rt; wrong, None);
 }

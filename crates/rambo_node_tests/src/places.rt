@@ -1,11 +1,11 @@
 //! Runs over maps of many places.
 
+use crate::memory::is_short;
 use crate::seen::Seen;
 use crate::step::{Forged, Step};
-use crate::twins::{Row, run};
+use crate::twins::{Row, Script};
 use rambo_joiner::Status;
 use rambo_names::Refusal;
-use std::test::Fail;
 
 // A letter of node 2 to node 1, with eight active places of node 2 alone.
 const EIGHT_PLACES: Forged = Forged {
@@ -13,13 +13,13 @@ const EIGHT_PLACES: Forged = Forged {
     to: 1,
     active: 8,
     member: 2,
-    copies: [(122, 1, 1, 0); 5],
+    copies: &[(122, 1, 1, 0); 5],
     offered: 0,
 };
 
 // A letter that leaves a gap restarts each call whose number it had heard, all under one new number. The last such
 // letter comes while all phases have eight places.
-const GAPS: [Row; 40] = [
+const GAPS: &[Row] = &[
     (Step::Get(1, 97), Ok(Seen::Made(1))),
     (Step::Get(1, 98), Ok(Seen::Made(2))),
     (Step::Set(1, 99, 118), Ok(Seen::Made(3))),
@@ -62,14 +62,9 @@ const GAPS: [Row; 40] = [
     (Step::Advance(1, 3), Ok(Seen::Ok)),
 ];
 
-#[test]
-fn gaps(rt: HostRuntime) -> Result<(), Fail> {
-    run(&rt, rt.alloc(), &[1, 2], &GAPS)
-}
-
 // Nodes 2 and 3 have node 3 alone chosen for place 1. Node 1 is told by a reply to its set, whose phase then waits for
 // node 3 too.
-const TOLD_OF_A_PLACE: [Row; 29] = [
+const TOLD_OF_A_PLACE: &[Row] = &[
     (Step::Recon(2, 3, 3), Ok(Seen::Done)),
     (Step::Send(2, 3), Ok(Seen::Done)),
     (Step::Deliver(0), Ok(Seen::Done)),
@@ -101,7 +96,28 @@ const TOLD_OF_A_PLACE: [Row; 29] = [
     (Step::Advance(1, 1), Ok(Seen::Ok)),
 ];
 
+static PLACES: [Script; 2] = [
+    Script {
+        name: "gaps",
+        founders: 2,
+        rows: GAPS,
+    },
+    Script {
+        name: "told_of_a_place",
+        founders: 3,
+        rows: TOLD_OF_A_PLACE,
+    },
+];
+
 #[test]
-fn told_of_a_place(rt: HostRuntime) -> Result<(), Fail> {
-    run(&rt, rt.alloc(), &[1, 2, 3], &TOLD_OF_A_PLACE)
+fn places_of_maps(rt: HostRuntime) {
+    let is_short = is_short(&rt);
+    for script in PLACES.iter() {
+        assert_eq!(rt;
+            script.first_wrong(is_short, rt.alloc()),
+            None,
+            "in {}",
+            script.name
+        );
+    }
 }

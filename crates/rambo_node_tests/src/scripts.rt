@@ -1,14 +1,14 @@
 //! Runs of three nodes.
 
+use crate::memory::is_short;
 use crate::seen::Seen;
 use crate::step::{Forged, Step};
-use crate::twins::{Row, Twins, run};
+use crate::twins::{Row, Script, Twins};
 use rambo_joiner::Status;
 use rambo_names::Refusal;
-use std::test::Fail;
 
 // A founder that is alone answers each call by itself.
-const ALONE: [Row; 10] = [
+const ALONE: &[Row] = &[
     (Step::Get(1, 107), Ok(Seen::Made(1))),
     (Step::Advance(1, 1), Ok(Seen::Moved)),
     (Step::Advance(1, 1), Ok(Seen::Nil)),
@@ -21,13 +21,8 @@ const ALONE: [Row; 10] = [
     (Step::Look(1), Ok(Seen::Looks(Status::Active, 0, 0))),
 ];
 
-#[test]
-fn alone(rt: HostRuntime) -> Result<(), Fail> {
-    run(&rt, rt.alloc(), &[1], &ALONE)
-}
-
 // A set waits for a majority of three. A letter that comes again does nothing more.
-const WAITS: [Row; 14] = [
+const WAITS: &[Row] = &[
     (Step::Set(1, 107, 118), Ok(Seen::Made(1))),
     (Step::Advance(1, 1), Err(Refusal::NotYet)),
     (Step::Send(2, 1), Ok(Seen::Done)),
@@ -44,13 +39,8 @@ const WAITS: [Row; 14] = [
     (Step::Advance(1, 1), Err(Refusal::NotYet)),
 ];
 
-#[test]
-fn waits_for_majority(rt: HostRuntime) -> Result<(), Fail> {
-    run(&rt, rt.alloc(), &[1, 2, 3], &WAITS)
-}
-
 // The writer stops after its copy reached node 2. Both gets that follow answer it.
-const STOPPED_WRITER: [Row; 31] = [
+const STOPPED_WRITER: &[Row] = &[
     (Step::Set(1, 107, 118), Ok(Seen::Made(1))),
     (Step::Send(1, 2), Ok(Seen::Done)),
     (Step::Deliver(0), Ok(Seen::Done)),
@@ -84,13 +74,8 @@ const STOPPED_WRITER: [Row; 31] = [
     (Step::Advance(2, 1), Ok(Seen::Value(118))),
 ];
 
-#[test]
-fn stopped_writer(rt: HostRuntime) -> Result<(), Fail> {
-    run(&rt, rt.alloc(), &[1, 2, 3], &STOPPED_WRITER)
-}
-
 // Two sets at once take the tags (1, 1) and (1, 2), and a later get answers the greater one's value.
-const TWO_WRITERS: [Row; 34] = [
+const TWO_WRITERS: &[Row] = &[
     (Step::Set(1, 107, 98), Ok(Seen::Made(1))),
     (Step::Set(2, 107, 97), Ok(Seen::Made(1))),
     (Step::Send(1, 2), Ok(Seen::Done)),
@@ -127,13 +112,8 @@ const TWO_WRITERS: [Row; 34] = [
     (Step::Advance(1, 2), Ok(Seen::Value(97))),
 ];
 
-#[test]
-fn two_writers(rt: HostRuntime) -> Result<(), Fail> {
-    run(&rt, rt.alloc(), &[1, 2], &TWO_WRITERS)
-}
-
 // Nodes 2 and 3 join. What a joining node says makes it known, and wakes none.
-const JOINS: [Row; 20] = [
+const JOINS: &[Row] = &[
     (Step::Send(2, 1), Err(Refusal::NotActive)),
     (Step::JoinAlone(2), Err(Refusal::EmptyMembers)),
     (Step::Join(2, 3), Ok(Seen::Done)),
@@ -156,13 +136,8 @@ const JOINS: [Row; 20] = [
     (Step::Read(4), Ok(Seen::Tells(3, 0, 0, 0))),
 ];
 
-#[test]
-fn joins(rt: HostRuntime) -> Result<(), Fail> {
-    run(&rt, rt.alloc(), &[1], &JOINS)
-}
-
 // What an idle, a joining and a stopped node refuse, and a call that isn't there.
-const REFUSALS: [Row; 22] = [
+const REFUSALS: &[Row] = &[
     (Step::Send(1, 1), Err(Refusal::NotKnown)),
     (Step::Advance(1, 1), Err(Refusal::NoSuchCall)),
     (Step::Again(1, 1), Err(Refusal::NoSuchCall)),
@@ -187,23 +162,18 @@ const REFUSALS: [Row; 22] = [
     (Step::Look(2), Ok(Seen::Looks(Status::Stopped, 0, 0))),
 ];
 
-#[test]
-fn refusals(rt: HostRuntime) -> Result<(), Fail> {
-    run(&rt, rt.alloc(), &[1, 2], &REFUSALS)
-}
-
 // A letter of node 1 to node 2.
 const FROM_ONE: Forged = Forged {
     from: 1,
     to: 2,
     active: 1,
     member: 1,
-    copies: [(122, 1, 1, 0); 5],
+    copies: &[(122, 1, 1, 0); 5],
     offered: 0,
 };
 
 // A reply whose floor is two above the phase's top begins the phase anew, and counts no more.
-const GAP: [Row; 21] = [
+const GAP: &[Row] = &[
     (Step::Join(2, 1), Ok(Seen::Done)),
     (Step::Send(2, 1), Ok(Seen::Done)),
     (Step::Deliver(0), Ok(Seen::Done)),
@@ -227,13 +197,8 @@ const GAP: [Row; 21] = [
     (Step::Advance(2, 1), Ok(Seen::Nil)),
 ];
 
-#[test]
-fn gap(rt: HostRuntime) -> Result<(), Fail> {
-    run(&rt, rt.alloc(), &[1], &GAP)
-}
-
 // A call that begins its phase anew forgets who replied, and counts only letters that heard of the new number.
-const BEGINS_ANEW: [Row; 15] = [
+const BEGINS_ANEW: &[Row] = &[
     (Step::Set(1, 107, 118), Ok(Seen::Made(1))),
     (Step::Send(1, 2), Ok(Seen::Done)),
     (Step::Deliver(0), Ok(Seen::Done)),
@@ -251,13 +216,8 @@ const BEGINS_ANEW: [Row; 15] = [
     (Step::Again(1, 1), Ok(Seen::Done)),
 ];
 
-#[test]
-fn begins_anew(rt: HostRuntime) -> Result<(), Fail> {
-    run(&rt, rt.alloc(), &[1, 2], &BEGINS_ANEW)
-}
-
 // An outline brings all but the copies.
-const OUTLINES: [Row; 13] = [
+const OUTLINES: &[Row] = &[
     (Step::Set(1, 107, 118), Ok(Seen::Made(1))),
     (Step::Advance(1, 1), Ok(Seen::Moved)),
     (Step::Join(2, 1), Ok(Seen::Done)),
@@ -273,18 +233,13 @@ const OUTLINES: [Row; 13] = [
     (Step::Read(2), Ok(Seen::Tells(2, 1, 0, 2))),
 ];
 
-#[test]
-fn outlines(rt: HostRuntime) -> Result<(), Fail> {
-    run(&rt, rt.alloc(), &[1], &OUTLINES)
-}
-
 // Letters of node 2 to node 1: two copies, and then two newer ones and three new ones.
 const HELD: Forged = Forged {
     from: 2,
     to: 1,
     active: 8,
     member: 2,
-    copies: [
+    copies: &[
         (97, 1, 2, 49),
         (98, 1, 2, 50),
         (98, 1, 2, 50),
@@ -299,7 +254,7 @@ const BROUGHT: Forged = Forged {
     to: 1,
     active: 8,
     member: 2,
-    copies: [
+    copies: &[
         (99, 4, 2, 53),
         (97, 2, 2, 51),
         (100, 1, 2, 54),
@@ -310,7 +265,7 @@ const BROUGHT: Forged = Forged {
 };
 
 // A letter with five copies replies to two open calls, whose phases get four places more.
-const HEARS: [Row; 15] = [
+const HEARS: &[Row] = &[
     (Step::Forge(5, 0, 0, HELD), Ok(Seen::Done)),
     (Step::Deliver(0), Ok(Seen::Done)),
     (Step::Look(1), Ok(Seen::Looks(Status::Active, 0, 7))),
@@ -328,48 +283,62 @@ const HEARS: [Row; 15] = [
     (Step::Read(3), Ok(Seen::Tells(3, 5, 3, 0))),
 ];
 
-#[test]
-fn hears_all_or_nothing(rt: HostRuntime) -> Result<(), Fail> {
-    run(&rt, rt.alloc(), &[1, 2], &HEARS)
-}
-
 // Sets of more and more keys by a founder that is alone, and one that is the second of its key.
-#[test]
-fn sets_of_keys(rt: HostRuntime) -> Result<(), Fail> {
-    let mut twins = Twins::new(rt.alloc(), &[1])?;
-    for (place, key) in [97, 98, 99, 100, 101, 97].iter().enumerate() {
-        let number = place as u64 + 1;
-        let sequence = if number == 6 { 2 } else { 1 };
-        let rows = [
-            (Step::Set(1, *key, 118), Seen::Made(number)),
-            (Step::Advance(1, number), Seen::Moved),
-            (Step::Copy(1, *key), Seen::Holds(sequence, 1, Some(118))),
-            (Step::Advance(1, number), Seen::Ok),
-        ];
-        for (step, wanted) in rows {
-            let seen = twins.take(&rt, step)?;
-            assert_eq!(rt; seen, Ok(wanted));
+const SETS_OF_KEYS: &[Row] = &[
+    (Step::Set(1, 97, 118), Ok(Seen::Made(1))),
+    (Step::Advance(1, 1), Ok(Seen::Moved)),
+    (Step::Copy(1, 97), Ok(Seen::Holds(1, 1, Some(118)))),
+    (Step::Advance(1, 1), Ok(Seen::Ok)),
+    (Step::Set(1, 98, 118), Ok(Seen::Made(2))),
+    (Step::Advance(1, 2), Ok(Seen::Moved)),
+    (Step::Copy(1, 98), Ok(Seen::Holds(1, 1, Some(118)))),
+    (Step::Advance(1, 2), Ok(Seen::Ok)),
+    (Step::Set(1, 99, 118), Ok(Seen::Made(3))),
+    (Step::Advance(1, 3), Ok(Seen::Moved)),
+    (Step::Copy(1, 99), Ok(Seen::Holds(1, 1, Some(118)))),
+    (Step::Advance(1, 3), Ok(Seen::Ok)),
+    (Step::Set(1, 100, 118), Ok(Seen::Made(4))),
+    (Step::Advance(1, 4), Ok(Seen::Moved)),
+    (Step::Copy(1, 100), Ok(Seen::Holds(1, 1, Some(118)))),
+    (Step::Advance(1, 4), Ok(Seen::Ok)),
+    (Step::Set(1, 101, 118), Ok(Seen::Made(5))),
+    (Step::Advance(1, 5), Ok(Seen::Moved)),
+    (Step::Copy(1, 101), Ok(Seen::Holds(1, 1, Some(118)))),
+    (Step::Advance(1, 5), Ok(Seen::Ok)),
+    (Step::Set(1, 97, 118), Ok(Seen::Made(6))),
+    (Step::Advance(1, 6), Ok(Seen::Moved)),
+    (Step::Copy(1, 97), Ok(Seen::Holds(2, 1, Some(118)))),
+    (Step::Advance(1, 6), Ok(Seen::Ok)),
+];
+
+// Makes as many calls as may be open, each of the longest key and value, and then one more.
+fn first_wrong_of_many(twins: &mut Twins, is_short: bool) -> Option<u64> {
+    for number in 1..65 {
+        let row = (Step::SetLong(1, 256, 4096), Ok(Seen::Made(number)));
+        if !twins.comes(is_short, &row) {
+            return Some(number);
         }
     }
-    Ok(())
+    let row = (Step::SetLong(1, 257, 4097), Err(Refusal::Busy));
+    if !twins.comes(is_short, &row) {
+        return Some(65);
+    }
+    None
 }
 
 // The longest key and value, as often as calls may be open.
 #[test]
-fn limits(rt: HostRuntime) -> Result<(), Fail> {
-    let mut twins = Twins::new(rt.alloc(), &[1, 2])?;
-    for number in 1..65 {
-        let step = Step::SetLong(1, 256, 4096);
-        let seen = twins.take(&rt, step)?;
-        assert_eq!(rt; seen, Ok(Seen::Made(number)));
-    }
-    let seen = twins.take(&rt, Step::SetLong(1, 257, 4097))?;
-    assert_eq!(rt; seen, Err(Refusal::Busy));
-    Ok(())
+fn limits(rt: HostRuntime) {
+    let is_short = is_short(&rt);
+    let wrong = match again!(is_short, Twins::new(rt.alloc(), 2)) {
+        Ok(mut twins) => first_wrong_of_many(&mut twins, is_short),
+        Err(_) => Some(0),
+    };
+    assert_eq!(rt; wrong, None);
 }
 
 // What is too long, and a tag that can't rise any more.
-const SPENT: [Row; 14] = [
+const SPENT: &[Row] = &[
     (Step::SetLong(1, 257, 4097), Err(Refusal::KeyTooLong)),
     (Step::SetLong(1, 256, 4097), Err(Refusal::ValueTooLong)),
     (Step::Get(1, 107), Ok(Seen::Made(1))),
@@ -392,11 +361,82 @@ const LAST_TAG: Forged = Forged {
     to: 1,
     active: 1,
     member: 1,
-    copies: [(107, u64::MAX, 2, 1); 5],
+    copies: &[(107, u64::MAX, 2, 1); 5],
     offered: 0,
 };
 
+static SCRIPTS: [Script; 12] = [
+    Script {
+        name: "alone",
+        founders: 1,
+        rows: ALONE,
+    },
+    Script {
+        name: "waits_for_majority",
+        founders: 3,
+        rows: WAITS,
+    },
+    Script {
+        name: "stopped_writer",
+        founders: 3,
+        rows: STOPPED_WRITER,
+    },
+    Script {
+        name: "two_writers",
+        founders: 2,
+        rows: TWO_WRITERS,
+    },
+    Script {
+        name: "joins",
+        founders: 1,
+        rows: JOINS,
+    },
+    Script {
+        name: "refusals",
+        founders: 2,
+        rows: REFUSALS,
+    },
+    Script {
+        name: "gap",
+        founders: 1,
+        rows: GAP,
+    },
+    Script {
+        name: "begins_anew",
+        founders: 2,
+        rows: BEGINS_ANEW,
+    },
+    Script {
+        name: "outlines",
+        founders: 1,
+        rows: OUTLINES,
+    },
+    Script {
+        name: "hears_all_or_nothing",
+        founders: 2,
+        rows: HEARS,
+    },
+    Script {
+        name: "sets_of_keys",
+        founders: 1,
+        rows: SETS_OF_KEYS,
+    },
+    Script {
+        name: "spent",
+        founders: 1,
+        rows: SPENT,
+    },
+];
+
 #[test]
-fn spent(rt: HostRuntime) -> Result<(), Fail> {
-    run(&rt, rt.alloc(), &[1], &SPENT)
+fn scripts_of_nodes(rt: HostRuntime) {
+    let is_short = is_short(&rt);
+    for script in SCRIPTS.iter() {
+        assert_eq!(rt;
+            script.first_wrong(is_short, rt.alloc()),
+            None,
+            "in {}",
+            script.name
+        );
+    }
 }

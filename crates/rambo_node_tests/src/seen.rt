@@ -1,13 +1,13 @@
 //! What scripts see.
 
-use crate::mail::Mail;
 use rambo_atomic::Answer;
+use rambo_gossip::{Kind, Letter};
 use rambo_joiner::Status;
-use rambo_names::{Bytes, Majority, Members, Quorums, Refusal};
+use rambo_names::{Bytes, Majority, Members, Name, Quorums, Refusal};
 use rambo_node::{Decided, Deed, Effect};
 use rambo_paxos::{Offer, Vote};
 
-#[derive(Clone, Copy, PartialEq, Eq, Debug)]
+#[derive(Clone, Copy, PartialEq)]
 pub(crate) enum Seen {
     Done,
     Made(u64),
@@ -41,12 +41,19 @@ pub(crate) fn byte(bytes: &Bytes) -> u8 {
     }
 }
 
-pub(crate) fn seen_of_answer(answer: &Option<Answer>) -> Seen {
+fn seen_of_answer(answer: &Answer) -> Seen {
+    match answer {
+        Answer::Ok => Seen::Ok,
+        Answer::Nil => Seen::Nil,
+        Answer::Value(value) => Seen::Value(byte(value)),
+    }
+}
+
+// What a phase that was met came to.
+pub(crate) fn seen_of_phase(answer: &Option<Answer>) -> Seen {
     match answer {
         None => Seen::Moved,
-        Some(Answer::Ok) => Seen::Ok,
-        Some(Answer::Nil) => Seen::Nil,
-        Some(Answer::Value(value)) => Seen::Value(byte(value)),
+        Some(answer) => seen_of_answer(answer),
     }
 }
 
@@ -62,12 +69,26 @@ fn ends_of(members: Members) -> (u64, u64) {
     ends
 }
 
-pub(crate) fn seen_of_decided(decided: &Decided<Majority>) -> Seen {
+fn seen_of_decided(decided: &Decided<Majority>) -> Seen {
     let (first, last) = match &decided.config {
         Some(config) => ends_of(config.members()),
         None => (0, 0),
     };
     Seen::Decided(decided.place, first, last)
+}
+
+pub(crate) fn seen_of_bid(decided: &Option<Decided<Majority>>) -> Seen {
+    match decided {
+        Some(decided) => seen_of_decided(decided),
+        None => Seen::Moved,
+    }
+}
+
+pub(crate) fn seen_of_place(place: Option<u64>) -> Seen {
+    match place {
+        Some(place) => Seen::Collected(place),
+        None => Seen::Moved,
+    }
 }
 
 fn offered(offer: &Option<Offer<Majority>>) -> u64 {
@@ -85,10 +106,10 @@ fn accepted(vote: &Vote<Majority>) -> u64 {
     }
 }
 
-pub(crate) fn seen_of_vote(mail: &Mail) -> Seen {
-    match &mail.gossip {
-        None => Seen::Pleads,
-        Some(gossip) => Seen::Votes(
+pub(crate) fn seen_of_vote(letter: &Letter<Majority>) -> Seen {
+    match &letter.kind {
+        Kind::Join => Seen::Pleads,
+        Kind::Gossip(gossip) => Seen::Votes(
             gossip.vote.round(),
             accepted(&gossip.vote),
             offered(&gossip.offer),
@@ -97,33 +118,27 @@ pub(crate) fn seen_of_vote(mail: &Mail) -> Seen {
 }
 
 // What a change did on the node of this name.
-pub(crate) fn seen_of_deed(name: u64, deed: Deed<Majority>) -> Result<Seen, Refusal> {
-    let Deed {
-        effect,
-        event: _,
-        mark: _,
-        copy: _,
-    } = deed;
-    match effect {
+pub(crate) fn seen_of_deed(name: Name, deed: &Deed<Majority>) -> Result<Seen, Refusal> {
+    match &deed.effect {
         Effect::Done => Ok(Seen::Done),
         Effect::Called(id) => {
-            if id.name.number() != name {
+            if id.name != name {
                 return Err(Refusal::NoSuchName);
             }
             Ok(Seen::Made(id.number))
         }
         Effect::Moved => Ok(Seen::Moved),
-        Effect::Answered(_, answer) => Ok(seen_of_answer(&Some(answer))),
-        Effect::Collected(_, place) => Ok(Seen::Collected(place)),
-        Effect::Decided(_, decided) => Ok(seen_of_decided(&decided)),
+        Effect::Answered(_, answer) => Ok(seen_of_answer(answer)),
+        Effect::Collected(_, place) => Ok(Seen::Collected(*place)),
+        Effect::Decided(_, decided) => Ok(seen_of_decided(decided)),
         Effect::Sent(_) => Err(Refusal::NoSuchLetter),
     }
 }
 
-pub(crate) fn seen_of_mail(mail: &Mail) -> Seen {
-    match &mail.gossip {
-        None => Seen::Pleads,
-        Some(gossip) => Seen::Tells(
+pub(crate) fn seen_of_letter(letter: &Letter<Majority>) -> Seen {
+    match &letter.kind {
+        Kind::Join => Seen::Pleads,
+        Kind::Gossip(gossip) => Seen::Tells(
             gossip.known.count(),
             gossip.copies.copies().len(),
             gossip.number,

@@ -11,7 +11,7 @@ pub(crate) struct Forged {
     // How many places are active, and the one member of each.
     pub(crate) active: u64,
     pub(crate) member: u64,
-    pub(crate) copies: [Copied; 5],
+    pub(crate) copies: &'static [Copied],
     // The round of the ballot that its sender asks promises for, or 0.
     pub(crate) offered: u64,
 }

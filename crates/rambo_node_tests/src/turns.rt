@@ -1,11 +1,11 @@
 //! Runs in which the member set changes.
 
+use crate::memory::is_short;
 use crate::seen::Seen;
 use crate::step::{Forged, Step};
-use crate::twins::{Row, run};
+use crate::twins::{Row, Script};
 use rambo_joiner::Status;
 use rambo_names::Refusal;
-use std::test::Fail;
 
 // A letter of node 2 to node 1, with two active places of node 1 alone.
 const TWO_PLACES: Forged = Forged {
@@ -13,7 +13,7 @@ const TWO_PLACES: Forged = Forged {
     to: 1,
     active: 2,
     member: 1,
-    copies: [(122, 1, 1, 0); 5],
+    copies: &[(122, 1, 1, 0); 5],
     offered: 0,
 };
 
@@ -22,7 +22,7 @@ const ONE_PLACE: Forged = Forged {
     to: 1,
     active: 1,
     member: 1,
-    copies: [(122, 1, 1, 0); 5],
+    copies: &[(122, 1, 1, 0); 5],
     offered: 0,
 };
 
@@ -31,7 +31,7 @@ const EIGHT_PLACES: Forged = Forged {
     to: 1,
     active: 8,
     member: 1,
-    copies: [(122, 1, 1, 0); 5],
+    copies: &[(122, 1, 1, 0); 5],
     offered: 0,
 };
 
@@ -41,12 +41,12 @@ const LAST_ROUND: Forged = Forged {
     to: 1,
     active: 1,
     member: 1,
-    copies: [(122, 1, 1, 0); 5],
+    copies: &[(122, 1, 1, 0); 5],
     offered: u64::MAX,
 };
 
 // What a wish is refused for, and what an attempt that isn't open is.
-const WISHES: [Row; 20] = [
+const WISHES: &[Row] = &[
     (Step::Recon(2, 1, 1), Err(Refusal::NotActive)),
     (Step::Recon(1, 1, 0), Err(Refusal::EmptyMembers)),
     (Step::Recon(1, 5, 5), Err(Refusal::UnknownMember)),
@@ -69,13 +69,8 @@ const WISHES: [Row; 20] = [
     (Step::Recon(1, 1, 1), Err(Refusal::Stopped)),
 ];
 
-#[test]
-fn wishes(rt: HostRuntime) -> Result<(), Fail> {
-    run(&rt, rt.alloc(), &[1], &WISHES)
-}
-
 // A vote that promised the greatest round lets no attempt begin again, nor its proposal pass.
-const LAST_ROUNDS: [Row; 14] = [
+const LAST_ROUNDS: &[Row] = &[
     (Step::Recon(1, 1, 1), Ok(Seen::Done)),
     (Step::Rebid(1), Ok(Seen::Done)),
     (Step::Forge(0, 0, 0, LAST_ROUND), Ok(Seen::Done)),
@@ -92,13 +87,8 @@ const LAST_ROUNDS: [Row; 14] = [
     (Step::Recon(1, 1, 1), Err(Refusal::NumbersSpent)),
 ];
 
-#[test]
-fn last_rounds(rt: HostRuntime) -> Result<(), Fail> {
-    run(&rt, rt.alloc(), &[1], &LAST_ROUNDS)
-}
-
 // Node 3 is told of what node 1 proposed, and both come to it. A vote is emptied where its place comes to be known, and not before.
-const TWO_PROPOSERS: [Row; 31] = [
+const TWO_PROPOSERS: &[Row] = &[
     (Step::Recon(1, 1, 2), Ok(Seen::Done)),
     (Step::Send(1, 2), Ok(Seen::Done)),
     (Step::Deliver(0), Ok(Seen::Done)),
@@ -132,13 +122,8 @@ const TWO_PROPOSERS: [Row; 31] = [
     (Step::ReadVote(10), Ok(Seen::Votes(0, 0, 0))),
 ];
 
-#[test]
-fn two_proposers(rt: HostRuntime) -> Result<(), Fail> {
-    run(&rt, rt.alloc(), &[1, 2, 3], &TWO_PROPOSERS)
-}
-
 // A vote for another place, or of another ballot, isn't counted, and an offer for another place isn't taken.
-const OTHER_VOTES: [Row; 28] = [
+const OTHER_VOTES: &[Row] = &[
     (Step::Recon(1, 1, 2), Ok(Seen::Done)),
     (Step::Send(1, 2), Ok(Seen::Done)),
     (Step::Deliver(0), Ok(Seen::Done)),
@@ -169,13 +154,8 @@ const OTHER_VOTES: [Row; 28] = [
     (Step::AdvanceRecon(1), Ok(Seen::Moved)),
 ];
 
-#[test]
-fn other_votes(rt: HostRuntime) -> Result<(), Fail> {
-    run(&rt, rt.alloc(), &[1, 2], &OTHER_VOTES)
-}
-
 // A place is removed once a quorum of its own configuration has answered, and then one of the next.
-const COLLECTS: [Row; 32] = [
+const COLLECTS: &[Row] = &[
     (Step::Collect(3), Err(Refusal::NotActive)),
     (Step::Collect(1), Err(Refusal::NothingToCollect)),
     (Step::AdvanceCollect(1), Err(Refusal::NoCollect)),
@@ -210,13 +190,8 @@ const COLLECTS: [Row; 32] = [
     (Step::AdvanceCollect(1), Err(Refusal::NoCollect)),
 ];
 
-#[test]
-fn collects(rt: HostRuntime) -> Result<(), Fail> {
-    run(&rt, rt.alloc(), &[1, 2], &COLLECTS)
-}
-
 // A collection and an attempt whose places others removed end at once, and an attempt whose place others filled.
-const SETTLED_BY_OTHERS: [Row; 15] = [
+const SETTLED_BY_OTHERS: &[Row] = &[
     (Step::Forge(0, 0, 0, TWO_PLACES), Ok(Seen::Done)),
     (Step::Deliver(0), Ok(Seen::Done)),
     (Step::Collect(1), Ok(Seen::Done)),
@@ -234,18 +209,13 @@ const SETTLED_BY_OTHERS: [Row; 15] = [
     (Step::AdvanceRecon(1), Err(Refusal::NoRecon)),
 ];
 
-#[test]
-fn settled_by_others(rt: HostRuntime) -> Result<(), Fail> {
-    run(&rt, rt.alloc(), &[1, 2], &SETTLED_BY_OTHERS)
-}
-
 // Letters of node 2 to node 1: two copies, and then two newer ones and three new ones, with an offer.
 const HELD: Forged = Forged {
     from: 2,
     to: 1,
     active: 3,
     member: 1,
-    copies: [
+    copies: &[
         (97, 1, 2, 49),
         (98, 1, 2, 50),
         (98, 1, 2, 50),
@@ -260,7 +230,7 @@ const BROUGHT: Forged = Forged {
     to: 1,
     active: 3,
     member: 1,
-    copies: [
+    copies: &[
         (99, 4, 2, 53),
         (97, 2, 2, 51),
         (100, 1, 2, 54),
@@ -271,7 +241,7 @@ const BROUGHT: Forged = Forged {
 };
 
 // A letter with five copies comes while a call, a collection and an attempt are open, and each takes what it brings.
-const ALL_OPEN: [Row; 17] = [
+const ALL_OPEN: &[Row] = &[
     (Step::Forge(0, 0, 0, HELD), Ok(Seen::Done)),
     (Step::Deliver(0), Ok(Seen::Done)),
     (Step::Collect(1), Ok(Seen::Done)),
@@ -291,7 +261,53 @@ const ALL_OPEN: [Row; 17] = [
     (Step::Copy(1, 97), Ok(Seen::Holds(2, 2, Some(51)))),
 ];
 
+static TURNS: [Script; 7] = [
+    Script {
+        name: "wishes",
+        founders: 1,
+        rows: WISHES,
+    },
+    Script {
+        name: "last_rounds",
+        founders: 1,
+        rows: LAST_ROUNDS,
+    },
+    Script {
+        name: "two_proposers",
+        founders: 3,
+        rows: TWO_PROPOSERS,
+    },
+    Script {
+        name: "other_votes",
+        founders: 2,
+        rows: OTHER_VOTES,
+    },
+    Script {
+        name: "collects",
+        founders: 2,
+        rows: COLLECTS,
+    },
+    Script {
+        name: "settled_by_others",
+        founders: 2,
+        rows: SETTLED_BY_OTHERS,
+    },
+    Script {
+        name: "all_open",
+        founders: 2,
+        rows: ALL_OPEN,
+    },
+];
+
 #[test]
-fn all_open(rt: HostRuntime) -> Result<(), Fail> {
-    run(&rt, rt.alloc(), &[1, 2], &ALL_OPEN)
+fn turns_of_members(rt: HostRuntime) {
+    let is_short = is_short(&rt);
+    for script in TURNS.iter() {
+        assert_eq!(rt;
+            script.first_wrong(is_short, rt.alloc()),
+            None,
+            "in {}",
+            script.name
+        );
+    }
 }

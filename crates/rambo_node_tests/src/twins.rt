@@ -5,8 +5,6 @@ use crate::step::Step;
 use crate::town::Town;
 use rambo_names::Refusal;
 use std::alloc::Global;
-use std::process::Abort;
-use std::test::Fail;
 
 // A step, and what it comes to.
 pub(crate) type Row = (Step, Result<Seen, Refusal>);
@@ -18,61 +16,60 @@ pub(crate) struct Twins {
     twin: Town,
 }
 
-// A town in which these are founders.
-fn new_town(alloc: Global, founders: &[u64], is_named: bool) -> Result<Town, Refusal> {
-    match Town::new(alloc, founders, is_named) {
-        Ok(town) => Ok(town),
-        Err(_) => Town::new(alloc, founders, is_named),
-    }
-}
-
 impl Twins {
-    pub(crate) fn new(alloc: Global, founders: &[u64]) -> Result<Twins, Refusal> {
-        Ok(Twins {
-            town: new_town(alloc, founders, false)?,
-            twin: new_town(alloc, founders, true)?,
-        })
+    // Towns in which so many nodes are founders.
+    pub(crate) fn new(alloc: Global, founders: u64) -> Result<Twins, Refusal> {
+        let town = Town::new(alloc, founders, false)?;
+        let twin = Town::new(alloc, founders, true)?;
+        Ok(Twins { town, twin })
     }
 
-    // What a step comes to. Where the town is refused memory it is as its twin, and takes the step again.
-    pub(crate) fn take(
-        &mut self,
-        rt: &impl Abort,
-        step: Step,
-    ) -> Result<Result<Seen, Refusal>, Refusal> {
+    fn are_alike(&self) -> bool {
+        matches!(self.town.is_like(&self.twin), Ok(true))
+    }
+
+    // Whether a step comes to what its row tells, in both. Where the town is refused memory it is as its twin, and takes the
+    // step again.
+    pub(crate) fn comes(&mut self, is_short: bool, row: &Row) -> bool {
+        let (step, wanted) = row;
         let mut seen = self.town.take(step);
-        if seen == Err(Refusal::OutOfMemory) {
-            assert!(rt; self.are_alike()?);
+        if is_short && seen == Err(Refusal::OutOfMemory) {
+            if !self.are_alike() {
+                return false;
+            }
             seen = self.town.take(step);
         }
-        let mut same = self.twin.take(step);
-        if same == Err(Refusal::OutOfMemory) {
-            same = self.twin.take(step);
-        }
-        assert!(rt; seen == same);
-        Ok(seen)
+        let same = again!(is_short, self.twin.take(step));
+        seen == *wanted && same == *wanted
     }
 
-    pub(crate) fn are_alike(&self) -> Result<bool, Refusal> {
-        match self.town.is_like(&self.twin) {
-            Ok(alike) => Ok(alike),
-            Err(_) => self.town.is_like(&self.twin),
+    // The place of the first row that comes out otherwise, or the number of rows where the towns aren't alike at the end.
+    pub(crate) fn first_wrong(&mut self, is_short: bool, rows: &[Row]) -> Option<usize> {
+        for (place, row) in rows.iter().enumerate() {
+            if !self.comes(is_short, row) {
+                return Some(place);
+            }
         }
+        if !self.are_alike() {
+            return Some(rows.len());
+        }
+        None
     }
 }
 
-// Runs a script in a town with these founders.
-pub(crate) fn run(
-    rt: &impl Abort,
-    alloc: Global,
-    founders: &[u64],
-    rows: &[Row],
-) -> Result<(), Fail> {
-    let mut twins = Twins::new(alloc, founders)?;
-    for (place, (step, wanted)) in rows.iter().enumerate() {
-        let seen = twins.take(rt, *step)?;
-        assert_eq!(rt; seen, *wanted, "at {place}");
+// What happens in towns in which so many nodes are founders.
+pub(crate) struct Script {
+    pub(crate) name: &'static str,
+    pub(crate) founders: u64,
+    pub(crate) rows: &'static [Row],
+}
+
+impl Script {
+    // The same of new towns; the first row where there are no such towns.
+    pub(crate) fn first_wrong(&self, is_short: bool, alloc: Global) -> Option<usize> {
+        match again!(is_short, Twins::new(alloc, self.founders)) {
+            Ok(mut twins) => twins.first_wrong(is_short, self.rows),
+            Err(_) => Some(0),
+        }
     }
-    assert!(rt; twins.are_alike()?);
-    Ok(())
 }

@@ -7,20 +7,37 @@ use crate::{
 use rambo_atomic::{CallId, Op};
 use rambo_names::{Bytes, Majority, Members, Name, Refusal};
 use std::alloc::Global;
+use std::env::Env;
 use std::test::Fail;
 
-// The value of a call, which is made once more where it is refused.
+// Whether a request for memory is refused in this run, as `tools/fail-alloc` does. In any other run there is
+// memory enough, and no call may be refused for want of it.
+fn is_short(rt: &HostRuntime) -> bool {
+    let mut number = [0; 24];
+    rt.var("FAIL_ALLOC", number.as_mut_slice()).is_ok()
+}
+
+// What a call comes to, which is made once more where it is refused in a run that may be short of memory.
 macro_rules! again {
-    ($call:expr) => {
+    ($is_short:expr, $call:expr) => {
         match $call {
-            Ok(value) => value,
-            Err(_) => $call?,
+            Err(_) if $is_short => $call,
+            told => told,
         }
     };
 }
 
-fn bytes(alloc: Global, items: &[u8]) -> Result<Bytes, Refusal> {
-    Ok(again!(Bytes::from_slice(alloc, items)))
+fn get(alloc: Global) -> Result<Op, Refusal> {
+    Ok(Op::Get(Bytes::from_slice(alloc, b"k")?))
+}
+
+fn set(alloc: Global) -> Result<Op, Refusal> {
+    let key = Bytes::from_slice(alloc, b"k")?;
+    Ok(Op::Set(key, Bytes::from_slice(alloc, b"v")?))
+}
+
+fn twin(step: &Step<Majority>) -> Result<Step<Majority>, Refusal> {
+    Ok(step.clone()?)
 }
 
 fn same_op(a: &Op, b: &Op) -> bool {
@@ -53,7 +70,7 @@ fn same(a: &Step<Majority>, b: &Step<Majority>) -> bool {
 // Each kind of step is the same as its clone, and as no other's.
 #[test]
 fn clones(rt: HostRuntime) -> Result<(), Fail> {
-    let alloc = rt.alloc();
+    let (alloc, is_short) = (rt.alloc(), is_short(&rt));
     let (first, second) = (Name::new(1)?, Name::new(2)?);
     let id = CallId {
         name: first,
@@ -61,8 +78,8 @@ fn clones(rt: HostRuntime) -> Result<(), Fail> {
     };
     let steps = [
         Step::Join(first, Members::empty().with(second)),
-        Step::Call(first, Op::Get(bytes(alloc, b"k")?)),
-        Step::Call(second, Op::Set(bytes(alloc, b"k")?, bytes(alloc, b"v")?)),
+        Step::Call(first, again!(is_short, get(alloc))?),
+        Step::Call(second, again!(is_short, set(alloc))?),
         Step::Send(first, second),
         Step::Deliver(7),
         Step::Advance(id),
@@ -76,7 +93,7 @@ fn clones(rt: HostRuntime) -> Result<(), Fail> {
         Step::Stop(first),
     ];
     for (i, step) in steps.iter().enumerate() {
-        let clone = step.clone()?;
+        let clone = again!(is_short, twin(step))?;
         for (j, other) in steps.iter().enumerate() {
             assert_eq!(rt; same(&clone, other), i == j);
         }

@@ -1,6 +1,7 @@
 use rambo_names::{Bytes, Name, Refusal};
 use rambo_tag::{KeyedVersion, Pack, Registers, Replica, Tag, Version, merging_laws};
 use std::alloc::Global;
+use std::env::Env;
 use std::hash::{BuildHasherDefault, FoldHasher};
 use std::process::Abort;
 use std::test::Fail;
@@ -8,11 +9,25 @@ use std::test::Fail;
 // A key, the tag's sequence number and name, and the value.
 type Row<'a> = (&'a [u8], u64, u64, Option<&'a [u8]>);
 
+// Whether a request for memory is refused in this run, as `tools/fail-alloc` does. In any other run there is
+// memory enough, and no call may be refused for want of it.
+fn is_short(rt: &HostRuntime) -> bool {
+    let mut number = [0; 24];
+    rt.var("FAIL_ALLOC", number.as_mut_slice()).is_ok()
+}
+
+// What a call comes to, which is made once more where it is refused in a run that may be short of memory.
+macro_rules! again {
+    ($is_short:expr, $call:expr) => {
+        match $call {
+            Err(_) if $is_short => $call,
+            told => told,
+        }
+    };
+}
+
 fn bytes(alloc: Global, items: &[u8]) -> Result<Bytes, Refusal> {
-    match Bytes::from_slice(alloc, items) {
-        Ok(bytes) => Ok(bytes),
-        Err(_) => Bytes::from_slice(alloc, items),
-    }
+    Bytes::from_slice(alloc, items)
 }
 
 fn tag(sequence: u64, name: u64) -> Result<Tag, Refusal> {
@@ -40,9 +55,7 @@ fn pack(alloc: Global, rows: &[Row]) -> Result<Pack, Refusal> {
             key: bytes(alloc, row.0)?,
             version: version(alloc, row)?,
         };
-        if let Err(refused) = copies.push(copy) {
-            copies.push(refused.value)?;
-        }
+        copies.push(copy)?;
     }
     Ok(Pack::new(copies))
 }
@@ -95,10 +108,14 @@ fn tags(rt: HostRuntime) -> Result<(), Fail> {
     Ok(())
 }
 
+fn twin(version: &Version) -> Result<Version, Refusal> {
+    Ok(version.clone()?)
+}
+
 // Each copy is less than the ones behind it.
 #[test]
 fn versions(rt: HostRuntime) -> Result<(), Fail> {
-    let alloc = rt.alloc();
+    let (alloc, is_short) = (rt.alloc(), is_short(&rt));
     let rows: [Row; 6] = [
         (b"", 1, 9, Some(b"z")),
         (b"", 2, 3, None),
@@ -108,10 +125,10 @@ fn versions(rt: HostRuntime) -> Result<(), Fail> {
         (b"", 2, 3, Some(b"b")),
     ];
     for (place, row) in rows.iter().enumerate() {
-        let copy = version(alloc, row)?;
-        assert!(rt; is_row(&copy.clone()?, row));
+        let copy = again!(is_short, version(alloc, row))?;
+        assert!(rt; is_row(&again!(is_short, twin(&copy))?, row));
         for (other_place, other) in rows.iter().enumerate() {
-            let other = version(alloc, other)?;
+            let other = again!(is_short, version(alloc, other))?;
             assert!(rt; copy.is_before(&other) == (place < other_place));
             assert!(rt; (copy == other) == (place == other_place));
         }
@@ -119,32 +136,42 @@ fn versions(rt: HostRuntime) -> Result<(), Fail> {
     Ok(())
 }
 
-// Puts a row; a refused call leaves all as it was, and is made again.
+fn try_put<R: Replica>(alloc: Global, replica: &mut R, row: &Row) -> Result<(), Refusal> {
+    replica.put(bytes(alloc, row.0)?, version(alloc, row)?)
+}
+
+// Puts a row. Where memory is short a refused call leaves all as it was, and is made again.
 fn put<R: Replica>(
     rt: &impl Abort,
+    is_short: bool,
     alloc: Global,
     replica: &mut R,
     row: &Row,
     before: &[Row],
 ) -> Result<(), Fail> {
-    if let Err(refusal) = replica.put(bytes(alloc, row.0)?, version(alloc, row)?) {
-        assert!(rt; refusal == Refusal::OutOfMemory);
+    if let Err(refusal) = try_put(alloc, replica, row) {
+        assert!(rt; refusal == Refusal::OutOfMemory && is_short);
         assert!(rt; holds(replica, before));
-        replica.put(bytes(alloc, row.0)?, version(alloc, row)?)?;
+        try_put(alloc, replica, row)?;
     }
     Ok(())
 }
 
-fn puts_through<R: Replica>(rt: &impl Abort, alloc: Global, some: &R) -> Result<(), Fail> {
+fn puts_through<R: Replica>(
+    rt: &impl Abort,
+    is_short: bool,
+    alloc: Global,
+    some: &R,
+) -> Result<(), Fail> {
     let mut replica = some.fresh()?;
     assert!(rt; lacks(&replica, &[b"a".as_slice(), b"", b"b"]));
     let first: Row = (b"a", 1, 7, Some(b"one"));
     let second: Row = (b"", 1, 8, Some(b"two"));
     let third: Row = (b"a", 1, 3, None);
-    put(rt, alloc, &mut replica, &first, &[])?;
-    put(rt, alloc, &mut replica, &second, &[first])?;
+    put(rt, is_short, alloc, &mut replica, &first, &[])?;
+    put(rt, is_short, alloc, &mut replica, &second, &[first])?;
     assert!(rt; holds(&replica, &[first, second]));
-    put(rt, alloc, &mut replica, &third, &[first, second])?;
+    put(rt, is_short, alloc, &mut replica, &third, &[first, second])?;
     assert!(rt; holds(&replica, &[third, second]));
     assert!(rt; lacks(&replica, &[b"b".as_slice(), b"aa"]));
     assert!(rt; lacks(&replica.fresh()?, &[b"a".as_slice(), b""]));
@@ -153,19 +180,20 @@ fn puts_through<R: Replica>(rt: &impl Abort, alloc: Global, some: &R) -> Result<
 
 #[test]
 fn puts(rt: HostRuntime) -> Result<(), Fail> {
-    puts_through(&rt, rt.alloc(), &registers(rt.alloc()))
+    puts_through(&rt, is_short(&rt), rt.alloc(), &registers(rt.alloc()))
 }
 
-// Merges a pack; a refused call leaves all as it was, and is made again.
+// Merges a pack. Where memory is short a refused call leaves all as it was, and is made again.
 fn merge<R: Replica>(
     rt: &impl Abort,
+    is_short: bool,
     replica: &mut R,
     pack: &Pack,
     before: &[Row],
     new_keys: &[&[u8]],
 ) -> Result<(), Fail> {
     if let Err(refusal) = replica.merge(pack) {
-        assert!(rt; refusal == Refusal::OutOfMemory);
+        assert!(rt; refusal == Refusal::OutOfMemory && is_short);
         assert!(rt; holds(replica, before));
         assert!(rt; lacks(replica, new_keys));
         replica.merge(pack)?;
@@ -173,14 +201,20 @@ fn merge<R: Replica>(
     Ok(())
 }
 
-fn merges_through<R: Replica>(rt: &impl Abort, alloc: Global, some: &R) -> Result<(), Fail> {
+fn merges_through<R: Replica>(
+    rt: &impl Abort,
+    is_short: bool,
+    alloc: Global,
+    some: &R,
+) -> Result<(), Fail> {
     let mut replica = some.fresh()?;
     let a: Row = (b"a", 1, 7, Some(b"one"));
     let b: Row = (b"b", 2, 1, Some(b"two"));
     merge(
         rt,
+        is_short,
         &mut replica,
-        &pack(alloc, &[a, b])?,
+        &again!(is_short, pack(alloc, &[a, b]))?,
         &[],
         &[b"a".as_slice(), b"b"],
     )?;
@@ -192,8 +226,16 @@ fn merges_through<R: Replica>(rt: &impl Abort, alloc: Global, some: &R) -> Resul
     let older_c: Row = (b"c", 4, 5, Some(b"five"));
     let d: Row = (b"d", 1, 1, None);
     let older_b: Row = (b"b", 1, 64, Some(b"six"));
-    let more = pack(alloc, &[newer, older_b, b, c, older_c, d])?;
-    merge(rt, &mut replica, &more, &[a, b], &[b"c".as_slice(), b"d"])?;
+    let rows = [newer, older_b, b, c, older_c, d];
+    let more = again!(is_short, pack(alloc, rows.as_slice()))?;
+    merge(
+        rt,
+        is_short,
+        &mut replica,
+        &more,
+        &[a, b],
+        &[b"c".as_slice(), b"d"],
+    )?;
     assert!(rt; holds(&replica, &[newer, b, c, d]));
 
     // What brings nothing newer is never refused.
@@ -206,49 +248,58 @@ fn merges_through<R: Replica>(rt: &impl Abort, alloc: Global, some: &R) -> Resul
 #[test]
 fn merges(rt: HostRuntime) -> Result<(), Fail> {
     merging_laws();
-    merges_through(&rt, rt.alloc(), &registers(rt.alloc()))
+    merges_through(&rt, is_short(&rt), rt.alloc(), &registers(rt.alloc()))
 }
 
-fn whole<R: Replica>(replica: &R) -> Result<Pack, Refusal> {
-    match replica.pack() {
-        Ok(pack) => Ok(pack),
-        Err(_) => replica.pack(),
-    }
-}
-
-fn twin(pack: &Pack) -> Result<Pack, Refusal> {
-    match pack.clone() {
-        Ok(twin) => Ok(twin),
-        Err(_) => pack.clone(),
-    }
+fn same(pack: &Pack) -> Result<Pack, Refusal> {
+    Ok(pack.clone()?)
 }
 
 // What a fresh replica holds of a pack.
-fn unpacks<R: Replica>(rt: &impl Abort, some: &R, pack: &Pack, rows: &[Row]) -> Result<(), Fail> {
+fn unpacks<R: Replica>(
+    rt: &impl Abort,
+    is_short: bool,
+    some: &R,
+    pack: &Pack,
+    rows: &[Row],
+) -> Result<(), Fail> {
     let mut replica = some.fresh()?;
-    merge(rt, &mut replica, pack, &[], &[b"a".as_slice(), b"b"])?;
+    merge(
+        rt,
+        is_short,
+        &mut replica,
+        pack,
+        &[],
+        &[b"a".as_slice(), b"b"],
+    )?;
     assert!(rt; holds(&replica, rows));
     assert!(rt; lacks(&replica, &[b"".as_slice(), b"c"]));
     Ok(())
 }
 
-fn packs_through<R: Replica>(rt: &impl Abort, alloc: Global, some: &R) -> Result<(), Fail> {
+fn packs_through<R: Replica>(
+    rt: &impl Abort,
+    is_short: bool,
+    alloc: Global,
+    some: &R,
+) -> Result<(), Fail> {
     let mut replica = some.fresh()?;
-    assert!(rt; whole(&replica)?.copies().is_empty());
+    assert!(rt; again!(is_short, replica.pack())?.copies().is_empty());
     let a: Row = (b"a", 1, 7, Some(b"one"));
     let b: Row = (b"b", 2, 1, Some(b"two"));
     let newer: Row = (b"a", 2, 3, None);
-    put(rt, alloc, &mut replica, &a, &[])?;
-    put(rt, alloc, &mut replica, &b, &[a])?;
-    put(rt, alloc, &mut replica, &newer, &[a, b])?;
+    put(rt, is_short, alloc, &mut replica, &a, &[])?;
+    put(rt, is_short, alloc, &mut replica, &b, &[a])?;
+    put(rt, is_short, alloc, &mut replica, &newer, &[a, b])?;
 
-    let all = whole(&replica)?;
+    let all = again!(is_short, replica.pack())?;
     assert_eq!(rt; all.copies().len(), 2);
-    unpacks(rt, some, &all, &[newer, b])?;
-    unpacks(rt, some, &twin(&all)?, &[newer, b])
+    unpacks(rt, is_short, some, &all, &[newer, b])?;
+    let same = again!(is_short, same(&all))?;
+    unpacks(rt, is_short, some, &same, &[newer, b])
 }
 
 #[test]
 fn packs(rt: HostRuntime) -> Result<(), Fail> {
-    packs_through(&rt, rt.alloc(), &registers(rt.alloc()))
+    packs_through(&rt, is_short(&rt), rt.alloc(), &registers(rt.alloc()))
 }

@@ -19,7 +19,7 @@ use Rattle.rambo_sequence.specs.Sequences.{SequenceOf}
 use Rattle.rambo_run.specs.Runs.{MapOf, maps_of, after, unless_refused, run_from, run, result_of, results_from, outcome_at, outcome_of, OutcomeState}
 use Rattle.rambo_run.proofs.Fitting.{events_fit}
 use Rattle.rambo_run.proofs.EveryRun.{is_atomic}
-use Rattle.rambo_world.specs.Worlds.{EventsFit, AreAccepted}
+use Rattle.rambo_world.specs.Worlds.{EventsFit, AreAccepted, RunningOf}
 use Rattle.rambo_world.proofs.Growth.{some_is}
 
 pub run_from-more : {Q : Type 0} (s : QuorumSystem Q) (w : WorldState Q) (sts : List (Step Q)) (st : Step Q) → run_from s w (sts ++ st ∷ []) ≡ after s (run_from s w sts) st
@@ -127,6 +127,11 @@ pub told_outcome : {Q : Type 0} (s : QuorumSystem Q) (founders : Q) (ss : List (
     → first ≡ first_world s founders → IfOk r (λ o. o ≡ outcome_at (results_from s first ss) (run_from s first ss)) → IfOk r (λ o. o ≡ outcome_of s founders ss)
 told_outcome s founders ss first (Ok o) is e = e ∙ outcome_is s founders ss first _ _ is refl refl
 told_outcome s founders ss first (Err f) is e = e
+
+-- the same where the world of the founders is that of a run that goes on
+pub run_outcome : {Q : Type 0} (s : QuorumSystem Q) (founders : Q) (ss : List (Step Q)) (v : RunningOf Q) (r : Result (OutcomeState Q) Refusal)
+    → v ≡ record { founders = founders; state = first_world s founders } → IfOk r (λ o. o ≡ outcome_at (results_from s v.state ss) (run_from s v.state ss)) → IfOk r (λ o. o ≡ outcome_of s founders ss)
+run_outcome s founders ss v r is e = told_outcome s founders ss v.state r (ap (λ (v : RunningOf _). v.state) is) e
 
 pub told_proper : {Q : Type 0} (s : QuorumSystem Q) → IsSound s → (founders : Q) (ss : List (Step Q)) (r : Result (OutcomeState Q) Refusal)
     → IfOk r (λ o. o ≡ outcome_of s founders ss) → IfOk r (λ o. (key : List ℕ) → IsProper o.history key (sequence_in o.sequences key))

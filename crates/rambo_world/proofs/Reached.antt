@@ -1,5 +1,5 @@
 -- Worlds that some steps of a run lead to
-use Rattle.std.proofs.Common.{◌≡◌, ℕ, List, [], ◌∷◌, ◌++◌, Result, Ok, Err, IfOk, OnOk, OnErr, sym, ap, ◌∙◌, subst}
+use Rattle.std.proofs.Common.{◌≡◌, ℕ, List, [], ◌∷◌, ◌++◌, Result, Ok, Err, IfOk, OnOk, OnErr, refl, sym, ap, ◌∙◌, subst}
 use Rattle.rambo_names.specs.declared.refusal.Refusal.{Refusal}
 use Rattle.rambo_names.specs.Quorums.{QuorumSystem, IsSound}
 use Rattle.rambo_atomic.specs.Proper.{IsProper}
@@ -7,7 +7,7 @@ use Rattle.rambo_sequence.specs.Sequences.{SequenceOf, sequence_in, sequence_of,
 use Rattle.rambo_sequence.proofs.Outcomes.{sequence_in-sequences_of}
 use Rattle.rambo_run.specs.declared.step.Step.{Step}
 use Rattle.rambo_run.specs.Worlds.{WorldState, first_world}
-use Rattle.rambo_run.specs.Runs.{after, run}
+use Rattle.rambo_run.specs.Runs.{OutcomeState, after, outcome_at, results_from, run, run_from}
 use Rattle.rambo_run.proofs.EveryRun.{agrees, is_atomic}
 use Rattle.rambo_world.specs.Worlds.{EventsFit, RunningOf, IsReached, AgreesSoFar}
 use Rattle.rambo_world.proofs.Longer.{run_is, run_none, run_from-more, events_fit_run}
@@ -29,9 +29,24 @@ pub reached_on : {Q A B : Type 0} (s : QuorumSystem Q) (founders : Q) (w new : W
 reached_on s founders w new st (Ok x) before done same = reached_next s founders w new st before done
 reached_on s founders w new st (Err e) before done same = subst (IsReached s founders) (sym same) before
 
+-- the run of more steps
+run-further : {Q : Type 0} (s : QuorumSystem Q) (w : WorldState Q) (sts more : List (Step Q)) → run_from s w (sts ++ more) ≡ run_from s (run_from s w sts) more
+unfolding run_from
+run-further s w [] more = refl
+run-further s w (st ∷ sts) more = run-further s (after s w st) sts more
+
+-- more steps lead on
+pub reached_further : {Q : Type 0} (s : QuorumSystem Q) (founders : Q) (w : WorldState Q) (more : List (Step Q)) → IsReached s founders w → IsReached s founders (run_from s w more)
+reached_further s founders w more reached =
+    (reached.0 ++ more,
+    ap (λ w. run_from s w more) (reached.1 ∙ run_is s founders reached.0) ∙ sym (run-further s (first_world s founders) reached.0 more) ∙ sym (run_is s founders (reached.0 ++ more)))
+
 -- events fit there
 pub reached_fits : {Q : Type 0} (s : QuorumSystem Q) (founders : Q) (w : WorldState Q) → IsReached s founders w → EventsFit s w
 reached_fits s founders w reached = subst (EventsFit s) (sym reached.1) (events_fit_run s founders reached.0)
+
+pub reached_fits_from : {Q : Type 0} (s : QuorumSystem Q) (founders : Q) (w : WorldState Q) → IsReached s founders w → (done : List (Step Q)) → EventsFit s (run_from s w done)
+reached_fits_from s founders w reached done = reached_fits s founders (run_from s w done) (reached_further s founders w done reached)
 
 -- the given sequences are proper
 reached_proper : {Q : Type 0} (s : QuorumSystem Q) → IsSound s → (founders : Q) (w : WorldState Q) → IsReached s founders w
@@ -45,9 +60,19 @@ pub given_proper : {Q S : Type 0} (s : QuorumSystem Q) → IsSound s → (founde
 given_proper s law founders w items (Ok x) reached e = λ key. subst (λ ss. IsProper w.history key (sequence_in ss key)) (sym e) (reached_proper s law founders w reached key)
 given_proper s law founders w items (Err f) reached e = e
 
--- no two nodes held different configurations
+-- no two nodes hold different configurations
 pub reached_agrees : {Q : Type 0} (s : QuorumSystem Q) → IsSound s → (founders : Q) (w : WorldState Q) → IsReached s founders w → AgreesSoFar s founders w
-reached_agrees s law founders w reached = (reached.0, reached.1, agrees s law founders reached.0)
+reached_agrees s law founders w reached = (reached, λ steps is. agrees s law founders steps)
+
+pub reached_agrees_from : {Q : Type 0} (s : QuorumSystem Q) → IsSound s → (founders : Q) (w : WorldState Q) (more : List (Step Q)) → IsReached s founders w → AgreesSoFar s founders (run_from s w more)
+reached_agrees_from s law founders w more reached = reached_agrees s law founders (run_from s w more) (reached_further s founders w more reached)
+
+-- the outcome of more steps, if there is one, has proper sequences
+pub reached_told : {Q : Type 0} (s : QuorumSystem Q) → IsSound s → (founders : Q) (w : WorldState Q) (more : List (Step Q)) (r : Result (OutcomeState Q) Refusal) → IsReached s founders w
+    → IfOk r (λ o. o ≡ outcome_at (results_from s w more) (run_from s w more)) → IfOk r (λ o. (key : List ℕ) → IsProper o.history key (sequence_in o.sequences key))
+reached_told s law founders w more (Ok o) reached e = λ key.
+    subst (λ (o : OutcomeState _). IsProper o.history key (sequence_in o.sequences key)) (sym e) (reached_proper s law founders (run_from s w more) (reached_further s founders w more reached) key)
+reached_told s law founders w more (Err f) reached e = e
 
 -- what a step makes of a run that goes on
 pub goes_on : {Q A B : Type 0} (s : QuorumSystem Q) (founders : Q) (w new : WorldState Q) (v : RunningOf Q) (st : Step Q) (r : Result A B) → record { founders = founders; state = w } ≡ v

@@ -30,9 +30,9 @@ pub record RunningOf (Q : Type 0) : Type 0 where
 abbrev pub IsReached : {Q : Type 0} → QuorumSystem Q → Q → WorldState Q → Type 0
 IsReached {Q} s founders w = (steps : List (Step Q)) × (w ≡ run s founders steps)
 
--- and while they were taken no two nodes held different configurations at one place
+-- and, whichever steps lead there, while they are taken no two nodes hold different configurations at one place
 abbrev pub AgreesSoFar : {Q : Type 0} → QuorumSystem Q → Q → WorldState Q → Type 0
-AgreesSoFar {Q} s founders w = (steps : List (Step Q)) × (w ≡ run s founders steps) × Agrees s founders steps
+AgreesSoFar {Q} s founders w = IsReached s founders w × ((steps : List (Step Q)) → w ≡ run s founders steps → Agrees s founders steps)
 
 -- the state that they make
 abbrev pub state : {Q : Type 0} → QuorumSystem Q → WorldOf Q → WorldState Q

@@ -3,17 +3,18 @@ ghost use Rattle.std.specs.Prelude.{◌≡◌, List, ℕ, None, IfOk, IfErr, OnO
 ghost use Rattle.rambo_names.specs.Refusals.{least, IsRefusal};
 ghost use Rattle.rambo_atomic.specs.Proper.{IsProper};
 ghost use Rattle.rambo_sequence.specs.Sequences.{sequences_of, sequence_in};
-ghost use Rattle.rambo_run.specs.Runs.{after, result_of, maps_of};
+ghost use Rattle.rambo_run.specs.Runs.{after, result_of, results_from, run_from, maps_of, outcome_at};
 ghost use Rattle.rambo_run.specs.Steps.{refusal};
 ghost use Rattle.rambo_run.specs.Worlds.{first_world};
 ghost use Rattle.rambo_world.specs.Worlds.{founding_causes, AgreesSoFar};
 
+use crate::runs::outcome;
 use crate::state::State;
 use crate::world::may_found;
 use rambo_atomic::History;
 use rambo_names::{Quorums, Refusal};
 use rambo_node::Effect;
-use rambo_run::{NodeMap, Step};
+use rambo_run::{NodeMap, Outcome, Step};
 use rambo_sequence::KeySequence;
 use rambo_tag::Replica;
 use std::alloc::Global;
@@ -68,6 +69,22 @@ impl<Q: Quorums, S: Replica> Running<Q, S> {
         ensures refused { IfErr result (λ r. r ≡ Refusal.OutOfMemory) }
     {
         self.state.take(step)
+    }
+
+    /// Takes all of these steps, and gives what they did, the history, the sequences and the maps. A step that is
+    /// refused is noted with its refusal, and the run goes on. With no step before, that is the outcome of the run of these
+    /// steps, for any system of quorums.
+    ///
+    /// `OutOfMemory` where there is no room for it.
+    pub fn finish(self, alloc: Global, steps: &[Step<Q>]) -> Result<Outcome<Q>, Refusal>
+        ensures outcome { IfOk result (λ o. o ≡ outcome_at (results_from Q.system self.state steps.now) (run_from Q.system self.state steps.now)) }
+        ensures proper { IfOk result (λ o. (key : List ℕ) → IsProper o.history key (sequence_in o.sequences key)) }
+        ensures agreed { AgreesSoFar Q.system self.founders (run_from Q.system self.state steps.now) }
+        ensures refused { IfErr result (λ r. r ≡ Refusal.OutOfMemory) }
+    {
+        let Running { founders: _, state } = self;
+        let mut state = state;
+        outcome(alloc, &mut state, steps)
     }
 
     /// The calls and answers, in order.

@@ -8,11 +8,11 @@ ghost use Rattle.rambo_run.specs.Claims.{Agrees};
 ghost use Rattle.rambo_run.specs.Runs.{outcome_at, outcome_of, results_from, run_from};
 ghost use Rattle.rambo_world.specs.Worlds.{EventsFit, founding_causes};
 
+use crate::running::Running;
 use crate::state::State;
-use crate::world::may_found;
-use rambo_names::{Majority, Refusal};
+use rambo_names::{Majority, Quorums, Refusal};
 use rambo_run::{Outcome, Step};
-use rambo_tag::Registers;
+use rambo_tag::{Registers, Replica};
 use std::alloc::Global;
 use std::hash::{BuildHasherDefault, FoldHasher};
 
@@ -36,20 +36,18 @@ pub fn run(
     ensures agreed { Agrees majorities founders steps.now }
     ensures refused { IfErr result (IsRefusal (least (founding_causes majorities founders))) }
 {
-    may_found(founders)?;
     let replica = Registers::new(alloc, BuildHasherDefault::<FoldHasher>::new());
-    let mut state = State::new(alloc, founders, &replica)?;
-    outcome(alloc, &mut state, steps)
+    Running::new(alloc, founders, &replica)?.finish(alloc, steps)
 }
 
 // What steps make of a state, which its history is taken out of.
-fn outcome(
+pub(crate) fn outcome<Q: Quorums, S: Replica>(
     alloc: Global,
-    state: &mut State<Majority, Registers<BuildHasherDefault<FoldHasher>>>,
-    steps: &[Step<Majority>],
-) -> Result<Outcome<Majority>, Refusal>
-    requires fits { (done : List (Step _)) → EventsFit majorities (run_from majorities state.old done) }
-    ensures outcome { IfOk result (λ o. o ≡ outcome_at (results_from majorities state.old steps.now) (run_from majorities state.old steps.now)) }
+    state: &mut State<Q, S>,
+    steps: &[Step<Q>],
+) -> Result<Outcome<Q>, Refusal>
+    requires fits { (done : List (Step _)) → EventsFit Q.system (run_from Q.system state.old done) }
+    ensures outcome { IfOk result (λ o. o ≡ outcome_at (results_from Q.system state.old steps.now) (run_from Q.system state.old steps.now)) }
     ensures refused { IfErr result (λ r. r ≡ Refusal.OutOfMemory) }
 {
     let effects = state.take_all(alloc, steps)?;

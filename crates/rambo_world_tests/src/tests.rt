@@ -4,15 +4,21 @@ use rambo_names::{Bytes, Majority, Members, Name, Refusal};
 use rambo_node::Effect;
 use rambo_world::{Outcome, Step, run};
 use std::alloc::Global;
-use std::process::Abort;
-use std::test::Fail;
+use std::env::Env;
 
-// The value of a call, which is made once more where it is refused.
+// Whether a request for memory is refused in this run, as `tools/fail-alloc` does. In any other run there is
+// memory enough, and no call may be refused for want of it.
+fn is_short(rt: &HostRuntime) -> bool {
+    let mut number = [0; 24];
+    rt.var("FAIL_ALLOC", number.as_mut_slice()).is_ok()
+}
+
+// What a call comes to, which is made once more where it is refused for want of memory in a run that may be short of it.
 macro_rules! again {
-    ($call:expr) => {
+    ($is_short:expr, $call:expr) => {
         match $call {
-            Ok(value) => value,
-            Err(_) => $call?,
+            Err(Refusal::OutOfMemory) if $is_short => $call,
+            told => told,
         }
     };
 }
@@ -43,29 +49,28 @@ enum Move {
     Stop(u64),
 }
 
+fn get(alloc: Global) -> Result<Op, Refusal> {
+    Ok(Op::Get(Bytes::from_slice(alloc, b"k")?))
+}
+
+fn set(alloc: Global) -> Result<Op, Refusal> {
+    let key = Bytes::from_slice(alloc, b"k")?;
+    Ok(Op::Set(key, Bytes::from_slice(alloc, b"v")?))
+}
+
 fn step(alloc: Global, by: Move) -> Result<Step<Majority>, Refusal> {
     match by {
-        Move::Get(name) => {
-            let key = again!(Bytes::from_slice(alloc, b"k"));
-            Ok(Step::Call(Name::new(name)?, Op::Get(key)))
-        }
-        Move::Set(name) => {
-            let key = again!(Bytes::from_slice(alloc, b"k"));
-            let value = again!(Bytes::from_slice(alloc, b"v"));
-            Ok(Step::Call(Name::new(name)?, Op::Set(key, value)))
-        }
+        Move::Get(name) => Ok(Step::Call(Name::new(name)?, get(alloc)?)),
+        Move::Set(name) => Ok(Step::Call(Name::new(name)?, set(alloc)?)),
         Move::Advance(name, number) => Ok(Step::Advance(id(name, number)?)),
         Move::Again(name, number) => Ok(Step::Again(id(name, number)?)),
         Move::Send(from, to) => Ok(Step::Send(Name::new(from)?, Name::new(to)?)),
         Move::Deliver(letter) => Ok(Step::Deliver(letter)),
-        Move::Join(name, contact) => Ok(Step::Join(
-            Name::new(name)?,
-            Members::empty().with(Name::new(contact)?),
-        )),
+        Move::Join(name, contact) => Ok(Step::Join(Name::new(name)?, set_of(&[contact])?)),
         Move::Collect(name) => Ok(Step::Collect(Name::new(name)?)),
         Move::AdvanceCollect(name) => Ok(Step::AdvanceCollect(Name::new(name)?)),
         Move::Recon(name, member) => {
-            let wish = Majority::of(Members::empty().with(Name::new(member)?));
+            let wish = Majority::of(set_of(&[member])?);
             Ok(Step::Recon(Name::new(name)?, wish))
         }
         Move::Rebid(name) => Ok(Step::Rebid(Name::new(name)?)),
@@ -74,32 +79,8 @@ fn step(alloc: Global, by: Move) -> Result<Step<Majority>, Refusal> {
     }
 }
 
-// The writer tells one other node of its set and stops; a reader learns the value from that node.
-const LOST_WRITER: [Move; 20] = [
-    Move::Set(1),
-    Move::Send(1, 2),
-    Move::Deliver(1),
-    Move::Send(2, 1),
-    Move::Deliver(2),
-    Move::Advance(1, 1),
-    Move::Send(1, 2),
-    Move::Deliver(3),
-    Move::Stop(1),
-    Move::Get(3),
-    Move::Send(3, 2),
-    Move::Deliver(4),
-    Move::Send(2, 3),
-    Move::Deliver(5),
-    Move::Advance(3, 1),
-    Move::Send(3, 2),
-    Move::Deliver(6),
-    Move::Send(2, 3),
-    Move::Deliver(7),
-    Move::Advance(3, 1),
-];
-
 // What a step came to.
-#[derive(Clone, Copy, PartialEq, Eq, Debug)]
+#[derive(Clone, Copy, PartialEq)]
 enum Came {
     Done,
     Called,
@@ -134,54 +115,163 @@ fn told_by_answer(answer: &Answer) -> Came {
     }
 }
 
-// Takes a step once.
-fn take_once(world: &mut Host, alloc: Global, by: Move) -> Result<Came, Refusal> {
+fn take(world: &mut Host, alloc: Global, by: Move) -> Result<Came, Refusal> {
     let effect = world.step(step(alloc, by)?)?;
     Ok(told_by(&effect))
 }
 
-// Takes a step. Where memory is wanting the world is as it was, and takes the step again.
-fn take(rt: &impl Abort, world: &mut Host, alloc: Global, by: Move) -> Result<Came, Refusal> {
-    let (steps, events) = (world.steps().len(), world.history().events().len());
-    let first = take_once(world, alloc, by);
-    if first != Err(Refusal::OutOfMemory) {
-        return first;
+// The lowest and the highest place of a node. A number that names none has no place.
+fn places(world: &Host, number: u64) -> (u64, u64) {
+    match Name::new(number) {
+        Ok(name) => {
+            let map = world.map(name);
+            (map.floor(), map.top())
+        }
+        Err(_) => (1, 0),
     }
-    assert_eq!(rt; world.steps().len(), steps);
-    assert_eq!(rt; world.history().events().len(), events);
-    take_once(world, alloc, by)
 }
 
-// Takes all steps of the writer that stops.
-fn stops(rt: &impl Abort, alloc: Global, world: &mut Host) {
-    for by in LOST_WRITER {
-        assert!(rt; take(rt, world, alloc, by).is_ok());
+// What is seen of a world, where a step that is refused changes nothing: how many steps and events it has, and the lowest
+// and the highest place of a few nodes.
+fn look(world: &Host) -> [u64; 8] {
+    let (one, two, three) = (places(world, 1), places(world, 2), places(world, 3));
+    let steps = world.steps().len() as u64;
+    let events = world.history().events().len() as u64;
+    [steps, events, one.0, one.1, two.0, two.1, three.0, three.1]
+}
+
+// A step, and what it comes to.
+type Row = (Move, Result<Came, Refusal>);
+
+// Whether a step comes to what its row tells, and the world is as it was just where it is refused. Where memory is wanting
+// the world is as it was, and takes the step again.
+fn comes(world: &mut Host, alloc: Global, is_short: bool, row: &Row) -> bool {
+    let (by, wanted) = *row;
+    let before = look(world);
+    let mut came = take(world, alloc, by);
+    let mut is_kept = true;
+    if is_short && came == Err(Refusal::OutOfMemory) {
+        is_kept = look(world) == before;
+        came = take(world, alloc, by);
     }
-    assert_eq!(rt; world.steps().len(), 20);
-    assert_eq!(rt; world.history().events().len(), 3);
+    let same = look(world) == before;
+    is_kept && came == wanted && same == wanted.is_err()
 }
 
-// Finds its set in the sequence.
-fn is_seen(rt: &impl Abort, alloc: Global, world: &Host) -> Result<(), Fail> {
-    let calls = again!(world.sequence(alloc, b"k"));
-    assert_eq!(rt; calls.as_slice(), [id(1, 1)?, id(3, 1)?].as_slice());
-    assert_eq!(rt; again!(world.sequence(alloc, b"l")).len(), 0);
-    assert_eq!(rt; world.map(Name::new(3)?).top(), 0);
-    Ok(())
+// What a world is like when its steps are taken: how many steps and events it has, the sequence of k, which is the one key
+// that has any, and of some nodes the lowest and the highest place.
+struct End {
+    steps: usize,
+    events: usize,
+    sequence: &'static [(u64, u64)],
+    places: &'static [(u64, u64, u64)],
 }
 
-fn stops_and_is_seen(rt: &impl Abort, alloc: Global, world: &mut Host) -> Result<(), Fail> {
-    stops(rt, alloc, world);
-    is_seen(rt, alloc, world)
+fn are_calls(calls: &[CallId], wanted: &[(u64, u64)]) -> bool {
+    let mut same = calls.len() == wanted.len();
+    for (call, (name, number)) in calls.iter().zip(wanted) {
+        same = same && call.name.number() == *name && call.number == *number;
+    }
+    same
 }
 
-#[test]
-fn writer_that_stops(rt: HostRuntime) -> Result<(), Fail> {
-    let mut world = again!(new_world(rt.alloc(), &[1, 2, 3]));
-    stops_and_is_seen(&rt, rt.alloc(), &mut world)
+fn is_sequence(
+    world: &Host,
+    alloc: Global,
+    key: &[u8],
+    wanted: &[(u64, u64)],
+) -> Result<bool, Refusal> {
+    let calls = world.sequence(alloc, key)?;
+    Ok(are_calls(calls.as_slice(), wanted))
 }
 
-// The outcome of the writer that stops.
+fn are_places(world: &Host, wanted: &[(u64, u64, u64)]) -> bool {
+    let mut same = true;
+    for (number, floor, top) in wanted {
+        same = same && places(world, *number) == (*floor, *top);
+    }
+    same
+}
+
+fn stands(world: &Host, end: &End) -> bool {
+    world.steps().len() == end.steps
+        && world.history().events().len() == end.events
+        && are_places(world, end.places)
+}
+
+fn ends(world: &Host, alloc: Global, end: &End) -> Result<bool, Refusal> {
+    let has_sequence = is_sequence(world, alloc, b"k", end.sequence)?;
+    let has_no_other = is_sequence(world, alloc, b"l", &[])?;
+    Ok(stands(world, end) && has_sequence && has_no_other)
+}
+
+// The place of the first row that comes out otherwise, or the number of rows where the end does.
+fn first_wrong_in(
+    world: &mut Host,
+    alloc: Global,
+    is_short: bool,
+    rows: &[Row],
+    end: &End,
+) -> Option<usize> {
+    for (place, row) in rows.iter().enumerate() {
+        if !comes(world, alloc, is_short, row) {
+            return Some(place);
+        }
+    }
+    match again!(is_short, ends(world, alloc, end)) {
+        Ok(true) => None,
+        _ => Some(rows.len()),
+    }
+}
+
+// The same of a new world of these founders; the first row where there is no such world.
+fn first_wrong(rt: &HostRuntime, founders: &[u64], rows: &[Row], end: &End) -> Option<usize> {
+    let is_short = is_short(rt);
+    match again!(is_short, new_world(rt.alloc(), founders)) {
+        Ok(mut world) => first_wrong_in(&mut world, rt.alloc(), is_short, rows, end),
+        Err(_) => Some(0),
+    }
+}
+
+// The writer tells one other node of its set and stops; a reader learns the value from that node.
+static LOST_WRITER: [Row; 20] = [
+    (Move::Set(1), Ok(Came::Called)),
+    (Move::Send(1, 2), Ok(Came::Sent(1))),
+    (Move::Deliver(1), Ok(Came::Done)),
+    (Move::Send(2, 1), Ok(Came::Sent(2))),
+    (Move::Deliver(2), Ok(Came::Done)),
+    (Move::Advance(1, 1), Ok(Came::Moved)),
+    (Move::Send(1, 2), Ok(Came::Sent(3))),
+    (Move::Deliver(3), Ok(Came::Done)),
+    (Move::Stop(1), Ok(Came::Done)),
+    (Move::Get(3), Ok(Came::Called)),
+    (Move::Send(3, 2), Ok(Came::Sent(4))),
+    (Move::Deliver(4), Ok(Came::Done)),
+    (Move::Send(2, 3), Ok(Came::Sent(5))),
+    (Move::Deliver(5), Ok(Came::Done)),
+    (Move::Advance(3, 1), Ok(Came::Moved)),
+    (Move::Send(3, 2), Ok(Came::Sent(6))),
+    (Move::Deliver(6), Ok(Came::Done)),
+    (Move::Send(2, 3), Ok(Came::Sent(7))),
+    (Move::Deliver(7), Ok(Came::Done)),
+    (Move::Advance(3, 1), Ok(Came::Value(118))),
+];
+
+static LOST_WRITER_END: End = End {
+    steps: 20,
+    events: 3,
+    sequence: &[(1, 1), (3, 1)],
+    places: &[(3, 0, 0)],
+};
+
+fn steps_of(alloc: Global, rows: &[Row]) -> Result<Vec<Step<Majority>>, Refusal> {
+    let mut steps = Vec::with_capacity(alloc, rows.len())?;
+    for (by, _) in rows {
+        steps.push(step(alloc, *by)?)?;
+    }
+    Ok(steps)
+}
+
 fn is_whole(outcome: &Outcome<Majority>) -> bool {
     outcome.effects.len() == 20
         && outcome.history.events().len() == 3
@@ -189,65 +279,28 @@ fn is_whole(outcome: &Outcome<Majority>) -> bool {
         && outcome.maps.len() == 3
 }
 
-fn steps_of(alloc: Global, moves: &[Move]) -> Result<Vec<Step<Majority>>, Fail> {
-    let mut steps = again!(Vec::with_capacity(alloc, moves.len()));
-    for by in moves {
-        steps.push(step(alloc, *by)?)?;
-    }
-    Ok(steps)
+// Whether a whole run of the same steps has the same outcome.
+fn runs_whole(alloc: Global, rows: &[Row]) -> Result<bool, Refusal> {
+    let founders = Majority::of(set_of(&[1, 2, 3])?);
+    let steps = steps_of(alloc, rows)?;
+    let outcome = run(alloc, founders, steps.as_slice())?;
+    Ok(is_whole(&outcome))
 }
 
 #[test]
-fn run_of_writer_that_stops(rt: HostRuntime) -> Result<(), Fail> {
-    let steps = steps_of(rt.alloc(), LOST_WRITER.as_slice())?;
-    let founders = Majority::of(set_of(&[1, 2, 3])?);
-    let outcome = again!(run(rt.alloc(), founders, steps.as_slice()));
-    let whole = is_whole(&outcome);
-    assert!(rt; whole);
-    Ok(())
-}
-
-// A step, and what it comes to.
-type Row = (Move, Result<Came, Refusal>);
-
-// What is seen of a world, where a step that is refused changes nothing: how many steps and events it has, and the lowest
-// and the highest place of a few nodes.
-#[derive(Clone, Copy, PartialEq, Eq, Debug)]
-struct Seen {
-    steps: usize,
-    events: usize,
-    places: [(u64, u64); 3],
-}
-
-fn places(world: &Host, number: u64) -> Result<(u64, u64), Refusal> {
-    let map = world.map(Name::new(number)?);
-    Ok((map.floor(), map.top()))
-}
-
-fn look(world: &Host) -> Result<Seen, Refusal> {
-    Ok(Seen {
-        steps: world.steps().len(),
-        events: world.history().events().len(),
-        places: [places(world, 1)?, places(world, 2)?, places(world, 3)?],
-    })
-}
-
-// Takes steps. Each comes to what its row tells, and a world is as it was just where one is refused.
-fn takes(rt: &impl Abort, alloc: Global, world: &mut Host, rows: &[Row]) -> Result<(), Fail> {
-    for row in rows {
-        let (by, outcome) = *row;
-        let before = look(world)?;
-        assert_eq!(rt; take(rt, world, alloc, by), outcome);
-        let same = look(world)? == before;
-        assert_eq!(rt; same, outcome.is_err());
-    }
-    Ok(())
+fn writer_that_stops(rt: HostRuntime) {
+    let rows = &LOST_WRITER;
+    assert_eq!(rt; first_wrong(&rt, &[1, 2, 3], rows, &LOST_WRITER_END), None);
+    assert_eq!(rt;
+        again!(is_short(&rt), runs_whole(rt.alloc(), rows)),
+        Ok(true)
+    );
 }
 
 // Node 2 has the configuration 4 chosen. Nodes 1 and 3, which don't know of it, keep a value, and node 1 stops. Node 2
 // has the founders' configuration collected: its first question brings it the value, and its second one brings it to node
 // 4. All founders have stopped then, and a get still finds the value.
-const LEFT_BEHIND: [Row; 50] = [
+static LEFT_BEHIND: [Row; 50] = [
     (Move::Join(4, 2), Ok(Came::Done)),
     (Move::Send(4, 2), Ok(Came::Sent(1))),
     (Move::Deliver(1), Ok(Came::Done)),
@@ -302,25 +355,23 @@ const LEFT_BEHIND: [Row; 50] = [
 
 // The set stands before the get. The nodes that were told of the collection have the new place alone, and the others what
 // they heard before.
-fn is_left_behind(rt: &impl Abort, alloc: Global, world: &Host) -> Result<(), Fail> {
-    let calls = again!(world.sequence(alloc, b"k"));
-    assert_eq!(rt; calls.as_slice(), [id(1, 1)?, id(4, 1)?].as_slice());
-    assert_eq!(rt; world.steps().len(), 47);
-    for (number, wanted) in [(1, (0, 0)), (2, (1, 1)), (3, (0, 1)), (4, (1, 1))] {
-        assert_eq!(rt; places(world, number)?, wanted);
-    }
-    Ok(())
-}
+static LEFT_BEHIND_END: End = End {
+    steps: 47,
+    events: 4,
+    sequence: &[(1, 1), (4, 1)],
+    places: &[(1, 0, 0), (2, 1, 1), (3, 0, 1), (4, 1, 1)],
+};
 
 #[test]
-fn value_outlives_its_members(rt: HostRuntime) -> Result<(), Fail> {
-    let mut world = again!(new_world(rt.alloc(), &[1, 2, 3]));
-    takes(&rt, rt.alloc(), &mut world, LEFT_BEHIND.as_slice())?;
-    is_left_behind(&rt, rt.alloc(), &world)
+fn value_outlives_its_members(rt: HostRuntime) {
+    assert_eq!(rt;
+        first_wrong(&rt, &[1, 2, 3], &LEFT_BEHIND, &LEFT_BEHIND_END),
+        None
+    );
 }
 
 // Steps that are refused, and that leave the world as it was.
-const REFUSED: [Row; 10] = [
+static REFUSED: [Row; 10] = [
     (Move::Advance(1, 1), Err(Refusal::NoSuchCall)),
     (Move::Again(1, 1), Err(Refusal::NoSuchCall)),
     (Move::Deliver(1), Err(Refusal::NoSuchLetter)),
@@ -333,27 +384,29 @@ const REFUSED: [Row; 10] = [
     (Move::Get(3), Err(Refusal::NotActive)),
 ];
 
+static REFUSED_END: End = End {
+    steps: 4,
+    events: 0,
+    sequence: &[],
+    places: &[],
+};
+
 #[test]
-fn refused_steps(rt: HostRuntime) -> Result<(), Fail> {
-    let mut world = again!(new_world(rt.alloc(), &[1, 2]));
-    takes(&rt, rt.alloc(), &mut world, REFUSED.as_slice())?;
-    assert_eq!(rt; world.steps().len(), 4);
-    Ok(())
+fn refused_steps(rt: HostRuntime) {
+    assert_eq!(rt; first_wrong(&rt, &[1, 2], &REFUSED, &REFUSED_END), None);
 }
 
 #[test]
-fn first_world(rt: HostRuntime) -> Result<(), Fail> {
-    let empty = again!(begins_empty(rt.alloc(), &[1, 2]));
-    assert!(rt; empty);
-    Ok(())
+fn first_world(rt: HostRuntime) {
+    let empty = again!(is_short(&rt), begins_empty(rt.alloc(), &[1, 2]));
+    assert_eq!(rt; empty, Ok(true));
 }
 
 #[test]
-fn no_founders(rt: HostRuntime) -> Result<(), Fail> {
+fn no_founders(rt: HostRuntime) {
     let refused = match run(rt.alloc(), Majority::of(Members::empty()), &[]) {
         Ok(_) => false,
         Err(refusal) => matches!(refusal, Refusal::EmptyMembers),
     };
     assert!(rt; refused);
-    Ok(())
 }

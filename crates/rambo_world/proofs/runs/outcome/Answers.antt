@@ -1,12 +1,12 @@
-use Rattle.std.proofs.Common.{◌∙◌, arith}
+use Rattle.std.proofs.Common.{◌∙◌}
 use Rattle.rambo_run.specs.Runs.{outcome_at}
 use Rattle.rambo_world.proofs.Longer.{outcome_made}
 use Rattle.rambo_world.proofs.runs.outcome.Goals as goal
 
 pub take_all-requires : goal.take_all-requires
-take_all-requires c = (omega arith, c.requires.fits)
+take_all-requires g c = (c.requires-raw.1.1.0, c.requires.fits)
 
 pub returns-clause-outcome : goal.returns-clause-outcome
-returns-clause-outcome c =
+returns-clause-outcome g c =
     outcome_made c.in_ok-effects.effects.items c.take_all.new.self _ c.in_ok-sequences.sequences.items c.in_ok-maps.maps.items c.take_history.ensures c.in_ok-sequences.ensures.given c.in_ok-maps.ensures.maps
     ∙ (λ i. outcome_at (c.in_ok-effects.ensures.told i) (c.in_ok-effects.ensures.after i))
