@@ -37,6 +37,8 @@ impl<Q: Quorums, S: Replica> Node<Q, S> {
     ///
     /// `OutOfMemory` where there is no room for what is new; the node is then as it was. Only a call, its advance and
     /// a letter of an active node may need room.
+    // (a deed is large, and where this is inlined it is moved piece by piece)
+    #[inline(never)]
     #[tactic(auto, unfolding(crate::specs::Changes::made_by))]
     pub fn act(&mut self, change: &Change<Q>) -> Result<Deed<Q>, Refusal>
         requires { refusal_of Q.system self.old change.now ≡ None }

@@ -37,9 +37,10 @@ run-further s w (st ∷ sts) more = run-further s (after s w st) sts more
 
 -- more steps lead on
 pub reached_further : {Q : Type 0} (s : QuorumSystem Q) (founders : Q) (w : WorldState Q) (more : List (Step Q)) → IsReached s founders w → IsReached s founders (run_from s w more)
-reached_further s founders w more reached =
-    (reached.0 ++ more,
-    ap (λ w. run_from s w more) (reached.1 ∙ run_is s founders reached.0) ∙ sym (run-further s (first_world s founders) reached.0 more) ∙ sym (run_is s founders (reached.0 ++ more)))
+reached_further s founders w more reached = (
+  reached.0 ++ more,
+  ap (λ w. run_from s w more) (reached.1 ∙ run_is s founders reached.0) ∙ sym (run-further s (first_world s founders) reached.0 more) ∙ sym (run_is s founders (reached.0 ++ more)),
+)
 
 -- events fit there
 pub reached_fits : {Q : Type 0} (s : QuorumSystem Q) (founders : Q) (w : WorldState Q) → IsReached s founders w → EventsFit s w

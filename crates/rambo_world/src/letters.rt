@@ -69,6 +69,8 @@ impl<Q: Quorums> Letters<Q> {
     }
 
     // The letter of a number, if it was sent. It takes no memory.
+    // (who looks at a part of it needn't read the rest, where this is inlined)
+    #[inline(always)]
     pub(crate) fn get(&self, number: u64) -> Option<Outline<'_, Q>>
         ensures { result ≡ sent_at self.now number }
     {
@@ -98,6 +100,7 @@ impl<Q: Quorums> Letters<Q> {
 }
 
 // A letter that is kept.
+#[inline(always)]
 fn read<Q: Quorums>(standings: &[Standing<Q>], sent: Sent) -> Outline<'_, Q>
     ensures { result ≡ sent_in standings.now sent }
 {
@@ -112,6 +115,7 @@ fn read<Q: Quorums>(standings: &[Standing<Q>], sent: Sent) -> Outline<'_, Q>
 }
 
 // What a letter that is kept says.
+#[inline(always)]
 fn read_gossip<Q: Quorums>(standings: &[Standing<Q>], sent: Sent) -> Option<GossipOutline<'_, Q>>
     ensures { outlined result ≡ kind_of (gossip_in standings.now sent) }
 {

@@ -16,6 +16,8 @@ use rambo_tag::Replica;
 
 impl<Q: Quorums, S: Replica> State<Q, S> {
     // A node takes a change that isn't refused and that sends no letter.
+    // (a deed is large, and where this is inlined it is moved piece by piece)
+    #[inline(never)]
     pub(crate) fn change(&mut self, name: Name, change: &Change<Q>) -> Result<Effect<Q>, Refusal>
         requires accepted { least (causes_at Q.system (node_at self.old name) change.now) ≡ None }
         requires fits { EventFits self.old name change.now }
