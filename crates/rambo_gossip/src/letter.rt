@@ -1,6 +1,10 @@
 //! Letters.
 ghost use Rattle.std.specs.Prelude.{◌≡◌, IsOk, IfOk, IfErr};
+ghost use Rattle.std.specs.FinMap as map;
+ghost use Rattle.rambo_gossip.specs.Letters.{gossip_with};
+ghost use Rattle.rambo_gossip.specs.Outlines.{gossip_outlined};
 
+use crate::outline::GossipOutline;
 use rambo_config_map::ConfigMap;
 use rambo_names::{Members, Name, Quorums, Refusal};
 use rambo_paxos::{Offer, Vote};
@@ -74,14 +78,21 @@ impl<Q: Quorums> Gossip<Q> {
         ensures same { IfOk result (λ gossip. gossip ≡ self.now) }
         ensures refused { IfErr result (λ r. r ≡ Refusal.OutOfMemory) }
     {
-        Ok(Gossip {
+        let copies = self.copies.clone()?;
+        Ok(self.outline().with_copies(copies))
+    }
+
+    /// All of it but its copies, which borrows its map.
+    pub fn outline(&self) -> GossipOutline<'_, Q>
+        ensures { gossip_outlined result ≡ gossip_with self.now map.empty }
+    {
+        GossipOutline {
             known: self.known,
-            copies: self.copies.clone()?,
-            map: self.map.copy(),
+            map: &self.map,
             number: self.number,
             heard: self.heard,
             vote: self.vote,
             offer: self.offer,
-        })
+        }
     }
 }

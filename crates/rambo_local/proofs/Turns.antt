@@ -6,9 +6,9 @@ use Rattle.rambo_atomic.specs.declared.event.Event.TheVariants as event
 use Rattle.rambo_gossip.specs.declared.letter.Letter.{Letter}
 use Rattle.rambo_node.specs.declared.change.Change.TheVariants as change
 use Rattle.rambo_node.specs.declared.effect.Effect.TheVariants as effect
-use Rattle.rambo_node.specs.declared.stage.Stage.{Stage}
-use Rattle.rambo_node.specs.declared.stage.Stage.TheVariants.{Query, Propagation}
-use Rattle.rambo_node.specs.Calls.{CallState}
+use Rattle.rambo_calls.specs.declared.stage.Stage.{Stage}
+use Rattle.rambo_calls.specs.declared.stage.Stage.TheVariants.{Query, Propagation}
+use Rattle.rambo_calls.specs.Calls.{CallState}
 use Rattle.rambo_node.specs.Changes.{stage_met, advanced, made_by}
 use Rattle.rambo_node.specs.Nodes.{NodeState, open_call}
 use Rattle.rambo_run.specs.declared.step.Step.TheVariants as step

@@ -10,15 +10,15 @@ use Rattle.rambo_atomic.specs.declared.operation.Op.{Op}
 use Rattle.rambo_atomic.specs.declared.operation.Op.TheVariants as op
 use Rattle.rambo_paxos.specs.Attempts.{AttemptState}
 use Rattle.rambo_phase.specs.Phases.{started}
-use Rattle.rambo_node.specs.declared.stage.Stage.{Stage}
-use Rattle.rambo_node.specs.declared.stage.Stage.TheVariants.{Query, Propagation}
-use Rattle.rambo_node.specs.Calls.{CallState, place_of, find_call}
+use Rattle.rambo_calls.specs.declared.stage.Stage.{Stage}
+use Rattle.rambo_calls.specs.declared.stage.Stage.TheVariants.{Query, Propagation}
+use Rattle.rambo_calls.specs.Calls.{CallState, place_of, find_call, query_in, asked_in, is_missing}
 use Rattle.rambo_node.specs.Changes.{quiet_deed, advanced, stage_met, begun_again, rebid_made, copy_put}
-use Rattle.rambo_node.specs.Hearing.{restarted}
-use Rattle.rambo_node.specs.Kept.{with_call, propagating, propagation_begun, copy_held, move_deed, answered_in, answered_from}
+use Rattle.rambo_calls.specs.Hearing.{restarted}
+use Rattle.rambo_calls.specs.Kept.{with_call, propagating}
+use Rattle.rambo_node.specs.Kept.{propagation_begun, copy_held, move_deed, answered_in, answered_from}
 use Rattle.rambo_node.specs.Nodes.{NodeState, open_call}
-use Rattle.rambo_node.specs.Operations.{query_in, asked_in, taken, with_copy, query_answered, call_closed, called_again}
-use Rattle.rambo_node.specs.Refusals.{is_missing}
+use Rattle.rambo_node.specs.Operations.{taken, with_copy, query_answered, call_closed, called_again}
 
 -- a call that is found by a number has it
 found_number : {Q : Type 0} (n : ℕ) (cs : List (CallState Q)) (c : CallState Q) → find_call n cs ≡ Some c → c.number ≡ n

@@ -5,7 +5,7 @@ use Rattle.std.proofs.lemmas.Option.{none-some, same_Some}
 use Rattle.std.proofs.lemmas.List.Elements.{All-nil, All-cons}
 use Rattle.rambo_names.specs.declared.refusal.Refusal.{Refusal}
 use Rattle.rambo_names.specs.Quorums.{QuorumSystem}
-use Rattle.rambo_names.specs.Refusals.{Cause, least, number_of}
+use Rattle.rambo_names.specs.Refusals.{Cause, cause, least, number_of}
 use Rattle.rambo_atomic.specs.declared.event.CallId.{CallId}
 use Rattle.rambo_atomic.specs.declared.operation.Op.{Op}
 use Rattle.rambo_config_map.specs.Maps.{MapState, active_at, end_of, top_of}
@@ -18,8 +18,9 @@ use Rattle.rambo_paxos.specs.Attempts.{AttemptState}
 use Rattle.rambo_paxos.specs.Votes.{is_spent}
 use Rattle.rambo_node.specs.Claims.{RisesFrom, FirstIsLeast}
 use Rattle.rambo_node.specs.Nodes.{NodeState, open_call}
-use Rattle.rambo_node.specs.Operations.{query_in}
-use Rattle.rambo_node.specs.Refusals.{is_last, is_missing, call_causes, hear_causes, advance_causes, again_causes, collect_causes, advance_collect_causes, recon_causes, rebid_causes, advance_recon_causes, collection_turn, needs_number, is_for, attempt_waits, query_spent, tags_spent, restarts}
+use Rattle.rambo_calls.specs.Calls.{query_in, is_missing}
+use Rattle.rambo_node.specs.Refusals.{is_last, call_causes, hear_causes, advance_causes, again_causes, collect_causes, advance_collect_causes, recon_causes, rebid_causes, advance_recon_causes, collection_turn, needs_number, query_spent, tags_spent, restarts}
+use Rattle.rambo_bids.specs.Wishes.{is_for, attempt_waits}
 use Rattle.rambo_node.specs.Reconfigurations.{collection_move}
 
 passed : (holds : Bool) (r : Refusal) (rest : Option Refusal) → (if holds then Some r else rest) ≡ None → (holds ≡ false) × (rest ≡ None)
@@ -48,9 +49,13 @@ pub next_of : (n r : ℕ) → is_last n ≡ false → Fits w64 n → r ≡ min (
 next_of n r next fits is = let more = has_next n fits next in omega (arith, is, more)
 
 -- the number after a letter
-pub next_number : (gap : Bool) (n r : ℕ) → gap ≡ true → (gap && is_last n) ≡ false → Fits w64 n → r ≡ min (n + 1) (2 ^ 64 - 1) → r ≡ (if gap then suc n else n)
-next_number true n r e next fits is = let more = has_next n fits next in omega (arith, is, more)
-next_number false n r e next fits is = absurd (true≢false (sym e))
+pub next_number : (gap : Bool) (n r : ℕ) → (gap && is_last n) ≡ false → Fits w64 n → r ≡ min (if gap then suc n else n) (2 ^ 64 - 1) → r ≡ (if gap then suc n else n)
+next_number true n r next fits is = let more = has_next n fits next in omega (arith, is, more)
+next_number false n r next fits is = omega (arith, fits, is)
+
+-- where two causes don't hold, the least one is of those behind them
+pub least_behind : (a b : Bool) (p q : Refusal) (cs : List Cause) → a ≡ false → b ≡ false → least (cause p a ∷ cause q b ∷ cs) ≡ least cs
+least_behind a b p q cs none neither = ap (λ x. if x then Some p else (if b then Some q else least cs)) none ∙ ap (λ x. if x then Some q else least cs) neither
 
 pub neither : (a b : Bool) → (a || b) ≡ false → (a ≡ false) × (b ≡ false)
 neither true b e = absurd (true≢false e)
@@ -100,14 +105,14 @@ module _ {Q : Type 0} (x : NodeState Q) where
   pub rebid_next : least (rebid_causes x) ≡ None → (not (is_for (end_of x.map) x.attempt) ≡ false) × (is_spent x.vote ≡ false)
   rebid_next e = (none_holds (rebid_causes x) 2 e, none_holds (rebid_causes x) 3 e)
 
-  pub bid_next : (s : QuorumSystem Q) → least (advance_recon_causes s x) ≡ None → (attempt_waits s x x.attempt ≡ false) × (is_none x.attempt ≡ false)
+  pub bid_next : (s : QuorumSystem Q) → least (advance_recon_causes s x) ≡ None → (attempt_waits s x.map x.attempt ≡ false) × (is_none x.attempt ≡ false)
   bid_next s e = (none_holds (advance_recon_causes s x) 2 e, none_holds (advance_recon_causes s x) 3 e)
 
   -- an attempt for an unknown place that isn't refused has its quorum
   pub bid_met : (s : QuorumSystem Q) (a : AttemptState Q) → least (advance_recon_causes s x) ≡ None → x.attempt ≡ Some a → nat_lt a.place (end_of x.map) ≡ false
       → has_quorum s (active_at x.map (top_of x.map)) a.repliers ≡ true
   bid_met s a e held unknown =
-      not_false _ (sym (ap (attempt_waits s x) held ∙ ap (λ b. not b && not (has_quorum s (active_at x.map (top_of x.map)) a.repliers)) unknown) ∙ (bid_next s e).0)
+      not_false _ (sym (ap (attempt_waits s x.map) held ∙ ap (λ b. not b && not (has_quorum s (active_at x.map (top_of x.map)) a.repliers)) unknown) ∙ (bid_next s e).0)
 
   pub hear_next : (k : Kind Q) → least (hear_causes x k) ≡ None → (restarts x k && is_last x.number) ≡ false
   hear_next k e = none_holds (hear_causes x k) 2 e

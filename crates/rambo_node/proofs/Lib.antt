@@ -1,5 +1,4 @@
 pub mod Advances
-pub mod CallLists
 pub mod Judged
 pub mod Memory
 pub mod Merged

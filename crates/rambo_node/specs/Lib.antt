@@ -1,4 +1,3 @@
-pub mod Calls
 pub mod Kept
 pub mod Nodes
 pub mod Letters

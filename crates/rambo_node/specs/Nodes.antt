@@ -12,7 +12,7 @@ use Rattle.rambo_paxos.specs.Attempts.{AttemptState}
 use Rattle.rambo_paxos.specs.Votes.{VoteState, empty_vote}
 use Rattle.rambo_joiner.specs.declared.status.Status.{Status}
 use Rattle.rambo_joiner.specs.declared.status.Status.TheVariants.{Idle, Active}
-use Rattle.rambo_node.specs.Calls.{CallState, find_call}
+use Rattle.rambo_calls.specs.Calls.{CallState, find_call}
 
 -- status and names: who takes part, as far as the node knows; registers: its copies; map: its configurations;
 -- number: its phase number; made: the number of its last call; heard: of the names 1, 2, .. the greatest phase number

@@ -14,10 +14,10 @@ use Rattle.rambo_atomic.specs.declared.operation.Answer.TheVariants as answer
 use Rattle.rambo_atomic.specs.Calls.{answer_for}
 use Rattle.rambo_phase.specs.Phases.{started}
 use Rattle.rambo_joiner.specs.declared.status.Status.TheVariants.{Joining, Stopped}
-use Rattle.rambo_node.specs.declared.stage.Stage.{Stage}
-use Rattle.rambo_node.specs.declared.stage.Stage.TheVariants.{Query, Propagation}
-use Rattle.rambo_node.specs.Calls.{CallState, place_of}
-use Rattle.rambo_node.specs.Hearing.{restarted}
+use Rattle.rambo_calls.specs.declared.stage.Stage.{Stage}
+use Rattle.rambo_calls.specs.declared.stage.Stage.TheVariants.{Query, Propagation}
+use Rattle.rambo_calls.specs.Calls.{CallState, place_of}
+use Rattle.rambo_calls.specs.Hearing.{restarted}
 use Rattle.rambo_node.specs.Nodes.{NodeState}
 
 -- a call raises the phase number and opens a query phase
@@ -27,15 +27,6 @@ called x o = record x {
   made = x.made + 1;
   calls = x.calls ++ record { number = x.made + 1; op = o; stage = Query; phase = started (x.number + 1) x.map x.name } ∷ [];
 }
-
--- what a call asks for that is in its query
-abbrev pub asked_in : Op → Stage → Option Op
-asked_in o Query = Some o
-asked_in o (Propagation kept) = None
-
-abbrev pub query_in : {Q : Type 0} → Option (CallState Q) → Option Op
-query_in None = None
-query_in (Some c) = asked_in c.op c.stage
 
 -- the copy that a set makes: under the next tag of the key
 abbrev pub new_copy : {Q : Type 0} → NodeState Q → List ℕ → List ℕ → Version

@@ -2,7 +2,7 @@
 use Rattle.std.specs.Prelude.{ℕ, ◌^◌, ◌-◌, Bool, true, false, not, ◌&&◌, ◌||◌, nat_eq, nat_le, nat_lt, List, [], ◌∷◌, length, Option, None, Some, is_none}
 use Rattle.std.specs.FinSet as set
 use Rattle.std.specs.FinMap as map
-use Rattle.rambo_names.specs.declared.refusal.Refusal.TheVariants.{NameUsed, NotActive, Stopped, NotKnown, NoSuchCall, NotYet, Busy, NothingToCollect, CollectOpen, NoCollect, NotMember, ReconOpen, NoRecon, TooManyActive, UnknownMember, EmptyMembers, KeyTooLong, ValueTooLong, NumbersSpent}
+use Rattle.rambo_names.specs.declared.refusal.Refusal.TheVariants.{NameUsed, NotActive, Stopped, NotKnown, NoSuchCall, NotYet, Busy, NothingToCollect, CollectOpen, NoCollect, NoRecon, EmptyMembers, KeyTooLong, ValueTooLong, NumbersSpent}
 use Rattle.rambo_names.specs.Names.{NameSet, count_of}
 use Rattle.rambo_names.specs.Quorums.{QuorumSystem}
 use Rattle.rambo_names.specs.Refusals.{Cause, cause}
@@ -11,20 +11,18 @@ use Rattle.rambo_atomic.specs.declared.event.CallId.{CallId}
 use Rattle.rambo_atomic.specs.declared.operation.Op.{Op}
 use Rattle.rambo_atomic.specs.declared.operation.Op.TheVariants as op
 use Rattle.rambo_atomic.specs.Calls.{key_of}
-use Rattle.rambo_config_map.specs.Maps.{active_at, end_of, top_of}
+use Rattle.rambo_config_map.specs.Maps.{end_of}
 use Rattle.rambo_gc.specs.declared.gc_move.GcMove.{GcMove}
 use Rattle.rambo_gc.specs.declared.gc_move.GcMove.TheVariants.{Propagating, Done}
-use Rattle.rambo_gc.specs.Collections.{CollectionState, has_quorum, move_of}
-use Rattle.rambo_paxos.specs.Attempts.{AttemptState}
+use Rattle.rambo_gc.specs.Collections.{CollectionState, move_of}
 use Rattle.rambo_paxos.specs.Votes.{is_spent}
-use Rattle.rambo_phase.specs.Phases.{is_met}
 use Rattle.rambo_joiner.specs.Statuses.{is_idle, is_early, is_stopped}
 use Rattle.rambo_gossip.specs.declared.letter.Kind.{Kind}
 use Rattle.rambo_gossip.specs.declared.letter.Kind.TheVariants as kind
-use Rattle.rambo_node.specs.Calls.{CallState}
-use Rattle.rambo_node.specs.Hearing.{any_gap}
+use Rattle.rambo_calls.specs.Calls.{is_missing, is_unmet, query_in}
+use Rattle.rambo_calls.specs.Hearing.{any_gap}
+use Rattle.rambo_bids.specs.Wishes.{wish_causes, is_for, attempt_waits}
 use Rattle.rambo_node.specs.Nodes.{NodeState, open_call}
-use Rattle.rambo_node.specs.Operations.{query_in}
 
 -- whether a counter can't rise
 abbrev pub is_last : ℕ → Bool
@@ -58,10 +56,6 @@ hear_causes x k =
     cause NotActive (is_idle x.status) ∷ cause Stopped (is_stopped x.status)
     ∷ cause NumbersSpent (restarts x k && is_last x.number) ∷ []
 
-abbrev pub is_unmet : {Q : Type 0} → QuorumSystem Q → Option (CallState Q) → Bool
-is_unmet s None = false
-is_unmet s (Some c) = not (is_met s c.phase)
-
 -- whether a set can take no further tag
 abbrev pub tags_spent : {Q : Type 0} → NodeState Q → Op → Bool
 tags_spent x (op.Get key) = false
@@ -71,10 +65,6 @@ tags_spent x (op.Set key value) = is_last (tag_of (map.get x.registers key)).seq
 abbrev pub query_spent : {Q : Type 0} → NodeState Q → Option Op → Bool
 query_spent x None = false
 query_spent x (Some o) = is_last x.number || tags_spent x o
-
-abbrev pub is_missing : {Q : Type 0} → Option (CallState Q) → Bool
-is_missing None = true
-is_missing (Some c) = false
 
 abbrev pub advance_causes : {Q : Type 0} → QuorumSystem Q → NodeState Q → CallId → List Cause
 advance_causes s x id =
@@ -114,36 +104,16 @@ advance_collect_causes s x =
     ∷ cause NotYet (not (is_none x.collection) && is_none turn) ∷ cause NoCollect (is_none x.collection)
     ∷ cause NumbersSpent (needs_number turn && is_last x.number) ∷ []
 
--- whether the node is a member of a configuration, if there is one
-abbrev pub is_member : {Q : Type 0} → QuorumSystem Q → ℕ → Option Q → Bool
-is_member s name None = false
-is_member s name (Some c) = set.contains (s.members c) name
-
 abbrev pub recon_causes : {Q : Type 0} → QuorumSystem Q → NodeState Q → Q → List Cause
 recon_causes s x wish =
-    cause NotActive (is_early x.status) ∷ cause Stopped (is_stopped x.status)
-    ∷ cause NotMember (not (is_member s x.name (active_at x.map (top_of x.map)))) ∷ cause ReconOpen (not (is_none x.attempt))
-    ∷ cause TooManyActive (nat_le 8 (length x.map.configs)) ∷ cause UnknownMember (not (set.is_subset (s.members wish) x.known))
-    ∷ cause EmptyMembers (nat_eq (count_of (s.members wish)) 0)
-    ∷ cause NumbersSpent (is_spent x.vote) ∷ cause NumbersSpent (is_last (top_of x.map)) ∷ []
-
--- whether an attempt is open for this place
-abbrev pub is_for : {Q : Type 0} → ℕ → Option (AttemptState Q) → Bool
-is_for place None = false
-is_for place (Some a) = nat_eq a.place place
+    cause NotActive (is_early x.status) ∷ cause Stopped (is_stopped x.status) ∷ wish_causes s x.name x.known x.map x.vote x.attempt wish
 
 abbrev pub rebid_causes : {Q : Type 0} → NodeState Q → List Cause
 rebid_causes x =
     cause NotActive (is_early x.status) ∷ cause Stopped (is_stopped x.status)
     ∷ cause NoRecon (not (is_for (end_of x.map) x.attempt)) ∷ cause NumbersSpent (is_spent x.vote) ∷ []
 
--- whether an attempt is open whose place isn't known yet and whose quorum, one of the configuration at the top, isn't
--- there
-abbrev pub attempt_waits : {Q : Type 0} → QuorumSystem Q → NodeState Q → Option (AttemptState Q) → Bool
-attempt_waits s x None = false
-attempt_waits s x (Some a) = not (nat_lt a.place (end_of x.map)) && not (has_quorum s (active_at x.map (top_of x.map)) a.repliers)
-
 abbrev pub advance_recon_causes : {Q : Type 0} → QuorumSystem Q → NodeState Q → List Cause
 advance_recon_causes s x =
     cause NotActive (is_early x.status) ∷ cause Stopped (is_stopped x.status)
-    ∷ cause NotYet (attempt_waits s x x.attempt) ∷ cause NoRecon (is_none x.attempt) ∷ []
+    ∷ cause NotYet (attempt_waits s x.map x.attempt) ∷ cause NoRecon (is_none x.attempt) ∷ []

@@ -5,11 +5,12 @@ ghost use Rattle.rambo_tag.specs.Tags.{tag_of};
 ghost use Rattle.rambo_node.specs.Changes.{refusal_of, made_by, advanced};
 ghost use Rattle.rambo_node.specs.Kept.{copy_held, propagation_begun};
 ghost use Rattle.rambo_node.specs.Nodes.{open_call};
-ghost use Rattle.rambo_node.specs.Operations.{query_in, taken};
-ghost use Rattle.rambo_node.specs.Refusals.{is_last, is_missing, query_spent, tags_spent};
+ghost use Rattle.rambo_calls.specs.Calls.{query_in, is_missing};
+ghost use Rattle.rambo_node.specs.Operations.{taken};
+ghost use Rattle.rambo_node.specs.Refusals.{is_last, query_spent, tags_spent};
 ghost use Rattle.rambo_node.specs.declared.change.Change.TheVariants as change;
 
-use crate::deed::{Deed, clone_of};
+use crate::deed::{Deed, answered, clone_of};
 use crate::effect::Effect;
 use crate::node::Node;
 use rambo_atomic::{CallId, Event, Op};
@@ -80,7 +81,7 @@ impl<Q: Quorums, S: Replica> Node<Q, S> {
         ensures err { OnErr result (self.new ≡ self.old) }
     {
         let number = id.number;
-        let deed = self.calls.answered(id)?;
+        let deed = answered(id, self.calls.find(number))?;
         self.calls.close(number);
         Ok(deed)
     }

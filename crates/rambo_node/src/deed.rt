@@ -1,13 +1,15 @@
 //! What a change did.
 ghost use Rattle.std.specs.Prelude.{◌≡◌, IfOk, IfErr};
+ghost use Rattle.rambo_calls.specs.Kept.{call_found};
 ghost use Rattle.rambo_node.specs.Changes.{told, quiet_deed, set_mark, get_mark, copy_put};
-ghost use Rattle.rambo_node.specs.Kept.{move_deed, answer_deed};
+ghost use Rattle.rambo_node.specs.Kept.{move_deed, answer_deed, answered_from};
 ghost use Rattle.rambo_node.specs.Operations.{answer_of};
 ghost use Rattle.std.specs.Option.{option_copied};
 
 use crate::effect::Effect;
 use rambo_atomic::{Answer, CallId, Event, Op};
-use rambo_names::Refusal;
+use rambo_calls::{OpenCall, Stage};
+use rambo_names::{Quorums, Refusal};
 use rambo_sequence::Mark;
 use rambo_tag::{KeyedVersion, Version};
 
@@ -70,6 +72,23 @@ impl<Q: Copy> Deed<Q> {
             mark: get_mark(id, op, kept)?,
             copy: None,
         })
+    }
+}
+
+// What a call does when its propagation is met, if there is one that is in it.
+pub(crate) fn answered<Q: Quorums>(
+    id: CallId,
+    call: Option<&OpenCall<Q>>,
+) -> Result<Deed<Q>, Refusal>
+    ensures ok { IfOk result (λ d. d ≡ answered_from id (call_found (option_copied call.entry))) }
+    ensures refused { IfErr result (λ r. r ≡ Refusal.OutOfMemory) }
+{
+    match call {
+        Some(call) => match &call.stage {
+            Stage::Query => Ok(Deed::quiet()),
+            Stage::Propagation(kept) => Deed::answered(id, &call.op, kept),
+        },
+        None => Ok(Deed::quiet()),
     }
 }
 

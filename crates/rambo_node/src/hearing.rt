@@ -1,19 +1,21 @@
 //! What a node tells others, and what it makes of their letters.
-ghost use Rattle.std.specs.Prelude.{◌≡◌, ◌&&◌, None, Some, false, if◌then◌else◌, suc, IsOk, IfOk, IfErr, OnOk, OnErr};
+ghost use Rattle.std.specs.Prelude.{◌≡◌, ◌&&◌, None, Some, false, IsOk, IfOk, IfErr, OnOk, OnErr};
 ghost use Rattle.std.specs.FinMap as map;
 ghost use Rattle.rambo_names.specs.Refusals.{IsRefusal};
 ghost use Rattle.rambo_gossip.specs.Letters.{letter_with, kind_with, gossip_with};
 ghost use Rattle.rambo_gossip.specs.Outlines.{outlined, gossip_outlined};
 ghost use Rattle.rambo_node.specs.Changes.{refusal_of, made_by};
-ghost use Rattle.rambo_node.specs.Hearing.{any_gap, heard_gossip, heard_join, heard_letter};
+ghost use Rattle.rambo_calls.specs.Hearing.{any_gap, number_after};
+ghost use Rattle.rambo_node.specs.Hearing.{collection_after, heard_gossip, heard_join, heard_letter};
 ghost use Rattle.rambo_node.specs.Letters.{letter_for};
 ghost use Rattle.rambo_node.specs.Refusals.{is_last};
 ghost use Rattle.rambo_node.specs.declared.change.Change.TheVariants as change;
 
-use crate::bids::{hear_offer, hear_reply, hear_vote};
 use crate::node::Node;
+use rambo_bids::{hear_offer, hear_vote, offer_of};
 use rambo_config_map::ConfigMap;
-use rambo_gossip::{Gossip, GossipOutline, Kind, Letter, LetterOutline};
+use rambo_gc::Collection;
+use rambo_gossip::{GossipOutline, Kind, Letter, LetterOutline};
 use rambo_names::{Name, Quorums, Refusal};
 use rambo_tag::{Pack, Replica};
 
@@ -29,7 +31,8 @@ impl<Q: Quorums, S: Replica> Node<Q, S> {
         ensures refused { IfErr result (IsRefusal (refusal_of Q.system self.now (change.Send to))) }
     {
         self.may_send(to)?;
-        Ok(self.letter_with(to, self.registers.pack()?))
+        let copies = self.registers.pack()?;
+        Ok(self.outline_for(to).with_copies(copies))
     }
 
     /// The letter for a name, without its copies. It takes no memory.
@@ -104,19 +107,8 @@ impl<Q: Quorums, S: Replica> Node<Q, S> {
                 Ok(())
             }
             Kind::Gossip(gossip) => {
-                self.merge(letter.sender, &outline_of(gossip), &gossip.copies)
+                self.merge(letter.sender, &gossip.outline(), &gossip.copies)
             }
-        }
-    }
-
-    // What the node tells a name, with these copies.
-    fn letter_with(&self, to: Name, copies: Pack) -> Letter<Q>
-        ensures { result ≡ letter_with (letter_for self.now to) copies }
-    {
-        Letter {
-            sender: self.name,
-            addressee: to,
-            kind: kind_of(&self.gossip_outline(to), copies),
         }
     }
 
@@ -133,19 +125,16 @@ impl<Q: Quorums, S: Replica> Node<Q, S> {
             number: self.number,
             heard: self.heard.of(to),
             vote: self.vote,
-            offer: self.offer(),
+            offer: offer_of(&self.attempt, &self.map),
         })
     }
 
     // The phase number after gossip with this heard number and map, if there is one.
     fn number_after(&self, heard: u64, map: &ConfigMap<Q>) -> u64
         ensures { (any_gap heard map.now self.now.calls && is_last self.now.number) ≡ false
-            → result ≡ (if any_gap heard map.now self.now.calls then suc self.now.number else self.now.number) }
+            → result ≡ number_after self.now.number heard map.now self.now.calls }
     {
-        if !self.calls.any_gap(heard, map) {
-            return self.number;
-        }
-        self.number.saturating_add(1)
+        self.calls.number_after(self.number, heard, map)
     }
 
     // A joining node makes itself known.
@@ -174,8 +163,14 @@ impl<Q: Quorums, S: Replica> Node<Q, S> {
 
         // From here on nothing fails. What goes by the map as it was comes before the map.
         hear_reply(&mut self.collection, from, gossip.heard);
-        hear_vote(&mut self.attempt, &self.map, from, gossip);
-        hear_offer(&mut self.vote, &self.map, gossip);
+        hear_vote(
+            &mut self.attempt,
+            &self.map,
+            from,
+            gossip.map,
+            &gossip.vote,
+        );
+        hear_offer(&mut self.vote, &self.map, gossip.map, &gossip.offer);
         self.map.merge(gossip.map);
         self.calls
             .hear(from, gossip.heard, gossip.map, own, &self.map, self.name);
@@ -187,34 +182,11 @@ impl<Q: Quorums, S: Replica> Node<Q, S> {
     }
 }
 
-// Gossip without its copies.
-fn outline_of<Q: Quorums>(gossip: &Gossip<Q>) -> GossipOutline<'_, Q>
-    ensures { gossip_outlined result ≡ gossip_with gossip.now map.empty }
+// A collection, if there is one, hears a letter of a node that had heard this number.
+fn hear_reply(collection: &mut Option<Collection>, from: Name, heard: u64)
+    ensures { collection.new ≡ collection_after collection.old from heard }
 {
-    GossipOutline {
-        known: gossip.known,
-        map: &gossip.map,
-        number: gossip.number,
-        heard: gossip.heard,
-        vote: gossip.vote,
-        offer: gossip.offer,
-    }
-}
-
-// Gossip, where a letter is some, with these copies.
-fn kind_of<Q: Quorums>(gossip: &Option<GossipOutline<'_, Q>>, copies: Pack) -> Kind<Q>
-    ensures { result ≡ kind_with (outlined gossip.now) copies }
-{
-    match gossip {
-        None => Kind::Join,
-        Some(gossip) => Kind::Gossip(Gossip {
-            known: gossip.known,
-            copies,
-            map: gossip.map.copy(),
-            number: gossip.number,
-            heard: gossip.heard,
-            vote: gossip.vote,
-            offer: gossip.offer,
-        }),
+    if let Some(collection) = collection {
+        collection.hear(from, heard);
     }
 }

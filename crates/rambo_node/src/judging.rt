@@ -5,9 +5,9 @@ ghost use Rattle.rambo_names.specs.Names.{count_of};
 ghost use Rattle.rambo_atomic.specs.Calls.{key_of};
 ghost use Rattle.rambo_names.specs.Refusals.{least};
 ghost use Rattle.rambo_gossip.specs.Outlines.{outlined};
-ghost use Rattle.rambo_node.specs.Refusals.{join_causes, call_causes, send_causes, advance_causes, again_causes, stop_causes, tags_spent, value_is_long, restarts, query_spent, is_last, is_missing, is_unmet};
+ghost use Rattle.rambo_node.specs.Refusals.{join_causes, call_causes, send_causes, advance_causes, again_causes, stop_causes, tags_spent, value_is_long, restarts, query_spent, is_last};
+ghost use Rattle.rambo_calls.specs.Calls.{is_missing, is_unmet, query_in};
 ghost use Rattle.rambo_node.specs.Nodes.{open_call};
-ghost use Rattle.rambo_node.specs.Operations.{query_in};
 ghost use Rattle.rambo_node.specs.Changes.{refusal_of};
 ghost use Rattle.rambo_node.specs.declared.change.Change.TheVariants as change;
 
@@ -311,7 +311,7 @@ pub(crate) fn is_last(number: u64) -> bool
 }
 
 // Whether a set has no name.
-pub(crate) fn is_nobody(names: Members) -> bool
+fn is_nobody(names: Members) -> bool
     ensures { result ≡ nat_eq (count_of names) 0 }
 {
     names.count() == 0

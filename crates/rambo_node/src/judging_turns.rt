@@ -1,21 +1,17 @@
 //! Why a node refuses to collect its lowest place, or to have a configuration chosen.
 ghost use Rattle.std.specs.Prelude.{◌≡◌, ◌&&◌, not, is_none, nat_le, length, OnOk, IfErr, None, Some};
 ghost use Rattle.rambo_names.specs.Refusals.{least};
-ghost use Rattle.rambo_config_map.specs.Maps.{active_at, end_of, top_of};
-ghost use Rattle.rambo_gc.specs.Collections.{has_quorum};
-ghost use Rattle.rambo_node.specs.Refusals.{collect_causes, advance_collect_causes, recon_causes, rebid_causes, advance_recon_causes, collection_turn, needs_number, is_member, is_for, attempt_waits, is_last};
+ghost use Rattle.rambo_config_map.specs.Maps.{end_of};
+ghost use Rattle.rambo_node.specs.Refusals.{collect_causes, advance_collect_causes, recon_causes, rebid_causes, advance_recon_causes, collection_turn, needs_number, is_last};
+ghost use Rattle.rambo_bids.specs.Wishes.{wish_causes, is_for, attempt_waits};
 
-use crate::bids::{is_known, is_next};
-use crate::judging::{is_last, is_nobody};
+use crate::judging::is_last;
 use crate::node::Node;
-use rambo_config_map::{ConfigMap, Entry};
+use rambo_bids::{is_bidding, is_waiting, may_wish};
+use rambo_config_map::ConfigMap;
 use rambo_gc::{Collection, GcMove};
 use rambo_names::{Quorums, Refusal};
-use rambo_paxos::{Attempt, Vote};
 use rambo_tag::Replica;
-
-// A map has at most so many active places.
-const ACTIVE_LIMIT: usize = 8;
 
 impl<Q: Quorums, S: Replica> Node<Q, S> {
     // What the advance of its collection would do, if one is open and it wouldn't be refused.
@@ -88,16 +84,6 @@ impl<Q: Quorums, S: Replica> Node<Q, S> {
         Ok(())
     }
 
-    // Whether the node is a member of the configuration at its top.
-    fn is_member(&self) -> bool
-        ensures { result ≡ is_member Q.system self.now.name (active_at self.now.map (top_of self.now.map)) }
-    {
-        match active_at(&self.map, self.map.top()) {
-            Some(config) => config.members().has(self.name),
-            None => false,
-        }
-    }
-
     // Whether the node may begin to have a configuration chosen.
     pub(crate) fn may_recon(&self, wish: &Q) -> Result<(), Refusal>
         ensures ok { OnOk result (least (recon_causes Q.system self.now wish.now) ≡ None) }
@@ -109,38 +95,29 @@ impl<Q: Quorums, S: Replica> Node<Q, S> {
         if self.status.is_stopped() {
             return Err(Refusal::Stopped);
         }
-        if !self.is_member() {
-            return Err(Refusal::NotMember);
-        }
-        if self.attempt.is_some() {
-            return Err(Refusal::ReconOpen);
-        }
-        if is_crowded(&self.map) {
-            return Err(Refusal::TooManyActive);
-        }
-        if !wish.members().is_subset(self.known) {
-            return Err(Refusal::UnknownMember);
-        }
-        if is_nobody(wish.members()) {
-            return Err(Refusal::EmptyMembers);
-        }
-        if is_last(self.vote.round()) {
-            return Err(Refusal::NumbersSpent);
-        }
-        if is_last(self.map.top()) {
-            return Err(Refusal::NumbersSpent);
-        }
-        Ok(())
+        self.may_wish(wish)
+    }
+
+    // Whether nothing speaks against a wish but the node's status.
+    fn may_wish(&self, wish: &Q) -> Result<(), Refusal>
+        ensures ok { OnOk result (least (wish_causes Q.system self.now.name self.now.known self.now.map self.now.vote self.now.attempt wish.now) ≡ None) }
+        ensures refused { IfErr result (λ r. least (wish_causes Q.system self.now.name self.now.known self.now.map self.now.vote self.now.attempt wish.now) ≡ Some r) }
+    {
+        may_wish(
+            self.name,
+            self.known,
+            &self.map,
+            &self.vote,
+            &self.attempt,
+            wish,
+        )
     }
 
     // Whether an attempt is open for the first unknown place.
     fn is_bidding(&self) -> bool
         ensures { result ≡ is_for (end_of self.now.map) self.now.attempt }
     {
-        match &self.attempt {
-            Some(attempt) => is_next(&self.map, attempt.place()),
-            None => false,
-        }
+        is_bidding(&self.attempt, &self.map)
     }
 
     // Whether its attempt may begin again.
@@ -165,22 +142,9 @@ impl<Q: Quorums, S: Replica> Node<Q, S> {
 
     // Whether an attempt is open whose place isn't known yet and whose quorum isn't there.
     fn is_waiting(&self) -> bool
-        ensures { result ≡ attempt_waits Q.system self.now self.now.attempt }
+        ensures { result ≡ attempt_waits Q.system self.now.map self.now.attempt }
     {
-        match &self.attempt {
-            Some(attempt) => { !is_known(&self.map, attempt.place()) && !self.has_replies(attempt) }
-            None => false,
-        }
-    }
-
-    // Whether the repliers of an attempt hold a quorum of the configuration at the top.
-    fn has_replies(&self, attempt: &Attempt<Q>) -> bool
-        ensures { result ≡ has_quorum Q.system (active_at self.now.map (top_of self.now.map)) attempt.now.repliers }
-    {
-        match active_at(&self.map, self.map.top()) {
-            Some(old) => is_met(attempt, &self.vote, &old),
-            None => false,
-        }
+        is_waiting(&self.attempt, &self.vote, &self.map)
     }
 
     // Whether its attempt may go on.
@@ -223,30 +187,4 @@ fn is_single<Q: Quorums>(map: &ConfigMap<Q>) -> bool
     ensures { result ≡ nat_le (length map.now.configs) 1 }
 {
     map.places().len() <= 1
-}
-
-// Whether as many places of a map are active as may be.
-fn is_crowded<Q: Quorums>(map: &ConfigMap<Q>) -> bool
-    ensures { result ≡ nat_le 8 (length map.now.configs) }
-{
-    map.places().len() >= ACTIVE_LIMIT
-}
-
-// Whether the repliers of an attempt hold a quorum of a configuration. It is tried on copies.
-fn is_met<Q: Quorums>(attempt: &Attempt<Q>, vote: &Vote<Q>, old: &Q) -> bool
-    ensures { result ≡ Q.system.is_quorum old.now attempt.now.repliers }
-{
-    let mut trial = *attempt;
-    let mut vote = *vote;
-    trial.advance(&mut vote, old).is_ok()
-}
-
-// The configuration that is active at a place.
-pub(crate) fn active_at<Q: Quorums>(map: &ConfigMap<Q>, place: u64) -> Option<Q>
-    ensures { result ≡ active_at map.now place }
-{
-    match map.entry(place) {
-        Entry::Active(config) => Some(config),
-        Entry::Unknown | Entry::Removed => None,
-    }
 }

@@ -2,7 +2,6 @@
 #![tactic(auto)]
 
 mod advancing;
-mod bids;
 mod change;
 mod decided;
 mod deed;
@@ -13,10 +12,7 @@ mod judging;
 mod judging_turns;
 mod laws;
 mod node;
-mod open_call;
-mod open_calls;
 mod reconfiguring;
-mod stage;
 mod taking;
 mod turns;
 
@@ -26,4 +22,4 @@ pub use deed::Deed;
 pub use effect::Effect;
 pub use laws::{causes_rise, short_letters_are_heard_alike};
 pub use node::Node;
-pub use stage::Stage;
+pub use rambo_calls::Stage;

@@ -3,11 +3,11 @@ ghost use Rattle.std.specs.Prelude.{◌≡◌};
 ghost use Rattle.std.specs.FinMap as map;
 ghost use Rattle.std.specs.Option.{option_copied};
 ghost use Rattle.rambo_node.specs.Nodes.{first_node, first_status, first_known, open_call};
-ghost use Rattle.rambo_node.specs.Operations.{query_in};
+ghost use Rattle.rambo_calls.specs.Calls.{query_in};
 
 use crate::heard_numbers::HeardNumbers;
-use crate::open_calls::OpenCalls;
 use rambo_atomic::{CallId, Op};
+use rambo_calls::OpenCalls;
 use rambo_config_map::ConfigMap;
 use rambo_gc::Collection;
 use rambo_joiner::Status;
@@ -49,7 +49,8 @@ impl<Q: Quorums, S: Replica> Model for Node<Q, S> {
 
     ghost coded = { Prim.hlevel (codes, names_code, copies_code, Q.code) };
 
-    ghost use Rattle.rambo_node.specs.Kept.{calls_of, AttemptFits};
+    ghost use Rattle.rambo_calls.specs.Kept.{calls_of};
+    ghost use Rattle.rambo_bids.specs.Fitting.{AttemptFits};
 
     ghost view = { λ n. record {
       name = n.name;

@@ -9,13 +9,12 @@ ghost use Rattle.rambo_node.specs.Reconfigurations.{attempt_opened, attempt_rebi
 ghost use Rattle.rambo_node.specs.Refusals.{is_last};
 ghost use Rattle.rambo_node.specs.declared.change.Change.TheVariants as change;
 
-use crate::bids::{is_known, top_of};
 use crate::decided::Decided;
 use crate::deed::Deed;
 use crate::effect::Effect;
-use crate::judging_turns::active_at;
 use crate::node::Node;
 use crate::turns::{attempt_of, collection_of, go_on, learn, moved, rebid, remove};
+use rambo_bids::{active_at, is_known, top_of};
 use rambo_gc::{Collection, GcMove};
 use rambo_names::Quorums;
 use rambo_paxos::{Attempt, Bid};

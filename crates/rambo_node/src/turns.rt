@@ -7,7 +7,7 @@ ghost use Rattle.rambo_gc.specs.Collections.{has_quorum, move_of, opened as coll
 ghost use Rattle.rambo_paxos.specs.Attempts.{opened as attempt_of, rebid, vote_opened, bid_of, advanced, vote_advanced};
 ghost use Rattle.rambo_paxos.specs.Votes.{is_spent};
 
-use crate::judging_turns::active_at;
+use rambo_bids::active_at;
 use rambo_config_map::ConfigMap;
 use rambo_gc::{Collection, GcMove};
 use rambo_names::{Name, Quorums};

@@ -13,7 +13,7 @@ use Rattle.rambo_atomic.specs.declared.event.Event.{Event}
 use Rattle.rambo_atomic.specs.declared.event.Event.TheVariants as event
 use Rattle.rambo_atomic.specs.Calls.{key_of, is_get}
 use Rattle.rambo_atomic.specs.Histories.{call_in, answer_in, answered_before}
-use Rattle.rambo_node.specs.Calls.{CallState, propagates, kept_in}
+use Rattle.rambo_calls.specs.Calls.{CallState, propagates, kept_in}
 use Rattle.rambo_node.specs.Nodes.{NodeState, first_node}
 use Rattle.rambo_node.specs.Operations.{taken, answer_of}
 use Rattle.rambo_sequence.specs.declared.mark.Mark.{Mark}

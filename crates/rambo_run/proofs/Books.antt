@@ -11,8 +11,8 @@ use Rattle.rambo_atomic.specs.declared.event.Event.TheVariants as event
 use Rattle.rambo_atomic.specs.Calls.{is_get}
 use Rattle.rambo_atomic.specs.Histories.{call_in, answer_in}
 use Rattle.rambo_phase.specs.Phases.{started}
-use Rattle.rambo_node.specs.declared.stage.Stage.TheVariants.{Query, Propagation}
-use Rattle.rambo_node.specs.Calls.{CallState, propagates, kept_in}
+use Rattle.rambo_calls.specs.declared.stage.Stage.TheVariants.{Query, Propagation}
+use Rattle.rambo_calls.specs.Calls.{CallState, propagates, kept_in}
 use Rattle.rambo_node.specs.Nodes.{NodeState}
 use Rattle.rambo_node.specs.Operations.{called, taken, query_answered, call_closed, answer_of}
 use Rattle.rambo_sequence.specs.declared.mark.Mark.{Mark}

@@ -6,7 +6,7 @@ use Rattle.rambo_names.specs.Quorums.{QuorumSystem, IsSound}
 use Rattle.rambo_tag.specs.Tags.{tag_of}
 use Rattle.rambo_tag.proofs.TagOrder.{TagLe, tag_lt-false}
 use Rattle.rambo_atomic.specs.Calls.{key_of}
-use Rattle.rambo_node.specs.Calls.{kept_in}
+use Rattle.rambo_calls.specs.Calls.{kept_in}
 use Rattle.rambo_config_map.specs.Maps.{active_at}
 use Rattle.rambo_node.specs.Nodes.{NodeState, first_node}
 use Rattle.rambo_run.specs.declared.step.Step.{Step}

@@ -10,9 +10,9 @@ use Rattle.rambo_gc.specs.Collections.{CollectionState}
 use Rattle.rambo_paxos.specs.declared.bid.Bid.{Bid}
 use Rattle.rambo_paxos.specs.declared.bid.Bid.TheVariants as bid
 use Rattle.rambo_paxos.specs.Attempts.{AttemptState, bid_of}
-use Rattle.rambo_node.specs.declared.stage.Stage.{Stage}
-use Rattle.rambo_node.specs.declared.stage.Stage.TheVariants.{Query, Propagation}
-use Rattle.rambo_node.specs.Calls.{CallState, find_call}
+use Rattle.rambo_calls.specs.declared.stage.Stage.{Stage}
+use Rattle.rambo_calls.specs.declared.stage.Stage.TheVariants.{Query, Propagation}
+use Rattle.rambo_calls.specs.Calls.{CallState, find_call}
 use Rattle.rambo_node.specs.Changes.{Made, set_mark, get_mark, told, stage_met, advanced, begun_again, collection_turned, collection_advanced, rebid_made, decided, bid_made, attempt_advanced}
 use Rattle.rambo_node.specs.Nodes.{NodeState, open_call}
 use Rattle.rambo_node.specs.Reconfigurations.{attempt_ended, collection_move}

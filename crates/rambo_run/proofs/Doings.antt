@@ -18,18 +18,19 @@ use Rattle.rambo_gossip.specs.declared.letter.Letter.{Letter}
 use Rattle.rambo_gossip.specs.declared.letter.Gossip.{Gossip}
 use Rattle.rambo_gossip.specs.declared.letter.Kind.{Kind}
 use Rattle.rambo_gossip.specs.declared.letter.Kind.TheVariants as kind
-use Rattle.rambo_node.specs.declared.stage.Stage.{Stage}
-use Rattle.rambo_node.specs.declared.stage.Stage.TheVariants.{Query, Propagation}
+use Rattle.rambo_calls.specs.declared.stage.Stage.{Stage}
+use Rattle.rambo_calls.specs.declared.stage.Stage.TheVariants.{Query, Propagation}
 use Rattle.rambo_node.specs.declared.change.Change.{Change}
 use Rattle.rambo_node.specs.declared.change.Change.TheVariants as change
-use Rattle.rambo_node.specs.Calls.{CallState, propagates, kept_in}
+use Rattle.rambo_calls.specs.Calls.{CallState, propagates, kept_in, is_unmet}
 use Rattle.rambo_node.specs.Changes as node
 use Rattle.rambo_node.specs.Changes.{set_mark, get_mark, told, quiet as quiet_made, stage_met, advanced, begun_again, collection_turned, collection_advanced, rebid_made, decided, bid_made, attempt_advanced, made_by}
 use Rattle.rambo_node.specs.Nodes.{NodeState, open_call}
 use Rattle.rambo_node.specs.Letters.{gossip_for}
 use Rattle.rambo_node.specs.Hearing.{heard_kind, heard_join, heard_gossip}
 use Rattle.rambo_node.specs.Operations.{called, taken, query_answered, call_closed, answer_of, called_again, joined_by, stopped}
-use Rattle.rambo_node.specs.Refusals.{is_unmet, collection_turn, is_for, attempt_waits}
+use Rattle.rambo_node.specs.Refusals.{collection_turn}
+use Rattle.rambo_bids.specs.Wishes.{is_for, attempt_waits}
 use Rattle.rambo_node.specs.Reconfigurations.{attempt_opened, attempt_rebid, attempt_moved, config_learnt, attempt_ended, collection_opened, collection_moved, collection_ended}
 use Rattle.rambo_run.specs.declared.step.Step.{Step}
 use Rattle.rambo_run.specs.declared.step.Step.TheVariants as step
@@ -157,7 +158,7 @@ module _ {Q : Type 0} (s : QuorumSystem Q) (founders : Q) (world : ℕ → World
   bid_done m n x a h b (attempt.Prepare told) e = alter_done m n x (λ x. attempt_moved x a) h (proposes a told b e refl)
   bid_done m n x a h b (attempt.Propose c) e = alter_done m n x (λ x. config_learnt x a c) h (chooses a c b e refl)
 
-  attempt_done : (m n : ℕ) (x : NodeState Q) → node_at (world m) n ≡ Some x → (o : Option (AttemptState Q)) → x.attempt ≡ o → attempt_waits s x o ≡ false → To m (turn_by (world m) n (attempt_advanced x o)).world
+  attempt_done : (m n : ℕ) (x : NodeState Q) → node_at (world m) n ≡ Some x → (o : Option (AttemptState Q)) → x.attempt ≡ o → attempt_waits s x.map o ≡ false → To m (turn_by (world m) n (attempt_advanced x o)).world
   attempt_done m n x h None i e = still_done m n x h
   attempt_done m n x h (Some a) i e =
       elim (pick (nat_lt a.place (end_of x.map)) (record { node = attempt_ended x; deed = told (decided x a (active_at x.map a.place)); letter = None }) (bid_made x a (bid_of a))) [

@@ -17,9 +17,9 @@ use Rattle.rambo_gossip.specs.declared.letter.Kind.TheVariants as kind
 use Rattle.rambo_node.specs.declared.change.Change.{Change}
 use Rattle.rambo_node.specs.declared.change.Change.TheVariants as change
 use Rattle.rambo_node.specs.declared.effect.Effect.TheVariants as effect
-use Rattle.rambo_node.specs.declared.stage.Stage.{Stage}
-use Rattle.rambo_node.specs.declared.stage.Stage.TheVariants.{Query, Propagation}
-use Rattle.rambo_node.specs.Calls.{CallState}
+use Rattle.rambo_calls.specs.declared.stage.Stage.{Stage}
+use Rattle.rambo_calls.specs.declared.stage.Stage.TheVariants.{Query, Propagation}
+use Rattle.rambo_calls.specs.Calls.{CallState}
 use Rattle.rambo_node.specs.Changes.{Made, told, stage_met, advanced, begun_again, collection_turned, collection_advanced, rebid_made, decided, bid_made, attempt_advanced, made_by}
 use Rattle.rambo_node.specs.Hearing.{heard_kind, heard_join, heard_gossip}
 use Rattle.rambo_node.specs.Nodes.{NodeState, open_call, first_node}

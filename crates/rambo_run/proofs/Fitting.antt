@@ -16,9 +16,9 @@ use Rattle.rambo_atomic.specs.Histories.{call_in}
 use Rattle.rambo_atomic.specs.Faults.{answer_fault, fault_of}
 use Rattle.rambo_node.specs.declared.change.Change.{Change}
 use Rattle.rambo_node.specs.declared.change.Change.TheVariants as change
-use Rattle.rambo_node.specs.declared.stage.Stage.{Stage}
-use Rattle.rambo_node.specs.declared.stage.Stage.TheVariants.{Query, Propagation}
-use Rattle.rambo_node.specs.Calls.{CallState}
+use Rattle.rambo_calls.specs.declared.stage.Stage.{Stage}
+use Rattle.rambo_calls.specs.declared.stage.Stage.TheVariants.{Query, Propagation}
+use Rattle.rambo_calls.specs.Calls.{CallState}
 use Rattle.rambo_node.specs.Changes.{stage_met, advanced, begun_again, made_by}
 use Rattle.rambo_node.specs.Nodes.{NodeState, open_call}
 use Rattle.rambo_node.specs.Operations.{answer_of}

@@ -14,7 +14,8 @@ use Rattle.rambo_paxos.specs.declared.stage.Stage.TheVariants as stage
 use Rattle.rambo_gossip.specs.declared.letter.Gossip.{Gossip}
 use Rattle.rambo_node.specs.Nodes.{NodeState, first_node}
 use Rattle.rambo_node.specs.Letters.{gossip_for}
-use Rattle.rambo_node.specs.Hearing.{heard_gossip, collection_after, is_level, heard_for, attempt_after}
+use Rattle.rambo_node.specs.Hearing.{heard_gossip, collection_after, attempt_after}
+use Rattle.rambo_bids.specs.Hearing.{is_level, heard_for}
 use Rattle.rambo_node.specs.Operations.{called, query_answered, call_closed, called_again}
 use Rattle.rambo_node.specs.Reconfigurations.{attempt_opened, attempt_rebid, attempt_moved, config_learnt, attempt_ended, collection_opened, collection_moved, collection_ended}
 use Rattle.rambo_run.proofs.Lists.{pick, some_inj, none-some}
@@ -64,7 +65,7 @@ heard_place place (Some b) j v a e = (
 
 pub attempt_heard : {Q : Type 0} (x : NodeState Q) (j : ℕ) (g : Gossip Q) (a : AttemptState Q) → attempt_after x j g ≡ Some a
     → (b : AttemptState Q) × (x.attempt ≡ Some b) × (a.place ≡ b.place)
-attempt_heard x j g a e = elim (pick (is_level x g) (heard_for (end_of g.map) x.attempt j g.vote) x.attempt) [
+attempt_heard x j g a e = elim (pick (is_level x.map g.map) (heard_for (end_of g.map) x.attempt j g.vote) x.attempt) [
   | inl p ↦ heard_place (end_of g.map) x.attempt j g.vote a (sym p.1 ∙ e)
   | inr p ↦ (a, sym p.1 ∙ e, refl)
 ]

@@ -17,7 +17,8 @@ use Rattle.rambo_config_map.specs.MapLaws.{merged_end}
 use Rattle.rambo_gossip.specs.declared.letter.Gossip.{Gossip}
 use Rattle.rambo_node.specs.Nodes.{NodeState, first_node, heard_from, raised}
 use Rattle.rambo_node.specs.Letters.{gossip_for}
-use Rattle.rambo_node.specs.Hearing.{heard_gossip, any_gap, number_after}
+use Rattle.rambo_node.specs.Hearing.{heard_gossip, number_after}
+use Rattle.rambo_calls.specs.Hearing.{any_gap}
 use Rattle.rambo_node.specs.Operations.{called, taken, new_copy, with_copy, query_answered, call_closed, called_again}
 use Rattle.rambo_run.proofs.Lists.{pick}
 use Rattle.rambo_run.proofs.Turn.{Moments, Telling, Alters, Turn, stays, quiet, calls, hears, queried, answers, agains, alters, Run}

@@ -3,7 +3,7 @@ use Rattle.std.proofs.Common.{◌≡◌, ℕ, zero, suc, ◌<◌, ◌⊎◌, Boo
 use Rattle.std.proofs.lemmas.Bool.{eqb-false}
 use Rattle.std.specs.List.{remove}
 use Rattle.rambo_atomic.specs.Proper.{Stands}
-use Rattle.rambo_node.specs.Calls.{CallState, place_of, find_call}
+use Rattle.rambo_calls.specs.Calls.{CallState, place_of, find_call}
 
 -- which branch was taken, with the test
 pub pick : {A : Type 0} (b : Bool) (x y : A) → ((b ≡ true) × ((if b then x else y) ≡ x)) ⊎ ((b ≡ false) × ((if b then x else y) ≡ y))

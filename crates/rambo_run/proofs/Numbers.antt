@@ -1,10 +1,11 @@
 -- The numbers of a node's open calls
 use Rattle.std.proofs.Common.{ℕ, zero, suc, ◌≤◌, refl, sym, ap, subst, ⊎_elim, arith}
 use Rattle.rambo_names.specs.Quorums.{QuorumSystem}
-use Rattle.rambo_node.specs.Calls.{CallState}
+use Rattle.rambo_calls.specs.Calls.{CallState}
 use Rattle.rambo_node.specs.Nodes.{NodeState, first_node}
 use Rattle.rambo_node.specs.Letters.{gossip_for}
-use Rattle.rambo_node.specs.Hearing.{heard_call, number_after, heard_gossip}
+use Rattle.rambo_calls.specs.Hearing.{heard_call}
+use Rattle.rambo_node.specs.Hearing.{number_after, heard_gossip}
 use Rattle.rambo_node.specs.Operations.{called, query_answered, call_closed, called_again}
 use Rattle.rambo_run.proofs.Lists.{Member, Single, member_more, member_map, member_put, member_out, single_put, single_out, single_map, single_more}
 use Rattle.rambo_run.proofs.Turn.{Moments, Telling, Turn, stays, quiet, calls, hears, queried, answers, agains, alters, Run}

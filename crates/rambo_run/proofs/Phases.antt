@@ -17,10 +17,11 @@ use Rattle.rambo_config_map.specs.Maps.{MapState, end_of}
 use Rattle.rambo_config_map.specs.MapLaws.{active_kept}
 use Rattle.rambo_phase.specs.Phases.{PhaseState, only, started, above, fits, counted}
 use Rattle.rambo_phase.specs.PhaseLaws.{counted_old, counted_new, counted_end, counted_reply as counts_reply}
-use Rattle.rambo_node.specs.Calls.{CallState, propagates, kept_in}
+use Rattle.rambo_calls.specs.Calls.{CallState, propagates, kept_in}
 use Rattle.rambo_node.specs.Nodes.{NodeState, first_node, heard_from}
 use Rattle.rambo_node.specs.Letters.{gossip_for}
-use Rattle.rambo_node.specs.Hearing.{has_gap, any_gap, restarted, heard_call, heard_gossip}
+use Rattle.rambo_calls.specs.Hearing.{has_gap, any_gap, restarted, heard_call}
+use Rattle.rambo_node.specs.Hearing.{heard_gossip}
 use Rattle.rambo_node.specs.Operations.{called, taken, with_copy, query_answered, call_closed, called_again}
 use Rattle.rambo_run.proofs.Lists.{pick, Member, member_more, member_map, member_put, member_out}
 use Rattle.rambo_run.proofs.Turn.{Moments, Telling, Turn, stays, quiet, calls, hears, queried, answers, agains, alters, Run}

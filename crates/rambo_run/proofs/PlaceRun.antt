@@ -12,8 +12,9 @@ use Rattle.rambo_paxos.specs.Votes.{VoteState, empty_vote, taken_if}
 use Rattle.rambo_paxos.specs.Voters.{Voter, Told, WasOffered, WasHeld, VoterTurn, hears, opens, rebids, proposes, leaves, IsRun, Chooses}
 use Rattle.rambo_paxos.specs.VoterLaws.{one_choice}
 use Rattle.rambo_node.specs.Nodes.{NodeState, first_node}
-use Rattle.rambo_node.specs.Letters.{offer_for, gossip_for}
-use Rattle.rambo_node.specs.Hearing.{heard_for, is_level, vote_kept, heard_gossip}
+use Rattle.rambo_bids.specs.Hearing.{offer_for, is_level, vote_kept, heard_for}
+use Rattle.rambo_node.specs.Letters.{gossip_for}
+use Rattle.rambo_node.specs.Hearing.{heard_gossip}
 use Rattle.rambo_run.proofs.Lists.{pick, some_inj, none-some}
 use Rattle.rambo_run.proofs.Turn.{Moments, Telling, IsBacked, Run}
 use Rattle.rambo_run.proofs.Formed.{IsFormed, backed_place, formed}
@@ -67,14 +68,14 @@ module _ {Q : Type 0} {T : Telling} (s : QuorumSystem Q) (founders : Q) (at : Mo
       let g = gossip_for z n in
       let ends = merged_end x.map z.map (formed s founders at run m n).active (formed s founders at run u j).active in
       let there : end_of z.map ≡ suc p = omega (arith, ends, l, k, ap (λ y. end_of y.map) e) in
-      let level : is_level x g ≡ true = eq-eqb (end_of z.map) (end_of (merged_map x.map z.map)) (omega (arith, there, k, ap (λ y. end_of y.map) e)) in
-      let kept : vote_kept x g ≡ empty_vote = cond-true (nat_lt (end_of x.map) (end_of z.map)) empty_vote x.vote (lt-ltb (end_of x.map) (end_of z.map) (omega (arith, l, there))) in
+      let level : is_level x.map g.map ≡ true = eq-eqb (end_of z.map) (end_of (merged_map x.map z.map)) (omega (arith, there, k, ap (λ y. end_of y.map) e)) in
+      let kept : vote_kept x.map x.vote g.map ≡ empty_vote = cond-true (nat_lt (end_of x.map) (end_of z.map)) empty_vote x.vote (lt-ltb (end_of x.map) (end_of z.map) (omega (arith, l, there))) in
       let offer = offer_for (suc p) z.attempt in
       let vote : y.vote ≡ taken_if empty_vote offer =
-      ap (λ y. y.vote) e ∙ cond-true (is_level x g) (taken_if (vote_kept x g) g.offer) (vote_kept x g) level ∙ (λ i. taken_if (kept i) (offer_for (there i) z.attempt)) in
+      ap (λ y. y.vote) e ∙ cond-true (is_level x.map g.map) (taken_if (vote_kept x.map x.vote g.map) g.offer) (vote_kept x.map x.vote g.map) level ∙ (λ i. taken_if (kept i) (offer_for (there i) z.attempt)) in
       let low : attempt_for (suc p) x.attempt ≡ None = attempt_is_low (suc p) x.attempt (λ a i. let b = (formed s founders at run m n).place a i in omega (arith, b, l)) in
       let attempt : attempt_for (suc p) y.attempt ≡ None =
-      ap (attempt_for (suc p)) (ap (λ y. y.attempt) e ∙ cond-true (is_level x g) (heard_for (end_of z.map) x.attempt j z.vote) x.attempt level ∙ ap (λ k. heard_for k x.attempt j z.vote) there)
+      ap (attempt_for (suc p)) (ap (λ y. y.attempt) e ∙ cond-true (is_level x.map g.map) (heard_for (end_of z.map) x.attempt j z.vote) x.attempt level ∙ ap (λ k. heard_for k x.attempt j z.vote) there)
       ∙ low_hearing (suc p) x.attempt j z.vote low in
       between m n x y (record { votes = true; vote = empty_vote; attempt = None }) (record { votes = true; vote = taken_if empty_vote offer; attempt = None }) (voter_early (suc p) x l)
       (voter_now (suc p) y k ∙ (λ i. record { votes = true; vote = vote i; attempt = attempt i }))
@@ -91,25 +92,25 @@ module _ {Q : Type 0} {T : Telling} (s : QuorumSystem Q) (founders : Q) (at : Mo
       let ends = merged_end x.map z.map (formed s founders at run m n).active (formed s founders at run u j).active in
       let merged : end_of (merged_map x.map z.map) ≡ suc p = omega (arith, k, ap (λ y. end_of y.map) e) in
       let low : end_of z.map ≤ suc p = omega (arith, ends, merged) in
-      let kept : vote_kept x g ≡ x.vote = cond-false (nat_lt (end_of x.map) (end_of z.map)) empty_vote x.vote (le-ltb (end_of x.map) (end_of z.map) (omega (arith, l, low))) in
+      let kept : vote_kept x.map x.vote g.map ≡ x.vote = cond-false (nat_lt (end_of x.map) (end_of z.map)) empty_vote x.vote (le-ltb (end_of x.map) (end_of z.map) (omega (arith, l, low))) in
       let now : Voter Q = record { votes = true; vote = x.vote; attempt = attempt_for (suc p) x.attempt } in
-      elim (pick (is_level x g) true false) [
+      elim (pick (is_level x.map g.map) true false) [
         | inl q ↦
             (let there : end_of z.map ≡ suc p = eqb-true (end_of z.map) (end_of (merged_map x.map z.map)) q.0 ∙ merged in
             let offer = offer_for (suc p) z.attempt in
             let told : Told Q = record { from = j; vote = z.vote } in
             let vote : y.vote ≡ taken_if x.vote offer =
-            ap (λ y. y.vote) e ∙ cond-true (is_level x g) (taken_if (vote_kept x g) g.offer) (vote_kept x g) q.0 ∙ (λ i. taken_if (kept i) (offer_for (there i) z.attempt)) in
+            ap (λ y. y.vote) e ∙ cond-true (is_level x.map g.map) (taken_if (vote_kept x.map x.vote g.map) g.offer) (vote_kept x.map x.vote g.map) q.0 ∙ (λ i. taken_if (kept i) (offer_for (there i) z.attempt)) in
             let attempt : attempt_for (suc p) y.attempt ≡ heard_if_open (attempt_for (suc p) x.attempt) j z.vote =
-            ap (attempt_for (suc p)) (ap (λ y. y.attempt) e ∙ cond-true (is_level x g) (heard_for (end_of z.map) x.attempt j z.vote) x.attempt q.0 ∙ ap (λ k. heard_for k x.attempt j z.vote) there)
+            ap (attempt_for (suc p)) (ap (λ y. y.attempt) e ∙ cond-true (is_level x.map g.map) (heard_for (end_of z.map) x.attempt j z.vote) x.attempt q.0 ∙ ap (λ k. heard_for k x.attempt j z.vote) there)
             ∙ same_hearing (suc p) x.attempt j z.vote in
             between m n x y now (record { votes = true; vote = taken_if x.vote offer; attempt = heard_if_open (attempt_for (suc p) x.attempt) j z.vote }) (voter_now (suc p) x l)
             (voter_now (suc p) y k ∙ (λ i. record { votes = true; vote = vote i; attempt = attempt i }))
             (hears offer (Some told) (was_offered m u j h there) (λ v i. subst (WasHeld (voters at (suc p)) m) (some_inj told v i) (was_held m u j h there)) refl refl))
         | inr q ↦
-            (let vote : y.vote ≡ x.vote = ap (λ y. y.vote) e ∙ cond-false (is_level x g) (taken_if (vote_kept x g) g.offer) (vote_kept x g) q.0 ∙ kept in
+            (let vote : y.vote ≡ x.vote = ap (λ y. y.vote) e ∙ cond-false (is_level x.map g.map) (taken_if (vote_kept x.map x.vote g.map) g.offer) (vote_kept x.map x.vote g.map) q.0 ∙ kept in
             let attempt : attempt_for (suc p) y.attempt ≡ attempt_for (suc p) x.attempt =
-            ap (attempt_for (suc p)) (ap (λ y. y.attempt) e ∙ cond-false (is_level x g) (heard_for (end_of z.map) x.attempt j z.vote) x.attempt q.0) in
+            ap (attempt_for (suc p)) (ap (λ y. y.attempt) e ∙ cond-false (is_level x.map g.map) (heard_for (end_of z.map) x.attempt j z.vote) x.attempt q.0) in
             between m n x y now now (voter_now (suc p) x l) (voter_now (suc p) y k ∙ (λ i. record { votes = true; vote = vote i; attempt = attempt i })) (rests m n now refl now refl))
       ]
 

@@ -11,9 +11,10 @@ use Rattle.rambo_atomic.specs.declared.event.Event.{Event}
 use Rattle.rambo_atomic.specs.declared.event.Event.TheVariants as event
 use Rattle.rambo_phase.specs.Phases.{is_met}
 use Rattle.rambo_gossip.specs.declared.letter.Gossip.{Gossip}
-use Rattle.rambo_node.specs.Calls.{CallState, propagates, kept_in}
+use Rattle.rambo_calls.specs.Calls.{CallState, propagates, kept_in}
 use Rattle.rambo_node.specs.Nodes.{NodeState, first_node}
-use Rattle.rambo_node.specs.Hearing.{heard_call, heard_gossip}
+use Rattle.rambo_calls.specs.Hearing.{heard_call}
+use Rattle.rambo_node.specs.Hearing.{heard_gossip}
 use Rattle.rambo_node.specs.Operations.{called, taken, query_answered, call_closed, answer_of, called_again}
 use Rattle.rambo_sequence.specs.declared.mark.Mark.{Mark}
 use Rattle.rambo_run.specs.Worlds.{WorldState, node_at}

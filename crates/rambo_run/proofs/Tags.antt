@@ -14,7 +14,7 @@ use Rattle.rambo_atomic.specs.declared.operation.Op.{Op}
 use Rattle.rambo_atomic.specs.declared.operation.Op.TheVariants as op
 use Rattle.rambo_atomic.specs.Calls.{key_of, is_get}
 use Rattle.rambo_phase.specs.Phases.{is_met}
-use Rattle.rambo_node.specs.Calls.{CallState, propagates, kept_in}
+use Rattle.rambo_calls.specs.Calls.{CallState, propagates, kept_in}
 use Rattle.rambo_node.specs.Nodes.{NodeState, first_node}
 use Rattle.rambo_node.specs.Operations.{called, taken, with_copy, query_answered, call_closed}
 use Rattle.rambo_sequence.specs.declared.mark.Mark.{Mark}

@@ -11,7 +11,7 @@ use Rattle.rambo_paxos.specs.declared.stage.Stage.TheVariants as stage
 use Rattle.rambo_paxos.specs.Attempts.{AttemptState}
 use Rattle.rambo_phase.specs.Phases.{is_met}
 use Rattle.rambo_joiner.specs.declared.status.Status.{Status}
-use Rattle.rambo_node.specs.Calls.{CallState, propagates}
+use Rattle.rambo_calls.specs.Calls.{CallState, propagates}
 use Rattle.rambo_node.specs.Nodes.{NodeState, first_node}
 use Rattle.rambo_node.specs.Letters.{gossip_for}
 use Rattle.rambo_node.specs.Hearing.{heard_gossip}

@@ -6,8 +6,7 @@ use Rattle.rambo_paxos.specs.Attempts.{AttemptState, offered, offer_of, heard_vo
 use Rattle.rambo_paxos.specs.Votes.{VoteState, empty_vote}
 use Rattle.rambo_paxos.specs.Voters.{Voter, Voters}
 use Rattle.rambo_node.specs.Nodes.{NodeState}
-use Rattle.rambo_node.specs.Letters.{offer_for}
-use Rattle.rambo_node.specs.Hearing.{heard_for}
+use Rattle.rambo_bids.specs.Hearing.{offer_for, heard_for}
 use Rattle.rambo_run.proofs.Lists.{pick}
 use Rattle.rambo_run.proofs.Turn.{Moments}
 use Rattle.rambo_run.proofs.Formed.{same_place}

@@ -8,7 +8,7 @@ use Rattle.rambo_tag.specs.Tags.{tag_lt, tag_of}
 use Rattle.rambo_atomic.specs.Proper.{IsProper, Stands}
 use Rattle.rambo_config_map.specs.Maps.{active_at, end_of}
 use Rattle.rambo_joiner.specs.Statuses.{is_active}
-use Rattle.rambo_node.specs.Calls.{CallState}
+use Rattle.rambo_calls.specs.Calls.{CallState}
 use Rattle.rambo_node.specs.Letters.{letter_for}
 use Rattle.rambo_node.specs.Nodes.{NodeState, heard_from}
 use Rattle.rambo_run.specs.declared.step.Step.{Step}

@@ -10,7 +10,7 @@ use Rattle.rambo_config_map.specs.Maps.{end_of}
 use Rattle.rambo_gc.specs.Collections.{CollectionState}
 use Rattle.rambo_gc.specs.Turns.{HasFirstQuorum, HasSecondQuorum}
 use Rattle.rambo_phase.specs.Phases.{is_met}
-use Rattle.rambo_node.specs.Calls.{CallState, propagates, kept_in}
+use Rattle.rambo_calls.specs.Calls.{CallState, propagates, kept_in}
 use Rattle.rambo_node.specs.Nodes.{NodeState}
 use Rattle.rambo_node.specs.declared.effect.Effect.TheVariants as effect
 use Rattle.rambo_run.specs.declared.step.Step.{Step}

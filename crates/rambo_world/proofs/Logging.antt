@@ -26,9 +26,9 @@ use Rattle.rambo_gossip.specs.Letters.{kind_with}
 use Rattle.rambo_gossip.specs.Outlines.{outlined}
 use Rattle.rambo_node.specs.declared.change.Change.{Change}
 use Rattle.rambo_node.specs.declared.change.Change.TheVariants as change
-use Rattle.rambo_node.specs.declared.stage.Stage.{Stage}
-use Rattle.rambo_node.specs.declared.stage.Stage.TheVariants.{Query, Propagation}
-use Rattle.rambo_node.specs.Calls.{CallState}
+use Rattle.rambo_calls.specs.declared.stage.Stage.{Stage}
+use Rattle.rambo_calls.specs.declared.stage.Stage.TheVariants.{Query, Propagation}
+use Rattle.rambo_calls.specs.Calls.{CallState}
 use Rattle.rambo_node.specs.Nodes.{NodeState, open_call, first_node}
 use Rattle.rambo_node.specs.Hearing.{heard_kind, heard_join, heard_gossip}
 use Rattle.rambo_node.specs.Operations.{called, joined_by, stopped, called_again, query_answered, call_closed, with_copy, taken, new_copy}

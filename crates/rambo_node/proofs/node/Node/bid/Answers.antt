@@ -2,7 +2,7 @@ use Rattle.std.proofs.Common.{◌≤◌, Some, None, Fits, w64, sym, ap, ◌∙�
 use Rattle.rambo_config_map.specs.Maps.{MapState, active_at, end_of, top_of, learnt}
 use Rattle.rambo_gc.specs.Collections.{has_quorum}
 use Rattle.rambo_node.specs.Changes.{bid_made}
-use Rattle.rambo_node.specs.Kept.{AttemptFits}
+use Rattle.rambo_bids.specs.Fitting.{AttemptFits}
 use Rattle.rambo_node.specs.Nodes.{NodeState}
 use Rattle.rambo_node.specs.Reconfigurations.{attempt_moved, config_learnt}
 use Rattle.rambo_paxos.specs.Attempts.{AttemptState, advanced, vote_advanced}

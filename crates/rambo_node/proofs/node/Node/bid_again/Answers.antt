@@ -1,5 +1,5 @@
 use Rattle.std.proofs.Common.{Some, sym, ap, ◌∙◌, subst}
-use Rattle.rambo_node.specs.Kept.{AttemptFits}
+use Rattle.rambo_bids.specs.Fitting.{AttemptFits}
 use Rattle.rambo_node.specs.Nodes.{NodeState}
 use Rattle.rambo_node.specs.Reconfigurations.{attempt_rebid}
 use Rattle.rambo_paxos.specs.Attempts.{AttemptState, rebid, vote_opened}

@@ -1,9 +1,10 @@
 use Rattle.std.proofs.Common.{ap, ◌∙◌}
 use Rattle.std.specs.List.{remove}
-use Rattle.rambo_node.specs.Calls.{place_of, find_call}
-use Rattle.rambo_node.specs.Kept.{calls_of, answered_from}
+use Rattle.rambo_calls.specs.Calls.{place_of, find_call}
+use Rattle.rambo_calls.specs.Kept.{calls_of}
+use Rattle.rambo_node.specs.Kept.{answered_from}
 use Rattle.rambo_node.proofs.Advances.{call_closes, with_calls}
-use Rattle.rambo_node.proofs.Sizes.{up_fits, back_fits, next}
+use Rattle.rambo_node.proofs.Sizes.{up_fits, back_fits, next, variant_fits}
 use Rattle.rambo_node.proofs.node.Node.close.Goals as goal
 
 pub returns-clause-node : goal.returns-clause-node
@@ -17,8 +18,17 @@ returns-clause-node g c =
 pub returns-clause-deed : goal.returns-clause-deed
 returns-clause-deed g c =
     let x = c.args.self.now in
-    c.in_ok-deed.ensures.ok ∙ ap (λ y. answered_from c.args.id (find_call c.args.id.number y.calls)) c.self.view_is
+    c.in_ok-deed.ensures.ok
+    ∙ ap (answered_from c.args.id) (c.find.ensures ∙ ap (λ y. find_call c.args.id.number y.calls) c.self.view_is)
     ∙ (call_closes x c.args.id c.requires.open c.requires.told).1
 
 pub close-requires : goal.close-requires
 close-requires g c = back_fits _ _ _ (next _ _ _ _ (up_fits _ _ _ c.requires-raw.1.1.0))
+
+pub find-requires : goal.find-requires
+find-requires g c =
+    let calls = back_fits _ _ _ (next _ _ _ _ (up_fits _ _ _ c.requires-raw.1.1.0)) in
+    (calls, variant_fits _ _ _ _ (back_fits _ _ _ (up_fits _ _ _ calls)))
+
+pub answered-requires : goal.answered-requires
+answered-requires g c = variant_fits _ _ _ _ (back_fits _ _ _ (up_fits _ _ _ (back_fits _ _ _ (next _ _ _ _ (up_fits _ _ _ c.requires-raw.1.1.0)))))

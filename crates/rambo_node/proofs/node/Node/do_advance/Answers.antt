@@ -1,7 +1,7 @@
 use Rattle.std.proofs.Common.{◌≡◌, Some, sym, ap, ◌∙◌, rules}
 use Rattle.std.specs.Option.{option_copied}
 use Rattle.rambo_node.specs.Nodes.{open_call}
-use Rattle.rambo_node.specs.Operations.{query_in}
+use Rattle.rambo_calls.specs.Calls.{query_in}
 use Rattle.rambo_node.specs.Refusals.{query_spent}
 use Rattle.rambo_node.proofs.Judged.{advance_next}
 use Rattle.rambo_node.proofs.node.Node.do_advance.Goals as goal

@@ -1,8 +1,8 @@
 use Rattle.std.proofs.Common.{◌+◌, ap, ◌∙◌, rules}
-use Rattle.rambo_node.specs.Calls.{place_of, find_call}
+use Rattle.rambo_calls.specs.Calls.{place_of, find_call}
 use Rattle.rambo_node.specs.Changes.{made_by}
-use Rattle.rambo_node.specs.Hearing.{restarted}
-use Rattle.rambo_node.specs.Kept.{calls_of, with_call}
+use Rattle.rambo_calls.specs.Hearing.{restarted}
+use Rattle.rambo_calls.specs.Kept.{calls_of, with_call}
 use Rattle.rambo_node.specs.Refusals.{is_last}
 use Rattle.rambo_node.proofs.Advances.{begins_again, next_calls}
 use Rattle.rambo_node.proofs.Judged.{again_next, has_next}

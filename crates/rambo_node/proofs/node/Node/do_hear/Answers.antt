@@ -1,7 +1,8 @@
 use Rattle.std.proofs.Common.{◌&&◌, sym, ap, ◌∙◌}
 use Rattle.std.proofs.lemmas.Result.{on_ok_weaker}
 use Rattle.rambo_gossip.specs.Letters.{gossip_with}
-use Rattle.rambo_node.specs.Hearing.{heard_kind, heard_gossip, any_gap}
+use Rattle.rambo_node.specs.Hearing.{heard_kind, heard_gossip}
+use Rattle.rambo_calls.specs.Hearing.{any_gap}
 use Rattle.rambo_node.specs.Refusals.{restarts, is_last}
 use Rattle.rambo_node.proofs.Judged.{hear_next}
 use Rattle.rambo_node.proofs.Sizes.{up_fits, back_fits, variant_fits}
@@ -11,14 +12,14 @@ pub returns-in-Gossip-clause-ok : goal.returns-in-Gossip-clause-ok
 returns-in-Gossip-clause-ok g c =
     let x = c.args.self.now in
     let j = c.args.letter.now.sender in
-    let gap = ap (λ o. any_gap o.heard o.map x.calls && is_last x.number) c.outline_of.ensures in
+    let gap = ap (λ o. any_gap o.heard o.map x.calls && is_last x.number) c.outline.ensures in
     on_ok_weaker c.merge.result
     (λ e free. e (gap ∙ sym (ap (λ k. restarts x k && is_last x.number) c.in-Gossip.is) ∙ hear_next x c.args.letter.now.kind free)
-    ∙ ap (λ o. heard_gossip x j (gossip_with o c.in-Gossip.gossip.copies)) c.outline_of.ensures ∙ sym (ap (heard_kind x j) c.in-Gossip.is))
+    ∙ ap (λ o. heard_gossip x j (gossip_with o c.in-Gossip.gossip.copies)) c.outline.ensures ∙ sym (ap (heard_kind x j) c.in-Gossip.is))
     c.merge.ensures.ok
 
 pub merge-requires : goal.merge-requires
 merge-requires g c = c.requires-raw.1.1.0
 
-pub outline_of-requires : goal.outline_of-requires
-outline_of-requires g c = variant_fits _ _ _ _ (back_fits _ _ _ (up_fits _ _ _ c.requires-raw.1.1.1))
+pub outline-requires : goal.outline-requires
+outline-requires g c = variant_fits _ _ _ _ (back_fits _ _ _ (up_fits _ _ _ c.requires-raw.1.1.1))

@@ -1,7 +1,7 @@
 use Rattle.std.proofs.Common.{not, sym, ap, ◌∙◌, rules}
 use Rattle.std.proofs.lemmas.Bool.{true≢false}
 use Rattle.rambo_config_map.specs.Maps.{end_of}
-use Rattle.rambo_node.specs.Refusals.{is_for}
+use Rattle.rambo_bids.specs.Wishes.{is_for}
 use Rattle.rambo_node.proofs.Judged.{rebid_next}
 use Rattle.rambo_node.proofs.node.Node.do_rebid.Goals as goal
 

@@ -1,7 +1,7 @@
 use Rattle.std.proofs.Common.{◌≡◌, Some, nat_le, arith, length, sym, ap, ◌∙◌, subst, rules}
 use Rattle.rambo_config_map.specs.Maps.{top_of}
 use Rattle.rambo_config_map.specs.MapLaws.{top_below}
-use Rattle.rambo_node.specs.Kept.{AttemptFits}
+use Rattle.rambo_bids.specs.Fitting.{AttemptFits}
 use Rattle.rambo_node.specs.Refusals.{is_last}
 use Rattle.rambo_paxos.specs.Votes.{is_spent}
 use Rattle.rambo_node.proofs.Judged.{recon_next, has_next}

@@ -1,7 +1,7 @@
 use Rattle.std.proofs.Common.{◌≡◌, None, false, rules, nat_le, nat_lt, length, if◌then◌else◌, sym, ap, ◌∙◌, subst}
 use Rattle.rambo_config_map.specs.Maps.{without_lowest, MapState}
 use Rattle.rambo_gc.specs.Collections.{move_of}
-use Rattle.rambo_node.specs.Kept.{AttemptFits}
+use Rattle.rambo_bids.specs.Fitting.{AttemptFits}
 use Rattle.rambo_node.specs.Nodes.{NodeState}
 use Rattle.rambo_node.specs.Reconfigurations.{collection_ended}
 use Rattle.rambo_node.proofs.Merged.{fits_removed, has_next_place}

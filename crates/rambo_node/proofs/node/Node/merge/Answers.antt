@@ -1,10 +1,12 @@
-use Rattle.std.proofs.Common.{map, ap, ◌∙◌}
+use Rattle.std.proofs.Common.{map, sym, ap, ◌∙◌, subst}
 use Rattle.std.specs.FinSet as set
 use Rattle.rambo_tag.specs.Copies.{joined}
 use Rattle.rambo_config_map.specs.Maps.{merged_map}
 use Rattle.rambo_joiner.specs.Statuses.{woken}
 use Rattle.rambo_gossip.specs.Outlines.{gossip_outlined}
-use Rattle.rambo_node.specs.Hearing.{heard_gossip, heard_call, collection_after, attempt_after, vote_after}
+use Rattle.rambo_node.specs.Hearing.{heard_gossip, collection_after, attempt_after, vote_after}
+use Rattle.rambo_calls.specs.Hearing.{heard_call}
+use Rattle.rambo_bids.specs.Fitting.{AttemptFits}
 use Rattle.rambo_node.specs.Nodes.{raised}
 use Rattle.rambo_node.proofs.Sizes.{up_fits, back_fits, next}
 use Rattle.rambo_node.proofs.node.Node.merge.Goals as goal
@@ -43,3 +45,6 @@ make_room-requires g c = (back_fits _ _ _ (next _ _ _ _ (up_fits _ _ _ c.require
 
 pub hear-requires : goal.hear-requires
 hear-requires g c = (back_fits _ _ _ (next _ _ _ _ (up_fits _ _ _ c.requires-raw.1.1)), back_fits _ _ _ (up_fits _ _ _ c.requires-raw.1.1))
+
+pub invariant_of-self-2 : goal.invariant_of-self-2
+invariant_of-self-2 g c = subst (λ m. AttemptFits m c.hear_vote.new.attempt) (sym c.merge-2.ensures) (c.hear_vote.ensures.fits c.self.invariant)

@@ -1,6 +1,6 @@
 use Rattle.std.proofs.Common.{None, ap, ◌∙◌}
 use Rattle.rambo_node.specs.Nodes.{first_node, first_status, first_known}
-use Rattle.rambo_node.specs.Kept.{calls_of}
+use Rattle.rambo_calls.specs.Kept.{calls_of}
 use Rattle.rambo_node.proofs.node.Node.new.Goals as goal
 
 pub returns : goal.returns

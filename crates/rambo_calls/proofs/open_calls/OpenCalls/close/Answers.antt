@@ -1,0 +1,10 @@
+use Rattle.std.proofs.Common.{ap, ◌∙◌}
+use Rattle.std.specs.List.{remove}
+use Rattle.rambo_calls.specs.Kept.{calls_of}
+use Rattle.rambo_calls.proofs.CallLists.{closed_at}
+use Rattle.rambo_calls.proofs.open_calls.OpenCalls.close.Goals as goal
+
+pub returns : goal.returns
+returns g c =
+    ap calls_of (c.remove.ensures.items ∙ ap (λ cs. remove cs c.place_of-place.result) c.self.view_is)
+    ∙ closed_at c.args.self.now c.args.number c.place_of-place.result c.place_of-place.ensures

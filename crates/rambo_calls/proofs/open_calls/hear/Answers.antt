@@ -1,0 +1,13 @@
+use Rattle.std.proofs.Common.{◌<◌, length, ◌∙◌, arith}
+use Rattle.rambo_calls.specs.Hearing.{heard_call}
+use Rattle.rambo_calls.proofs.CallLists.{roomy_at, roomy_rest, heard_more}
+use Rattle.rambo_calls.proofs.open_calls.hear.Goals as goal
+
+pub loop-call-preserved : goal.loop-call-preserved
+loop-call-preserved g c room =
+    let below : c.loop-call.call-index < length c.loop-call.calls = omega (arith, c.loop-call-test.true, c.loop-call.auto.calls) in
+    let before = c.loop-call.invariant room in (
+      heard_more (heard_call c.args.heard c.args.from c.args.map.now c.args.number c.args.merged.now c.args.me) c.loop-call.calls c.loop-call.call-index c.hear.new.self c.call-item.result below
+          (c.hear.ensures (roomy_at c.args.map.now c.loop-call.calls c.loop-call.call-index c.call-item.result below before.1)) ∙ before.0,
+      roomy_rest c.args.map.now c.loop-call.calls c.loop-call.call-index c.hear.new.self below before.1,
+    )

@@ -1,0 +1,23 @@
+use Rattle.std.proofs.Common.{◌≤◌, ◌<◌, length, get_or, sym, ap, ◌∙◌, subst, arith}
+use Rattle.std.proofs.Math.Seq.{map-set_same}
+use Rattle.rambo_phase.specs.Phases.{PhaseState, needed}
+use Rattle.rambo_calls.specs.declared.open_call.OpenCall.{OpenCall}
+use Rattle.rambo_calls.specs.Calls.{CallState}
+use Rattle.rambo_calls.specs.Kept.{call_of}
+use Rattle.rambo_calls.proofs.CallLists.{roomy_more}
+use Rattle.rambo_calls.proofs.open_calls.make_room.Goals as goal
+
+abbrev in_phase : {Q : Type 0} → OpenCall Q → PhaseState Q → CallState Q
+in_phase c p = record { number = c.number; op = c.op; stage = c.stage; phase = p }
+
+pub returns-in_err-reserve-clause-same : goal.returns-in_err-reserve-clause-same
+returns-in_err-reserve-clause-same g c =
+    map-set_same call_of c.loop-call.calls c.loop-call.call-index _ c.call-item.result (ap (in_phase (get_or c.loop-call.calls c.loop-call.call-index c.call-item.result)) c.reserve.ensures.state) ∙ c.loop-call.invariant.0
+
+pub loop-call-preserved : goal.loop-call-preserved
+loop-call-preserved g c =
+    let below : c.loop-call.call-index < length c.loop-call.calls = omega (arith, c.loop-call-test.true, c.loop-call.auto.calls) in (
+      map-set_same call_of c.loop-call.calls c.loop-call.call-index _ c.call-item.result (ap (in_phase (get_or c.loop-call.calls c.loop-call.call-index c.call-item.result)) c.reserve.ensures.state) ∙ c.loop-call.invariant.0,
+      roomy_more c.args.map.now c.loop-call.calls c.loop-call.call-index _ below
+          (subst (λ p. needed p c.args.map.now ≤ c.reserve.new.self.capacity) (sym c.reserve.ensures.state) c.in_ok-reserve.ensures.ok) c.loop-call.invariant.1,
+    )

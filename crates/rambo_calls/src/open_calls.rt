@@ -1,0 +1,289 @@
+//! The open calls of a node, the oldest first.
+ghost use Rattle.std.specs.Prelude.{◌≡◌, ◌≤◌, ◌<◌, ◌-◌, ◌^◌, ◌++◌, ◌∷◌, [], length, min, OnOk, OnErr, IfErr, remove, map as list_map};
+ghost use Rattle.std.specs.Option.{option_copied};
+ghost use Rattle.rambo_calls.specs.Calls.{place_of, find_call, is_missing, is_unmet, query_in};
+ghost use Rattle.rambo_calls.specs.Hearing.{any_gap, number_after, restarted, heard_call};
+ghost use Rattle.rambo_calls.specs.Kept.{calls_of, call_found, with_call, propagating, IsRoomy};
+ghost use Rattle.rambo_phase.specs.Phases.{started};
+ghost use Rattle.rambo_calls.specs.declared.stage.Stage.TheVariants.{Query};
+
+use crate::open_call::OpenCall;
+use crate::stage::Stage;
+use rambo_atomic::Op;
+use rambo_config_map::ConfigMap;
+use rambo_names::{Name, Quorums, Refusal};
+use rambo_phase::{Heard, Phase};
+use rambo_tag::Version;
+use std::alloc::Global;
+use std::marker::Model;
+
+/// The calls of a node that aren't answered yet, the oldest first. Each has another number.
+#[derive(Drop)]
+pub struct OpenCalls<Q: Quorums> {
+    list: Vec<OpenCall<Q>>,
+    // Never filled: it tells the prover that an open call has a size, which it doesn't see behind a `Vec`.
+    spare: Option<OpenCall<Q>>,
+}
+
+impl<Q: Quorums> Model for OpenCalls<Q> {
+    ghost use Rattle.std.specs.Prelude.{List};
+    ghost use Rattle.std.specs.Coded.{codes};
+    ghost use Rattle.rambo_names.specs.Names.{names_code};
+    ghost use Rattle.rambo_calls.specs.declared.open_call.OpenCall.{OpenCall};
+
+    ghost Value = { List (OpenCall Q) };
+
+    ghost coded = { Prim.hlevel (codes, names_code, Q.code) };
+
+    ghost view = { λ c. c.list.items };
+}
+
+impl<Q: Quorums> OpenCalls<Q> {
+    /// No call. Its memory will come from this allocator.
+    pub fn new(alloc: Global) -> Self
+        ensures { result ≡ [] }
+    {
+        OpenCalls {
+            list: Vec::new(alloc),
+            spare: None,
+        }
+    }
+
+    /// Where its memory comes from.
+    pub fn alloc(&self) -> Global {
+        *self.list.allocator()
+    }
+
+    /// How many there are.
+    pub fn len(&self) -> usize
+        ensures { result ≡ length self.now }
+    {
+        self.list.len()
+    }
+
+    /// Opens a call of this number in its query, under a phase number: its phase begins with this map, and with the
+    /// node itself as a replier.
+    ///
+    /// `OutOfMemory` where there is no room for it; the calls are then as they were.
+    pub fn open(
+        &mut self,
+        number: u64,
+        op: Op,
+        phase_number: u64,
+        map: &ConfigMap<Q>,
+        me: Name,
+    ) -> Result<(), Refusal>
+        ensures ok { OnOk result (calls_of self.new ≡ calls_of self.old ++ record { number = number; op = op; stage = Query; phase = started phase_number map.now me } ∷ []) }
+        ensures err { OnErr result (self.new ≡ self.old) }
+        ensures refused { IfErr result (λ r. r ≡ Refusal.OutOfMemory) }
+    {
+        self.list.push(OpenCall {
+            number,
+            op,
+            stage: Stage::Query,
+            phase: Phase::start(phase_number, map, me),
+        })?;
+        Ok(())
+    }
+
+    /// The call of a number sends a copy round, in a phase that begins under this phase number with this map. It takes
+    /// no memory. Where there is no such call, nothing changes.
+    pub fn propagate(
+        &mut self,
+        number: u64,
+        kept: Option<Version>,
+        phase_number: u64,
+        map: &ConfigMap<Q>,
+        me: Name,
+    )
+        ensures { calls_of self.new ≡ with_call (place_of number (calls_of self.old)) (find_call number (calls_of self.old)) (propagating kept (started phase_number map.now me)) (calls_of self.old) }
+    {
+        let place = self.place_of(number);
+        if place >= self.list.len() {
+            return;
+        }
+        self.list[place].propagate(kept, phase_number, map, me);
+    }
+
+    /// The phase of the call of a number begins anew, under this phase number with this map. It takes no memory. Where
+    /// there is no such call, nothing changes.
+    pub fn restart(&mut self, number: u64, phase_number: u64, map: &ConfigMap<Q>, me: Name)
+        ensures { calls_of self.new ≡ with_call (place_of number (calls_of self.old)) (find_call number (calls_of self.old)) (restarted phase_number map.now me) (calls_of self.old) }
+    {
+        let place = self.place_of(number);
+        if place >= self.list.len() {
+            return;
+        }
+        self.list[place].restart(phase_number, map, me);
+    }
+
+    /// Takes the call of a number out, if there is one.
+    pub fn close(&mut self, number: u64)
+        ensures { calls_of self.new ≡ remove (calls_of self.old) (place_of number (calls_of self.old)) }
+    {
+        let place = self.place_of(number);
+        if place >= self.list.len() {
+            return;
+        }
+        self.list.remove(place);
+    }
+
+    /// Makes room for what a map has above the phases, so that to hear it takes no memory.
+    ///
+    /// `OutOfMemory` where there is none. The calls are as they were, whatever the answer.
+    pub fn make_room(&mut self, map: &ConfigMap<Q>) -> Result<(), Refusal>
+        ensures same { calls_of self.new ≡ calls_of self.old }
+        ensures ok { OnOk result (IsRoomy map.now self.new) }
+        ensures refused { IfErr result (λ r. r ≡ Refusal.OutOfMemory) }
+    {
+        make_room(self.list.as_mut_slice(), map)
+    }
+
+    /// Hears a letter that has this heard number and map, for which room was made: a call whose phase it replies to
+    /// counts the sender, with the configurations that the map has above its own. Where these leave a gap, the phase
+    /// begins anew, under this number with this merged map (Lynch and Shvartsman, "RAMBO", DISC 2002).
+    pub fn hear(
+        &mut self,
+        from: Name,
+        heard: u64,
+        map: &ConfigMap<Q>,
+        number: u64,
+        merged: &ConfigMap<Q>,
+        me: Name,
+    )
+        ensures { IsRoomy map.now self.old → calls_of self.new ≡ list_map (heard_call heard from map.now number merged.now me) (calls_of self.old) }
+    {
+        hear(
+            self.list.as_mut_slice(),
+            from,
+            heard,
+            map,
+            number,
+            merged,
+            me,
+        )
+    }
+
+    // The place of the first call of a number, or the number of calls where there is none.
+    fn place_of(&self, number: u64) -> usize
+        ensures { result ≡ place_of number (calls_of self.now) }
+    {
+        place_of(self.list.as_slice(), number)
+    }
+
+    /// Whether there is no call of a number.
+    pub fn is_missing(&self, number: u64) -> bool
+        ensures { result ≡ is_missing (find_call number (calls_of self.now)) }
+    {
+        find(self.list.as_slice(), number).is_none()
+    }
+
+    /// Whether there is a call of a number whose phase isn't met.
+    pub fn is_unmet(&self, number: u64) -> bool
+        ensures { result ≡ is_unmet Q.system (find_call number (calls_of self.now)) }
+    {
+        match find(self.list.as_slice(), number) {
+            Some(call) => !call.phase.met(),
+            None => false,
+        }
+    }
+
+    /// What the call of a number asks for, if there is one that is in its query.
+    pub fn query(&self, number: u64) -> Option<&Op>
+        ensures { option_copied result ≡ query_in (find_call number (calls_of self.now)) }
+    {
+        match find(self.list.as_slice(), number) {
+            Some(call) => match call.stage {
+                Stage::Query => Some(&call.op),
+                Stage::Propagation(_) => None,
+            },
+            None => None,
+        }
+    }
+
+    /// The call of a number, if there is one.
+    pub fn find(&self, number: u64) -> Option<&OpenCall<Q>>
+        ensures { call_found (option_copied result) ≡ find_call number (calls_of self.now) }
+    {
+        find(self.list.as_slice(), number)
+    }
+
+    /// Whether a letter with this heard number and map restarts a phase: whether it is a reply whose map leaves a gap.
+    pub fn any_gap(&self, heard: u64, map: &ConfigMap<Q>) -> bool
+        ensures { result ≡ any_gap heard map.now (calls_of self.now) }
+    {
+        any_gap(self.list.as_slice(), heard, map)
+    }
+
+    /// The phase number after a letter with this heard number and map, where it was this one: one more where a phase
+    /// begins anew, but at most the greatest number.
+    pub fn number_after(&self, number: u64, heard: u64, map: &ConfigMap<Q>) -> u64
+        ensures { result ≡ min (number_after number heard map.now (calls_of self.now)) (2 ^ 64 - 1) }
+    {
+        if !self.any_gap(heard, map) {
+            return number;
+        }
+        number.saturating_add(1)
+    }
+}
+
+fn place_of<Q: Quorums>(calls: &[OpenCall<Q>], number: u64) -> usize
+    ensures { result ≡ place_of number (calls_of calls.now) }
+{
+    let mut count = 0;
+    let mut rest = calls;
+    while let Some((call, others)) = rest.split_first() {
+        if call.number == number {
+            return count;
+        }
+        count += 1;
+        rest = others;
+    }
+    count
+}
+
+fn find<Q: Quorums>(calls: &[OpenCall<Q>], number: u64) -> Option<&OpenCall<Q>>
+    ensures { call_found (option_copied result) ≡ find_call number (calls_of calls.now) }
+{
+    calls.get(place_of(calls, number))
+}
+
+fn any_gap<Q: Quorums>(calls: &[OpenCall<Q>], heard: u64, map: &ConfigMap<Q>) -> bool
+    ensures { result ≡ any_gap heard map.now (calls_of calls.now) }
+{
+    let mut rest = calls;
+    while let Some((call, others)) = rest.split_first() {
+        if call.phase.would_hear(heard, map) == Heard::Restart {
+            return true;
+        }
+        rest = others;
+    }
+    false
+}
+
+fn make_room<Q: Quorums>(calls: &mut [OpenCall<Q>], map: &ConfigMap<Q>) -> Result<(), Refusal>
+    ensures same { calls_of calls.new ≡ calls_of calls.old }
+    ensures ok { OnOk result (IsRoomy map.now calls.new) }
+    ensures refused { IfErr result (λ r. r ≡ Refusal.OutOfMemory) }
+{
+    for call in calls.iter_mut() {
+        call.phase.reserve(map)?;
+    }
+    Ok(())
+}
+
+fn hear<Q: Quorums>(
+    calls: &mut [OpenCall<Q>],
+    from: Name,
+    heard: u64,
+    map: &ConfigMap<Q>,
+    number: u64,
+    merged: &ConfigMap<Q>,
+    me: Name,
+)
+    ensures { IsRoomy map.now calls.old → calls_of calls.new ≡ list_map (heard_call heard from map.now number merged.now me) (calls_of calls.old) }
+{
+    for call in calls.iter_mut() {
+        call.hear(from, heard, map, number, merged, me);
+    }
+}

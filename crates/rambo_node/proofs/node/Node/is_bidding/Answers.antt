@@ -1,0 +1,7 @@
+use Rattle.std.proofs.Common.{ap, ◌∙◌}
+use Rattle.rambo_config_map.specs.Maps.{end_of}
+use Rattle.rambo_bids.specs.Wishes.{is_for}
+use Rattle.rambo_node.proofs.node.Node.is_bidding.Goals as goal
+
+pub returns : goal.returns
+returns g c = c.is_bidding.ensures ∙ ap (λ n. is_for (end_of n.map) n.attempt) c.self.view_is
