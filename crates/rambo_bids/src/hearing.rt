@@ -1,7 +1,7 @@
 //! What an attempt offers, and what a vote and an attempt make of another node's.
-ghost use Rattle.std.specs.Prelude.{◌≡◌, ◌≤◌, if◌then◌else◌, nat_eq, nat_lt, length};
+ghost use Rattle.std.specs.Prelude.{◌≡◌, ◌≤◌, nat_lt, length};
 ghost use Rattle.rambo_config_map.specs.Maps.{end_of, merged_map};
-ghost use Rattle.rambo_paxos.specs.Votes.{empty_vote, taken_if};
+ghost use Rattle.rambo_paxos.specs.Votes.{taken_if};
 ghost use Rattle.rambo_bids.specs.Fitting.{AttemptFits};
 ghost use Rattle.rambo_bids.specs.Hearing.{offer_for, is_level, vote_kept, vote_after, heard_for, attempt_after};
 
@@ -11,10 +11,7 @@ use rambo_names::{Name, Quorums};
 use rambo_paxos::{Attempt, Offer, Vote};
 
 /// What the attempt of a node with this map asks, if one is open for the first unknown place.
-pub fn offer_of<Q: Quorums>(
-    attempt: &Option<Attempt<Q>>,
-    map: &ConfigMap<Q>,
-) -> Option<Offer<Q>>
+pub fn offer_of<Q: Quorums>(attempt: &Option<Attempt<Q>>, map: &ConfigMap<Q>) -> Option<Offer<Q>>
     ensures { result ≡ offer_for (end_of map.now) attempt.now }
 {
     match attempt {

@@ -1,5 +1,5 @@
 //! The open calls of a node, the oldest first.
-ghost use Rattle.std.specs.Prelude.{◌≡◌, ◌≤◌, ◌<◌, ◌-◌, ◌^◌, ◌++◌, ◌∷◌, [], length, min, OnOk, OnErr, IfErr, remove, map as list_map};
+ghost use Rattle.std.specs.Prelude.{◌≡◌, ◌-◌, ◌^◌, ◌++◌, ◌∷◌, [], length, min, OnOk, OnErr, IfErr, remove, map as list_map};
 ghost use Rattle.std.specs.Option.{option_copied};
 ghost use Rattle.rambo_calls.specs.Calls.{place_of, find_call, is_missing, is_unmet, query_in};
 ghost use Rattle.rambo_calls.specs.Hearing.{any_gap, number_after, restarted, heard_call};

@@ -1,6 +1,6 @@
 pub mod Advances
 pub mod Judged
 pub mod Memory
-pub mod Merged
+pub mod Fitting
 pub mod Sizes
 pub mod Telling

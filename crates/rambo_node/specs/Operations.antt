@@ -14,7 +14,6 @@ use Rattle.rambo_atomic.specs.declared.operation.Answer.TheVariants as answer
 use Rattle.rambo_atomic.specs.Calls.{answer_for}
 use Rattle.rambo_phase.specs.Phases.{started}
 use Rattle.rambo_joiner.specs.declared.status.Status.TheVariants.{Joining, Stopped}
-use Rattle.rambo_calls.specs.declared.stage.Stage.{Stage}
 use Rattle.rambo_calls.specs.declared.stage.Stage.TheVariants.{Query, Propagation}
 use Rattle.rambo_calls.specs.Calls.{CallState, place_of}
 use Rattle.rambo_calls.specs.Hearing.{restarted}

@@ -106,9 +106,7 @@ impl<Q: Quorums, S: Replica> Node<Q, S> {
                 self.meet(letter.sender);
                 Ok(())
             }
-            Kind::Gossip(gossip) => {
-                self.merge(letter.sender, &gossip.outline(), &gossip.copies)
-            }
+            Kind::Gossip(gossip) => { self.merge(letter.sender, &gossip.outline(), &gossip.copies) }
         }
     }
 
@@ -163,13 +161,7 @@ impl<Q: Quorums, S: Replica> Node<Q, S> {
 
         // From here on nothing fails. What goes by the map as it was comes before the map.
         hear_reply(&mut self.collection, from, gossip.heard);
-        hear_vote(
-            &mut self.attempt,
-            &self.map,
-            from,
-            gossip.map,
-            &gossip.vote,
-        );
+        hear_vote(&mut self.attempt, &self.map, from, gossip.map, &gossip.vote);
         hear_offer(&mut self.vote, &self.map, gossip.map, &gossip.offer);
         self.map.merge(gossip.map);
         self.calls

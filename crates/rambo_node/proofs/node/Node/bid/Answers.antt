@@ -7,7 +7,7 @@ use Rattle.rambo_node.specs.Nodes.{NodeState}
 use Rattle.rambo_node.specs.Reconfigurations.{attempt_moved, config_learnt}
 use Rattle.rambo_paxos.specs.Attempts.{AttemptState, advanced, vote_advanced}
 use Rattle.rambo_paxos.specs.Votes.{VoteState}
-use Rattle.rambo_node.proofs.Merged.{fits_advanced}
+use Rattle.rambo_node.proofs.Fitting.{fits_advanced}
 use Rattle.rambo_node.proofs.node.Node.bid.Goals as goal
 
 pub go_on-requires : goal.go_on-requires

@@ -4,7 +4,7 @@ use Rattle.rambo_node.specs.Nodes.{NodeState}
 use Rattle.rambo_node.specs.Reconfigurations.{attempt_rebid}
 use Rattle.rambo_paxos.specs.Attempts.{AttemptState, rebid, vote_opened}
 use Rattle.rambo_paxos.specs.Votes.{VoteState, is_spent}
-use Rattle.rambo_node.proofs.Merged.{fits_rebid}
+use Rattle.rambo_node.proofs.Fitting.{fits_rebid}
 use Rattle.rambo_node.proofs.node.Node.bid_again.Goals as goal
 
 abbrev bidding : {Q : Type 0} → AttemptState Q → VoteState Q → NodeState Q → NodeState Q

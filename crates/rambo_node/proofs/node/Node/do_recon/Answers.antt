@@ -5,7 +5,7 @@ use Rattle.rambo_bids.specs.Fitting.{AttemptFits}
 use Rattle.rambo_node.specs.Refusals.{is_last}
 use Rattle.rambo_paxos.specs.Votes.{is_spent}
 use Rattle.rambo_node.proofs.Judged.{recon_next, has_next}
-use Rattle.rambo_node.proofs.Merged.{fits_opened}
+use Rattle.rambo_node.proofs.Fitting.{fits_opened}
 use Rattle.rambo_node.proofs.node.Node.do_recon.Goals as goal
 
 pub overflow_add-place : goal.overflow_add-place

@@ -4,7 +4,7 @@ use Rattle.rambo_gc.specs.Collections.{move_of}
 use Rattle.rambo_bids.specs.Fitting.{AttemptFits}
 use Rattle.rambo_node.specs.Nodes.{NodeState}
 use Rattle.rambo_node.specs.Reconfigurations.{collection_ended}
-use Rattle.rambo_node.proofs.Merged.{fits_removed, has_next_place}
+use Rattle.rambo_node.proofs.Fitting.{fits_removed, has_next_place}
 use Rattle.rambo_node.proofs.node.Node.end_collection.Goals as goal
 
 abbrev with_map : {Q : Type 0} → MapState Q → NodeState Q → NodeState Q

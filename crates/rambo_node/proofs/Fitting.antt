@@ -1,19 +1,17 @@
--- Maps, attempts and collections, where a letter is merged or a turn is taken
-use Rattle.std.proofs.Common.{◌≡◌, ℕ, ◌+◌, ◌-◌, ◌≤◌, ◌≢◌, Bool, true, false, nat_eq, nat_le, nat_lt, if◌then◌else◌, length, slice_get, Option, None, Some, refl, sym, ◌∙◌, inl, inr, arith, subst, length-drop}
-use Rattle.std.proofs.lemmas.Bool.{cases_lt, eq-eqb, ne_eqb, le-leb, lt-leb, lt-ltb, leb-false, true≢false}
+-- Attempts and the maps that they fit, where a turn is taken
+use Rattle.std.proofs.Common.{◌≡◌, ℕ, ◌+◌, ◌-◌, ◌≤◌, Bool, true, false, nat_le, nat_lt, if◌then◌else◌, length, slice_get, Option, None, Some, refl, sym, ◌∙◌, inl, inr, arith, subst, length-drop}
+use Rattle.std.proofs.lemmas.Bool.{lt-leb, lt-ltb, leb-false, true≢false}
 use Rattle.std.proofs.lemmas.Option.{slice_get_within}
-use Rattle.std.specs.FinSet as set
 use Rattle.rambo_names.specs.Quorums.{QuorumSystem}
-use Rattle.rambo_config_map.specs.Maps.{MapState, end_of, merged_map, without_lowest}
-use Rattle.rambo_config_map.specs.MapLaws.{merged_end, active_kept}
+use Rattle.rambo_config_map.specs.Maps.{MapState, end_of, without_lowest}
+use Rattle.rambo_config_map.specs.MapLaws.{active_kept}
 use Rattle.rambo_gc.specs.declared.gc_move.GcMove.TheVariants.{Done}
 use Rattle.rambo_gc.specs.Collections.{CollectionState, move_of}
 use Rattle.rambo_gc.specs.CollectionLaws.{collection_over}
 use Rattle.rambo_paxos.specs.declared.stage.Stage.{Stage}
 use Rattle.rambo_paxos.specs.declared.stage.Stage.TheVariants as stage
-use Rattle.rambo_paxos.specs.Attempts.{AttemptState, heard_vote, replies_to, told_by, opened, rebid, proposing, advanced, advanced_in}
+use Rattle.rambo_paxos.specs.Attempts.{AttemptState, opened, rebid, proposing, advanced, advanced_in}
 use Rattle.rambo_paxos.specs.Votes.{VoteState}
-use Rattle.rambo_bids.specs.Hearing.{heard_for}
 use Rattle.rambo_bids.specs.Fitting.{AttemptFits}
 
 module _ {Q : Type 0} where
