@@ -17,7 +17,7 @@ use rambo_tag::Version;
 use std::alloc::Global;
 use std::marker::Model;
 
-/// The calls of a node that aren't answered yet, the oldest first. Each has another number.
+/// The calls of a node that aren't answered yet, the oldest first. Of several calls of one number the first is meant.
 #[derive(Drop)]
 pub struct OpenCalls<Q: Quorums> {
     list: Vec<OpenCall<Q>>,
