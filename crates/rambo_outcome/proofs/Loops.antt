@@ -8,6 +8,7 @@ use Rattle.rambo_names.specs.Quorums.{QuorumSystem}
 use Rattle.rambo_atomic.specs.declared.event.Event.{Event}
 use Rattle.rambo_node.specs.declared.effect.Effect.{Effect}
 use Rattle.rambo_run.specs.Runs.{OutcomeState}
+use Rattle.rambo_text.specs.Signs.{Grows}
 use Rattle.rambo_outcome.specs.Lines.{Item, Ordered, item_line, items_text}
 use Rattle.rambo_outcome.specs.Outcomes.{step_items, steps_items, map_item, outcome_lines}
 
@@ -19,6 +20,10 @@ one_on F G step xs i x out new whole h item now before =
     let split = drop_more xs i x h ∙ ap (λ y. y ∷ drop (i + 1) xs) (sym item) in
     ap (λ t. t ++ F (drop (i + 1) xs)) now ∙ append_assoc out (G x) (F (drop (i + 1) xs)) ∙ ap (λ t. out ++ t) (sym (step x (drop (i + 1) xs)))
     ∙ ap (λ t. out ++ F t) (sym split) ∙ before
+
+-- more is still behind what there was
+pub grows_on : (start out new more : List ℕ) → new ≡ out ++ more → Grows start out → Grows start new
+grows_on start out new more now front = (front.0 ++ more, now ∙ ap (λ t. t ++ more) front.1 ∙ append_assoc start front.0 more)
 
 -- nothing is left
 pub all_done : {X : Type 0} (F : List X → List ℕ) → F [] ≡ [] → (xs : List X) (i : ℕ) (out whole : List ℕ) → length xs ≤ i

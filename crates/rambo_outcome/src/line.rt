@@ -1,8 +1,10 @@
 //! Writing lines.
-ghost use Rattle.std.specs.Prelude.{◌≡◌, ◌++◌, map, OnOk, IfErr};
+//!
+//! After a refusal the text of an `append_` function is what it was, maybe with some bytes behind it.
+ghost use Rattle.std.specs.Prelude.{◌≡◌, ◌++◌, map, OnOk, OnErr, IfErr};
 ghost use Rattle.rambo_atomic.specs.declared.event.Event.TheVariants as event;
 ghost use Rattle.rambo_text.specs.Words.{more_words};
-ghost use Rattle.rambo_text.specs.Signs.{call_text, standing_text};
+ghost use Rattle.rambo_text.specs.Signs.{call_text, standing_text, Grows};
 ghost use Rattle.rambo_names.specs.Signs.{set_text};
 ghost use Rattle.rambo_names.specs.Refusals.{number_of};
 ghost use Rattle.rambo_outcome.specs.Lines.{Happened, Collected, Settled, Refused, Ordered, op_words, answer_words, item_line};
@@ -16,19 +18,21 @@ use rambo_sequence::KeySequence;
 use rambo_text::{write_call, write_hex, write_name, write_num, write_standing};
 
 /// Appends the line of a call.
-pub(crate) fn write_called(id: &CallId, op: &Op, out: &mut Vec<u8>) -> Result<(), Refusal>
+pub(crate) fn append_called(id: &CallId, op: &Op, out: &mut Vec<u8>) -> Result<(), Refusal>
     ensures ok { OnOk result (out.new.items ≡ out.old.items ++ item_line (Happened (event.Call id.now op.now))) }
+    ensures err { OnErr result (Grows out.old.items out.new.items) }
     ensures refused { IfErr result (λ r. r ≡ Refusal.OutOfMemory) }
 {
     out.extend_from_slice(b"call ")?;
     write_call(id, out)?;
-    write_op(op, out)?;
+    append_op(op, out)?;
     out.push(b'\n')?;
     Ok(())
 }
 
-fn write_op(op: &Op, out: &mut Vec<u8>) -> Result<(), Refusal>
+fn append_op(op: &Op, out: &mut Vec<u8>) -> Result<(), Refusal>
     ensures ok { OnOk result (out.new.items ≡ out.old.items ++ more_words (op_words op.now)) }
+    ensures err { OnErr result (Grows out.old.items out.new.items) }
     ensures refused { IfErr result (λ r. r ≡ Refusal.OutOfMemory) }
 {
     match op {
@@ -47,19 +51,25 @@ fn write_op(op: &Op, out: &mut Vec<u8>) -> Result<(), Refusal>
 }
 
 /// Appends the line of an answer.
-pub(crate) fn write_answered(id: &CallId, answer: &Answer, out: &mut Vec<u8>) -> Result<(), Refusal>
+pub(crate) fn append_answered(
+    id: &CallId,
+    answer: &Answer,
+    out: &mut Vec<u8>,
+) -> Result<(), Refusal>
     ensures ok { OnOk result (out.new.items ≡ out.old.items ++ item_line (Happened (event.Answer id.now answer.now))) }
+    ensures err { OnErr result (Grows out.old.items out.new.items) }
     ensures refused { IfErr result (λ r. r ≡ Refusal.OutOfMemory) }
 {
     out.extend_from_slice(b"answer ")?;
     write_call(id, out)?;
-    write_answer(answer, out)?;
+    append_answer(answer, out)?;
     out.push(b'\n')?;
     Ok(())
 }
 
-fn write_answer(answer: &Answer, out: &mut Vec<u8>) -> Result<(), Refusal>
+fn append_answer(answer: &Answer, out: &mut Vec<u8>) -> Result<(), Refusal>
     ensures ok { OnOk result (out.new.items ≡ out.old.items ++ more_words (answer_words answer.now)) }
+    ensures err { OnErr result (Grows out.old.items out.new.items) }
     ensures refused { IfErr result (λ r. r ≡ Refusal.OutOfMemory) }
 {
     match answer {
@@ -74,8 +84,9 @@ fn write_answer(answer: &Answer, out: &mut Vec<u8>) -> Result<(), Refusal>
 }
 
 /// Appends the line of a node's collection of a place, which ended.
-pub(crate) fn write_collected(name: Name, place: u64, out: &mut Vec<u8>) -> Result<(), Refusal>
+pub(crate) fn append_collected(name: Name, place: u64, out: &mut Vec<u8>) -> Result<(), Refusal>
     ensures ok { OnOk result (out.new.items ≡ out.old.items ++ item_line (Collected name place)) }
+    ensures err { OnErr result (Grows out.old.items out.new.items) }
     ensures refused { IfErr result (λ r. r ≡ Refusal.OutOfMemory) }
 {
     out.extend_from_slice(b"collected ")?;
@@ -87,12 +98,13 @@ pub(crate) fn write_collected(name: Name, place: u64, out: &mut Vec<u8>) -> Resu
 }
 
 /// Appends the line of a node's attempt, which ended.
-pub(crate) fn write_decided<Q: Quorums>(
+pub(crate) fn append_decided<Q: Quorums>(
     name: Name,
     decided: &Decided<Q>,
     out: &mut Vec<u8>,
 ) -> Result<(), Refusal>
     ensures ok { OnOk result (out.new.items ≡ out.old.items ++ item_line (Settled name decided.now.place (members_at Q.system decided.now.config))) }
+    ensures err { OnErr result (Grows out.old.items out.new.items) }
     ensures refused { IfErr result (λ r. r ≡ Refusal.OutOfMemory) }
 {
     out.extend_from_slice(b"decided ")?;
@@ -107,6 +119,7 @@ pub(crate) fn write_decided<Q: Quorums>(
 
 fn write_config<Q: Quorums>(config: &Option<Q>, out: &mut Vec<u8>) -> Result<(), Refusal>
     ensures ok { OnOk result (out.new.items ≡ out.old.items ++ standing_text (members_at Q.system config.now)) }
+    ensures err { OnErr result (out.new.items ≡ out.old.items) }
     ensures refused { IfErr result (λ r. r ≡ Refusal.OutOfMemory) }
 {
     match config {
@@ -116,8 +129,9 @@ fn write_config<Q: Quorums>(config: &Option<Q>, out: &mut Vec<u8>) -> Result<(),
 }
 
 /// Appends the line of a refused step.
-pub(crate) fn write_refused(step: u64, refusal: Refusal, out: &mut Vec<u8>) -> Result<(), Refusal>
+pub(crate) fn append_refused(step: u64, refusal: Refusal, out: &mut Vec<u8>) -> Result<(), Refusal>
     ensures ok { OnOk result (out.new.items ≡ out.old.items ++ item_line (Refused step (number_of refusal))) }
+    ensures err { OnErr result (Grows out.old.items out.new.items) }
     ensures refused { IfErr result (λ r. r ≡ Refusal.OutOfMemory) }
 {
     out.extend_from_slice(b"refused ")?;
@@ -129,19 +143,21 @@ pub(crate) fn write_refused(step: u64, refusal: Refusal, out: &mut Vec<u8>) -> R
 }
 
 /// Appends the line of a key's sequence.
-pub(crate) fn write_sequence(sequence: &KeySequence, out: &mut Vec<u8>) -> Result<(), Refusal>
+pub(crate) fn append_sequence(sequence: &KeySequence, out: &mut Vec<u8>) -> Result<(), Refusal>
     ensures ok { OnOk result (out.new.items ≡ out.old.items ++ item_line (Ordered sequence.now)) }
+    ensures err { OnErr result (Grows out.old.items out.new.items) }
     ensures refused { IfErr result (λ r. r ≡ Refusal.OutOfMemory) }
 {
     out.extend_from_slice(b"sequence ")?;
     write_hex(sequence.key.as_slice(), out)?;
-    write_calls(sequence.calls.as_slice(), out)?;
+    append_calls(sequence.calls.as_slice(), out)?;
     out.push(b'\n')?;
     Ok(())
 }
 
-fn write_calls(calls: &[CallId], out: &mut Vec<u8>) -> Result<(), Refusal>
+fn append_calls(calls: &[CallId], out: &mut Vec<u8>) -> Result<(), Refusal>
     ensures ok { OnOk result (out.new.items ≡ out.old.items ++ more_words (map call_text calls.now)) }
+    ensures err { OnErr result (Grows out.old.items out.new.items) }
     ensures refused { IfErr result (λ r. r ≡ Refusal.OutOfMemory) }
 {
     for id in calls {
@@ -152,21 +168,23 @@ fn write_calls(calls: &[CallId], out: &mut Vec<u8>) -> Result<(), Refusal>
 }
 
 /// Appends the line of a node's map.
-pub(crate) fn write_map<Q: Quorums>(node: &NodeMap<Q>, out: &mut Vec<u8>) -> Result<(), Refusal>
+pub(crate) fn append_map<Q: Quorums>(node: &NodeMap<Q>, out: &mut Vec<u8>) -> Result<(), Refusal>
     ensures ok { OnOk result (out.new.items ≡ out.old.items ++ item_line (map_item Q.system node.now)) }
+    ensures err { OnErr result (Grows out.old.items out.new.items) }
     ensures refused { IfErr result (λ r. r ≡ Refusal.OutOfMemory) }
 {
     out.extend_from_slice(b"map ")?;
     write_name(node.name, out)?;
     out.push(b' ')?;
     write_num(node.floor, out)?;
-    write_configs(node.active.as_slice(), out)?;
+    append_configs(node.active.as_slice(), out)?;
     out.push(b'\n')?;
     Ok(())
 }
 
-fn write_configs<Q: Quorums>(configs: &[Q], out: &mut Vec<u8>) -> Result<(), Refusal>
+fn append_configs<Q: Quorums>(configs: &[Q], out: &mut Vec<u8>) -> Result<(), Refusal>
     ensures ok { OnOk result (out.new.items ≡ out.old.items ++ more_words (map set_text (map Q.system.members configs.now))) }
+    ensures err { OnErr result (Grows out.old.items out.new.items) }
     ensures refused { IfErr result (λ r. r ≡ Refusal.OutOfMemory) }
 {
     for config in configs {

@@ -1,11 +1,12 @@
 //! The text of an outcome.
-ghost use Rattle.std.specs.Prelude.{◌≡◌, ◌++◌, ℕ, OnOk, IfOk, IfErr, map};
+ghost use Rattle.std.specs.Prelude.{◌≡◌, ◌++◌, ℕ, OnOk, OnErr, IfOk, IfErr, map};
+ghost use Rattle.rambo_text.specs.Signs.{Grows};
 ghost use Rattle.rambo_outcome.specs.Lines.{Ordered, items_text};
 ghost use Rattle.rambo_outcome.specs.Outcomes.{step_items, steps_items, map_item, outcome_lines};
 
 use crate::line::{
-    write_answered, write_called, write_collected, write_decided, write_map, write_refused,
-    write_sequence,
+    append_answered, append_called, append_collected, append_decided, append_map, append_refused,
+    append_sequence,
 };
 use rambo_atomic::History;
 use rambo_names::{Quorums, Refusal};
@@ -23,18 +24,20 @@ pub fn outcome_text<Q: Quorums>(alloc: Global, outcome: &Outcome<Q>) -> Result<V
     ensures refused { IfErr result (λ r. r ≡ Refusal.OutOfMemory) }
 {
     let mut out = Vec::new(alloc);
-    write_steps(outcome.effects.as_slice(), &outcome.history, &mut out)?;
+    append_steps(outcome.effects.as_slice(), &outcome.history, &mut out)?;
     write_sequences(outcome.sequences.as_slice(), &mut out)?;
     write_maps(outcome.maps.as_slice(), &mut out)?;
     Ok(out)
 }
 
-fn write_steps<Q: Quorums>(
+// Appends what is told of the steps, or after a refusal some bytes.
+fn append_steps<Q: Quorums>(
     results: &[Result<Effect<Q>, Refusal>],
     history: &History,
     out: &mut Vec<u8>,
 ) -> Result<(), Refusal>
     ensures ok { OnOk result (out.new.items ≡ out.old.items ++ items_text (steps_items Q.system history.now.events 1 results.now)) }
+    ensures err { OnErr result (Grows out.old.items out.new.items) }
     ensures refused { IfErr result (λ r. r ≡ Refusal.OutOfMemory) }
 {
     for (place, told) in results.iter().enumerate() {
@@ -46,7 +49,7 @@ fn write_steps<Q: Quorums>(
 /// Appends what is told of a step, by its number: the line of a call, an answer, an ended collection, an ended attempt or
 /// a refusal, or none. What a call asked is looked up in the history.
 ///
-/// `OutOfMemory` where there is no room for it. What `out` holds then isn't said.
+/// `OutOfMemory` where the text can't grow; it is then as before.
 pub fn write_step<Q: Quorums>(
     step: u64,
     told: &Result<Effect<Q>, Refusal>,
@@ -54,43 +57,93 @@ pub fn write_step<Q: Quorums>(
     out: &mut Vec<u8>,
 ) -> Result<(), Refusal>
     ensures ok { OnOk result (out.new.items ≡ out.old.items ++ items_text (step_items Q.system history.now.events step told.now)) }
+    ensures err { OnErr result (out.new.items ≡ out.old.items) }
+    ensures refused { IfErr result (λ r. r ≡ Refusal.OutOfMemory) }
+{
+    let before = out.len();
+    let written = append_step(step, told, history, out);
+    if written.is_err() {
+        out.truncate(before);
+    }
+    written
+}
+
+// Appends what is told of a step, or after a refusal some bytes.
+fn append_step<Q: Quorums>(
+    step: u64,
+    told: &Result<Effect<Q>, Refusal>,
+    history: &History,
+    out: &mut Vec<u8>,
+) -> Result<(), Refusal>
+    ensures ok { OnOk result (out.new.items ≡ out.old.items ++ items_text (step_items Q.system history.now.events step told.now)) }
+    ensures err { OnErr result (Grows out.old.items out.new.items) }
     ensures refused { IfErr result (λ r. r ≡ Refusal.OutOfMemory) }
 {
     match told {
         Ok(Effect::Called(id)) => match history.call(id) {
-            Some(op) => write_called(id, op, out),
+            Some(op) => append_called(id, op, out),
             None => Ok(()),
         },
-        Ok(Effect::Answered(id, answer)) => write_answered(id, answer, out),
-        Ok(Effect::Collected(name, place)) => write_collected(*name, *place, out),
-        Ok(Effect::Decided(name, decided)) => write_decided(*name, decided, out),
+        Ok(Effect::Answered(id, answer)) => append_answered(id, answer, out),
+        Ok(Effect::Collected(name, place)) => append_collected(*name, *place, out),
+        Ok(Effect::Decided(name, decided)) => append_decided(*name, decided, out),
         Ok(Effect::Done | Effect::Sent(_) | Effect::Moved) => Ok(()),
-        Err(refusal) => write_refused(step, *refusal, out),
+        Err(refusal) => append_refused(step, *refusal, out),
     }
 }
 
 /// Appends a line for each sequence.
 ///
-/// `OutOfMemory` where there is no room for them. What `out` holds then isn't said.
+/// `OutOfMemory` where the text can't grow; it is then as before.
 pub fn write_sequences(sequences: &[KeySequence], out: &mut Vec<u8>) -> Result<(), Refusal>
     ensures ok { OnOk result (out.new.items ≡ out.old.items ++ items_text (map Ordered sequences.now)) }
+    ensures err { OnErr result (out.new.items ≡ out.old.items) }
+    ensures refused { IfErr result (λ r. r ≡ Refusal.OutOfMemory) }
+{
+    let before = out.len();
+    let written = append_sequences(sequences, out);
+    if written.is_err() {
+        out.truncate(before);
+    }
+    written
+}
+
+// Appends a line for each sequence, or after a refusal some bytes.
+fn append_sequences(sequences: &[KeySequence], out: &mut Vec<u8>) -> Result<(), Refusal>
+    ensures ok { OnOk result (out.new.items ≡ out.old.items ++ items_text (map Ordered sequences.now)) }
+    ensures err { OnErr result (Grows out.old.items out.new.items) }
     ensures refused { IfErr result (λ r. r ≡ Refusal.OutOfMemory) }
 {
     for sequence in sequences {
-        write_sequence(sequence, out)?;
+        append_sequence(sequence, out)?;
     }
     Ok(())
 }
 
 /// Appends a line for each map. Of a configuration the members are told.
 ///
-/// `OutOfMemory` where there is no room for them. What `out` holds then isn't said.
+/// `OutOfMemory` where the text can't grow; it is then as before.
 pub fn write_maps<Q: Quorums>(maps: &[NodeMap<Q>], out: &mut Vec<u8>) -> Result<(), Refusal>
     ensures ok { OnOk result (out.new.items ≡ out.old.items ++ items_text (map (map_item Q.system) maps.now)) }
+    ensures err { OnErr result (out.new.items ≡ out.old.items) }
+    ensures refused { IfErr result (λ r. r ≡ Refusal.OutOfMemory) }
+{
+    let before = out.len();
+    let written = append_maps(maps, out);
+    if written.is_err() {
+        out.truncate(before);
+    }
+    written
+}
+
+// Appends a line for each map, or after a refusal some bytes.
+fn append_maps<Q: Quorums>(maps: &[NodeMap<Q>], out: &mut Vec<u8>) -> Result<(), Refusal>
+    ensures ok { OnOk result (out.new.items ≡ out.old.items ++ items_text (map (map_item Q.system) maps.now)) }
+    ensures err { OnErr result (Grows out.old.items out.new.items) }
     ensures refused { IfErr result (λ r. r ≡ Refusal.OutOfMemory) }
 {
     for node in maps {
-        write_map(node, out)?;
+        append_map(node, out)?;
     }
     Ok(())
 }

@@ -1,0 +1,16 @@
+use Rattle.std.proofs.Common.{◌≡◌, ◌∷◌, [], ◌++◌, map, refl, ap, ◌∙◌, append_assoc}
+use Rattle.rambo_text.specs.Signs.{call_text}
+use Rattle.rambo_text.specs.Words.{more_words}
+use Rattle.rambo_outcome.proofs.Loops.{one_on, grows_on}
+use Rattle.rambo_outcome.proofs.line.append_calls.Goals as goal
+
+pub loop-id-preserved : goal.loop-id-preserved
+loop-id-preserved c =
+    let word = 32 ∷ call_text c.id-item.result in
+    let now : c.write_call.new.out.items ≡ c.loop-id.out.items ++ word =
+    c.in_ok-write_call.ensures.ok ∙ ap (λ t. t ++ call_text c.id-item.result) c.in_ok-push.ensures.items ∙ append_assoc c.loop-id.out.items (32 ∷ []) (call_text c.id-item.result) in
+    record {
+      text = one_on (λ cs. more_words (map call_text cs)) (λ d. 32 ∷ call_text d) (λ d ds. refl) c.args.calls.now c.loop-id.id-index c.id-item.result c.loop-id.out.items c.write_call.new.out.items _
+          c.loop-id-test.true c.id-item.is now c.loop-id.invariant.text;
+      front = grows_on _ c.loop-id.out.items c.write_call.new.out.items word now c.loop-id.invariant.front;
+    }

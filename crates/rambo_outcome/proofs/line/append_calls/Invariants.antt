@@ -1,0 +1,10 @@
+use Rattle.std.proofs.Common.{◌≡◌, ◌++◌, map, drop}
+use Rattle.rambo_text.specs.Words.{more_words}
+use Rattle.rambo_text.specs.Signs.{call_text, Grows}
+use Rattle.rambo_outcome.proofs.line.append_calls.Given as goal
+
+abbrev pub invariant-loop-id : goal.invariant-loop-id
+invariant-loop-id l = record {
+  text : l.out.items ++ more_words (map call_text (drop l.id-index l.calls)) ≡ l.initial.out.items ++ more_words (map call_text l.calls);
+  front : Grows l.initial.out.items l.out.items;
+}

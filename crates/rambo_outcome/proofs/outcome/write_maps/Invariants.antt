@@ -1,7 +1,0 @@
-use Rattle.std.proofs.Common.{◌≡◌, ◌++◌, map, drop}
-use Rattle.rambo_outcome.specs.Lines.{items_text}
-use Rattle.rambo_outcome.specs.Outcomes.{map_item}
-use Rattle.rambo_outcome.proofs.outcome.write_maps.Given as goal
-
-abbrev pub invariant-loop-node : goal.invariant-loop-node
-invariant-loop-node g l = l.out.items ++ items_text (map (map_item g.Q.Quorums.system) (drop l.node-index l.maps)) ≡ l.initial.out.items ++ items_text (map (map_item g.Q.Quorums.system) l.maps)

@@ -1,7 +1,0 @@
-use Rattle.std.proofs.Common.{◌≡◌, ◌++◌, map, drop}
-use Rattle.rambo_outcome.specs.Lines.{Ordered, items_text}
-use Rattle.rambo_outcome.proofs.outcome.write_sequences.Given as goal
-
-abbrev pub invariant-loop-sequence : goal.invariant-loop-sequence
-invariant-loop-sequence l =
-    l.out.items ++ items_text (map Ordered (drop l.sequence-index l.sequences)) ≡ l.initial.out.items ++ items_text (map Ordered l.sequences)

@@ -1,9 +1,0 @@
-use Rattle.std.proofs.Common.{◌≡◌, ◌+◌, ◌++◌, drop}
-use Rattle.rambo_outcome.specs.Lines.{items_text}
-use Rattle.rambo_outcome.specs.Outcomes.{steps_items}
-use Rattle.rambo_outcome.proofs.outcome.write_steps.Given as goal
-
-abbrev pub invariant-loop-place : goal.invariant-loop-place
-invariant-loop-place g l =
-    l.out.items ++ items_text (steps_items g.Q.Quorums.system l.history.events (l.place + 1) (drop l.place l.results))
-    ≡ l.initial.out.items ++ items_text (steps_items g.Q.Quorums.system l.history.events 1 l.results)
