@@ -1,5 +1,5 @@
 -- Words of the forms of a kind, or not
-use Rattle.std.proofs.Common.{◌≡◌, ◌≢◌, ◌⊎◌, ℕ, ◌+◌, Bool, true, false, cond, not, true≢false, eqb, List, [], ◌∷◌, length, filter, codes, Option, None, Some, inl, inr, refl, sym, ap, ◌∙◌}
+use Rattle.std.proofs.Common.{◌≡◌, ◌≢◌, ◌⊎◌, ℕ, ◌+◌, Bool, true, false, cond, not, true≢false, eqb, List, [], ◌∷◌, length, filter, codes, Option, None, Some, inl, inr, refl, sym, ap, subst, ◌∙◌}
 use Rattle.rambo_text.specs.declared.fault.Fault.{Fault}
 use Rattle.rambo_text.specs.declared.fault.Fault.TheVariants.{NoFounders, UnknownWord, WrongCount, BadHex, OutOfMemory}
 use Rattle.rambo_text.specs.Forms.{Set, Hex, IsSpelt, IsBadWord}
@@ -8,14 +8,14 @@ use Rattle.rambo_text.specs.Words.{IsFirstWord, AreWords, AreMore}
 use Rattle.rambo_script.specs.declared.kind.StepKind.{StepKind}
 use Rattle.rambo_script.specs.StepLines.{word_of, forms_of}
 use Rattle.rambo_script.specs.Scripts.{IsShort}
-use Rattle.rambo_script.specs.Faults.{IsLineFault, TellNoStep, TellNoFounders, AreUnfit}
+use Rattle.rambo_script.specs.Faults.{IsLineFault, TellNoStep, TellNoFounders, TellsBytes, AreUnfit}
 use Rattle.std.specs.FinSet.{contains}
 use Rattle.std.specs.Str.{bytes_eq}
 use Rattle.std.proofs.lemmas.Slice.Eq.{bytes_eq-Decides}
 use Rattle.rambo_names.specs.Names.{NameSet, names, rising, how_many, count_of}
 use Rattle.rambo_names.specs.Signs.{set_text, names_text}
 use Rattle.rambo_text.proofs.WordSplits.{words_joined}
-use Rattle.rambo_script.specs.Parts.{TellFault}
+use Rattle.rambo_script.specs.Parts.{TellUnfit, TellFault, NeedRoom}
 use Rattle.std.proofs.lemmas.Bool.Decides.{nat_tests}
 use Rattle.std.proofs.Common.{arith}
 
@@ -38,8 +38,8 @@ more_there None = ([], refl)
 more_there (Some rest) = words_there rest
 
 -- another number of words
-pub count_fault : (kind : StepKind) (more : Option (List ℕ)) (f : Fault) → f ≡ WrongCount → ((words : List (List ℕ)) → AreMore more words → length words ≢ length (forms_of kind)) → TellFault kind more f
-count_fault kind more f is none = let there = more_there more in inr (there.0, there.1, inl (none there.0 there.1, is))
+pub count_fault : (kind : StepKind) (more : Option (List ℕ)) (f : Fault) → f ≡ WrongCount → ((words : List (List ℕ)) → AreMore more words → length words ≢ length (forms_of kind)) → TellUnfit kind more f
+count_fault kind more f is none = let there = more_there more in (there.0, there.1, inl (none there.0 there.1, is))
 
 -- the words of a step of a kind that are unfit
 pub step_fault : (line word : List ℕ) (more : Option (List ℕ)) (kind : StepKind) (f : Fault) → IsShort line → IsFirstWord line word more → word ≡ word_of kind → TellFault kind more f
@@ -47,6 +47,16 @@ pub step_fault : (line word : List ℕ) (more : Option (List ℕ)) (kind : StepK
 step_fault line word more kind f short first is (inl spent) = inl spent
 step_fault line word more kind f short first is (inr unfit) =
     inr (inr (short, (word ∷ unfit.0, words_joined line word more unfit.0 first unfit.1, inr (kind, unfit.0, ap (λ w. w ∷ unfit.0) is, unfit.2))))
+
+-- the words of a step of a kind tell bytes
+pub line_needs : (line word : List ℕ) (more : Option (List ℕ)) (kind : StepKind) → IsShort line → IsFirstWord line word more → word ≡ word_of kind → NeedRoom kind more → TellsBytes line
+line_needs line word more kind short first is room = record {
+  short = short;
+  kind = kind;
+  others = room.0;
+  words = subst (λ w. AreWords line (w ∷ room.0)) is (words_joined line word more room.0 first room.1);
+  tell = room.2;
+}
 
 -- no kind has this word
 pub unknown_fault : (line word : List ℕ) (more : Option (List ℕ)) → IsShort line → IsFirstWord line word more → ((kind : StepKind) → word ≢ word_of kind)

@@ -7,6 +7,7 @@ use Rattle.rambo_text.specs.Words.{IsFirstLine}
 use Rattle.rambo_script.specs.StepLines.{step_line}
 use Rattle.rambo_script.specs.Scripts.{ScriptState, HasLine, HasLines, AreFounders, IsScript, founders_line, steps_text, script_text}
 use Rattle.rambo_script.specs.Faults.{IsNextLine, IsLineFault, TellNoFounders, TellNoStep, IsScriptFault, RanOut}
+use Rattle.rambo_text.specs.declared.fault.Fault.{Fault}
 use Rattle.rambo_text.specs.declared.fault.Fault.TheVariants.{OutOfMemory}
 use Rattle.rambo_text.specs.declared.fault.ScriptFault.{ScriptFault}
 use Rattle.rambo_script.specs.Pushes.{PushesStep}
@@ -97,16 +98,23 @@ reads-line bytes rest line more founders steps number now some first is =
     }
 
 -- the first line has a fault
-pub first-fault : (bytes line rest : List ℕ) (f : ScriptFault) → IsFirstLine bytes line rest → f.line ≡ 1 → IsLineFault TellNoFounders line f.fault → IsScriptFault bytes f ⊎ RanOut bytes f
-first-fault bytes line rest f first number fault = inl (inl (record { line = line; rest = rest; is_first = first; fault = fault; number = number }))
+pub first-fault : (NeedsRoom : List ℕ → Type 0) (bytes line rest : List ℕ) (f : ScriptFault) → IsFirstLine bytes line rest → f.line ≡ 1 → IsLineFault TellNoFounders line f.fault
+    → IsScriptFault bytes f ⊎ RanOut NeedsRoom bytes f
+first-fault NeedsRoom bytes line rest f first number fault = inl (inl (record { line = line; rest = rest; is_first = first; fault = fault; number = number }))
 
 -- the line has a fault, or no room
-pub reads-fault : (bytes rest line more : List ℕ) (founders : NameSet) (steps : List (Step NameSet)) (f : ScriptFault) → Reads bytes founders steps rest → rest ≢ [] → IsFirstLine rest line more
-    → f.line ≡ length steps + 2 → (f.fault ≡ OutOfMemory) ⊎ IsLineFault TellNoStep line f.fault → IsScriptFault bytes f ⊎ RanOut bytes f
-reads-fault bytes rest line more founders steps f now some first is (inl spent) =
-    inr (record { line = line; is_next = reads-line bytes rest line more founders steps f.line now some first is; fault = spent })
-reads-fault bytes rest line more founders steps f now some first is (inr fault) =
+pub reads-fault : (NeedsRoom : List ℕ → Type 0) (bytes rest line more : List ℕ) (founders : NameSet) (steps : List (Step NameSet)) (f : ScriptFault) → Reads bytes founders steps rest → rest ≢ [] → IsFirstLine rest line more
+    → f.line ≡ length steps + 2 → ((f.fault ≡ OutOfMemory) × NeedsRoom line) ⊎ IsLineFault TellNoStep line f.fault → IsScriptFault bytes f ⊎ RanOut NeedsRoom bytes f
+reads-fault NeedsRoom bytes rest line more founders steps f now some first is (inl spent) =
+    inr (record { line = line; is_next = reads-line bytes rest line more founders steps f.line now some first is; needs = spent.1; fault = spent.0 })
+reads-fault NeedsRoom bytes rest line more founders steps f now some first is (inr fault) =
     inl (inr (record { line = line; is_next = reads-line bytes rest line more founders steps f.line now some first is; fault = fault }))
+
+-- the line has a fault, or no room where it needs some
+pub told_needs : (NeedsRoom : List ℕ → Type 0) (line : List ℕ) (f : Fault) → (f ≡ OutOfMemory) ⊎ IsLineFault TellNoStep line f → (f ≡ OutOfMemory → NeedsRoom line)
+    → ((f ≡ OutOfMemory) × NeedsRoom line) ⊎ IsLineFault TellNoStep line f
+told_needs NeedsRoom line f (inl spent) needs = inl (spent, needs spent)
+told_needs NeedsRoom line f (inr fault) needs = inr fault
 
 -- less is left
 pub less_left : (rest line more : List ℕ) → rest ≢ [] → IsFirstLine rest line more → length more < length rest

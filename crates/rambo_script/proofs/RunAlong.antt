@@ -17,7 +17,7 @@ use Rattle.rambo_text.specs.Words.{IsFirstLine}
 use Rattle.rambo_outcome.specs.Lines.{Ordered, items_text}
 use Rattle.rambo_outcome.proofs.Telling.{told_along, text_more, text_whole}
 use Rattle.rambo_script.specs.Scripts.{AreFounders, founders_line}
-use Rattle.rambo_script.specs.Faults.{IsLineFault, TellNoFounders, TellNoStep}
+use Rattle.rambo_script.specs.Faults.{IsLineFault, TellNoFounders, TellNoStep, TellsBytes}
 use Rattle.rambo_script.specs.Replays.{IsReplay, GivesUp}
 use Rattle.rambo_script.specs.Runs.{IsFounded, TakesStep, IsFaultAt, ended}
 use Rattle.rambo_script.proofs.FaultOnce.{same_first}
@@ -104,12 +104,12 @@ runs_all bytes rest r number text whole now none is = record {
 
 -- the first line has a fault
 pub first_fault : (bytes line rest : List ℕ) (g : ScriptFault) → IsFirstLine bytes line rest → g.line ≡ 1 → IsLineFault TellNoFounders line g.fault → GivesUp bytes (Script g)
-first_fault bytes line rest g first number fault = inr (g, refl, first-fault bytes line rest g first number fault)
+first_fault bytes line rest g first number fault = inr (g, refl, first-fault TellsBytes bytes line rest g first number fault)
 
 -- a later line has one, or there was no room for its step
 pub later_fault : (bytes rest line more : List ℕ) (r : RunningOf NameSet) (number next : ℕ) (text : List ℕ) (f : ReplayFault) → Runs bytes r number text rest → rest ≢ [] → IsFirstLine rest line more
-    → next ≡ number + 1 → IsFaultAt (next + 1) (λ g. (g ≡ OutOfMemory) ⊎ IsLineFault TellNoStep line g) f → GivesUp bytes f
+    → next ≡ number + 1 → IsFaultAt (next + 1) (λ g. ((g ≡ OutOfMemory) × TellsBytes line) ⊎ IsLineFault TellNoStep line g) f → GivesUp bytes f
 later_fault bytes rest line more r number next text f now some first is (inl spent) = inl spent
 later_fault bytes rest line more r number next text f now some first is (inr found) =
     let counted = now.counted in
-    inr (found.0, found.1, reads-fault bytes rest line more r.founders now.steps found.0 now.reads some first (found.2 ∙ omega (arith, is, counted)) found.3)
+    inr (found.0, found.1, reads-fault TellsBytes bytes rest line more r.founders now.steps found.0 now.reads some first (found.2 ∙ omega (arith, is, counted)) found.3)

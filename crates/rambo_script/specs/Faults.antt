@@ -1,13 +1,15 @@
 -- The first faulty line of a text, and its first fault
 use Rattle.std.specs.Prelude.{◌≡◌, ◌≢◌, ◌⊎◌, ℕ, ◌+◌, ◌<◌, ◌++◌, List, [], ◌∷◌, length, codes}
+use Rattle.rambo_names.specs.Names.{NameSet}
+use Rattle.rambo_run.specs.declared.step.Step.{Step}
 use Rattle.rambo_text.specs.declared.fault.Fault.{Fault}
 use Rattle.rambo_text.specs.declared.fault.Fault.TheVariants.{NoFounders, UnknownWord, WrongCount, LineTooLong, OutOfMemory}
 use Rattle.rambo_text.specs.declared.fault.ScriptFault.{ScriptFault}
-use Rattle.rambo_text.specs.Forms.{Form, Set, IsBadWord}
+use Rattle.rambo_text.specs.Forms.{Form, Name, Set, IsSpelt, IsBadWord}
 use Rattle.rambo_text.specs.Words.{AreWords, IsFirstLine}
 use Rattle.rambo_script.specs.declared.kind.StepKind.{StepKind}
-use Rattle.rambo_script.specs.StepLines.{word_of, forms_of}
-use Rattle.rambo_script.specs.Scripts.{ScriptState, script_text, IsShort, HasLines}
+use Rattle.rambo_script.specs.StepLines.{word_of, forms_of, step_line, HoldsBytes}
+use Rattle.rambo_script.specs.Scripts.{ScriptState, script_text, IsShort, HasLine, HasLines}
 
 -- words aren't of these forms: there is another number of them, or one isn't in its form
 abbrev pub AreUnfit : List Form → List (List ℕ) → Fault → Type 0
@@ -30,6 +32,27 @@ TellNoFounders words f =
 abbrev pub IsLineFault : (List (List ℕ) → Fault → Type 0) → List ℕ → Fault → Type 0
 IsLineFault TellNone line f =
     ((16384 < length line) × (f ≡ LineTooLong)) ⊎ (IsShort line × ((words : List (List ℕ)) × AreWords line words × TellNone words f))
+
+-- the first of some words is a name
+abbrev pub AreNamed : List (List ℕ) → Type 0
+AreNamed [] = ⊥
+AreNamed (w ∷ ws) = IsSpelt Name w
+
+-- words behind the first tell bytes: they are as many as a get or a set has, and a name stands before the bytes
+abbrev pub TellBytes : StepKind → List (List ℕ) → Type 0
+TellBytes kind others = HoldsBytes kind × (length others ≡ length (forms_of kind)) × AreNamed others
+
+-- a line tells bytes, and has no fault before them
+pub record TellsBytes (line : List ℕ) : Type 0 where
+  pub short : IsShort line
+  pub kind : StepKind
+  pub others : List (List ℕ)
+  pub words : AreWords line (word_of kind ∷ others)
+  pub tell : TellBytes kind others
+
+-- a line tells bytes, or a whole step
+abbrev pub TellsBytesOrStep : List ℕ → Type 0
+TellsBytesOrStep line = TellsBytes line ⊎ ((st : Step NameSet) × HasLine st × (line ≡ step_line st))
 
 -- the first line has a fault
 pub record IsFirstFault (bytes : List ℕ) (f : ScriptFault) : Type 0 where
@@ -60,8 +83,9 @@ pub record IsLaterFault (bytes : List ℕ) (f : ScriptFault) : Type 0 where
 abbrev pub IsScriptFault : List ℕ → ScriptFault → Type 0
 IsScriptFault bytes f = IsFirstFault bytes f ⊎ IsLaterFault bytes f
 
--- memory ran out while a step was read, and the lines before it have no fault
-pub record RanOut (bytes : List ℕ) (f : ScriptFault) : Type 0 where
+-- memory ran out while a line was read that needs some, and the lines before it have no fault
+pub record RanOut (NeedsRoom : List ℕ → Type 0) (bytes : List ℕ) (f : ScriptFault) : Type 0 where
   pub line : List ℕ
   pub is_next : IsNextLine bytes line f.line
+  pub needs : NeedsRoom line
   pub fault : f.fault ≡ OutOfMemory

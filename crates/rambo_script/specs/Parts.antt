@@ -8,7 +8,7 @@ use Rattle.rambo_text.specs.Forms.{Form, IsSpelt, form_fault}
 use Rattle.rambo_text.specs.Words.{AreMore}
 use Rattle.rambo_script.specs.declared.kind.StepKind.{StepKind}
 use Rattle.rambo_script.specs.StepLines.{word_of, forms_of, step_words, IsStep}
-use Rattle.rambo_script.specs.Faults.{AreUnfit}
+use Rattle.rambo_script.specs.Faults.{AreUnfit, TellBytes}
 
 -- a word isn't in this form
 abbrev pub IsUnspelt : Form → List ℕ → Fault → Type 0
@@ -21,6 +21,14 @@ pub record TellStep (kind : StepKind) (more : Option (List ℕ)) (st : Step Name
   pub words : step_words st ≡ word_of kind ∷ others
   pub is_step : IsStep st
 
+-- they are unfit
+abbrev pub TellUnfit : StepKind → Option (List ℕ) → Fault → Type 0
+TellUnfit kind more f = (others : List (List ℕ)) × AreMore more others × AreUnfit (forms_of kind) others f
+
 -- they are unfit, or memory ran out
 abbrev pub TellFault : StepKind → Option (List ℕ) → Fault → Type 0
-TellFault kind more f = (f ≡ OutOfMemory) ⊎ ((others : List (List ℕ)) × AreMore more others × AreUnfit (forms_of kind) others f)
+TellFault kind more f = (f ≡ OutOfMemory) ⊎ TellUnfit kind more f
+
+-- they tell bytes, for which there may be no room
+abbrev pub NeedRoom : StepKind → Option (List ℕ) → Type 0
+NeedRoom kind more = (others : List (List ℕ)) × AreMore more others × TellBytes kind others

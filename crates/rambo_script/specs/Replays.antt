@@ -9,7 +9,7 @@ use Rattle.rambo_text.specs.declared.fault.ScriptFault.{ScriptFault}
 use Rattle.rambo_text.specs.declared.fault.ReplayFault.TheVariants.{Script, Read, Write, Memory}
 use Rattle.rambo_outcome.specs.Outcomes.{outcome_lines}
 use Rattle.rambo_script.specs.Scripts.{ScriptState, IsScript}
-use Rattle.rambo_script.specs.Faults.{IsScriptFault, RanOut}
+use Rattle.rambo_script.specs.Faults.{IsScriptFault, TellsBytes, RanOut}
 
 -- the text of what the run of a script gives
 abbrev pub replayed : ScriptState → List ℕ
@@ -33,9 +33,9 @@ pub record Stops (input old new : Option (List ℕ)) : Type 0 where
   pub is_replay : IfSome input (λ bytes. IsReplay bytes text)
   pub written : Begins old new text
 
--- what was read is no script, or memory ran out while it was read
+-- what was read is no script, or memory ran out while a line that tells bytes was read
 abbrev pub IsNoScript : List ℕ → ScriptFault → Type 0
-IsNoScript bytes f = IsScriptFault bytes f ⊎ RanOut bytes f
+IsNoScript bytes f = IsScriptFault bytes f ⊎ RanOut TellsBytes bytes f
 
 -- after a fault nothing was written, but for one of the writer
 abbrev pub Leaves : ReplayFault → Option (List ℕ) → Option (List ℕ) → Option (List ℕ) → Type 0

@@ -1,5 +1,5 @@
 -- How a step is written: the word of its kind, and a word for each of its parts
-use Rattle.std.specs.Prelude.{ℕ, ◌<◌, ◌^◌, List, [], ◌∷◌, codes, decimal}
+use Rattle.std.specs.Prelude.{◌≡◌, ◌⊎◌, ℕ, ◌<◌, ◌^◌, List, [], ◌∷◌, codes, decimal}
 use Rattle.rambo_names.specs.Names.{IsName, AreNames, NameSet}
 use Rattle.rambo_names.specs.Signs.{set_text}
 use Rattle.rambo_atomic.specs.declared.operation.Op.{Op}
@@ -43,6 +43,10 @@ forms_of kind.Recon = Name ∷ Set ∷ []
 forms_of kind.Rebid = Name ∷ []
 forms_of kind.AdvanceRecon = Name ∷ []
 forms_of kind.Stop = Name ∷ []
+
+-- the steps of a kind hold bytes: a key, and of a set a value
+abbrev pub HoldsBytes : StepKind → Type 0
+HoldsBytes k = (k ≡ kind.Get) ⊎ (k ≡ kind.Set)
 
 -- the words of a call of an operation
 abbrev pub call_words : ℕ → Op → List (List ℕ)

@@ -1,8 +1,8 @@
 //! Reading the line of a step.
 ghost use Rattle.std.specs.Prelude.{◌≡◌, ◌⊎◌, IfOk, IfErr};
 ghost use Rattle.std.specs.Option.{option_copied};
-ghost use Rattle.rambo_script.specs.Faults.{IsLineFault, TellNoStep};
-ghost use Rattle.rambo_script.specs.Parts.{TellStep, TellFault};
+ghost use Rattle.rambo_script.specs.Faults.{IsLineFault, TellNoStep, TellsBytes};
+ghost use Rattle.rambo_script.specs.Parts.{TellStep, TellUnfit, TellFault, NeedRoom};
 ghost use Rattle.rambo_script.specs.Scripts.{HasLine};
 ghost use Rattle.rambo_script.specs.StepLines.{step_line};
 
@@ -17,10 +17,12 @@ use std::alloc::Global;
 
 /// The step that a line tells.
 ///
-/// `OutOfMemory` where there is no room for its bytes; else the first fault of the line.
+/// `OutOfMemory` where there is no room for the bytes of a get or a set, and no fault stands before these: a step that
+/// holds no bytes needs no memory. Else the first fault of the line.
 pub fn read_step(alloc: Global, line: &[u8]) -> Result<Step<Majority>, Fault>
     ensures found { IfOk result (λ st. HasLine st × (line.now ≡ step_line st)) }
     ensures fault { IfErr result (λ f. (f ≡ Fault.OutOfMemory) ⊎ IsLineFault TellNoStep line.now f) }
+    ensures memory { IfErr result (λ f. f ≡ Fault.OutOfMemory → TellsBytes line.now) }
 {
     if line.len() > LINE_LIMIT {
         return Err(Fault::LineTooLong);
@@ -36,6 +38,7 @@ pub fn read_step(alloc: Global, line: &[u8]) -> Result<Step<Majority>, Fault>
 fn read_parts(alloc: Global, kind: StepKind, more: Option<&[u8]>) -> Result<Step<Majority>, Fault>
     ensures found { IfOk result (λ st. TellStep kind (option_copied more.entry) st) }
     ensures fault { IfErr result (λ f. TellFault kind (option_copied more.entry) f) }
+    ensures memory { IfErr result (λ f. f ≡ Fault.OutOfMemory → NeedRoom kind (option_copied more.entry)) }
 {
     match kind {
         StepKind::Join => read_join(more),
@@ -56,7 +59,7 @@ fn read_parts(alloc: Global, kind: StepKind, more: Option<&[u8]>) -> Result<Step
 
 fn read_join(more: Option<&[u8]>) -> Result<Step<Majority>, Fault>
     ensures found { IfOk result (λ st. TellStep StepKind.Join (option_copied more.entry) st) }
-    ensures fault { IfErr result (λ f. TellFault StepKind.Join (option_copied more.entry) f) }
+    ensures fault { IfErr result (λ f. TellUnfit StepKind.Join (option_copied more.entry) f) }
 {
     let (name, contacts) = two(more)?;
     Ok(Step::Join(name_of(name)?, set_of(contacts)?))
@@ -65,6 +68,7 @@ fn read_join(more: Option<&[u8]>) -> Result<Step<Majority>, Fault>
 fn read_get(alloc: Global, more: Option<&[u8]>) -> Result<Step<Majority>, Fault>
     ensures found { IfOk result (λ st. TellStep StepKind.Get (option_copied more.entry) st) }
     ensures fault { IfErr result (λ f. TellFault StepKind.Get (option_copied more.entry) f) }
+    ensures memory { IfErr result (λ f. f ≡ Fault.OutOfMemory → NeedRoom StepKind.Get (option_copied more.entry)) }
 {
     let (name, key) = two(more)?;
     Ok(Step::Call(name_of(name)?, Op::Get(read_hex(alloc, key)?)))
@@ -73,6 +77,7 @@ fn read_get(alloc: Global, more: Option<&[u8]>) -> Result<Step<Majority>, Fault>
 fn read_put(alloc: Global, more: Option<&[u8]>) -> Result<Step<Majority>, Fault>
     ensures found { IfOk result (λ st. TellStep StepKind.Set (option_copied more.entry) st) }
     ensures fault { IfErr result (λ f. TellFault StepKind.Set (option_copied more.entry) f) }
+    ensures memory { IfErr result (λ f. f ≡ Fault.OutOfMemory → NeedRoom StepKind.Set (option_copied more.entry)) }
 {
     let (name, key, value) = three(more)?;
     let name = name_of(name)?;
@@ -82,7 +87,7 @@ fn read_put(alloc: Global, more: Option<&[u8]>) -> Result<Step<Majority>, Fault>
 
 fn read_send(more: Option<&[u8]>) -> Result<Step<Majority>, Fault>
     ensures found { IfOk result (λ st. TellStep StepKind.Send (option_copied more.entry) st) }
-    ensures fault { IfErr result (λ f. TellFault StepKind.Send (option_copied more.entry) f) }
+    ensures fault { IfErr result (λ f. TellUnfit StepKind.Send (option_copied more.entry) f) }
 {
     let (from, to) = two(more)?;
     Ok(Step::Send(name_of(from)?, name_of(to)?))
@@ -90,7 +95,7 @@ fn read_send(more: Option<&[u8]>) -> Result<Step<Majority>, Fault>
 
 fn read_deliver(more: Option<&[u8]>) -> Result<Step<Majority>, Fault>
     ensures found { IfOk result (λ st. TellStep StepKind.Deliver (option_copied more.entry) st) }
-    ensures fault { IfErr result (λ f. TellFault StepKind.Deliver (option_copied more.entry) f) }
+    ensures fault { IfErr result (λ f. TellUnfit StepKind.Deliver (option_copied more.entry) f) }
 {
     let letter = one(more)?;
     Ok(Step::Deliver(number_of(letter)?))
@@ -98,7 +103,7 @@ fn read_deliver(more: Option<&[u8]>) -> Result<Step<Majority>, Fault>
 
 fn read_advance(more: Option<&[u8]>) -> Result<Step<Majority>, Fault>
     ensures found { IfOk result (λ st. TellStep StepKind.Advance (option_copied more.entry) st) }
-    ensures fault { IfErr result (λ f. TellFault StepKind.Advance (option_copied more.entry) f) }
+    ensures fault { IfErr result (λ f. TellUnfit StepKind.Advance (option_copied more.entry) f) }
 {
     let call = one(more)?;
     Ok(Step::Advance(call_of(call)?))
@@ -106,7 +111,7 @@ fn read_advance(more: Option<&[u8]>) -> Result<Step<Majority>, Fault>
 
 fn read_again(more: Option<&[u8]>) -> Result<Step<Majority>, Fault>
     ensures found { IfOk result (λ st. TellStep StepKind.Again (option_copied more.entry) st) }
-    ensures fault { IfErr result (λ f. TellFault StepKind.Again (option_copied more.entry) f) }
+    ensures fault { IfErr result (λ f. TellUnfit StepKind.Again (option_copied more.entry) f) }
 {
     let call = one(more)?;
     Ok(Step::Again(call_of(call)?))
@@ -114,7 +119,7 @@ fn read_again(more: Option<&[u8]>) -> Result<Step<Majority>, Fault>
 
 fn read_collect(more: Option<&[u8]>) -> Result<Step<Majority>, Fault>
     ensures found { IfOk result (λ st. TellStep StepKind.Collect (option_copied more.entry) st) }
-    ensures fault { IfErr result (λ f. TellFault StepKind.Collect (option_copied more.entry) f) }
+    ensures fault { IfErr result (λ f. TellUnfit StepKind.Collect (option_copied more.entry) f) }
 {
     let name = one(more)?;
     Ok(Step::Collect(name_of(name)?))
@@ -122,7 +127,7 @@ fn read_collect(more: Option<&[u8]>) -> Result<Step<Majority>, Fault>
 
 fn read_advance_collect(more: Option<&[u8]>) -> Result<Step<Majority>, Fault>
     ensures found { IfOk result (λ st. TellStep StepKind.AdvanceCollect (option_copied more.entry) st) }
-    ensures fault { IfErr result (λ f. TellFault StepKind.AdvanceCollect (option_copied more.entry) f) }
+    ensures fault { IfErr result (λ f. TellUnfit StepKind.AdvanceCollect (option_copied more.entry) f) }
 {
     let name = one(more)?;
     Ok(Step::AdvanceCollect(name_of(name)?))
@@ -130,7 +135,7 @@ fn read_advance_collect(more: Option<&[u8]>) -> Result<Step<Majority>, Fault>
 
 fn read_recon(more: Option<&[u8]>) -> Result<Step<Majority>, Fault>
     ensures found { IfOk result (λ st. TellStep StepKind.Recon (option_copied more.entry) st) }
-    ensures fault { IfErr result (λ f. TellFault StepKind.Recon (option_copied more.entry) f) }
+    ensures fault { IfErr result (λ f. TellUnfit StepKind.Recon (option_copied more.entry) f) }
 {
     let (name, wish) = two(more)?;
     Ok(Step::Recon(name_of(name)?, Majority::of(set_of(wish)?)))
@@ -138,7 +143,7 @@ fn read_recon(more: Option<&[u8]>) -> Result<Step<Majority>, Fault>
 
 fn read_rebid(more: Option<&[u8]>) -> Result<Step<Majority>, Fault>
     ensures found { IfOk result (λ st. TellStep StepKind.Rebid (option_copied more.entry) st) }
-    ensures fault { IfErr result (λ f. TellFault StepKind.Rebid (option_copied more.entry) f) }
+    ensures fault { IfErr result (λ f. TellUnfit StepKind.Rebid (option_copied more.entry) f) }
 {
     let name = one(more)?;
     Ok(Step::Rebid(name_of(name)?))
@@ -146,7 +151,7 @@ fn read_rebid(more: Option<&[u8]>) -> Result<Step<Majority>, Fault>
 
 fn read_advance_recon(more: Option<&[u8]>) -> Result<Step<Majority>, Fault>
     ensures found { IfOk result (λ st. TellStep StepKind.AdvanceRecon (option_copied more.entry) st) }
-    ensures fault { IfErr result (λ f. TellFault StepKind.AdvanceRecon (option_copied more.entry) f) }
+    ensures fault { IfErr result (λ f. TellUnfit StepKind.AdvanceRecon (option_copied more.entry) f) }
 {
     let name = one(more)?;
     Ok(Step::AdvanceRecon(name_of(name)?))
@@ -154,7 +159,7 @@ fn read_advance_recon(more: Option<&[u8]>) -> Result<Step<Majority>, Fault>
 
 fn read_stop(more: Option<&[u8]>) -> Result<Step<Majority>, Fault>
     ensures found { IfOk result (λ st. TellStep StepKind.Stop (option_copied more.entry) st) }
-    ensures fault { IfErr result (λ f. TellFault StepKind.Stop (option_copied more.entry) f) }
+    ensures fault { IfErr result (λ f. TellUnfit StepKind.Stop (option_copied more.entry) f) }
 {
     let name = one(more)?;
     Ok(Step::Stop(name_of(name)?))

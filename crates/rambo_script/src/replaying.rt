@@ -1,7 +1,7 @@
 //! From a script to the text of what its run gives.
 ghost use Rattle.std.specs.Prelude.{◌≡◌, ◌⊎◌, ◌+◌, ◌<◌, ◌^◌, Ok, OnOk, IfOk, IfErr};
 ghost use Rattle.std.specs.Io.KnownBytes.{IsAtEnd};
-ghost use Rattle.rambo_script.specs.Faults.{IsLineFault, TellNoStep};
+ghost use Rattle.rambo_script.specs.Faults.{IsLineFault, TellNoStep, TellsBytes};
 ghost use Rattle.rambo_script.specs.Replays.{IsReplay, Replays, Leaves, GivesUp, reads_failed, writes_failed};
 ghost use Rattle.rambo_script.specs.Runs.{IsFounded, TakesStep, ended, IsFaultAt};
 
@@ -22,9 +22,9 @@ type MajorityRun = Running<Majority, Registers<BuildHasherDefault<FoldHasher>>>;
 /// Reads a script, runs it over majority quorums, and writes the text of what the run gives.
 ///
 /// The whole input is read and run before the first byte is written. Each step is taken as its line is read: neither
-/// the steps nor what they did are kept. `Script` where the input is no script, or where memory runs out while it is
-/// read; `Read` and `Write` where a call of that stream fails; `Memory` where there is no room for the input, the run
-/// or its text. After `Write` a beginning of the text was written, and after another fault nothing.
+/// the steps nor what they did are kept. `Script` where the input is no script, or where there is no room for the bytes
+/// of a get or a set; `Read` and `Write` where a call of that stream fails; `Memory` where there is no room for the
+/// input, the run or its text. After `Write` a beginning of the text was written, and after another fault nothing.
 pub fn replay<R: Source, W: Sink>(
     alloc: Global,
     reader: &mut R,
@@ -97,7 +97,7 @@ fn take_line(
 ) -> Result<(), ReplayFault>
     requires { number < 2 ^ 63 }
     ensures taken { OnOk result (TakesStep line.now number running.old running.new text.old.items text.new.items) }
-    ensures fault { IfErr result (λ f. IsFaultAt (number + 1) (λ g. (g ≡ Fault.OutOfMemory) ⊎ IsLineFault TellNoStep line.now g) f) }
+    ensures fault { IfErr result (λ f. IsFaultAt (number + 1) (λ g. ((g ≡ Fault.OutOfMemory) × TellsBytes line.now) ⊎ IsLineFault TellNoStep line.now g) f) }
 {
     let step = at_line(number + 1, read_step(alloc, line))?;
     let told = in_memory(running.take(&step))?;

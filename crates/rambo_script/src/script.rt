@@ -1,6 +1,6 @@
 //! Whole scripts.
 ghost use Rattle.std.specs.Prelude.{◌≡◌, ◌⊎◌, Ok, Err, IfOk, IfErr, OnOk, OnErr, ◌++◌, [], ◌∷◌};
-ghost use Rattle.rambo_script.specs.Faults.{IsLineFault, TellNoStep, TellNoFounders, IsScriptFault, RanOut};
+ghost use Rattle.rambo_script.specs.Faults.{IsLineFault, TellNoStep, TellNoFounders, TellsBytesOrStep, IsScriptFault, RanOut};
 ghost use Rattle.rambo_script.specs.Scripts.{AreFounders, founders_line, IsScript};
 ghost use Rattle.rambo_script.specs.Pushes.{PushesStep};
 
@@ -36,11 +36,11 @@ impl Model for Script {
 
 /// The script that a text tells.
 ///
-/// Else the first faulty line with its first fault; `OutOfMemory` where there is no room for a step, with the line that
-/// was read then.
+/// Else the first faulty line with its first fault; `OutOfMemory` where there is no room for a step or for its bytes,
+/// with the line that was read then, which has no fault before its bytes.
 pub fn read_script(alloc: Global, text: &[u8]) -> Result<Script, ScriptFault>
     ensures script { IfOk result (λ s. IsScript text.now s) }
-    ensures fault { IfErr result (λ f. IsScriptFault text.now f ⊎ RanOut text.now f) }
+    ensures fault { IfErr result (λ f. IsScriptFault text.now f ⊎ RanOut TellsBytesOrStep text.now f) }
 {
     let (first, mut rest) = next_line(text);
     let founders = at_line(1, read_founders(first))?;
@@ -90,6 +90,7 @@ fn push_step(alloc: Global, line: &[u8], steps: &mut Vec<Step<Majority>>) -> Res
     ensures ok { OnOk result (PushesStep steps.old.items steps.new.items line.now) }
     ensures err { OnErr result (steps.new.items ≡ steps.old.items) }
     ensures fault { IfErr result (λ f. (f ≡ Fault.OutOfMemory) ⊎ IsLineFault TellNoStep line.now f) }
+    ensures memory { IfErr result (λ f. f ≡ Fault.OutOfMemory → TellsBytesOrStep line.now) }
 {
     let step = read_step(alloc, line)?;
     match steps.push(step) {
