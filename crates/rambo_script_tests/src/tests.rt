@@ -1,7 +1,7 @@
 use rambo_atomic::{Op, Tape};
 use rambo_names::Quorums;
 use rambo_run::Step;
-use rambo_script::{Fault, ReplayFault, ScriptFault, read_script, replay, step_text};
+use rambo_script::{ReplayFault, read_script, replay, step_text};
 use std::alloc::{AllocError, Global};
 use std::env;
 use std::process::Abort;
@@ -60,59 +60,6 @@ fn each_kind_of_step(rt: HostRuntime) {
     match out {
         Some(out) => assert_eq!(rt; out.as_slice(), STEPS),
         None => assert!(rt; false),
-    }
-}
-
-// The line of a step, and its first fault.
-const FAULTS: [(&[u8], Fault); 27] = [
-    (b"collect", Fault::WrongCount),
-    (b"collect 1 2", Fault::WrongCount),
-    (b"collect 0 1", Fault::WrongCount),
-    (b"collect 1,2", Fault::BadNumber),
-    (b"collect ", Fault::BadNumber),
-    (b"advance-collect", Fault::WrongCount),
-    (b"advance-collect 1.1", Fault::BadNumber),
-    (b"advance-collect 1 ", Fault::WrongCount),
-    (b"recon", Fault::WrongCount),
-    (b"recon 1", Fault::WrongCount),
-    (b"recon 1 1 2", Fault::WrongCount),
-    (b"recon 0 2,1 1", Fault::WrongCount),
-    (b"recon 0 2,1", Fault::BadNumber),
-    (b"recon 0 1", Fault::BadNumber),
-    (b"recon  1", Fault::BadNumber),
-    (b"recon 1 2,1", Fault::BadNumber),
-    (b"recon 1 65", Fault::BadNumber),
-    (b"recon 1 ", Fault::BadNumber),
-    (b"recon 1 removed", Fault::BadNumber),
-    (b"rebid", Fault::WrongCount),
-    (b"rebid 65", Fault::BadNumber),
-    (b"rebid 1 -", Fault::WrongCount),
-    (b"advance-recon", Fault::WrongCount),
-    (b"advance-recon -", Fault::BadNumber),
-    (b"advance-recon 1 1", Fault::WrongCount),
-    (b"advance-", Fault::UnknownWord),
-    (b"Recon 1 1", Fault::UnknownWord),
-];
-
-// What a script of a founder and this line comes to. None where memory is refused.
-fn fault_of(alloc: Global, line: &[u8]) -> Option<ScriptFault> {
-    let mut text = b"founders 1\n".to_vec(alloc).ok()?;
-    text.extend_from_slice(line).ok()?;
-    match read_script(alloc, text.as_slice()) {
-        Ok(_) => None,
-        Err(fault) if fault.fault == Fault::OutOfMemory => None,
-        Err(fault) => Some(fault),
-    }
-}
-
-#[test]
-fn faults(rt: HostRuntime) {
-    for (line, fault) in FAULTS {
-        let told = match fault_of(rt.alloc(), line) {
-            None if is_short(&rt) => fault_of(rt.alloc(), line),
-            told => told,
-        };
-        assert_eq!(rt; told, Some(ScriptFault { fault, line: 2 }));
     }
 }
 
