@@ -1,8 +1,8 @@
 use rambo_atomic::{Op, Tape};
-use rambo_names::Quorums;
+use rambo_names::{Quorums, Refusal};
 use rambo_run::Step;
-use rambo_script::{ReplayFault, read_script, replay, step_text};
-use std::alloc::{AllocError, Global};
+use rambo_script::{Fault, ReplayFault, read_script, replay, step_text};
+use std::alloc::Global;
 use std::env;
 use std::process::Abort;
 use std::test::Fail;
@@ -68,25 +68,31 @@ fn attempt(
     alloc: Global,
     read: u64,
     write: u64,
-) -> Result<(Result<(), ReplayFault>, Tape), AllocError> {
+) -> Result<(Result<(), ReplayFault>, Tape), Refusal> {
     let mut reader = Tape::new(SCRIPT.to_vec(alloc)?)
         .in_pieces(40)
         .failing_at(read);
-    let mut writer = Tape::new(Vec::new(alloc)).in_pieces(30).failing_at(write);
-    let told = replay(alloc, &mut reader, &mut writer);
-    Ok((told, writer))
+    let text = Vec::with_capacity(alloc, OUTCOME.len())?;
+    let mut writer = Tape::new(text).in_pieces(30).failing_at(write);
+    match replay(alloc, &mut reader, &mut writer) {
+        Err(ReplayFault::Memory) => Err(Refusal::OutOfMemory),
+        Err(ReplayFault::Script(fault)) if fault.fault == Fault::OutOfMemory => {
+            Err(Refusal::OutOfMemory)
+        }
+        told => Ok((told, writer)),
+    }
 }
 
-// The same, once more in a run that refuses memory.
+// The same, once more where it was refused in a run that refuses memory.
 fn replayed(
     rt: &HostRuntime,
     read: u64,
     write: u64,
-) -> Result<(Result<(), ReplayFault>, Tape), AllocError> {
-    if is_short(rt) {
-        let _ = attempt(rt.alloc(), read, write);
+) -> Result<(Result<(), ReplayFault>, Tape), Refusal> {
+    match attempt(rt.alloc(), read, write) {
+        Err(_) if is_short(rt) => attempt(rt.alloc(), read, write),
+        told => told,
     }
-    attempt(rt.alloc(), read, write)
 }
 
 // The script has two pieces, and a third call reads its end; its outcome has four pieces.
