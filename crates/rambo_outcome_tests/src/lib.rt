@@ -13,8 +13,6 @@ macro_rules! again {
 }
 
 #[cfg(test)]
-mod checks;
-#[cfg(test)]
 mod memory;
 #[cfg(test)]
 mod outcomes;

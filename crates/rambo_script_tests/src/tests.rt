@@ -1,8 +1,8 @@
 use rambo_atomic::{Op, Tape};
-use rambo_names::Quorums;
+use rambo_names::{Quorums, Refusal};
 use rambo_run::Step;
-use rambo_script::{Fault, ReplayFault, ScriptFault, read_script, replay, step_text};
-use std::alloc::{AllocError, Global};
+use rambo_script::{Fault, ReplayFault, read_script, replay, step_text};
+use std::alloc::Global;
 use std::env;
 use std::process::Abort;
 use std::test::Fail;
@@ -63,83 +63,36 @@ fn each_kind_of_step(rt: HostRuntime) {
     }
 }
 
-// The line of a step, and its first fault.
-const FAULTS: [(&[u8], Fault); 27] = [
-    (b"collect", Fault::WrongCount),
-    (b"collect 1 2", Fault::WrongCount),
-    (b"collect 0 1", Fault::WrongCount),
-    (b"collect 1,2", Fault::BadNumber),
-    (b"collect ", Fault::BadNumber),
-    (b"advance-collect", Fault::WrongCount),
-    (b"advance-collect 1.1", Fault::BadNumber),
-    (b"advance-collect 1 ", Fault::WrongCount),
-    (b"recon", Fault::WrongCount),
-    (b"recon 1", Fault::WrongCount),
-    (b"recon 1 1 2", Fault::WrongCount),
-    (b"recon 0 2,1 1", Fault::WrongCount),
-    (b"recon 0 2,1", Fault::BadNumber),
-    (b"recon 0 1", Fault::BadNumber),
-    (b"recon  1", Fault::BadNumber),
-    (b"recon 1 2,1", Fault::BadNumber),
-    (b"recon 1 65", Fault::BadNumber),
-    (b"recon 1 ", Fault::BadNumber),
-    (b"recon 1 removed", Fault::BadNumber),
-    (b"rebid", Fault::WrongCount),
-    (b"rebid 65", Fault::BadNumber),
-    (b"rebid 1 -", Fault::WrongCount),
-    (b"advance-recon", Fault::WrongCount),
-    (b"advance-recon -", Fault::BadNumber),
-    (b"advance-recon 1 1", Fault::WrongCount),
-    (b"advance-", Fault::UnknownWord),
-    (b"Recon 1 1", Fault::UnknownWord),
-];
-
-// What a script of a founder and this line comes to. None where memory is refused.
-fn fault_of(alloc: Global, line: &[u8]) -> Option<ScriptFault> {
-    let mut text = b"founders 1\n".to_vec(alloc).ok()?;
-    text.extend_from_slice(line).ok()?;
-    match read_script(alloc, text.as_slice()) {
-        Ok(_) => None,
-        Err(fault) if fault.fault == Fault::OutOfMemory => None,
-        Err(fault) => Some(fault),
-    }
-}
-
-#[test]
-fn faults(rt: HostRuntime) {
-    for (line, fault) in FAULTS {
-        let told = match fault_of(rt.alloc(), line) {
-            None if is_short(&rt) => fault_of(rt.alloc(), line),
-            told => told,
-        };
-        assert_eq!(rt; told, Some(ScriptFault { fault, line: 2 }));
-    }
-}
-
 // What a replay came to, where a call of the reader or of the writer fails (0: none does).
 fn attempt(
     alloc: Global,
     read: u64,
     write: u64,
-) -> Result<(Result<(), ReplayFault>, Tape), AllocError> {
+) -> Result<(Result<(), ReplayFault>, Tape), Refusal> {
     let mut reader = Tape::new(SCRIPT.to_vec(alloc)?)
         .in_pieces(40)
         .failing_at(read);
-    let mut writer = Tape::new(Vec::new(alloc)).in_pieces(30).failing_at(write);
-    let told = replay(alloc, &mut reader, &mut writer);
-    Ok((told, writer))
+    let text = Vec::with_capacity(alloc, OUTCOME.len())?;
+    let mut writer = Tape::new(text).in_pieces(30).failing_at(write);
+    match replay(alloc, &mut reader, &mut writer) {
+        Err(ReplayFault::Memory) => Err(Refusal::OutOfMemory),
+        Err(ReplayFault::Script(fault)) if fault.fault == Fault::OutOfMemory => {
+            Err(Refusal::OutOfMemory)
+        }
+        told => Ok((told, writer)),
+    }
 }
 
-// The same, once more in a run that refuses memory.
+// The same, once more where it was refused in a run that refuses memory.
 fn replayed(
     rt: &HostRuntime,
     read: u64,
     write: u64,
-) -> Result<(Result<(), ReplayFault>, Tape), AllocError> {
-    if is_short(rt) {
-        let _ = attempt(rt.alloc(), read, write);
+) -> Result<(Result<(), ReplayFault>, Tape), Refusal> {
+    match attempt(rt.alloc(), read, write) {
+        Err(_) if is_short(rt) => attempt(rt.alloc(), read, write),
+        told => told,
     }
-    attempt(rt.alloc(), read, write)
 }
 
 // The script has two pieces, and a third call reads its end; its outcome has four pieces.
