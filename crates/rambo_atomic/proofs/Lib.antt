@@ -1,9 +1,11 @@
 pub mod Decided
 pub mod KnownBytes
 pub mod LookUps
+pub mod Marked
 pub mod Pieces
 pub mod Pushes
 pub mod RealTime
 pub mod Seen
 pub mod Splits
 pub mod Tallied
+pub mod Unreads

@@ -1,5 +1,6 @@
 -- What a push keeps
-use Rattle.std.proofs.Common.{◌≡◌, ℕ, suc, Bool, true, false, cond, ◌&&◌, List, [], ◌∷◌, ◌++◌, length, Option, None, Some, is_some, refl, sym, ap, ◌∙◌}
+use Rattle.std.proofs.Common.{◌≡◌, ℕ, suc, Bool, true, false, cond, ◌&&◌, List, [], ◌∷◌, ◌++◌, length, Option, None, Some, is_some, nat_eq, refl, sym, ap, ◌∙◌, arith}
+use Rattle.std.proofs.lemmas.Bool.Decides.{nat_tests}
 use Rattle.std.specs.List.{slice_get}
 use Rattle.std.specs.Option.{option_map, IsSomeAnd}
 use Rattle.rambo_atomic.specs.declared.operation.Op.{Op}
@@ -7,14 +8,14 @@ use Rattle.rambo_atomic.specs.declared.operation.Answer.{Answer}
 use Rattle.rambo_atomic.specs.declared.event.CallId.{CallId}
 use Rattle.rambo_atomic.specs.declared.event.Event.{Event}
 use Rattle.rambo_atomic.specs.declared.event.Event.TheVariants as event
-use Rattle.rambo_atomic.specs.declared.places.Places.{Places}
 use Rattle.rambo_atomic.specs.declared.fault.HistoryFault.TheVariants as fault
 use Rattle.rambo_atomic.specs.Calls.{same_call, fits}
 use Rattle.rambo_atomic.specs.Faults.{fault_of, answer_fault}
 use Rattle.rambo_atomic.specs.Forms.{IsWellFormed}
 use Rattle.rambo_atomic.specs.Histories.{call_in, answer_in, is_call, is_answer, called_at, answered_at}
 use Rattle.rambo_atomic.specs.Looks.{op_of, answer_of}
-use Rattle.rambo_atomic.specs.Places.{places_in, with_answer, IsHistory, IsNoted}
+use Rattle.rambo_atomic.specs.declared.spot.Spot.{Spot}
+use Rattle.rambo_atomic.specs.Places.{Places, PlacesState, places_in, places_of, spot_of, called_spot, answered_spot, KeepsSpots, FitsSpots, TakesEvent, IsHistory}
 use Rattle.rambo_atomic.specs.Proper.{EverySplit}
 use Rattle.rambo_atomic.proofs.LookUps.{position-cons, position-push, either, call_in-append, event_at, call_in-at, answer_in-at}
 use Rattle.rambo_atomic.proofs.Splits.{splits-nil, splits-cons, splits-head, splits-tail}
@@ -120,6 +121,10 @@ well_formed-push h e well fine = record {
 abbrev placed : Option ℕ → Option ℕ → Option Places
 placed o p = option_map (λ n. record { called = n; answered = p }) o
 
+-- what is known of a call, once its answer stands at place n
+abbrev with_answer : ℕ → Option Places → Option Places
+with_answer n o = option_map (λ p. record { called = p.called; answered = Some n }) o
+
 call_placed : (t : Bool) (o p : Option ℕ) (n : ℕ) → (t ≡ true → (o ≡ None) × (p ≡ None))
     → placed (either o (cond t (Some n) None)) (either p (cond false (Some n) None)) ≡ cond t (Some (record { called = n; answered = None })) (placed o p)
 call_placed true o p n new = let e = new refl in rw (e.0, e.1) refl
@@ -139,18 +144,37 @@ places_in-push : (h : List Event) (e : Event) (q : CallId)
     → places_in (h ++ e ∷ []) q ≡ placed (either (called_at h q) (cond (is_call q e) (Some (length h)) None)) (either (answered_at h q) (cond (is_answer q e) (Some (length h)) None))
 places_in-push h e q = λ i. placed (position-push (is_call q) h e i) (position-push (is_answer q) h e i)
 
-pub indexed-push : (h : List Event) (e : Event) (old new : List (CallId × Places))
-    → IsHistory h old → fault_of h e ≡ None → IsNoted e (length h) old new → IsHistory (h ++ e ∷ []) new
-indexed-push h (event.Call c op) old new all fine noted = record {
-  indexed = λ q. noted q ∙ ap (cond (same_call c q) (Some (record { called = length h; answered = None }))) (all.indexed q)
+-- an answer's spot, at a place that isn't the first
+answered_places : (n : ℕ) (o : Option Spot) → nat_eq n 0 ≡ false
+    → option_map places_of (option_map (answered_spot n) o) ≡ with_answer n (option_map places_of o)
+answered_places n None later = refl
+answered_places n (Some s) later = rw later refl
+
+-- a history that has a call has an event
+has_event : (P : Op → Type 0) (h : List Event) (c : CallId) → IsSomeAnd (call_in h c) P → nat_eq (length h) 0 ≡ false
+has_event P [] c has = absurd has
+has_event P (e ∷ es) c has = grind (arith, nat_tests)
+
+pub indexed-push : (h : List Event) (e : Event) (old new : PlacesState)
+    → IsHistory h old → fault_of h e ≡ None → TakesEvent e (length h) old new → IsHistory (h ++ e ∷ []) new
+indexed-push h (event.Call c op) old new all fine taken = record {
+  indexed = λ q. ap (option_map places_of) (taken q)
+      ∙ placed_call (same_call c q) (spot_of old q)
+      ∙ ap (cond (same_call c q) (Some (record { called = length h; answered = None }))) (all.indexed q)
       ∙ sym (places_in-push h (event.Call c op) q
       ∙ call_placed (same_call c q) (called_at h q) (answered_at h q) (length h)
       (λ same. let none = ap (call_in h) (sym (same_call-path c q same)) ∙ call_fine (call_in h c) fine in
       (called_at-none h q none, answered_at-none h q (unanswered h all.well_formed q none))));
   well_formed = well_formed-push h (event.Call c op) all.well_formed fine;
 }
-indexed-push h (event.Answer c a) old new all fine noted = record {
-  indexed = λ q. noted q
+  where
+    placed_call : (t : Bool) (o : Option Spot)
+        → option_map places_of (cond t (Some (called_spot (length h))) o) ≡ cond t (Some (record { called = length h; answered = None })) (option_map places_of o)
+    placed_call true o = refl
+    placed_call false o = refl
+indexed-push h (event.Answer c a) old new all fine taken = record {
+  indexed = λ q. ap (option_map places_of) (taken q)
+      ∙ placed_answer (same_call c q) (spot_of old q)
       ∙ (λ i. cond (same_call c q) (with_answer (length h) (all.indexed c i)) (all.indexed q i))
       ∙ moved q
       ∙ sym (places_in-push h (event.Answer c a) q
@@ -159,11 +183,32 @@ indexed-push h (event.Answer c a) old new all fine noted = record {
   well_formed = well_formed-push h (event.Answer c a) all.well_formed fine;
 }
   where
+    placed_answer : (t : Bool) (o : Option Spot)
+        → option_map places_of (cond t (option_map (answered_spot (length h)) (spot_of old c)) o) ≡ cond t (with_answer (length h) (option_map places_of (spot_of old c))) (option_map places_of o)
+    placed_answer true o = answered_places (length h) (spot_of old c) (has_event (λ op. fits op a ≡ true) h c (answer_fine (call_in h c) (answer_in h c) a fine).0)
+    placed_answer false o = refl
+
     moved : (q : CallId) → cond (same_call c q) (with_answer (length h) (places_in h c)) (places_in h q) ≡ cond (same_call c q) (with_answer (length h) (places_in h q)) (places_in h q)
     moved q = elim (same_call c q) as (λ t. (t ≡ true → c ≡ q) → cond t (with_answer (length h) (places_in h c)) (places_in h q) ≡ cond t (with_answer (length h) (places_in h q)) (places_in h q)) [
       | true ↦ λ same. ap (λ x. with_answer (length h) (places_in h x)) (same refl)
       | false ↦ λ same. refl
     ] (same_call-path c q)
+
+-- the same spots tell the same
+pub indexed-same : (h : List Event) (old new : PlacesState) → IsHistory h old → KeepsSpots old new → IsHistory h new
+indexed-same h old new all same = record {
+  indexed = λ q. ap (option_map places_of) (same q) ∙ all.indexed q;
+  well_formed = all.well_formed;
+}
+
+-- what can stand at the end of a history has the spots for it
+pub fits-spots : (h : List Event) (e : Event) (s : PlacesState) → IsHistory h s → fault_of h e ≡ None → FitsSpots e s
+fits-spots h (event.Call c op) s all fine = no_spot (spot_of s c) (all.indexed c ∙ ap (λ o. placed o (answered_at h c)) (called_at-none h c (call_fine (call_in h c) fine)))
+  where
+    no_spot : (o : Option Spot) → option_map places_of o ≡ None → o ≡ None
+    no_spot None e = refl
+    no_spot (Some x) e = cc
+fits-spots h (event.Answer c a) s all fine = tt
 
 -- what the index says of a call
 pub called_at-place : (h : List Event) (c : CallId) (p : Places) → Some p ≡ places_in h c → called_at h c ≡ Some p.called

@@ -4,9 +4,11 @@ pub mod Forms
 pub mod Histories
 pub mod Looks
 pub mod HistoryStates
+pub mod Marks
 pub mod Places
 pub mod Proper
 pub mod Streams
 pub mod Tallies
 pub mod Tests
+pub mod Unreads
 pub mod Verdicts

@@ -1,19 +1,20 @@
 //! Histories.
-ghost use Rattle.std.specs.Prelude.{◌≡◌, ◌≤◌, ◌<◌, ◌+◌, ◌++◌, ◌∷◌, [], None, IsOk, OnOk, OnErr, IfErr, ◌^◌, length};
+ghost use Rattle.std.specs.Prelude.{◌≡◌, ◌≤◌, ◌<◌, ◌+◌, ◌++◌, ◌∷◌, [], None, IsOk, OnOk, OnErr, IfErr, ◌^◌, length, Some};
 ghost use Rattle.std.specs.List.{slice_get};
 ghost use Rattle.std.specs.Option.{option_copied, option_map, IfSome};
 ghost use Rattle.rambo_atomic.specs.Faults.{fault_of, IsFault};
 ghost use Rattle.rambo_atomic.specs.Forms.{IsWellFormed};
 ghost use Rattle.rambo_atomic.specs.Histories.{call_in, answer_in, called_at, answered_at};
 ghost use Rattle.rambo_atomic.specs.Looks.{op_of, answer_of};
-ghost use Rattle.rambo_atomic.specs.Places.{places_in, IsNoted};
-ghost use Rattle.indexmap.specs.IndexMap.{spare};
+ghost use Rattle.rambo_atomic.specs.Places.{places_in, places_of};
 
+use crate::call_places::CallPlaces;
+use crate::entry::Entry;
 use crate::event::{CallId, Event};
 use crate::fault::HistoryFault;
 use crate::operation::{Answer, Op};
-use crate::places::Places;
-use indexmap::IndexMap;
+use crate::spot::Spot;
+use rambo_names::Name;
 use std::alloc::{AllocError, Global};
 use std::marker::Model;
 
@@ -24,21 +25,20 @@ use std::marker::Model;
 #[derive(Drop, Debug)]
 pub struct History {
     events: Vec<Event>,
-    places: IndexMap<CallId, Places>,
+    places: CallPlaces,
 }
 
 impl Model for History {
     ghost use Rattle.std.specs.Prelude.{◌-◌, min, length};
     ghost use Rattle.std.specs.Vec.{vec_capacity, vec_len};
-    ghost use Rattle.indexmap.specs.IndexMap.{spare};
     ghost use Rattle.rambo_atomic.specs.HistoryStates.{HistoryState};
     ghost use Rattle.rambo_atomic.specs.Places.{IsHistory};
 
     ghost Value = { HistoryState };
 
-    ghost view = { λ h. record { events = h.events.items; room = min (vec_capacity h.events - vec_len h.events) (spare h.places) } };
+    ghost view = { λ h. record { events = h.events.items; room = min (vec_capacity h.events - vec_len h.events) h.places.room } };
 
-    ghost invariant = { λ h. IsHistory h.events.items h.places.entries };
+    ghost invariant = { λ h. IsHistory h.events.items h.places };
 }
 
 impl History {
@@ -48,7 +48,7 @@ impl History {
     {
         History {
             events: Vec::new(alloc),
-            places: IndexMap::new(alloc),
+            places: CallPlaces::new(alloc),
         }
     }
 
@@ -90,7 +90,7 @@ impl History {
         ensures { result ≡ answered_at self.now.events id.now }
     {
         let places = self.places_of(id)?;
-        places.answered
+        places.answered()
     }
 
     // What a call asked and what it was told, if the history has the call.
@@ -98,14 +98,33 @@ impl History {
         ensures op { option_map (λ e. e.0.now) result ≡ call_in self.now.events id.now }
         ensures answer { IfSome result (λ e. option_copied e.1 ≡ answer_in self.now.events id.now) }
     {
+        let entry = self.entry(id)?;
+        Some((entry.op, entry.answer))
+    }
+
+    // A call with all that the history has of it, if it has the call.
+    pub(crate) fn entry(&self, id: &CallId) -> Option<Entry<'_>>
+        ensures op { option_map (λ e. e.op.now) result ≡ call_in self.now.events id.now }
+        ensures answer { IfSome result (λ e. option_copied e.answer ≡ answer_in self.now.events id.now) }
+        ensures called { IfSome result (λ e. called_at self.now.events id.now ≡ Some e.called) }
+        ensures answered { IfSome result (λ e. e.answered ≡ answered_at self.now.events id.now) }
+        ensures within { IfSome result (λ e. e.called < length self.now.events) }
+        ensures well_formed { IsWellFormed self.now.events }
+    {
         let places = self.places_of(id)?;
         let events = self.events();
         let op = op_at(events, places.called)?;
-        let answer = match places.answered {
+        let answered = places.answered();
+        let answer = match answered {
             Some(place) => answer_at(events, place),
             None => None,
         };
-        Some((op, answer))
+        Some(Entry {
+            op,
+            answer,
+            called: places.called,
+            answered,
+        })
     }
 
     // The allocator of what belongs to the history.
@@ -114,8 +133,8 @@ impl History {
     }
 
     // Where a call and its answer stand.
-    pub(crate) fn places_of(&self, id: &CallId) -> Option<&Places>
-        ensures places { option_copied result ≡ places_in self.now.events id.now }
+    pub(crate) fn places_of(&self, id: &CallId) -> Option<&Spot>
+        ensures places { option_map places_of (option_copied result) ≡ places_in self.now.events id.now }
         ensures well_formed { IsWellFormed self.now.events }
     {
         self.places.get(id)
@@ -149,6 +168,16 @@ impl History {
         self.places.reserve(additional)
     }
 
+    /// Makes it likely that the next call of a name takes less memory, and is found sooner, once it is pushed
+    /// where room was made for it. Nothing else depends on it.
+    ///
+    /// An error where there is no memory for that; `push` does without, and calls this itself.
+    pub fn prepare(&mut self, name: Name) -> Result<(), AllocError>
+        ensures { self.new ≡ self.old }
+    {
+        self.places.prepare(name)
+    }
+
     /// Puts an event at the end.
     ///
     /// `CalledTwice` where the history has this call. `NotOpen` where it doesn't have the answer's call,
@@ -163,6 +192,10 @@ impl History {
         if let Some(fault) = self.fault(&event) {
             return Err(fault);
         }
+        if let Event::Call(id, _) = &event {
+            // Without the room that it makes, the call's place takes more memory.
+            let _ = self.prepare(id.name);
+        }
         self.reserve(1)?;
         self.push_reserved(event);
         Ok(())
@@ -175,31 +208,8 @@ impl History {
         ensures events { self.new.events ≡ self.old.events ++ event ∷ [] }
         ensures room { self.old.room ≤ self.new.room + 1 }
     {
-        let place = self.events.len();
-        note(&mut self.places, &event, place);
+        self.places.take(&event, self.events.len());
         self.events.push_reserved(event);
-    }
-}
-
-// Takes up in an index that an event stands at a place.
-fn note(index: &mut IndexMap<CallId, Places>, event: &Event, place: usize)
-    requires { 0 < spare index.old }
-    ensures entries { IsNoted event.now place index.old.entries index.new.entries }
-    ensures room { spare index.old ≤ spare index.new + 1 }
-{
-    match event {
-        Event::Call(id, _) => {
-            let places = Places {
-                called: place,
-                answered: None,
-            };
-            let _ = index.insert(*id, places);
-        }
-        Event::Answer(id, _) => {
-            if let Some(noted) = index.get_mut(id) {
-                noted.answered = Some(place);
-            }
-        }
     }
 }
 

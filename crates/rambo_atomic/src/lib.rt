@@ -1,16 +1,21 @@
 //! Calls, answers, histories, and which orders explain them.
 #![tactic(auto)]
 
+mod call_list;
+mod call_places;
 mod checker;
 mod checking;
+mod entry;
 mod event;
 mod fault;
 mod history;
+mod marking;
 mod operation;
-mod places;
 mod rules;
+mod spot;
 mod stream;
 mod tape;
+mod unread;
 mod verdict;
 mod whole;
 mod wrapped;
@@ -20,9 +25,11 @@ pub use checking::check;
 pub use event::{CallId, Event};
 pub use fault::HistoryFault;
 pub use history::History;
+pub use marking::mark_order;
 pub use operation::{Answer, Op};
 pub use stream::{Failed, READ_LIMIT, Sink, Source};
 pub use tape::Tape;
+pub use unread::Unread;
 pub use verdict::{Rule, Verdict};
 pub use whole::{StreamFault, read_all, write_all};
 pub use wrapped::Wrapped;

@@ -70,7 +70,7 @@ pub(crate) fn has_no_stranger(history: &History, key: &[u8], order: &[CallId]) -
 }
 
 // Whether an answer tells what a key holds.
-fn tells(held: Option<&Bytes>, answer: Option<&Answer>) -> bool
+pub(crate) fn tells(held: Option<&Bytes>, answer: Option<&Answer>) -> bool
     ensures { result ≡ tells (option_copied held.entry) (option_copied answer.entry) }
 {
     match (held, answer) {

@@ -29,7 +29,7 @@ impl From<AllocError> for StreamFault {
 }
 
 /// How many bytes are asked for at once.
-const PIECE: usize = 64 * 1024;
+pub(crate) const PIECE: usize = 64 * 1024;
 
 /// All that a source has left.
 ///

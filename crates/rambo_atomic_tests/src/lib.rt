@@ -17,7 +17,11 @@ mod events;
 #[cfg(test)]
 mod histories;
 #[cfg(test)]
+mod lines;
+#[cfg(test)]
 mod memory;
+#[cfg(test)]
+mod numbers;
 #[cfg(test)]
 mod operations;
 #[cfg(test)]

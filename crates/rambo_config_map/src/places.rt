@@ -92,10 +92,10 @@ impl<Q: Quorums> Places<Q> {
         ensures configs { result.configs ≡ self.now.configs }
         ensures inline { result.capacity ≡ 8 }
     {
-        match SmallVec::from_slice(*self.slots.allocator(), self.slots.as_slice()) {
-            Ok(slots) => Places { slots },
-            Err(_) => unreachable!(),
-        }
+        // (slot by slot: eight slots at once would be cleared first)
+        let mut slots = SmallVec::new(*self.slots.allocator());
+        append_slots(&mut slots, self.slots.as_slice());
+        Places { slots }
     }
 
     /// Drops the first configurations.

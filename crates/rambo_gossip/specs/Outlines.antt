@@ -7,7 +7,7 @@ use Rattle.rambo_gossip.specs.declared.letter.Kind.TheVariants as kind
 use Rattle.rambo_gossip.specs.declared.outline.GossipOutline.{GossipOutline}
 
 abbrev pub gossip_outlined : {Q : Type 0} → GossipOutline Q → Gossip Q
-gossip_outlined g = record { known = g.known; copies = copies.empty; map = g.map.now; number = g.number; heard = g.heard; vote = g.vote; offer = g.offer }
+gossip_outlined g = record { known = g.known; copies = copies.empty; map = g.map.now; number = g.number; heard = g.heard; vote = g.vote.now; offer = g.offer }
 
 -- what a letter says, without copies
 abbrev pub outlined : {Q : Type 0} → Option (GossipOutline Q) → Kind Q

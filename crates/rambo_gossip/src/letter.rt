@@ -91,7 +91,7 @@ impl<Q: Quorums> Gossip<Q> {
             map: &self.map,
             number: self.number,
             heard: self.heard,
-            vote: self.vote,
+            vote: &self.vote,
             offer: self.offer,
         }
     }

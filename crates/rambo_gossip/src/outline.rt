@@ -10,7 +10,7 @@ use rambo_paxos::{Offer, Vote};
 use rambo_tag::Pack;
 use std::marker::Model;
 
-/// A letter without its copies, which borrows its map.
+/// A letter without its copies, which borrows its map and its vote.
 #[derive(Drop)]
 pub struct LetterOutline<'a, Q: Quorums> {
     /// Who sends it.
@@ -33,7 +33,7 @@ pub struct GossipOutline<'a, Q: Quorums> {
     /// The greatest phase number of the addressee that it heard.
     pub heard: u64,
     /// Its vote for the first place that its map doesn't know.
-    pub vote: Vote<Q>,
+    pub vote: &'a Vote<Q>,
     /// What its own attempt for that place asks, if it has one.
     pub offer: Option<Offer<Q>>,
 }
@@ -80,7 +80,7 @@ impl<'a, Q: Quorums> GossipOutline<'a, Q> {
             map: self.map.copy(),
             number: self.number,
             heard: self.heard,
-            vote: self.vote,
+            vote: *self.vote,
             offer: self.offer,
         }
     }

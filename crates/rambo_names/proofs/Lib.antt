@@ -1,3 +1,4 @@
+pub mod Leading
 pub mod Numerals
 pub mod MaskNames
 pub mod MaskSteps

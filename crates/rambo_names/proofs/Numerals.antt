@@ -18,7 +18,7 @@ told b n e = (λ p. grind (arith, nat_tests), λ p. grind (arith, nat_tests))
 tell : (b n : ℕ) → b ≢ 43 → (b ≡ 48 → n ≡ 0) → (not (b == 43) && (not (b == 48) || n == 0)) ≡ true
 tell b n p q = grind (arith, nat_tests)
 
-digits : IsNumeralModel (AllDigits 10) (digits_value 10)
+pub digits : IsNumeralModel (AllDigits 10) (digits_value 10)
 digits = numerals_by_value (AllDigits 10) tells_digits
 
 -- what starts plainly and has digits alone is the numeral of its number

@@ -1,11 +1,22 @@
 -- How numbers and sets of names are spelt
 use Rattle.std.specs.Prelude.{◌≡◌, Bool, true, false, not, ◌&&◌, ◌||◌, ◌==◌, ℕ, List, [], ◌∷◌, ◌++◌, length, decimal}
+use Rattle.std.specs.Char.{is_ascii_digit}
 use Rattle.rambo_names.specs.Names.{NameSet, names}
 
 -- whether a number may start so: with no sign, and with a zero only where it is all
 abbrev pub starts_plainly : List ℕ → Bool
 starts_plainly [] = false
 starts_plainly (b ∷ bs) = not (b == 43) && (not (b == 48) || length bs == 0)
+
+-- a number ends where the text does, or before what is no digit
+abbrev pub IsNumberEnd : List ℕ → Type 0
+IsNumberEnd [] = Unit {0}
+IsNumberEnd (b ∷ bs) = is_ascii_digit b ≡ false
+
+-- a line is this sign, which ends as a number does, and this rest
+pub record BeginsWith (line sign rest : List ℕ) : Type 0 where
+  pub whole : line ≡ sign ++ rest
+  pub ends : IsNumberEnd rest
 
 -- further names, each behind a comma
 abbrev pub more_names : List ℕ → List ℕ

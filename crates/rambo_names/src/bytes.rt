@@ -1,5 +1,5 @@
 //! Keys and values.
-ghost use Rattle.std.specs.Prelude.{◌≡◌, length, IfOk, IfErr, Some, nat_eq, refl};
+ghost use Rattle.std.specs.Prelude.{◌≡◌, ◌<◌, ◌≤◌, length, take, IfOk, IfErr, Some, nat_eq, refl};
 ghost use Rattle.std.specs.Ordering.{nat_cmp};
 ghost use Rattle.std.specs.Hash as fed;
 ghost use Rattle.std.specs.Cmp.Lexicographic.{pointwise, slice_cmp, nat_list_eq_equiv, nat_list_cmp_total, texts_ties, texts_po};
@@ -8,64 +8,111 @@ ghost use Rattle.std.specs.Cmp.Rules.{hashing};
 ghost use Rattle.std.proofs.Common.{rules};
 
 use crate::refusal::Refusal;
+use crate::short_bytes::{MOST, ShortBytes};
 use std::alloc::{AllocError, Global};
 use std::cmp::Ordering;
 use std::hash::{Hash, Hasher};
 use std::marker::Model;
 use std::sync::ArcSlice;
 
-/// The bytes of a key or a value, of any length. Clones share them.
-#[derive(Drop, Debug)]
+/// The bytes of a key or a value, of any length.
+///
+/// Up to `Bytes::SHORT` bytes lie in the value itself, so that they take no memory and a clone of them is a copy.
+/// Of more bytes clones share one piece of memory.
+#[derive(Debug)]
 pub struct Bytes {
-    items: ArcSlice<u8>,
+    form: Form,
+}
+
+// By hand, so that those who drop bytes needn't know of their forms.
+impl Drop for Bytes {
+    fn drop(self) {
+        let Bytes { form: _form } = self;
+    }
+}
+
+// Where the bytes lie.
+#[derive(Drop, Debug)]
+enum Form {
+    Short(ShortBytes),
+    Shared(ArcSlice<u8>),
 }
 
 impl Model for Bytes {
     ghost use Rattle.std.specs.Prelude.{List, ℕ};
-    ghost use Rattle.std.specs.Arc.{arc_slice_items};
 
     ghost Value = { List ℕ };
 
-    ghost view = { λ b. arc_slice_items b.items };
+    ghost use Rattle.rambo_names.specs.ByteForms.{bytes_of};
+
+    ghost view = { λ b. bytes_of b.form };
 }
 
 impl Bytes {
-    /// A copy of some bytes, to be shared by its clones.
+    /// How many bytes may lie in the value itself.
+    pub const SHORT: usize = MOST;
+
+    /// A copy of some bytes.
     ///
-    /// `OutOfMemory` where there is no room for it.
+    /// `OutOfMemory` where there is no room for it, which happens only where there are more than `SHORT`.
     pub fn from_slice(alloc: Global, items: &[u8]) -> Result<Bytes, Refusal>
         ensures bytes { IfOk result (λ b. b ≡ items.now) }
         ensures refused { IfErr result (λ r. r ≡ Refusal.OutOfMemory) }
+        ensures short { IfErr result (λ _. 14 < length items.now) }
     {
+        if items.len() <= Bytes::SHORT {
+            return Ok(Bytes {
+                form: Form::Short(ShortBytes::of(items)),
+            });
+        }
         Ok(Bytes {
-            items: ArcSlice::from_slice(alloc, items)?,
+            form: Form::Shared(ArcSlice::from_slice(alloc, items)?),
         })
     }
 
-    /// The bytes of a buffer, which is taken over as it is.
+    /// The bytes of a buffer, which is taken over as it is where there are more than `SHORT`.
     ///
-    /// `OutOfMemory` where there is no room for the count of owners.
+    /// `OutOfMemory` where there is no room for the count of owners of so many.
     pub fn from_vec(items: Vec<u8>) -> Result<Bytes, Refusal>
         ensures bytes { IfOk result (λ b. b ≡ items.items) }
         ensures refused { IfErr result (λ r. r ≡ Refusal.OutOfMemory) }
+        ensures short { IfErr result (λ _. 14 < length items.items) }
     {
+        if items.len() <= Bytes::SHORT {
+            return Ok(Bytes {
+                form: Form::Short(ShortBytes::of(items.as_slice())),
+            });
+        }
         Ok(Bytes {
-            items: ArcSlice::from_vec(items)?,
+            form: Form::Shared(ArcSlice::from_vec(items)?),
         })
+    }
+
+    /// The first bytes of an array. They take no memory.
+    pub fn short(bytes: [u8; Bytes::SHORT], length: usize) -> Bytes
+        requires { length ≤ 14 }
+        ensures { result ≡ take length bytes }
+    {
+        Bytes {
+            form: Form::Short(ShortBytes::new(bytes, length)),
+        }
     }
 
     /// The bytes.
     pub fn as_slice(&self) -> &[u8]
         ensures { result.now ≡ self.now }
     {
-        self.items.as_slice()
+        match &self.form {
+            Form::Short(bytes) => bytes.as_slice(),
+            Form::Shared(items) => items.as_slice(),
+        }
     }
 
     /// How many bytes there are.
     pub fn len(&self) -> usize
         ensures { result ≡ length self.now }
     {
-        self.items.len()
+        self.as_slice().len()
     }
 
     /// Whether there is no byte.
@@ -80,9 +127,11 @@ impl Clone for Bytes {
     ghost is_clone = { λ b copy. copy ≡ b };
 
     fn clone(&self) -> Result<Bytes, AllocError> {
-        Ok(Bytes {
-            items: self.items.clone()?,
-        })
+        let form = match &self.form {
+            Form::Short(bytes) => Form::Short(bytes.copy()),
+            Form::Shared(items) => Form::Shared(items.clone()?),
+        };
+        Ok(Bytes { form })
     }
 }
 

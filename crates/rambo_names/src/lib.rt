@@ -3,8 +3,8 @@
 //! - `Name` and `Members`: the 64 nodes, and sets of them.
 //! - `Quorums` and `Majority`: configurations, by their two laws.
 //! - `Refusal`: why a step is refused.
-//! - `read_num`, `read_set`, `write_set`: numbers and sets in texts.
-//! - `Bytes`: a key or a value, shared by its clones.
+//! - `read_num`, `leading_num`, `read_set`, `write_set`: numbers and sets in texts.
+//! - `Bytes`: a key or a value; clones of a long one share it.
 #![tactic(auto)]
 
 mod bytes;
@@ -14,6 +14,7 @@ mod name;
 mod quorums;
 mod refusal;
 mod set_sign;
+mod short_bytes;
 mod signs;
 
 pub use bytes::Bytes;
@@ -23,7 +24,7 @@ pub use name::Name;
 pub use quorums::Quorums;
 pub use refusal::Refusal;
 pub use set_sign::read_set;
-pub use signs::{read_num, write_set};
+pub use signs::{leading_num, read_num, write_set};
 
 #[cfg(test)]
 mod tests;

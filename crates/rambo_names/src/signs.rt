@@ -1,7 +1,8 @@
 //! How numbers and sets of names are written in texts.
-ghost use Rattle.std.specs.Prelude.{◌≡◌, ◌≢◌, ◌++◌, ℕ, List, ◌<◌, ◌^◌, decimal, IfSome, IfNone, OnOk, OnErr, IfErr};
+ghost use Rattle.std.specs.Prelude.{◌≡◌, ◌≢◌, ◌++◌, ℕ, List, ◌<◌, ◌≤◌, ◌^◌, length, take, drop, decimal, IfSome, IfNone, OnOk, OnErr, IfErr};
+ghost use Rattle.std.specs.Str.Parse.{AllDigits, digits_value};
 ghost use Rattle.rambo_names.specs.Names.{NameSet};
-ghost use Rattle.rambo_names.specs.Signs.{set_text, starts_plainly};
+ghost use Rattle.rambo_names.specs.Signs.{set_text, starts_plainly, IsNumberEnd, BeginsWith};
 
 use crate::members::Members;
 use crate::refusal::Refusal;
@@ -15,19 +16,45 @@ pub fn read_num(bytes: &[u8]) -> Option<u64>
     ensures found { IfSome result (λ n. bytes.now ≡ decimal n) }
     ensures none { IfNone result ((n : ℕ) → n < 2 ^ 64 → bytes.now ≢ decimal n) }
 {
-    if !starts_plainly(bytes) {
-        return None;
-    }
+    let (number, rest) = leading_num(bytes)?;
+    if rest.is_empty() { Some(number) } else { None }
+}
+
+/// The number that a line begins with, as `read_num` reads it, and what stands behind its last digit.
+///
+/// None where the digits at the front, as many as there are, spell no such number.
+#[inline]
+pub fn leading_num(line: &[u8]) -> Option<(u64, &[u8])>
+    ensures found { IfSome result (λ r. (r.0 < 2 ^ 64) × BeginsWith line.now (decimal r.0) r.1.now) }
+    ensures none { IfNone result ((n : ℕ) (rest : List ℕ) → n < 2 ^ 64 → ¬ (BeginsWith line.now (decimal n) rest)) }
+{
     let mut number = 0u64;
-    for byte in bytes {
+    for place in 0..line.len() {
+        let byte = line[place];
         if !byte.is_ascii_digit() {
-            return None;
+            return ended(line, place, number);
         }
-        number = number
-            .checked_mul(10)?
-            .checked_add(u64::from(*byte - b'0'))?;
+        number = number.checked_mul(10)?.checked_add(u64::from(byte - b'0'))?;
     }
-    Some(number)
+    ended(line, line.len(), number)
+}
+
+// The number that the digits before a place write, where they are all that stand at the front and are plain, and what
+// stands behind them.
+fn ended(line: &[u8], end: usize, number: u64) -> Option<(u64, &[u8])>
+    requires within { end ≤ length line.now }
+    requires digits { AllDigits 10 (take end line.now) }
+    requires value { number ≡ digits_value 10 (take end line.now) }
+    requires behind { IsNumberEnd (drop end line.now) }
+    ensures found { IfSome result (λ r. (r.0 < 2 ^ 64) × BeginsWith line.now (decimal r.0) r.1.now) }
+    ensures none { IfNone result ((n : ℕ) (rest : List ℕ) → n < 2 ^ 64 → ¬ (BeginsWith line.now (decimal n) rest)) }
+{
+    let (digits, rest) = line.split_at(end);
+    if starts_plainly(digits) {
+        Some((number, rest))
+    } else {
+        None
+    }
 }
 
 // Whether a number may start so: with no sign, and with a zero only where it is all.

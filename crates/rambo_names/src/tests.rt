@@ -95,6 +95,27 @@ fn numbers(rt: HostRuntime) {
 }
 
 #[test]
+fn leading_numbers(rt: HostRuntime) {
+    assert_eq!(rt; leading_num(b"12 3"), Some((12, b" 3".as_slice())));
+    assert_eq!(rt; leading_num(b"0.1"), Some((0, b".1".as_slice())));
+    assert_eq!(rt;
+        leading_num(b"18446744073709551615"),
+        Some((u64::MAX, b"".as_slice()))
+    );
+    let bad = [
+        b"".as_slice(),
+        b" 1",
+        b"01 2",
+        b"-1",
+        b"18446744073709551616 1",
+        b"a1",
+    ];
+    for line in bad {
+        assert_eq!(rt; leading_num(line), None);
+    }
+}
+
+#[test]
 fn sets_read(rt: HostRuntime) -> Result<(), Fail> {
     assert_eq!(rt; read_set(b"3,20"), Some(set(&[20, 3])?));
     assert_eq!(rt; read_set(b"64"), Some(set(&[64])?));
@@ -137,7 +158,8 @@ fn sets_written(rt: HostRuntime) -> Result<(), Fail> {
     Ok(())
 }
 
-fn shared(alloc: Global, items: &[u8]) -> Result<Bytes, Refusal> {
+// Where memory is refused the call can be made again.
+fn bytes_of(alloc: Global, items: &[u8]) -> Result<Bytes, Refusal> {
     match Bytes::from_slice(alloc, items) {
         Ok(bytes) => Ok(bytes),
         Err(_) => Bytes::from_slice(alloc, items),
@@ -146,21 +168,27 @@ fn shared(alloc: Global, items: &[u8]) -> Result<Bytes, Refusal> {
 
 #[test]
 fn bytes(rt: HostRuntime) -> Result<(), Fail> {
-    let key = shared(rt.alloc(), b"key")?;
-    let again = key.clone()?;
-    assert!(rt; key == again);
-    assert_eq!(rt; again.as_slice(), b"key".as_slice());
-    assert_eq!(rt; again.len(), 3);
-    assert!(rt; !again.is_empty());
-    assert!(rt; shared(rt.alloc(), b"")?.is_empty());
-    assert!(rt; key < shared(rt.alloc(), b"kez")?);
-    assert!(rt; shared(rt.alloc(), b"ke")? < key);
-    let taken = match b"key".to_vec(rt.alloc()) {
-        Ok(items) => Bytes::from_vec(items),
-        Err(_) => Bytes::from_vec(b"key".to_vec(rt.alloc())?),
-    };
-    if let Ok(other) = taken {
-        assert!(rt; other == key);
+    for items in [b"key".as_slice(), b"a key of more than 14 bytes"] {
+        let key = bytes_of(rt.alloc(), items)?;
+        let again = key.clone()?;
+        assert!(rt; key == again);
+        assert_eq!(rt; again.as_slice(), items);
+        assert_eq!(rt; again.len(), items.len());
+        assert!(rt; !again.is_empty());
+        let taken = match items.to_vec(rt.alloc()) {
+            Ok(items) => Bytes::from_vec(items),
+            Err(_) => Bytes::from_vec(items.to_vec(rt.alloc())?),
+        };
+        if let Ok(other) = taken {
+            assert!(rt; other == key);
+        }
     }
+    assert!(rt; bytes_of(rt.alloc(), b"")?.is_empty());
+    assert!(rt; bytes_of(rt.alloc(), b"key")? < bytes_of(rt.alloc(), b"kez")?);
+    assert!(rt; bytes_of(rt.alloc(), b"ke")? < bytes_of(rt.alloc(), b"key")?);
+    assert!(rt;
+        bytes_of(rt.alloc(), b"14 bytes, 0123")? < bytes_of(rt.alloc(), b"14 bytes, 01234")?
+    );
+    assert!(rt; Bytes::short(*b"key, and no mo", 3) == bytes_of(rt.alloc(), b"key")?);
     Ok(())
 }

@@ -3,9 +3,11 @@ use Rattle.std.proofs.Common.{◌≡◌, ℕ, zero, suc, ◌+◌, Bool, true, fa
 use Rattle.std.proofs.lemmas.Bool.{eqb-true, true≢false}
 use Rattle.std.proofs.lemmas.Option.{none-some, same_Some}
 use Rattle.std.specs.List.{remove}
+use Rattle.std.specs.Option.{option_map}
 use Rattle.rambo_tag.specs.declared.version.Version.{Version}
 use Rattle.rambo_tag.specs.Copies.{Copies}
 use Rattle.rambo_atomic.specs.declared.event.CallId.{CallId}
+use Rattle.rambo_atomic.specs.declared.event.Event.TheVariants as event
 use Rattle.rambo_atomic.specs.declared.operation.Op.{Op}
 use Rattle.rambo_atomic.specs.declared.operation.Op.TheVariants as op
 use Rattle.rambo_paxos.specs.Attempts.{AttemptState}
@@ -18,6 +20,7 @@ use Rattle.rambo_calls.specs.Hearing.{restarted}
 use Rattle.rambo_calls.specs.Kept.{with_call, propagating}
 use Rattle.rambo_node.specs.Kept.{propagation_begun, copy_held, move_deed, answered_in, answered_from}
 use Rattle.rambo_node.specs.Nodes.{NodeState, open_call}
+use Rattle.rambo_node.specs.Notes.{answer_in, answer_due, mark_in, mark_due}
 use Rattle.rambo_node.specs.Operations.{taken, with_copy, query_answered, call_closed, called_again}
 
 -- a call that is found by a number has it
@@ -144,3 +147,28 @@ module _ {Q : Type 0} (x : NodeState Q) (id : CallId) where
   begins_again there =
       ap (λ f. record x { number = x.number + 1; calls = with_call (place_of id.number x.calls) f (restarted (x.number + 1) x.map x.name) x.calls }) (sym (found_here there))
       ∙ again_from (open_call x id) (own_number there) there
+
+-- what is due where a propagation is met is what the advance is told to do
+due_event_in : (Q : Type 0) (id : CallId) (o : Op) (st : Stage) → option_map (event.Answer id) (answer_in o st) ≡ (answered_in {Q = Q} id o st).event
+due_event_in Q id o Query = refl
+due_event_in Q id o (Propagation kept) = refl
+
+due_mark_in : (Q : Type 0) (id : CallId) (o : Op) (st : Stage) → mark_in id o st ≡ (answered_in {Q = Q} id o st).mark
+due_mark_in Q id o Query = refl
+due_mark_in Q id o (Propagation kept) = refl
+
+no_copy_in : (Q : Type 0) (id : CallId) (o : Op) (st : Stage) → None ≡ (answered_in {Q = Q} id o st).copy
+no_copy_in Q id o Query = refl
+no_copy_in Q id o (Propagation kept) = refl
+
+pub due_event : {Q : Type 0} (id : CallId) (found : Option (CallState Q)) → option_map (event.Answer id) (answer_due found) ≡ (answered_from id found).event
+due_event id None = refl
+due_event {Q} id (Some c) = due_event_in Q id c.op c.stage
+
+pub due_mark : {Q : Type 0} (id : CallId) (found : Option (CallState Q)) → mark_due id found ≡ (answered_from id found).mark
+due_mark id None = refl
+due_mark {Q} id (Some c) = due_mark_in Q id c.op c.stage
+
+pub no_copy : {Q : Type 0} (id : CallId) (found : Option (CallState Q)) → None ≡ (answered_from id found).copy
+no_copy id None = refl
+no_copy {Q} id (Some c) = no_copy_in Q id c.op c.stage

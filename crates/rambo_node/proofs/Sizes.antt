@@ -14,9 +14,9 @@ pub next : (a e s b : ℕ) → up a e + s < b → e < b
 next a e s b h = omega (arith, h)
 
 -- the fields of the fourth variant, behind those of fixed sizes
-pub deliver_fits : (a x s r b : ℕ) → up a (max 16 (max 32 (max 2 (max (x + s) r)))) < b → s < b
-deliver_fits a x s r b h =
-    omega (arith, h, le-max_right 16 (max 32 (max 2 (max (x + s) r))), le-max_right 32 (max 2 (max (x + s) r)), le-max_right 2 (max (x + s) r), le-max_left (x + s) r)
+pub deliver_fits : (a j c t x s r b : ℕ) → up a (max j (max c (max t (max (x + s) r)))) < b → s < b
+deliver_fits a j c t x s r b h =
+    omega (arith, h, le-max_right j (max c (max t (max (x + s) r))), le-max_right c (max t (max (x + s) r)), le-max_right t (max (x + s) r), le-max_left (x + s) r)
 
 -- the one field of an enum's second and last variant, where the first has none
 pub variant_fits : (a x s b : ℕ) → up a (max 1 (max (up x 1 + s) 1)) < b → s < b

@@ -8,3 +8,4 @@ pub mod Reconfigurations
 pub mod Refusals
 pub mod Changes
 pub mod Claims
+pub mod Notes

@@ -1,5 +1,5 @@
 //! How open calls begin and go on.
-ghost use Rattle.std.specs.Prelude.{◌≡◌, None, Some, false, IfOk, IfErr, OnOk, OnErr};
+ghost use Rattle.std.specs.Prelude.{◌≡◌, ◌+◌, None, Some, false, IfOk, IfErr, OnOk, OnErr};
 ghost use Rattle.std.specs.Option.{option_copied};
 ghost use Rattle.rambo_tag.specs.Tags.{tag_of};
 ghost use Rattle.rambo_node.specs.Changes.{refusal_of, made_by, advanced};
@@ -27,21 +27,46 @@ impl<Q: Quorums, S: Replica> Node<Q, S> {
         ensures refused { IfErr result (λ r. r ≡ Refusal.OutOfMemory) }
         ensures err { OnErr result (self.new ≡ self.old) }
     {
-        let id = CallId {
-            name: self.name,
-            number: self.made + 1,
-        };
+        let id = self.next_id();
         let event = Event::Call(id, op.clone()?);
-        self.calls
-            .open(id.number, op, self.number + 1, &self.map, self.name)?;
-        self.number += 1;
-        self.made = id.number;
+        self.begin(op)?;
         Ok(Deed {
             effect: Effect::Called(id),
             event: Some(event),
             mark: None,
             copy: None,
         })
+    }
+
+    // The id of the next call.
+    fn next_id(&self) -> CallId
+        requires { is_last self.now.made ≡ false }
+        ensures { result ≡ record { name = self.now.name; number = self.now.made + 1 } }
+    {
+        CallId {
+            name: self.name,
+            number: self.made + 1,
+        }
+    }
+
+    /// A call that isn't refused begins: what `call` does where `may_call` finds no cause. The answer is the id of the
+    /// call.
+    ///
+    /// `OutOfMemory` where there is no room for the call; the node is then as it was.
+    #[tactic(auto, unfolding(crate::specs::Changes::made_by, crate::specs::Operations::called))]
+    pub fn begin(&mut self, op: Op) -> Result<CallId, Refusal>
+        requires { refusal_of Q.system self.old (change.Call op) ≡ None }
+        ensures node { OnOk result (self.new ≡ (made_by self.old (change.Call op)).node) }
+        ensures id { IfOk result (λ id. id ≡ record { name = self.old.name; number = self.old.made + 1 }) }
+        ensures refused { IfErr result (λ r. r ≡ Refusal.OutOfMemory) }
+        ensures err { OnErr result (self.new ≡ self.old) }
+    {
+        let id = self.next_id();
+        self.calls
+            .open(id.number, op, self.number + 1, &self.map, self.name)?;
+        self.number += 1;
+        self.made = id.number;
+        Ok(id)
     }
 
     // A phase that isn't refused begins anew.
@@ -104,7 +129,7 @@ impl<Q: Quorums, S: Replica> Node<Q, S> {
     }
 
     // The propagation of a call begins.
-    fn propagate(&mut self, number: u64, kept: Option<Version>)
+    pub(crate) fn propagate(&mut self, number: u64, kept: Option<Version>)
         requires { is_last self.old.number ≡ false }
         ensures { self.new ≡ propagation_begun self.old number kept }
     {
@@ -146,7 +171,7 @@ impl<Q: Quorums, S: Replica> Node<Q, S> {
 }
 
 // The sequence number of what a key holds: 0 where it is absent.
-fn sequence_of(version: Option<&Version>) -> u64
+pub(crate) fn sequence_of(version: Option<&Version>) -> u64
     ensures { result ≡ (tag_of (option_copied version.entry)).sequence }
 {
     match version {

@@ -137,7 +137,7 @@ fn get_mark(id: CallId, op: &Op, kept: &Option<Version>) -> Result<Option<Mark>,
 }
 
 // The answer to an operation that sent a copy round.
-fn answer_of(op: &Op, kept: &Option<Version>) -> Result<Answer, Refusal>
+pub(crate) fn answer_of(op: &Op, kept: &Option<Version>) -> Result<Answer, Refusal>
     ensures ok { IfOk result (λ answer. answer ≡ answer_of op.now kept.now) }
     ensures refused { IfErr result (λ r. r ≡ Refusal.OutOfMemory) }
 {

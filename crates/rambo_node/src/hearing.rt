@@ -122,7 +122,7 @@ impl<Q: Quorums, S: Replica> Node<Q, S> {
             map: &self.map,
             number: self.number,
             heard: self.heard.of(to),
-            vote: self.vote,
+            vote: &self.vote,
             offer: offer_of(&self.attempt, &self.map),
         })
     }
@@ -161,7 +161,7 @@ impl<Q: Quorums, S: Replica> Node<Q, S> {
 
         // From here on nothing fails. What goes by the map as it was comes before the map.
         hear_reply(&mut self.collection, from, gossip.heard);
-        hear_vote(&mut self.attempt, &self.map, from, gossip.map, &gossip.vote);
+        hear_vote(&mut self.attempt, &self.map, from, gossip.map, gossip.vote);
         hear_offer(&mut self.vote, &self.map, gossip.map, &gossip.offer);
         self.map.merge(gossip.map);
         self.calls

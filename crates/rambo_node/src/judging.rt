@@ -204,8 +204,9 @@ impl<Q: Quorums, S: Replica> Node<Q, S> {
         Ok(())
     }
 
-    // Whether the node may send a letter to a name.
-    pub(crate) fn may_send(&self, to: Name) -> Result<(), Refusal>
+    /// Why the node may not send a letter to a name, if it may not: 3 where it is idle, 4 where it has stopped, 5 where
+    /// the name is its own or one that it doesn't know.
+    pub fn may_send(&self, to: Name) -> Result<(), Refusal>
         ensures ok { OnOk result (least (send_causes self.now to) ≡ None) }
         ensures refused { IfErr result (λ r. least (send_causes self.now to) ≡ Some r) }
     {
@@ -245,8 +246,10 @@ impl<Q: Quorums, S: Replica> Node<Q, S> {
         }
     }
 
-    // Whether the open call of an id may go on.
-    pub(crate) fn may_advance(&self, id: &CallId) -> Result<(), Refusal>
+    /// Why the open call of an id may not go on, if it may not: 3 where the node is idle or joining, 4 where it has
+    /// stopped, 7 where there is no such open call, 8 where its phase isn't met, 21 where it is in its query and the
+    /// phase number, or for a set the sequence number of the key's tag, is the greatest one.
+    pub fn may_advance(&self, id: &CallId) -> Result<(), Refusal>
         ensures ok { OnOk result (least (advance_causes Q.system self.now id.now) ≡ None) }
         ensures refused { IfErr result (λ r. least (advance_causes Q.system self.now id.now) ≡ Some r) }
     {

@@ -125,8 +125,8 @@ impl<Q: Quorums, S: Replica> Node<Q, S> {
         self.status
     }
 
-    // What the open call of an id asks for, if there is one that is in its query.
-    pub(crate) fn query(&self, id: &CallId) -> Option<&Op>
+    /// What the open call of an id asks for, if there is one that is in its query.
+    pub fn query(&self, id: &CallId) -> Option<&Op>
         ensures { option_copied result ≡ query_in (open_call self.now id.now) }
     {
         if id.name != self.name {

@@ -105,7 +105,6 @@ impl<Q: Quorums, S: Replica> Node<Q, S> {
     /// Refused are 3 where the node is idle or joining, 4 where it has stopped, 9 where it has 64 open calls,
     /// 19 where the key has over 256 bytes, 20 where the value has over 4,096 bytes, 21 where its phase number
     /// or its last call number is the greatest one, 22 where there is no room for the call.
-    #[tactic(auto, unfolding(crate::specs::Changes::made_by, crate::specs::Operations::called))]
     pub fn call(&mut self, op: Op) -> Result<CallId, Refusal>
         ensures judged { OnOk result (refusal_of Q.system self.old (change.Call op) ≡ None) }
         ensures node { OnOk result (self.new ≡ (made_by self.old (change.Call op)).node) }
@@ -114,11 +113,8 @@ impl<Q: Quorums, S: Replica> Node<Q, S> {
         ensures err { OnErr result (self.new ≡ self.old) }
     {
         self.may_call(&op)?;
-        self.do_call(op)?;
-        Ok(CallId {
-            name: self.name,
-            number: self.made,
-        })
+        let id = self.begin(op)?;
+        Ok(id)
     }
 
     /// The open call of this id goes on, whose phase is met. In its query a get finds the copy that it will

@@ -169,7 +169,7 @@ fn outlined(alloc: Global, outline: &LetterOutline<'_, Majority>) -> Letter<Majo
             map: gossip.map.copy(),
             number: gossip.number,
             heard: gossip.heard,
-            vote: gossip.vote,
+            vote: *gossip.vote,
             offer: gossip.offer,
         }),
     };

@@ -11,7 +11,7 @@ use crate::evidence::Evidence;
 use crate::judging::judge_all;
 use crate::text::read_outcome;
 use crate::verdict_text::{all_yes, verdict_text};
-use rambo_atomic::{Sink, Source, read_all, write_all};
+use rambo_atomic::{Sink, Source, write_all};
 use rambo_names::Refusal;
 use rambo_text::ReplayFault;
 use std::alloc::Global;
@@ -41,20 +41,12 @@ pub fn check_text<R: Source, W: Sink>(
         × IsChecked text written all × Begins (W.taken writer.old) (W.taken writer.new) written)) }
     ensures unwritten { IfErr result (λ f. f ≢ fault.Write → writer.new ≡ writer.old) }
 {
-    let text = read_all(alloc, reader)?;
-    let (lines, all) = check_lines(alloc, text.as_slice())?;
+    let evidence = read_outcome(alloc, reader)?;
+    let Ok((lines, all)) = judged_lines(alloc, &evidence) else {
+        return Err(ReplayFault::Memory);
+    };
     write_all(writer, lines.as_slice())?;
     Ok(all)
-}
-
-// The lines for a text, and whether each is yes.
-fn check_lines(alloc: Global, text: &[u8]) -> Result<(Vec<u8>, bool), ReplayFault>
-    ensures checked { IfOk result (λ r. IsChecked text.now r.0.items r.1) }
-    ensures script { IfErr result (λ f. (g : ScriptFault) → f ≡ fault.Script g → IsTextFault text.now g) }
-    ensures streams { IfErr result (λ f. (f ≢ fault.Read) × (f ≢ fault.Write)) }
-{
-    let evidence = read_outcome(alloc, text)?;
-    judged_lines(alloc, &evidence).map_err(|_| ReplayFault::Memory)
 }
 
 // The lines for what was told, and whether each is yes.

@@ -1,36 +1,71 @@
 //! Reading an outcome text.
-ghost use Rattle.std.specs.Prelude.{◌≡◌, IfOk, IfErr, OnOk};
-ghost use Rattle.rambo_text.specs.Words.{AreWords};
+ghost use Rattle.std.specs.Prelude.{◌≡◌, ◌≢◌, ℕ, List, IfOk, IfErr, OnOk, OnErr};
+ghost use Rattle.std.specs.Io.KnownBytes.{IsAtEnd};
+ghost use Rattle.rambo_atomic.specs.Streams.{counted};
+ghost use Rattle.rambo_text.specs.declared.fault.ReplayFault.TheVariants as fault;
+ghost use Rattle.rambo_text.specs.declared.fault.ScriptFault.{ScriptFault};
+ghost use Rattle.rambo_text.specs.Words.{IsFirstLine, AreWords};
+ghost use Rattle.rambo_outcome.specs.Checks.{IsLeft};
 ghost use Rattle.rambo_outcome.specs.Lines.{Item, item_words};
 ghost use Rattle.rambo_outcome.specs.Items.{IsItem};
 ghost use Rattle.rambo_outcome.specs.EvidenceStates.{with_item, IsBadItem};
+ghost use Rattle.rambo_outcome.specs.Readings.{TakesLine};
 ghost use Rattle.rambo_outcome.specs.Texts.{IsTold, IsFaultBehind, IsTextFault};
 
 use crate::evidence::Evidence;
 use crate::item::read_line;
 use crate::kept::Kept;
-use rambo_text::{Fault, ScriptFault, next_line};
+use rambo_atomic::{Source, Unread};
+use rambo_text::{Fault, ReplayFault, ScriptFault, next_line};
 use std::alloc::Global;
 
-/// What a text tells, or its first faulty line and the first fault there.
+/// What the text that a source has left tells, or its first faulty line and the first fault there. The text is read to
+/// its end, and never held as a whole.
 ///
-/// `OutOfMemory` where there is no room for what the line tells.
-pub(crate) fn read_outcome(alloc: Global, text: &[u8]) -> Result<Evidence, ScriptFault>
-    ensures told { IfOk result (IsTold text.now) }
-    ensures fault { IfErr result (IsTextFault text.now) }
+/// `Script` with `OutOfMemory` where there is no room for what the line tells, `Read` where the source fails, and `Memory`
+/// where there is no room for the line itself.
+pub(crate) fn read_outcome<R: Source>(
+    alloc: Global,
+    reader: &mut R,
+) -> Result<Evidence, ReplayFault>
+    ensures told { IfOk result (λ e. (text : List ℕ) × IsLeft (R.left reader.old) text × IsTold text e) }
+    ensures end { OnOk result (IsAtEnd (R.left reader.new)) }
+    ensures fine { OnOk result (R.failures reader.new ≡ R.failures reader.old) }
+    ensures script { IfErr result (λ f. (g : ScriptFault) → f ≡ fault.Script g
+        → (text : List ℕ) × IsLeft (R.left reader.old) text × IsTextFault text g × IsAtEnd (R.left reader.new)) }
+    ensures read { IfErr result (λ f. f ≡ fault.Read → R.failures reader.new ≡ counted (R.failures reader.old)) }
+    ensures other { IfErr result (λ f. f ≢ fault.Read → R.failures reader.new ≡ R.failures reader.old) }
+    ensures unwritten { IfErr result (λ f. f ≢ fault.Write) }
 {
+    let mut unread = Unread::new(alloc);
     let mut evidence = Evidence::new(alloc);
-    let mut rest = text;
     let mut line = 0;
-    while !rest.is_empty() {
-        let (words, others) = next_line(rest);
-        line += 1;
-        if let Err(fault) = take_line(alloc, words, &mut evidence) {
-            return Err(ScriptFault { fault, line });
+    while unread.find_line(reader)? {
+        if line == u64::MAX {
+            return Err(ReplayFault::Memory);
         }
-        rest = others;
+        line += 1;
+        if let Err(fault) = take_first(alloc, &mut unread, &mut evidence) {
+            unread.read_rest(reader)?;
+            return Err(ReplayFault::Script(ScriptFault { fault, line }));
+        }
     }
     Ok(evidence)
+}
+
+// Takes up what the first line that is held tells, and forgets the line.
+fn take_first(alloc: Global, unread: &mut Unread, evidence: &mut Evidence) -> Result<(), Fault>
+    ensures taken { OnOk result (TakesLine unread.old.held unread.new.held evidence.old evidence.new) }
+    ensures ended { unread.new.ended ≡ unread.old.ended }
+    ensures kept { OnErr result (unread.new ≡ unread.old) }
+    ensures fault { IfErr result (λ f. (line : List ℕ) × (rest : List ℕ) × IsFirstLine unread.old.held line rest × IsFaultBehind evidence.old line f) }
+{
+    let held = unread.as_slice();
+    let (line, rest) = next_line(held);
+    take_line(alloc, line, evidence)?;
+    let used = held.len() - rest.len();
+    unread.forget(used);
+    Ok(())
 }
 
 // Takes up what a line tells.

@@ -1,2 +1,4 @@
+mod RowLines
 mod Shorter
 mod Shown
+mod SoFar

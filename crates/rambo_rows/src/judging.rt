@@ -14,6 +14,11 @@ use rambo_names::{Majority, read_set};
 use rambo_script::{ReplayFault, check_text, replay};
 use std::alloc::{AllocError, Global};
 
+// How many bytes a call of a reader or of a writer moves at most: so commands and lines are cut anywhere.
+const READ_PIECE: usize = 7;
+
+const WRITE_PIECE: usize = 5;
+
 /// Runs a row, and answers whether it wrote and ended as the row wants. A row of any other word is wrong.
 pub fn is_right(alloc: Global, row: Row) -> Result<bool, AllocError>
     ensures { IfOk result (λ right. IsTrue right → Shows row.entry.word.now row.entry.ending.now row.entry.input.items row.entry.output.items) }
@@ -34,8 +39,8 @@ pub fn is_right(alloc: Global, row: Row) -> Result<bool, AllocError>
 fn is_right_replay(alloc: Global, row: Row) -> Result<bool, AllocError>
     ensures done { IfOk result (λ right. IsTrue right → row.entry.ending.now ≡ codes "done" → IsReplay row.entry.input.items row.entry.output.items) }
 {
-    let mut reader = Tape::new(row.input);
-    let mut writer = Tape::new(Vec::new(alloc));
+    let mut reader = Tape::new(row.input).in_pieces(READ_PIECE);
+    let mut writer = Tape::new(Vec::new(alloc)).in_pieces(WRITE_PIECE);
     let ended = replay_all(alloc, &mut reader, &mut writer);
     is_wanted(
         alloc,
@@ -63,8 +68,8 @@ fn is_right_check(alloc: Global, row: Row) -> Result<bool, AllocError>
     ensures done { IfOk result (λ right. IsTrue right → row.entry.ending.now ≡ codes "done" → IsChecked row.entry.input.items row.entry.output.items true) }
     ensures no { IfOk result (λ right. IsTrue right → row.entry.ending.now ≡ codes "no" → IsChecked row.entry.input.items row.entry.output.items false) }
 {
-    let mut reader = Tape::new(row.input);
-    let mut writer = Tape::new(Vec::new(alloc));
+    let mut reader = Tape::new(row.input).in_pieces(READ_PIECE);
+    let mut writer = Tape::new(Vec::new(alloc)).in_pieces(WRITE_PIECE);
     let ended = check_text(alloc, &mut reader, &mut writer);
     is_wanted(
         alloc,
@@ -92,8 +97,8 @@ fn is_right_local(alloc: Global, founders: Majority, row: Row) -> Result<bool, A
     requires { 1 ≤ count_of founders }
     ensures done { IfOk result (λ right. IsTrue right → row.entry.ending.now ≡ codes "done" → IsServed row.entry.input.items row.entry.output.items) }
 {
-    let mut reader = Tape::new(row.input);
-    let mut writer = Tape::new(Vec::new(alloc));
+    let mut reader = Tape::new(row.input).in_pieces(READ_PIECE);
+    let mut writer = Tape::new(Vec::new(alloc)).in_pieces(WRITE_PIECE);
     let ended = local_all(alloc, founders, &mut reader, &mut writer);
     is_wanted(
         alloc,

@@ -11,13 +11,15 @@
 //!   the program tells it with.
 //!
 //! A row whose first line begins with `#` is a note. The program runs each row through the functions that
-//! `rambo replay`, `rambo check` and `rambo local` are, over a reader and a writer in memory. It writes the name of each row
-//! that came out wrong, and last `N rows, M wrong`. The exit status is 0 where none was wrong.
+//! `rambo replay`, `rambo check` and `rambo local` are, over a reader and a writer in memory that move a few bytes at a
+//! time. It writes the name of each row that came out wrong, and last `N rows, M wrong`. The exit status is 0 where there
+//! was a row and none was wrong.
 #![tactic(auto)]
 
 mod judging;
 mod row;
 mod rows;
+mod tally;
 
 use rambo_atomic::Wrapped;
 use rows::judge_rows;

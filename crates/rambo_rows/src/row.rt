@@ -1,5 +1,6 @@
 //! How a row is written.
-ghost use Rattle.std.specs.Prelude.{◌<◌, length, IfOk};
+ghost use Rattle.std.specs.Prelude.{◌≡◌, ◌<◌, ◌++◌, length, IfOk, OnOk};
+ghost use Rattle.rambo_rows.specs.RowTexts.{IsRow, line_end, tells};
 
 use rambo_text::next_line;
 use std::alloc::{AllocError, Global};
@@ -24,6 +25,7 @@ pub struct Row<'a> {
 /// The first row of a text that isn't empty, and the text behind the empty line after it.
 pub fn read_row(alloc: Global, text: &[u8]) -> Result<(Row<'_>, &[u8]), AllocError>
     requires { 0 < length text.now }
+    ensures row { IfOk result (λ r. IsRow text.now (record { name = r.0.name.now; word = r.0.word.now; input = r.0.input.items; output = r.0.output.items; ending = r.0.ending.now }) r.1.now) }
     ensures shorter { IfOk result (λ r. length r.1.now < length text.now) }
 {
     let (name, mut rest) = next_line(text);
@@ -37,25 +39,47 @@ pub fn read_row(alloc: Global, text: &[u8]) -> Result<(Row<'_>, &[u8]), AllocErr
     while !rest.is_empty() {
         let (line, behind) = next_line(rest);
         rest = behind;
-        let word = row.word;
-        match line.split_first() {
-            None => return Ok((row, rest)),
-            Some((b'>', text)) => add_line(&mut row.input, text, word)?,
-            Some((b'~', text)) => row.input.extend_from_slice(text)?,
-            Some((b'<', text)) => add_line(&mut row.output, text, word)?,
-            Some((b'=', text)) => row.ending = text,
-            Some((_, text)) => row.word = text,
+        if line.is_empty() {
+            return Ok((row, rest));
         }
+        take_line(&mut row, line)?;
     }
     Ok((row, rest))
 }
 
-// Appends a line and its end: CR LF in a row that has a client served, else a line feed.
-fn add_line(lines: &mut Vec<u8>, line: &[u8], word: &[u8]) -> Result<(), AllocError> {
-    lines.extend_from_slice(line)?;
-    if word.starts_with(LOCAL) {
-        lines.push(b'\r')?;
+// Adds to a row what a line tells.
+fn take_line<'a>(row: &mut Row<'a>, line: &'a [u8]) -> Result<(), AllocError>
+    ensures { OnOk result ((record { name = row.new.name.now; word = row.new.word.now; input = row.new.input.items; output = row.new.output.items; ending = row.new.ending.now })
+        ≡ tells (record { name = row.old.name.now; word = row.old.word.now; input = row.old.input.items; output = row.old.output.items; ending = row.old.ending.now }) line.now) }
+{
+    let end = line_end(row.word);
+    match line.split_first() {
+        None => {}
+        Some((b'>', text)) => add_line(&mut row.input, text, end)?,
+        Some((b'~', text)) => row.input.extend_from_slice(text)?,
+        Some((b'<', text)) => add_line(&mut row.output, text, end)?,
+        Some((b'=', text)) => row.ending = text,
+        Some((_, text)) => row.word = text,
     }
-    lines.push(b'\n')?;
+    Ok(())
+}
+
+// How the lines of a row of this word end: in CR LF where a client is served, else in a line feed.
+fn line_end(word: &[u8]) -> &'static [u8]
+    ensures { result.now ≡ line_end word.now }
+{
+    if word.starts_with(LOCAL) {
+        b"\r\n"
+    } else {
+        b"\n"
+    }
+}
+
+// Appends a line and its end.
+fn add_line(lines: &mut Vec<u8>, line: &[u8], end: &[u8]) -> Result<(), AllocError>
+    ensures { OnOk result (lines.new.items ≡ lines.old.items ++ line.now ++ end.now) }
+{
+    lines.extend_from_slice(line)?;
+    lines.extend_from_slice(end)?;
     Ok(())
 }

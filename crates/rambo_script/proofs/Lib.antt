@@ -7,4 +7,3 @@ pub mod Texts
 pub mod FaultOnce
 mod AfterRun
 mod RunAlong
-pub mod Words

@@ -19,22 +19,8 @@ pub enum StepKind {
     Stop,
 }
 
-// Those that most lines of a long script tell come first, since `of` tries them in this order.
-const KINDS: [StepKind; 13] = [
-    StepKind::Deliver,
-    StepKind::Send,
-    StepKind::Advance,
-    StepKind::Get,
-    StepKind::Set,
-    StepKind::Join,
-    StepKind::Again,
-    StepKind::Collect,
-    StepKind::AdvanceCollect,
-    StepKind::Recon,
-    StepKind::Rebid,
-    StepKind::AdvanceRecon,
-    StepKind::Stop,
-];
+// The words of all kinds but one have at most so many bytes.
+const LONG: usize = 13;
 
 impl StepKind {
     ghost use Rattle.rambo_script.specs.declared.kind.StepKind.{StepKind};
@@ -68,10 +54,33 @@ impl StepKind {
         ensures found { IfSome result (λ kind. word.now ≡ word_of kind) }
         ensures none { IfNone result ((kind : StepKind) → word.now ≢ word_of kind) }
     {
-        for kind in KINDS.as_slice() {
-            if kind.word() == word {
-                return Some(*kind);
-            }
+        if LONG < word.len() {
+            return StepKind::AdvanceCollect.if_has(word);
+        }
+        match word {
+            b"deliver" => Some(StepKind::Deliver),
+            b"send" => Some(StepKind::Send),
+            b"advance" => Some(StepKind::Advance),
+            b"get" => Some(StepKind::Get),
+            b"set" => Some(StepKind::Set),
+            b"join" => Some(StepKind::Join),
+            b"again" => Some(StepKind::Again),
+            b"collect" => Some(StepKind::Collect),
+            b"recon" => Some(StepKind::Recon),
+            b"rebid" => Some(StepKind::Rebid),
+            b"advance-recon" => Some(StepKind::AdvanceRecon),
+            b"stop" => Some(StepKind::Stop),
+            _ => None,
+        }
+    }
+
+    // This kind, where its steps begin with a word.
+    fn if_has(self, word: &[u8]) -> Option<StepKind>
+        ensures found { IfSome result (λ kind. (kind ≡ self) × (word.now ≡ word_of kind)) }
+        ensures none { IfNone result (word.now ≢ word_of self) }
+    {
+        if self.word() == word {
+            return Some(self);
         }
         None
     }

@@ -1,19 +1,20 @@
 -- The copies of a list that are newer than a map's, as far as the list was gone through
-use Rattle.std.proofs.Common.{◌≡◌, ℕ, ◌+◌, ◌<◌, true, false, List, [], ◌∷◌, ◌++◌, length, get_or, take, drop, Option, Some, Result, Ok, Err, sym, ap, ◌∙◌, true≢false}
-use Rattle.std.specs.Prelude.{if◌then◌else◌, IsOk, OnOk}
+use Rattle.std.proofs.Common.{◌≡◌, ℕ, ◌+◌, ◌<◌, Bool, true, false, cond, List, [], ◌∷◌, ◌++◌, length, get_or, take, drop, Option, Some, None, Result, Ok, Err, refl, sym, ap, ◌∙◌, true≢false, arith}
+use Rattle.std.specs.Prelude.{if◌then◌else◌, IsOk, OnOk, OnErr, IfErr}
 use Rattle.std.specs.Map.{KeepsOthers}
 use Rattle.std.specs.FinMap.{get, insert}
 use Rattle.std.proofs.lemmas.List.{take-append-drop, take_more}
 use Rattle.rambo_tag.specs.declared.version.Version.{Version}
 use Rattle.rambo_tag.specs.declared.keyed_version.KeyedVersion.{KeyedVersion}
-use Rattle.rambo_tag.specs.Tags.{is_newer, greater}
+use Rattle.rambo_tag.specs.Tags.{is_newer, greater, version_lt}
 use Rattle.rambo_tag.specs.Copies.{Copies, with_newer, joined}
 use Rattle.rambo_tag.specs.Logs.{greatest_after, greatest_of}
 use Rattle.rambo_tag.specs.Tables.{Table, kept_in, copies_in}
 use Rattle.rambo_tag.proofs.CopyOrder.{is_below, is_newer-is_below, greater-left, greater-right, not_below-trans}
-use Rattle.rambo_tag.proofs.Joins.{get-with_newer_same}
+use Rattle.rambo_tag.proofs.Joins.{get-with_newer_same, same_copies, get-put}
+use Rattle.rambo_tag.proofs.Keys.{same_key, same_key-true}
 use Rattle.rambo_tag.proofs.Logged.{greatest_after-append, get-greatest_after, joined-greatest_of}
-use Rattle.rambo_tag.proofs.Tables.{eq_keys, is_key, copies_in-put}
+use Rattle.rambo_tag.proofs.Tables.{eq_keys, is_key, version_in, get-copies_in, copies_in-put}
 
 greatest_after-take_more : (a : Copies) (cs : List KeyedVersion) (i : ℕ) (c : KeyedVersion) → i < length cs → c ≡ get_or cs i c
     → greatest_after a (take (i + 1) cs) ≡ with_newer (greatest_after a (take i cs)) c.key c.version
@@ -104,3 +105,63 @@ greatest_after-put t u key row copy rest next all h is newer at others its same 
 pub OnOk-from_ok : {T E P : Type 0} (r : Result T E) → IsOk r → OnOk r P → P
 OnOk-from_ok (Ok x) ok h = h
 OnOk-from_ok (Err e) ok h = absurd (true≢false (sym ok))
+
+-- a key's own copy may be put once more
+insert-held : (a : Copies) (key : List ℕ) (k : Version) → get a key ≡ Some k → insert a key k ≡ a
+insert-held a key k held =
+    same_copies _ _ (λ q. get-put a key k q
+    ∙ elim (same_key q key) as (λ s. same_key q key ≡ s → cond s (Some k) (get a q) ≡ get a q) [
+      | true ↦ λ same. sym (ap (get a) (same_key-true q key same) ∙ held)
+      | false ↦ λ other. refl
+    ] refl)
+
+put_either : (a : Copies) (key : List ℕ) (k v : Version) (t : Bool) → get a key ≡ Some k → insert a key (if t then v else k) ≡ (if t then insert a key v else a)
+put_either a key k v true held = refl
+put_either a key k v false held = insert-held a key k held
+
+-- the greater of what a key holds and another copy was put
+pub insert-raised : (a : Copies) (key : List ℕ) (k v w : Version) → get a key ≡ Some k → w ≡ (if version_lt k v then v else k) → insert a key w ≡ with_newer a key v
+insert-raised a key k v w held is =
+    ap (insert a key) is ∙ put_either a key k v (version_lt k v) held ∙ sym (ap (λ g. if is_newer g v then insert a key v else a) held)
+
+pub insert-unraised : (a : Copies) (key : List ℕ) (k w : Version) → get a key ≡ Some k → w ≡ k → insert a key w ≡ a
+insert-unraised a key k w held is = ap (insert a key) is ∙ insert-held a key k held
+
+-- a copy of a key that isn't there was put
+pub insert-absent : (a : Copies) (key : List ℕ) (v : Version) → get a key ≡ None → insert a key v ≡ with_newer a key v
+insert-absent a key v absent = sym (ap (λ g. if is_newer g v then insert a key v else a) absent)
+
+-- what a look-up in the table tells of the copies
+pub held_in : (a : Copies) (t : Table) (key its : List ℕ) (kept : KeyedVersion) → copies_in t ≡ a → key ≡ its → Some kept ≡ kept_in t key → get a its ≡ Some kept.version
+held_in a t key its kept view is found = (λ i. get (sym view i) (sym is i)) ∙ get-copies_in t key ∙ ap version_in (sym found)
+
+pub absent_in : (a : Copies) (t : Table) (key its : List ℕ) → copies_in t ≡ a → key ≡ its → None ≡ kept_in t key → get a its ≡ None
+absent_in a t key its view is none = (λ i. get (sym view i) (sym is i)) ∙ get-copies_in t key ∙ ap version_in (sym none)
+
+-- to merge the pack of one copy is to take it where it is newer
+pub joined-one : (a b : Copies) (cs : List KeyedVersion) (c : KeyedVersion) → 0 < length cs → length cs < 2 → c ≡ get_or cs 0 c → greatest_of cs ≡ b → joined a b ≡ with_newer a c.key c.version
+joined-one a b [] c some one at is = absurd (omega arith)
+joined-one a b (x ∷ []) c some one at is = ap (joined a) (sym is) ∙ joined-greatest_of a (x ∷ []) ∙ ap (λ y. with_newer a y.key y.version) (sym at)
+joined-one a b (x ∷ y ∷ ys) c some one at is = absurd (omega arith)
+
+pub OnOk-map : {T E P Q : Type 0} (r : Result T E) → (P → Q) → OnOk r P → OnOk r Q
+OnOk-map (Ok x) f h = f h
+OnOk-map (Err e) f h = tt
+
+pub OnErr-map : {T E P Q : Type 0} (r : Result T E) → (P → Q) → OnErr r P → OnErr r Q
+OnErr-map (Ok x) f h = tt
+OnErr-map (Err e) f h = f h
+
+pub IfErr-map : {T E P Q : Type 0} (r : Result T E) → (P → Q) → IfErr r (λ _. P) → IfErr r (λ _. Q)
+IfErr-map (Ok x) f h = tt
+IfErr-map (Err e) f h = f h
+
+-- what holds at all, holds of a refusal
+pub at_err : {T E P : Type 0} (r : Result T E) → P → IfErr r (λ _. P)
+at_err (Ok x) p = tt
+at_err (Err e) p = p
+
+-- a call succeeds where no refusal can be
+pub ok_but_for : {T E P : Type 0} (r : Result T E) → IfErr r (λ _. P) → (P → ⊥) → IsOk r
+ok_but_for (Ok x) h never = refl
+ok_but_for (Err e) h never = absurd (never h)

@@ -38,6 +38,13 @@ impl Pack {
         self.copies.as_slice()
     }
 
+    /// The copies themselves, as `copies` lends them.
+    pub fn into_copies(self) -> Vec<KeyedVersion>
+        ensures { greatest_of result.items ≡ self }
+    {
+        self.copies
+    }
+
     /// The same copies once more. No key and no value is copied.
     ///
     /// `OutOfMemory` where there is no room for the list of them.

@@ -1,9 +1,9 @@
 //! Copies in a hash table.
-ghost use Rattle.std.specs.Prelude.{◌≡◌, ◌≤◌, [], length, IsOk, IfOk, IfErr, OnOk, OnErr};
+ghost use Rattle.std.specs.Prelude.{◌≡◌, ◌≤◌, true, [], length, IsOk, IfOk, IfErr, OnOk, OnErr};
 ghost use Rattle.std.specs.FinMap.{empty, insert, get};
 ghost use Rattle.indexmap.specs.IndexMap.{spare};
 ghost use Rattle.rambo_tag.specs.Tags.{is_newer};
-ghost use Rattle.rambo_tag.specs.Copies.{joined};
+ghost use Rattle.rambo_tag.specs.Copies.{joined, with_newer};
 ghost use Rattle.rambo_tag.specs.Logs.{greatest_after};
 ghost use Rattle.rambo_tag.specs.Tables.{IsKeyed, copies_in};
 
@@ -61,6 +61,35 @@ impl<H: BuildHasher> Registers<H> {
         Ok(())
     }
 
+    // Takes one copy, where it is newer than what its key holds here. A key that stands here is looked up once.
+    fn merge_one(&mut self, copy: &KeyedVersion) -> Result<(), Refusal>
+        ensures ok { OnOk result (self.new ≡ with_newer self.old copy.now.key copy.now.version) }
+        ensures newer { IfErr result (λ _. is_newer (get self.old copy.now.key) copy.now.version ≡ true) }
+        ensures err { OnErr result (self.new ≡ self.old) }
+        ensures refused { IfErr result (λ r. r ≡ Refusal.OutOfMemory) }
+    {
+        match self.table.get_mut(copy.key.as_slice()) {
+            Some(kept) => kept.version.raise(&copy.version),
+            None => self.put_new_key(copy.clone()?),
+        }
+    }
+
+    // Takes the greater copy of each key.
+    fn merge_all(&mut self, pack: &Pack) -> Result<(), Refusal>
+        ensures ok { OnOk result (self.new ≡ joined self.old pack.now) }
+        ensures idle { joined self.old pack.now ≡ self.old → IsOk result }
+        ensures err { OnErr result (self.new ≡ self.old) }
+        ensures refused { IfErr result (λ r. r ≡ Refusal.OutOfMemory) }
+    {
+        let rows = self.newer_rows(pack)?;
+        if rows.is_empty() {
+            return Ok(());
+        }
+        self.table.reserve(rows.len())?;
+        put_newer_rows(&mut self.table, rows);
+        Ok(())
+    }
+
     // Those copies of a pack that are newer than what their keys hold here.
     fn newer_rows(&self, pack: &Pack) -> Result<Vec<Row>, Refusal>
         ensures all { IfOk result (λ rows. greatest_after self.now rows.items ≡ joined self.now pack.now) }
@@ -101,13 +130,10 @@ impl<H: BuildHasher + Clone + Drop> Replica for Registers<H> {
     }
 
     fn merge(&mut self, pack: &Pack) -> Result<(), Refusal> {
-        let rows = self.newer_rows(pack)?;
-        if rows.is_empty() {
-            return Ok(());
+        match pack.copies() {
+            [copy] => self.merge_one(copy),
+            _ => self.merge_all(pack),
         }
-        self.table.reserve(rows.len())?;
-        put_newer_rows(&mut self.table, rows);
-        Ok(())
     }
 
     fn pack(&self) -> Result<Pack, Refusal> {

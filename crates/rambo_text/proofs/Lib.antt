@@ -1,6 +1,9 @@
 pub mod Alike
+pub mod Decimals
 pub mod Dots
+pub mod Fronts
 pub mod Lacking
+pub mod DigitNumbers
 pub mod Options
 pub mod Pairs
 pub mod Plain

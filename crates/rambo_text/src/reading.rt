@@ -1,14 +1,14 @@
 //! Reading signs.
-ghost use Rattle.std.specs.Prelude.{◌≡◌, ◌≢◌, ◌⊎◌, ℕ, List, ◌∷◌, ◌++◌, length, ◌<◌, ◌/◌, ◌%◌, decimal, Option, IfSome, IfNone, IfOk, IfErr};
+ghost use Rattle.std.specs.Prelude.{◌≡◌, ◌≢◌, ◌⊎◌, ℕ, List, ◌∷◌, ◌++◌, length, ◌<◌, ◌≤◌, ◌/◌, ◌%◌, decimal, Option, IfSome, IfNone, IfOk, IfErr};
 ghost use Rattle.rambo_names.specs.Names.{IsName, NameSet};
 ghost use Rattle.rambo_atomic.specs.declared.event.CallId.{CallId};
-ghost use Rattle.rambo_text.specs.Words.{Lacks};
 ghost use Rattle.rambo_text.specs.Signs.{digit_of, pairs_text, hex_text, call_text, standing_text, IsCall, AreBytes};
 
 use crate::fault::Fault;
-use memchr::memchr;
+use crate::leading::{leading_call, leading_name};
+use crate::numbers::number_of;
 use rambo_atomic::CallId;
-use rambo_names::{Bytes, Members, Name, read_num, read_set};
+use rambo_names::{Bytes, Members, Name, read_set};
 use std::alloc::Global;
 
 /// The name that a word spells: a number from 1 to 64 in plain decimal.
@@ -18,8 +18,11 @@ pub fn read_name(word: &[u8]) -> Option<Name>
     ensures found { IfSome result (λ n. IsName n × (word.now ≡ decimal n)) }
     ensures none { IfNone result ((n : ℕ) → IsName n → word.now ≢ decimal n) }
 {
-    let number = read_num(word)?;
-    Name::new(number).ok()
+    let Some(front) = leading_name(word) else {
+        return None;
+    };
+    let (name, rest) = front;
+    if rest.is_empty() { Some(name) } else { None }
 }
 
 /// The call that a word spells: a name, a dot, and a number from 1, both in plain decimal.
@@ -29,13 +32,10 @@ pub fn read_call(word: &[u8]) -> Option<CallId>
     ensures found { IfSome result (λ c. IsCall c × (word.now ≡ call_text c)) }
     ensures none { IfNone result ((c : CallId) → IsCall c → word.now ≢ call_text c) }
 {
-    let (front, back) = around_dot(word)?;
-    let name = read_name(front)?;
-    let number = read_num(back)?;
-    if number == 0 {
+    let Some((call, rest)) = leading_call(word) else {
         return None;
-    }
-    Some(CallId { name, number })
+    };
+    if rest.is_empty() { Some(call) } else { None }
 }
 
 /// What a word tells of a place: the members of the configuration that stands there, or none for the word `removed`.
@@ -51,15 +51,6 @@ pub fn read_standing(word: &[u8]) -> Option<Option<Members>>
     read_set(word).map(Some)
 }
 
-// What stands before and behind the first dot.
-fn around_dot(word: &[u8]) -> Option<(&[u8], &[u8])>
-    ensures found { IfSome result (λ parts. Lacks 46 parts.0.now × (word.now ≡ parts.0.now ++ 46 ∷ parts.1.now)) }
-    ensures none { IfNone result (Lacks 46 word.now) }
-{
-    let dot = memchr(b'.', word)?;
-    Some((&word[..dot], &word[dot + 1..]))
-}
-
 /// The bytes that a word spells: pairs of digits, `0` to `9` and `a` to `f`, or a dash for no bytes.
 ///
 /// `BadHex` where it spells no bytes, and `OutOfMemory` where there is no room for them.
@@ -69,12 +60,39 @@ pub fn read_hex(alloc: Global, word: &[u8]) -> Result<Bytes, Fault>
         ⊎ ((f ≡ Fault.BadHex) × ((bs : List ℕ) → AreBytes bs → word.now ≢ hex_text bs))) }
 {
     if word == b"-".as_slice() {
-        return shared(Vec::new(alloc));
+        return Ok(Bytes::short([0; Bytes::SHORT], 0));
     }
     if word.is_empty() {
         return Err(Fault::BadHex);
     }
+    if word.len() <= 2 * Bytes::SHORT {
+        return read_short(word);
+    }
     shared(read_pairs(alloc, word)?)
+}
+
+// At most 14 bytes that pairs of digits spell. They take no memory.
+fn read_short(word: &[u8]) -> Result<Bytes, Fault>
+    requires { length word.now ≤ 28 }
+    ensures found { IfOk result (λ bs. AreBytes bs × (word.now ≡ pairs_text bs)) }
+    ensures fault { IfErr result (λ f. (f ≡ Fault.BadHex) × ((bs : List ℕ) → AreBytes bs → word.now ≢ pairs_text bs)) }
+{
+    let mut bytes = [0; Bytes::SHORT];
+    let mut length = 0;
+    let mut rest = word;
+    while let Some((high, low, others)) = first_pair(rest) {
+        let Some(byte) = byte_of(high, low) else {
+            return Err(Fault::BadHex);
+        };
+        bytes[length] = byte;
+        length += 1;
+        rest = others;
+    }
+    if rest.is_empty() {
+        Ok(Bytes::short(bytes, length))
+    } else {
+        Err(Fault::BadHex)
+    }
 }
 
 // The bytes of a buffer.
@@ -126,16 +144,4 @@ fn byte_of(high: u8, low: u8) -> Option<u8>
     let high = number_of(high)?;
     let low = number_of(low)?;
     Some(high * 16 + low)
-}
-
-// The number below 16 of a digit.
-fn number_of(digit: u8) -> Option<u8>
-    ensures found { IfSome result (λ n. (n < 16) × (digit ≡ digit_of n)) }
-    ensures none { IfNone result ((n : ℕ) → n < 16 → digit ≢ digit_of n) }
-{
-    match digit {
-        b'0'..=b'9' => Some(digit - b'0'),
-        b'a'..=b'f' => Some(digit - b'a' + 10),
-        _ => None,
-    }
 }

@@ -1,9 +1,13 @@
 //! Lines of a text, and words of a line.
 ghost use Rattle.std.specs.Prelude.{◌≡◌, ◌≢◌, ℕ, List, [], ◌∷◌, length, IfSome, IfNone};
 ghost use Rattle.std.specs.Option.{option_copied};
+ghost use Rattle.memchr.specs.Find.{IsFirstByte, is_byte};
 ghost use Rattle.rambo_text.specs.Words.{IsFirstLine, IsFirstWord, AreMore};
 
 use memchr::memchr;
+
+// How many bytes are looked at one by one. Most words are no longer, and these take less time than a search is begun in.
+const NEAR: usize = 16;
 
 /// The first line of a text, and the text behind its line feed.
 ///
@@ -23,10 +27,27 @@ pub fn next_line(text: &[u8]) -> (&[u8], &[u8])
 pub fn next_word(line: &[u8]) -> (&[u8], Option<&[u8]>)
     ensures { IsFirstWord line.now result.0.now (option_copied result.1) }
 {
-    match memchr(b' ', line) {
+    match first_space(line) {
         Some(place) => (&line[..place], Some(&line[place + 1..])),
         None => (line, None),
     }
+}
+
+// Where the first space of a line stands.
+fn first_space(line: &[u8]) -> Option<usize>
+    ensures { IsFirstByte (is_byte 32) line.now result }
+{
+    let near = line.len().min(NEAR);
+    for place in 0..near {
+        if line[place] == b' ' {
+            return Some(place);
+        }
+    }
+    if near < NEAR {
+        return None;
+    }
+    let behind = memchr(b' ', &line[NEAR..])?;
+    Some(NEAR + behind)
 }
 
 /// The word that follows the first, where it is the only one that does.

@@ -1,11 +1,14 @@
 //! Writing signs.
-ghost use Rattle.std.specs.Prelude.{◌≡◌, ◌++◌, ◌<◌, decimal, OnOk, OnErr, IfErr};
-ghost use Rattle.rambo_text.specs.Signs.{digit_of, hex_text, call_text, standing_text, Grows};
+ghost use Rattle.std.specs.Prelude.{◌≡◌, ◌++◌, decimal, OnOk, OnErr, IfErr};
+ghost use Rattle.rambo_text.specs.Signs.{hex_text, call_text, standing_text};
 
-use itoa::Buffer;
+use crate::digits::{MOST_DIGITS, push_byte, push_num};
 use rambo_atomic::CallId;
 use rambo_names::{Members, Name, Refusal, write_set};
 use std::alloc::AllocError;
+
+// How many digits the greatest name has.
+const NAME_DIGITS: usize = 2;
 
 /// Appends a number in plain decimal.
 ///
@@ -14,8 +17,9 @@ pub fn write_num(number: u64, out: &mut Vec<u8>) -> Result<(), AllocError>
     ensures ok { OnOk result (out.new.items ≡ out.old.items ++ decimal number) }
     ensures err { OnErr result (out.new.items ≡ out.old.items) }
 {
-    let mut buffer = Buffer::new();
-    out.extend_from_slice(buffer.format(number).as_bytes())
+    out.reserve(MOST_DIGITS)?;
+    push_num(number, out);
+    Ok(())
 }
 
 /// Appends the number of a name in plain decimal.
@@ -35,22 +39,11 @@ pub fn write_call(id: &CallId, out: &mut Vec<u8>) -> Result<(), AllocError>
     ensures ok { OnOk result (out.new.items ≡ out.old.items ++ call_text id.now) }
     ensures err { OnErr result (out.new.items ≡ out.old.items) }
 {
-    let before = out.len();
-    let written = append_call(id, out);
-    if written.is_err() {
-        out.truncate(before);
-    }
-    written
-}
-
-// Appends a call, or after a refusal some bytes.
-fn append_call(id: &CallId, out: &mut Vec<u8>) -> Result<(), AllocError>
-    ensures ok { OnOk result (out.new.items ≡ out.old.items ++ call_text id.now) }
-    ensures err { OnErr result (Grows out.old.items out.new.items) }
-{
-    write_name(id.name, out)?;
-    out.push(b'.')?;
-    write_num(id.number, out)
+    out.reserve(NAME_DIGITS + 1 + MOST_DIGITS)?;
+    push_num(id.name.number(), out);
+    out.push_reserved(b'.');
+    push_num(id.number, out);
+    Ok(())
 }
 
 /// Appends bytes as pairs of digits, `0` to `9` and `a` to `f`, or a dash where there is none.
@@ -60,12 +53,15 @@ pub fn write_hex(bytes: &[u8], out: &mut Vec<u8>) -> Result<(), AllocError>
     ensures ok { OnOk result (out.new.items ≡ out.old.items ++ hex_text bytes.now) }
     ensures err { OnErr result (out.new.items ≡ out.old.items) }
 {
-    let before = out.len();
-    let written = append_hex(bytes, out);
-    if written.is_err() {
-        out.truncate(before);
+    if bytes.is_empty() {
+        out.push(b'-')?;
+        return Ok(());
     }
-    written
+    out.reserve(2 * bytes.len())?;
+    for byte in bytes {
+        push_byte(*byte, out);
+    }
+    Ok(())
 }
 
 /// Appends what stands at a place: the members of its configuration, or `removed` for none.
@@ -81,31 +77,4 @@ pub fn write_standing(members: Option<Members>, out: &mut Vec<u8>) -> Result<(),
         Some(members) => write_set(&members, out)?,
     }
     Ok(())
-}
-
-// Appends bytes as digits, or after a refusal some bytes.
-fn append_hex(bytes: &[u8], out: &mut Vec<u8>) -> Result<(), AllocError>
-    ensures ok { OnOk result (out.new.items ≡ out.old.items ++ hex_text bytes.now) }
-    ensures err { OnErr result (Grows out.old.items out.new.items) }
-{
-    if bytes.is_empty() {
-        out.push(b'-')?;
-        return Ok(());
-    }
-    for byte in bytes {
-        out.extend_from_slice(&[digit(byte / 16), digit(byte % 16)])?;
-    }
-    Ok(())
-}
-
-// The digit of a number below 16.
-fn digit(number: u8) -> u8
-    requires { number < 16 }
-    ensures { result ≡ digit_of number }
-{
-    if number < 10 {
-        b'0' + number
-    } else {
-        b'a' - 10 + number
-    }
 }

@@ -7,6 +7,7 @@ use Rattle.rambo_names.specs.declared.refusal.Refusal.TheVariants.{OutOfMemory}
 use Rattle.rambo_names.specs.Quorums.{QuorumSystem}
 use Rattle.rambo_names.specs.Refusals.{least, IsRefusal}
 use Rattle.rambo_node.specs.declared.change.Change.{Change}
+use Rattle.rambo_node.specs.Changes.{refusal_of}
 use Rattle.rambo_node.specs.Nodes.{NodeState}
 use Rattle.rambo_run.specs.declared.step.Step.{Step}
 use Rattle.rambo_run.specs.declared.step.Step.TheVariants as step
@@ -64,3 +65,8 @@ module _ {Q : Type 0} (w : WorldState Q) (st : Step Q) (n : ℕ) (c : Change Q) 
 pub deliver_refusal : {Q : Type 0} (s : QuorumSystem Q) (w : WorldState Q) (number : ℕ) → refusal s w (step.Deliver number) ≡ least (causes_of s w (delivery (letter_at w.letters number)))
 unfolding refusal causes
 deliver_refusal s w number = refl
+
+-- a step that means a change of a node is judged by that node
+pub judged_at : {Q : Type 0} (s : QuorumSystem Q) (w : WorldState Q) (st : Step Q) (n : ℕ) (c : Change Q) (x : NodeState Q)
+    → meant w st ≡ Some (record { name = n; change = c }) → node_at w n ≡ Some x → refusal_of s x c ≡ refusal s w st
+judged_at s w st n c x means found = sym (step_refusal w st n c means s ∙ ap (λ o. least (causes_at s o c)) found)

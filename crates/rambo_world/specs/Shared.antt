@@ -10,7 +10,7 @@ use Rattle.rambo_world.specs.Kept.{SentState, kind_of}
 
 -- what gossip tells of configurations
 abbrev pub standing_of : {Q : Type 0} → GossipOutline Q → Standing Q
-standing_of g = record { vote = g.vote; offer = g.offer; map = g.map.now }
+standing_of g = record { vote = g.vote.now; offer = g.offer; map = g.map.now }
 
 -- what an active node knew, with this told of configurations
 abbrev pub gossip_with : {Q : Type 0} → Sent → Standing Q → Gossip Q

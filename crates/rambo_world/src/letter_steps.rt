@@ -23,7 +23,10 @@ impl<Q: Quorums, S: Replica> State<Q, S> {
         ensures refused { IfErr result (λ r. least (causes_of Q.system self.now (delivery (letter_at self.now.letters number))) ≡ Some r) }
     {
         match self.letters.get(number) {
-            Some(sent) => self.nodes.may_hear(&sent.letter),
+            Some(sent) => {
+                let letter = &sent.letter;
+                self.nodes.node(letter.addressee).may_hear_outlined(letter)
+            }
             None => Err(Refusal::NoSuchLetter),
         }
     }

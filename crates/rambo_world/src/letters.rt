@@ -128,7 +128,7 @@ fn read_gossip<Q: Quorums>(standings: &[Standing<Q>], sent: Sent) -> Option<Goss
             map: &standing.map,
             number: sent.number,
             heard: sent.heard,
-            vote: standing.vote,
+            vote: &standing.vote,
             offer: standing.offer,
         }),
         None => None,

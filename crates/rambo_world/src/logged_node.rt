@@ -1,5 +1,5 @@
 //! Nodes with logs.
-ghost use Rattle.std.specs.Prelude.{◌≡◌, ◌+◌, ◌≤◌, ◌++◌, None, Some, [], OnOk, OnErr, IfOk, IfErr};
+ghost use Rattle.std.specs.Prelude.{◌≡◌, ◌+◌, ◌<◌, ◌≤◌, ◌++◌, None, Some, [], OnOk, OnErr, IfOk, IfErr};
 ghost use Rattle.std.specs.Option.{option_copied};
 ghost use Rattle.std.specs.Vec.{vec_len, vec_capacity};
 ghost use Rattle.rambo_names.specs.Refusals.{least};
@@ -10,17 +10,19 @@ ghost use Rattle.rambo_node.specs.Nodes.{first_node};
 ghost use Rattle.rambo_node.specs.Refusals.{hear_causes, call_causes};
 ghost use Rattle.rambo_gossip.specs.Letters.{letter_with};
 ghost use Rattle.rambo_node.specs.Changes.{refusal_of, made_by};
+ghost use Rattle.rambo_node.specs.Notes.{noted, MayStand};
 ghost use Rattle.rambo_node.specs.declared.change.Change.TheVariants as change;
 ghost use Rattle.rambo_world.specs.Kept.{Grows, outline};
 ghost use Rattle.rambo_world.specs.Logging.{copies_brought, listed};
 
 use crate::outline::Outline;
-use rambo_atomic::Op;
+use rambo_atomic::{CallId, History, Op};
 use rambo_config_map::ConfigMap;
 use rambo_gossip::{Kind, LetterOutline};
 use rambo_joiner::Status;
 use rambo_names::{Name, Quorums, Refusal};
 use rambo_node::{Change, Deed, Node};
+use rambo_sequence::Mark;
 use rambo_tag::{KeyedVersion, Pack, Replica, Version};
 use std::alloc::Global;
 use std::marker::Model;
@@ -69,22 +71,6 @@ impl<Q: Quorums, S: Replica> LoggedNode<Q, S> {
         self.node.judge(change)
     }
 
-    // Why a letter is refused, if it is.
-    pub(crate) fn may_hear(&self, letter: &LetterOutline<'_, Q>) -> Result<(), Refusal>
-        ensures ok { OnOk result (least (hear_causes self.now.state letter.now.kind) ≡ None) }
-        ensures refused { IfErr result (λ r. least (hear_causes self.now.state letter.now.kind) ≡ Some r) }
-    {
-        self.node.may_hear_outlined(letter)
-    }
-
-    // Why a client may not ask this, if it may not.
-    pub(crate) fn may_call(&self, op: &Op) -> Result<(), Refusal>
-        ensures ok { OnOk result (least (call_causes self.now.state op.now) ≡ None) }
-        ensures refused { IfErr result (λ r. least (call_causes self.now.state op.now) ≡ Some r) }
-    {
-        self.node.may_call(op)
-    }
-
     // Takes a change that isn't refused, and logs the copies that its registers take on. The deed is told without the
     // copy.
     pub(crate) fn act(&mut self, change: &Change<Q>) -> Result<Deed<Q>, Refusal>
@@ -100,6 +86,44 @@ impl<Q: Quorums, S: Replica> LoggedNode<Q, S> {
         let mut deed = self.node.act(change)?;
         log_all(&mut self.log, more, deed.copy.take());
         Ok(deed)
+    }
+
+    // Begins a call that isn't refused.
+    pub(crate) fn begin(&mut self, op: Op) -> Result<CallId, Refusal>
+        requires { refusal_of Q.system self.old.state (change.Call op) ≡ None }
+        ensures node { OnOk result (self.new.state ≡ (made_by self.old.state (change.Call op)).node) }
+        ensures id { IfOk result (λ id. id ≡ record { name = self.old.state.name; number = self.old.state.made + 1 }) }
+        ensures refused { IfErr result (λ r. r ≡ Refusal.OutOfMemory) }
+        ensures err { OnErr result (self.new ≡ self.old) }
+        ensures grows { Grows self.old self.new }
+    {
+        let id = self.node.begin(op)?;
+        Ok(id)
+    }
+
+    // Advances a call, where that isn't refused: its answer goes into the history, its mark among the marks, and its
+    // copy into the log.
+    pub(crate) fn go_on(
+        &mut self,
+        id: CallId,
+        history: &mut History,
+        marks: &mut Vec<Mark>,
+    ) -> Result<(), Refusal>
+        requires accepted { refusal_of Q.system self.old.state (change.Advance id) ≡ None }
+        requires room { 0 < history.old.room }
+        requires fits { MayStand history.old.events (made_by self.old.state (change.Advance id)).deed.event }
+        requires space { vec_len marks.old + 1 ≤ vec_capacity marks.old }
+        ensures node { OnOk result (self.new.state ≡ (made_by self.old.state (change.Advance id)).node) }
+        ensures event { OnOk result (history.new.events ≡ noted history.old.events (made_by self.old.state (change.Advance id)).deed.event) }
+        ensures mark { OnOk result (marks.new.items ≡ noted marks.old.items (made_by self.old.state (change.Advance id)).deed.mark) }
+        ensures refused { IfErr result (λ r. r ≡ Refusal.OutOfMemory) }
+        ensures err { OnErr result ((self.new ≡ self.old) × (history.new.events ≡ history.old.events) × (marks.new.items ≡ marks.old.items)) }
+        ensures grows { Grows self.old self.new }
+    {
+        self.log.reserve(1)?;
+        let copy = self.node.go_on(id, history, marks)?;
+        log_one(&mut self.log, copy);
+        Ok(())
     }
 
     // Hears a letter that isn't refused, which has these copies, and logs them.
@@ -144,6 +168,13 @@ impl<Q: Quorums, S: Replica> LoggedNode<Q, S> {
             letter: self.node.outline_for(to),
             told,
         }
+    }
+
+    // The node.
+    pub(crate) fn node(&self) -> &Node<Q, S>
+        ensures { result.now ≡ self.now.state }
+    {
+        &self.node
     }
 
     // The log, the oldest copies first.
@@ -192,6 +223,16 @@ fn log_all(log: &mut Vec<KeyedVersion>, more: Vec<KeyedVersion>, copy: Option<Ke
         let mut more = more;
         let _kept = log.append(&mut more);
     }
+    if let Some(copy) = copy {
+        log.push_reserved(copy);
+    }
+}
+
+// Puts a copy, if there is one, at the end of a log that has room for it.
+fn log_one(log: &mut Vec<KeyedVersion>, copy: Option<KeyedVersion>)
+    requires room { vec_len log.old + 1 ≤ vec_capacity log.old }
+    ensures { log.new.items ≡ log.old.items ++ listed copy }
+{
     if let Some(copy) = copy {
         log.push_reserved(copy);
     }

@@ -1,5 +1,5 @@
 //! Steps of one node.
-ghost use Rattle.std.specs.Prelude.{◌≡◌, ◌<◌, false, None, Some, OnErr, IfOk, IfErr};
+ghost use Rattle.std.specs.Prelude.{◌≡◌, ◌<◌, ◌++◌, ◌∷◌, [], false, None, Some, OnErr, IfOk, IfErr};
 ghost use Rattle.std.specs.Vec.{vec_capacity, vec_len};
 ghost use Rattle.rambo_names.specs.Refusals.{least};
 ghost use Rattle.rambo_atomic.specs.Faults.{fault_of};
@@ -8,7 +8,7 @@ ghost use Rattle.rambo_run.specs.Worlds.{node_at};
 ghost use Rattle.rambo_world.specs.Worlds.{EventFits, sends};
 
 use crate::state::State;
-use rambo_atomic::{Event, History};
+use rambo_atomic::{CallId, Event, History, Op};
 use rambo_names::{Name, Quorums, Refusal};
 use rambo_node::{Change, Deed, Effect};
 use rambo_sequence::Mark;
@@ -39,6 +39,47 @@ impl<Q: Quorums, S: Replica> State<Q, S> {
         push_mark(&mut self.marks, mark);
         Ok(effect)
     }
+
+    // A client asks a node for an operation, which isn't refused.
+    pub(crate) fn call(&mut self, name: Name, op: &Op) -> Result<Effect<Q>, Refusal>
+        requires accepted { least (causes_at Q.system (node_at self.old name) (Change.Call op.now)) ≡ None }
+        requires fits { EventFits self.old name (Change.Call op.now) }
+        ensures ok { IfOk result (λ e. turn_at self.old name (node_at self.old name) (Change.Call op.now) ≡ record { world = self.new; effect = e }) }
+        ensures err { OnErr result (self.new ≡ self.old) }
+        ensures refused { IfErr result (λ r. r ≡ Refusal.OutOfMemory) }
+    {
+        self.history.reserve(1)?;
+        let _ = self.history.prepare(name);
+        let asked = op.clone()?;
+        let own = op.clone()?;
+        let id = self.nodes.begin(name, own)?;
+        push_call(&mut self.history, &id, asked);
+        Ok(Effect::Called(id))
+    }
+
+    // A call goes on whose advance isn't refused.
+    pub(crate) fn advance(&mut self, id: CallId) -> Result<Effect<Q>, Refusal>
+        requires accepted { least (causes_at Q.system (node_at self.old id.name) (Change.Advance id)) ≡ None }
+        requires fits { EventFits self.old id.name (Change.Advance id) }
+        ensures ok { IfOk result (λ e. turn_at self.old id.name (node_at self.old id.name) (Change.Advance id) ≡ record { world = self.new; effect = e }) }
+        ensures err { OnErr result (self.new ≡ self.old) }
+        ensures refused { IfErr result (λ r. r ≡ Refusal.OutOfMemory) }
+    {
+        self.history.reserve(1)?;
+        self.marks.reserve(1)?;
+        let effect = self.nodes.node(id.name).advance_effect(&id)?;
+        self.nodes.go_on(id, &mut self.history, &mut self.marks)?;
+        Ok(effect)
+    }
+}
+
+// A call goes to the end of a history that has room for it.
+fn push_call(history: &mut History, id: &CallId, op: Op)
+    requires room { 0 < history.old.room }
+    requires fits { fault_of history.old.events (Event.Call id.now op) ≡ None }
+    ensures { history.new.events ≡ history.old.events ++ Event.Call id.now op ∷ [] }
+{
+    history.push_reserved(Event::Call(*id, op));
 }
 
 // The event of a deed, if it has one, goes to the end, where there is room for it.

@@ -1,5 +1,6 @@
 //! The nodes of a world.
-ghost use Rattle.std.specs.Prelude.{◌≡◌, ◌-◌, ◌<◌, None, Some, take, drop, OnOk, OnErr, IfOk, IfErr};
+ghost use Rattle.std.specs.Prelude.{◌≡◌, ◌+◌, ◌-◌, ◌<◌, ◌≤◌, None, Some, take, drop, OnOk, OnErr, IfOk, IfErr};
+ghost use Rattle.std.specs.Vec.{vec_len, vec_capacity};
 ghost use Rattle.rambo_names.specs.Names.{IsName, rising};
 ghost use Rattle.rambo_names.specs.Refusals.{least};
 ghost use Rattle.rambo_tag.specs.Copies.{joined};
@@ -7,18 +8,20 @@ ghost use Rattle.rambo_tag.specs.Logs.{greatest_of};
 ghost use Rattle.rambo_gossip.specs.Letters.{letter_with};
 ghost use Rattle.rambo_node.specs.Changes.{made_by};
 ghost use Rattle.rambo_node.specs.Nodes.{NodeState};
+ghost use Rattle.rambo_node.specs.Notes.{noted, MayStand};
 ghost use Rattle.rambo_run.specs.Runs.{maps_of};
 ghost use Rattle.rambo_run.specs.Steps.{causes_at};
 ghost use Rattle.rambo_world.specs.Kept.{KeptNode, states_of, state_at, kept_at, log_at, moved, outline, AllGrow, fresh_nodes};
 
 use crate::logged_node::LoggedNode;
 use crate::outline::Outline;
-use rambo_atomic::Op;
-use rambo_config_map::{ConfigMap, Places};
+use rambo_atomic::{CallId, History, Op};
+use rambo_config_map::Places;
 use rambo_gossip::LetterOutline;
 use rambo_names::{Name, Quorums, Refusal};
-use rambo_node::{Change, Deed};
+use rambo_node::{Change, Deed, Node};
 use rambo_run::NodeMap;
+use rambo_sequence::Mark;
 use rambo_tag::{KeyedVersion, Replica};
 use std::alloc::Global;
 use std::marker::Model;
@@ -63,11 +66,11 @@ impl<Q: Quorums, S: Replica> Nodes<Q, S> {
         Ok(Nodes { list, spare })
     }
 
-    // The configuration map of a node.
-    pub(crate) fn map(&self, name: Name) -> &ConfigMap<Q>
-        ensures { (x : NodeState Q) → state_at self.now name ≡ Some x → result.now ≡ x.map }
+    // The node of a name.
+    pub(crate) fn node(&self, name: Name) -> &Node<Q, S>
+        ensures { state_at self.now name ≡ Some result.now }
     {
-        self.list[place_of(name)].map()
+        self.list[place_of(name)].node()
     }
 
     // The maps of the nodes that aren't idle.
@@ -86,22 +89,6 @@ impl<Q: Quorums, S: Replica> Nodes<Q, S> {
         self.list[place_of(name)].judge(change)
     }
 
-    // Whether a client may ask this of a node.
-    pub(crate) fn may_call(&self, name: Name, op: &Op) -> Result<(), Refusal>
-        ensures ok { OnOk result (least (causes_at Q.system (state_at self.now name) (Change.Call op.now)) ≡ None) }
-        ensures refused { IfErr result (λ r. least (causes_at Q.system (state_at self.now name) (Change.Call op.now)) ≡ Some r) }
-    {
-        self.list[place_of(name)].may_call(op)
-    }
-
-    // Whether a letter may come to its addressee.
-    pub(crate) fn may_hear(&self, letter: &LetterOutline<'_, Q>) -> Result<(), Refusal>
-        ensures ok { OnOk result (least (causes_at Q.system (state_at self.now letter.now.addressee) (Change.Deliver letter.now)) ≡ None) }
-        ensures refused { IfErr result (λ r. least (causes_at Q.system (state_at self.now letter.now.addressee) (Change.Deliver letter.now)) ≡ Some r) }
-    {
-        self.list[place_of(letter.addressee)].may_hear(letter)
-    }
-
     // A node takes a change that isn't refused.
     pub(crate) fn act(&mut self, name: Name, change: &Change<Q>) -> Result<Deed<Q>, Refusal>
         requires { least (causes_at Q.system (state_at self.old name) change.now) ≡ None }
@@ -112,6 +99,39 @@ impl<Q: Quorums, S: Replica> Nodes<Q, S> {
         ensures grow { AllGrow self.old self.new }
     {
         self.list[place_of(name)].act(change)
+    }
+
+    // A call of a node begins that isn't refused.
+    pub(crate) fn begin(&mut self, name: Name, op: Op) -> Result<CallId, Refusal>
+        requires { least (causes_at Q.system (state_at self.old name) (Change.Call op)) ≡ None }
+        ensures nodes { OnOk result (states_of self.new ≡ moved self.old name (λ x. (made_by x (Change.Call op)).node)) }
+        ensures id { IfOk result (λ id. (x : NodeState Q) → state_at self.old name ≡ Some x → id ≡ record { name = x.name; number = x.made + 1 }) }
+        ensures refused { IfErr result (λ r. r ≡ Refusal.OutOfMemory) }
+        ensures err { OnErr result (self.new ≡ self.old) }
+        ensures grow { AllGrow self.old self.new }
+    {
+        self.list[place_of(name)].begin(op)
+    }
+
+    // A call goes on whose advance isn't refused, and what it leaves goes into the history and among the marks.
+    pub(crate) fn go_on(
+        &mut self,
+        id: CallId,
+        history: &mut History,
+        marks: &mut Vec<Mark>,
+    ) -> Result<(), Refusal>
+        requires accepted { least (causes_at Q.system (state_at self.old id.name) (Change.Advance id)) ≡ None }
+        requires room { 0 < history.old.room }
+        requires fits { (x : NodeState Q) → state_at self.old id.name ≡ Some x → MayStand history.old.events (made_by x (Change.Advance id)).deed.event }
+        requires space { vec_len marks.old + 1 ≤ vec_capacity marks.old }
+        ensures nodes { OnOk result (states_of self.new ≡ moved self.old id.name (λ x. (made_by x (Change.Advance id)).node)) }
+        ensures event { OnOk result ((x : NodeState Q) → state_at self.old id.name ≡ Some x → history.new.events ≡ noted history.old.events (made_by x (Change.Advance id)).deed.event) }
+        ensures mark { OnOk result ((x : NodeState Q) → state_at self.old id.name ≡ Some x → marks.new.items ≡ noted marks.old.items (made_by x (Change.Advance id)).deed.mark) }
+        ensures refused { IfErr result (λ r. r ≡ Refusal.OutOfMemory) }
+        ensures err { OnErr result ((self.new ≡ self.old) × (history.new.events ≡ history.old.events) × (marks.new.items ≡ marks.old.items)) }
+        ensures grow { AllGrow self.old self.new }
+    {
+        self.list[place_of(id.name)].go_on(id, history, marks)
     }
 
     // The addressee of a letter that isn't refused hears it, with these copies.

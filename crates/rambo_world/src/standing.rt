@@ -21,7 +21,7 @@ impl<Q: Quorums> Standing<Q> {
         ensures { result ≡ standing_of gossip.now }
     {
         Standing {
-            vote: gossip.vote,
+            vote: *gossip.vote,
             offer: gossip.offer,
             map: gossip.map.copy(),
         }
@@ -32,7 +32,7 @@ impl<Q: Quorums> Standing<Q> {
         ensures { IsTrue result → self.now ≡ standing_of gossip.now }
     {
         self.map.same(gossip.map)
-            && is_vote(&self.vote, &gossip.vote)
+            && is_vote(&self.vote, gossip.vote)
             && is_offer(&self.offer, &gossip.offer)
     }
 }

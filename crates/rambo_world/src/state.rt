@@ -56,11 +56,11 @@ impl<Q: Quorums, S: Replica> State<Q, S> {
         ensures refused { IfErr result (λ r. refusal Q.system self.now step.now ≡ Some r) }
     {
         let (name, change) = match step {
-            Step::Call(name, op) => return self.nodes.may_call(*name, op),
+            Step::Call(name, op) => return self.nodes.node(*name).may_call(op),
+            Step::Send(from, to) => return self.nodes.node(*from).may_send(*to),
+            Step::Advance(id) => return self.nodes.node(id.name).may_advance(id),
             Step::Deliver(number) => return self.may_deliver(*number),
             Step::Join(name, contacts) => (*name, Change::Join(*contacts)),
-            Step::Send(from, to) => (*from, Change::Send(*to)),
-            Step::Advance(id) => (id.name, Change::Advance(*id)),
             Step::Again(id) => (id.name, Change::Again(*id)),
             Step::Collect(name) => (*name, Change::Collect),
             Step::AdvanceCollect(name) => (*name, Change::AdvanceCollect),
@@ -102,12 +102,14 @@ impl<Q: Quorums, S: Replica> State<Q, S> {
         match step {
             Step::Send(from, to) => self.send(*from, *to),
             Step::Deliver(number) => self.deliver(*number),
+            Step::Call(name, op) => self.call(*name, op),
+            Step::Advance(id) => self.advance(*id),
             _ => self.act_by_change(step),
         }
     }
 
-    // The same, by the change that the step means where it has one: most steps are those of letters, and they needn't pay
-    // for the room of a change.
+    // The same, by the change that the step means where it has a large one: most steps are those of letters and calls,
+    // and they needn't pay for the room of a change.
     fn act_by_change(&mut self, step: &Step<Q>) -> Result<Effect<Q>, Refusal>
         requires accepted { refusal Q.system self.old step.now ≡ None }
         requires fits { EventsFit Q.system self.old }
@@ -118,9 +120,9 @@ impl<Q: Quorums, S: Replica> State<Q, S> {
         let (name, change) = match step {
             Step::Send(from, to) => return self.send(*from, *to),
             Step::Deliver(number) => return self.deliver(*number),
+            Step::Call(name, op) => return self.call(*name, op),
+            Step::Advance(id) => return self.advance(*id),
             Step::Join(name, contacts) => (*name, Change::Join(*contacts)),
-            Step::Call(name, op) => (*name, Change::Call(op.clone()?)),
-            Step::Advance(id) => (id.name, Change::Advance(*id)),
             Step::Again(id) => (id.name, Change::Again(*id)),
             Step::Collect(name) => (*name, Change::Collect),
             Step::AdvanceCollect(name) => (*name, Change::AdvanceCollect),
@@ -200,7 +202,7 @@ impl<Q: Quorums, S: Replica> State<Q, S> {
     pub(crate) fn map(&self, name: Name) -> &ConfigMap<Q>
         ensures { (x : NodeState Q) → node_at self.now name ≡ Some x → result.now ≡ x.map }
     {
-        self.nodes.map(name)
+        self.nodes.node(name).map()
     }
 
     // The given sequences of all keys that have one.

@@ -1,25 +1,47 @@
-use Rattle.std.proofs.Common.{◌≡◌, ◌≢◌, length, arith}
-use Rattle.std.proofs.lemmas.Bool.Decides.{nat_tests}
-use Rattle.rambo_outcome.proofs.TextSteps.{read_start, read_on, read_end, read_fault, some_left, none_left}
+use Rattle.std.proofs.Common.{◌≡◌, ◌+◌, refl, sym, ap, subst, ◌∙◌, true≢false}
+use Rattle.std.specs.Bool.{MatchBool}
+use Rattle.rambo_atomic.specs.Unreads.{HoldsLine, IsDone}
+use Rattle.rambo_text.specs.declared.fault.ScriptFault.{ScriptFault}
+use Rattle.rambo_outcome.specs.Texts.{IsTextFault}
+use Rattle.rambo_outcome.proofs.TextSteps.{read_start, read_more, read_on, read_end, read_fault}
 use Rattle.rambo_outcome.proofs.text.read_outcome.Goals as goal
 
-pub loop-rest-init : goal.loop-rest-init
-loop-rest-init c = read_start c.args.text.now c.new-evidence.result c.new-evidence.ensures.events c.new-evidence.ensures.orders
+pub loop-evidence-init : goal.loop-evidence-init
+loop-evidence-init g c = record {
+  read = read_start _ c.new-evidence.result c.new-unread.result c.new-evidence.ensures.events c.new-evidence.ensures.orders (ap (λ u. u.held) c.new-unread.ensures);
+  knows = λ e. absurd (true≢false (sym e ∙ ap (λ u. u.ended) c.new-unread.ensures));
+  fine = refl;
+}
 
-pub returns-in-Err-clause-fault : goal.returns-in-Err-clause-fault
-returns-in-Err-clause-fault c =
-    let some : length c.loop-rest.rest.now ≢ 0 = grind (arith, nat_tests) in
-    read_fault c.args.text.now c.loop-rest.rest.now c.next_line.result.0.now c.next_line.result.1.now c.loop-rest.evidence c.loop-rest.line c.in-Err.fault c.loop-rest.invariant
-    (some_left c.loop-rest.rest.now some) c.next_line.ensures c.in-Err.ensures.fault
+pub returns-in-Err-clause-script : goal.returns-in-Err-clause-script
+returns-in-Err-clause-script g c =
+    let found = c.in_ok-find_line.ensures in
+    let u = c.find_line.new.self in
+    let now = read_more _ _ (g.R.Source.left c.find_line.new.reader) c.loop-evidence.evidence c.loop-evidence.unread u c.loop-evidence.line c.loop-evidence.invariant.read found.bytes found.ended in
+    let holds : HoldsLine u = subst (λ b. MatchBool b (HoldsLine u) (IsDone u)) c.if-branch.true found.line in
+    let bad = c.in-Err.ensures.fault in
+    let told = read_fault _ _ c.loop-evidence.evidence u c.loop-evidence.line bad.0 bad.1 c.in-Err.fault now holds found.knows bad.2 bad.3 in
+    λ f is.
+    let this : ScriptFault = record { fault = c.in-Err.fault; line = c.loop-evidence.line + 1 } in
+    let same : this ≡ f = cc in (told.0, told.1, subst (IsTextFault told.0) same told.2, c.in_ok-read_rest.ensures.end)
 
-pub loop-rest-preserved : goal.loop-rest-preserved
-loop-rest-preserved c =
-    let some : length c.loop-rest.rest.now ≢ 0 = grind (arith, nat_tests) in
-    let taken = c.in_default.ensures.taken in
-    read_on c.args.text.now c.loop-rest.rest.now c.next_line.result.0.now c.next_line.result.1.now c.loop-rest.evidence c.take_line.new.evidence c.loop-rest.line taken.0
-    c.loop-rest.invariant (some_left c.loop-rest.rest.now some) c.next_line.ensures taken.1 taken.2 taken.3 taken.4
+pub loop-evidence-preserved : goal.loop-evidence-preserved
+loop-evidence-preserved g c =
+    let found = c.in_ok-find_line.ensures in
+    let u = c.find_line.new.self in
+    let now = read_more _ _ (g.R.Source.left c.find_line.new.reader) c.loop-evidence.evidence c.loop-evidence.unread u c.loop-evidence.line c.loop-evidence.invariant.read found.bytes found.ended in
+    let holds : HoldsLine u = subst (λ b. MatchBool b (HoldsLine u) (IsDone u)) c.if-branch.true found.line in
+    let taken = c.in_default.ensures in
+    record {
+      read = read_on _ _ c.loop-evidence.evidence c.take_first.new.evidence u c.take_first.new.unread c.loop-evidence.line now holds taken.taken taken.ended;
+      knows = λ e. found.knows (sym taken.ended ∙ e);
+      fine = found.fine ∙ c.loop-evidence.invariant.fine;
+    }
 
 pub returns-clause-told : goal.returns-clause-told
-returns-clause-told c =
-    let none : length c.loop-rest.rest.now ≡ 0 = grind (arith, nat_tests) in
-    read_end c.args.text.now c.loop-rest.rest.now c.loop-rest.evidence c.loop-rest.line c.loop-rest.invariant (none_left c.loop-rest.rest.now none)
+returns-clause-told g c =
+    let found = c.in_ok-find_line.ensures in
+    let u = c.find_line.new.self in
+    let now = read_more _ _ (g.R.Source.left c.find_line.new.reader) c.loop-evidence.evidence c.loop-evidence.unread u c.loop-evidence.line c.loop-evidence.invariant.read found.bytes found.ended in
+    let done : IsDone u = subst (λ b. MatchBool b (HoldsLine u) (IsDone u)) c.if-branch.false found.line in
+    read_end _ _ c.loop-evidence.evidence u c.loop-evidence.line now done found.knows

@@ -10,7 +10,7 @@ use Rattle.rambo_node.proofs.Sizes.{deliver_fits}
 use Rattle.rambo_node.proofs.node.Node.act.Goals as goal
 
 pub do_hear-requires : goal.do_hear-requires
-do_hear-requires g c = (search rules, deliver_fits _ _ _ _ _ c.requires-raw.1.1.1.0)
+do_hear-requires g c = (search rules, deliver_fits _ _ _ _ _ _ _ _ c.requires-raw.1.1.1.0)
 
 pub do_call-requires : goal.do_call-requires
 do_call-requires g c = (

@@ -1,6 +1,7 @@
-use Rattle.std.proofs.Common.{◌≡◌, ◌∙◌, ℕ, false, Option, None, Some, sym, ap, subst, IfOk}
+use Rattle.std.proofs.Common.{◌≡◌, ◌∙◌, ℕ, false, Option, None, Some, refl, sym, ap, subst, IfOk}
 use Rattle.std.proofs.lemmas.Result.{IfOk-weaker}
 use Rattle.rambo_node.specs.declared.change.Change.{Change}
+use Rattle.rambo_node.specs.declared.change.Change.TheVariants as change
 use Rattle.rambo_run.specs.declared.step.Step.TheVariants as step
 use Rattle.rambo_run.specs.Steps.{Meant, meant, refusal, turn}
 use Rattle.rambo_run.specs.Worlds.{WorldState}
@@ -9,7 +10,7 @@ use Rattle.rambo_world.proofs.Sizes.{up_fits, back_fits, variant_fits}
 use Rattle.rambo_world.proofs.Turns.{step_refusal, step_turn, step_fits}
 use Rattle.rambo_world.proofs.state.State.act_by_change.Given.{Over}
 use Rattle.rambo_world.proofs.state.State.act_by_change.Goals as goal
-use Rattle.rambo_world.proofs.state.State.act_by_change.Goals.{in-Join, in-Call+in_ok-clone-in-Call, in-Advance, in-Again, in-Collect, in-AdvanceCollect, in-Recon, in-Rebid, in-AdvanceRecon, in-Stop}
+use Rattle.rambo_world.proofs.state.State.act_by_change.Goals.{in-Join, in-Again, in-Collect, in-AdvanceCollect, in-Recon, in-Rebid, in-AdvanceRecon, in-Stop}
 
 pub send-requires : goal.send-requires
 send-requires g c = (c.requires-raw.1.1.0, subst (λ st. refusal g.Q.Quorums.system c.args.self.now st ≡ None) c.in-Send.is c.requires.accepted)
@@ -23,6 +24,32 @@ returns-in-Send-clause-ok g c = subst (λ st. IfOk c.send.result (λ e. turn c.a
 pub returns-in-Deliver-clause-ok : goal.returns-in-Deliver-clause-ok
 returns-in-Deliver-clause-ok g c = subst (λ st. IfOk c.deliver.result (λ e. turn c.args.self.now st ≡ record { world = c.deliver.new.self; effect = e })) (sym c.in-Deliver.is) c.deliver.ensures.ok
 
+pub call-requires : goal.call-requires
+call-requires g c =
+    let s = g.Q.Quorums.system in
+    let w = c.args.self.now in
+    let accepted = subst (λ st. refusal s w st ≡ None) c.in-Call.is c.requires.accepted in
+    (c.requires-raw.1.1.0, (sym (step_refusal w (step.Call c.in-Call.name c.in-Call.op) c.in-Call.name (change.Call c.in-Call.op) refl s) ∙ accepted, step_fits w (step.Call c.in-Call.name c.in-Call.op) c.in-Call.name (change.Call c.in-Call.op) refl s c.requires.fits accepted))
+
+pub returns-in-Call-clause-ok : goal.returns-in-Call-clause-ok
+returns-in-Call-clause-ok g c =
+    let w = c.args.self.now in
+    subst (λ st. IfOk c.call.result (λ e. turn w st ≡ record { world = c.call.new.self; effect = e })) (sym c.in-Call.is)
+    (IfOk-weaker c.call.result _ _ (λ e done. step_turn w (step.Call c.in-Call.name c.in-Call.op) c.in-Call.name (change.Call c.in-Call.op) refl ∙ done) c.call.ensures.ok)
+
+pub advance-requires : goal.advance-requires
+advance-requires g c =
+    let s = g.Q.Quorums.system in
+    let w = c.args.self.now in
+    let accepted = subst (λ st. refusal s w st ≡ None) c.in-Advance.is c.requires.accepted in
+    (c.requires-raw.1.1.0, (sym (step_refusal w (step.Advance c.in-Advance.id) c.in-Advance.id.name (change.Advance c.in-Advance.id) refl s) ∙ accepted, step_fits w (step.Advance c.in-Advance.id) c.in-Advance.id.name (change.Advance c.in-Advance.id) refl s c.requires.fits accepted))
+
+pub returns-in-Advance-clause-ok : goal.returns-in-Advance-clause-ok
+returns-in-Advance-clause-ok g c =
+    let w = c.args.self.now in
+    subst (λ st. IfOk c.advance.result (λ e. turn w st ≡ record { world = c.advance.new.self; effect = e })) (sym c.in-Advance.is)
+    (IfOk-weaker c.advance.result _ _ (λ e done. step_turn w (step.Advance c.in-Advance.id) c.in-Advance.id.name (change.Advance c.in-Advance.id) refl ∙ done) c.advance.ensures.ok)
+
 of_pair : {Q : Type 0} → ℕ × Change Q → Option (Meant Q)
 of_pair p = Some (record { name = p.0; change = p.1 })
 
@@ -31,8 +58,6 @@ means : (g : Over) (c : goal.After-change-1 g) (w : WorldState g.row.Q.Denot) �
 unfolding of_pair
 means g c w = elim c.match-step.branch [
   | in-Join b ↦ ap (meant w) b.in-Join.is ∙ sym (ap of_pair b.name-is)
-  | in-Call+in_ok-clone-in-Call b ↦ ap (meant w) (b.in-Call.is ∙ ap (step.Call b.in-Call.name) (sym b.in_ok-clone-in-Call.ensures.same)) ∙ sym (ap of_pair b.name-is)
-  | in-Advance b ↦ ap (meant w) b.in-Advance.is ∙ sym (ap of_pair b.name-is)
   | in-Again b ↦ ap (meant w) b.in-Again.is ∙ sym (ap of_pair b.name-is)
   | in-Collect b ↦ ap (meant w) b.in-Collect.is ∙ sym (ap of_pair b.name-is)
   | in-AdvanceCollect b ↦ ap (meant w) b.in-AdvanceCollect.is ∙ sym (ap of_pair b.name-is)
@@ -46,8 +71,6 @@ means g c w = elim c.match-step.branch [
 quiet : (g : Over) (c : goal.After-change-1 g) → sends c.match-step.name.1 ≡ false
 quiet g c = elim c.match-step.branch [
   | in-Join b ↦ ap (λ p. sends p.1) b.name-is
-  | in-Call+in_ok-clone-in-Call b ↦ ap (λ p. sends p.1) b.name-is
-  | in-Advance b ↦ ap (λ p. sends p.1) b.name-is
   | in-Again b ↦ ap (λ p. sends p.1) b.name-is
   | in-Collect b ↦ ap (λ p. sends p.1) b.name-is
   | in-AdvanceCollect b ↦ ap (λ p. sends p.1) b.name-is
@@ -73,8 +96,6 @@ means_then : (g : Over) (c : goal.Joined-change g) (w : WorldState g.row.Q.Denot
 unfolding of_pair
 means_then g c w = elim c.match-step.branch [
   | in-Join b ↦ ap (meant w) b.in-Join.is ∙ sym (ap of_pair b.name-is)
-  | in-Call+in_ok-clone-in-Call b ↦ ap (meant w) (b.in-Call.is ∙ ap (step.Call b.in-Call.name) (sym b.in_ok-clone-in-Call.ensures.same)) ∙ sym (ap of_pair b.name-is)
-  | in-Advance b ↦ ap (meant w) b.in-Advance.is ∙ sym (ap of_pair b.name-is)
   | in-Again b ↦ ap (meant w) b.in-Again.is ∙ sym (ap of_pair b.name-is)
   | in-Collect b ↦ ap (meant w) b.in-Collect.is ∙ sym (ap of_pair b.name-is)
   | in-AdvanceCollect b ↦ ap (meant w) b.in-AdvanceCollect.is ∙ sym (ap of_pair b.name-is)

@@ -1,0 +1,4 @@
+pub mod NodeLogs
+pub mod Stored
+pub mod Numbers
+pub mod Inside
