@@ -1,11 +1,9 @@
 -- Nodes after a step
-use Rattle.std.proofs.Common.{◌≡◌, ◌≢◌, ℕ, zero, suc, ◌-◌, ◌≤◌, ◌<◌, List, [], length, append-nil, Option, None, Some, Result, Ok, Err, OnErr, IfErr, slice_get, slice_set, get_or, refl, sym, ap, ◌∙◌, inl, inr, subst, arith}
+use Rattle.std.proofs.Common.{◌≡◌, ◌≢◌, ℕ, zero, suc, ◌-◌, ◌≤◌, ◌<◌, List, [], length, append-nil, Option, None, Some, Result, Ok, Err, OnErr, slice_get, slice_set, get_or, refl, sym, ap, ◌∙◌, inl, inr, subst, arith}
 use Rattle.std.proofs.lemmas.Bool.{cases_eq}
 use Rattle.std.proofs.lemmas.Option.{slice_get-map, slice_get_within, slice_get_read, get_or_from_slice_get}
 use Rattle.std.proofs.lemmas.List.{map-set, set-get_or, length-set, get_or-set_same, get_or-set_other}
 use Rattle.std.specs.Option.{IsSomeAnd, option_map}
-use Rattle.std.specs.Result.{IsErrAnd}
-use Rattle.rambo_names.specs.declared.refusal.Refusal.{Refusal}
 use Rattle.rambo_tag.specs.declared.keyed_version.KeyedVersion.{KeyedVersion}
 use Rattle.rambo_node.specs.Nodes.{NodeState}
 use Rattle.rambo_world.specs.Kept.{KeptNode, state_of, states_of, state_at, kept_at, moved, moved_in, Extends, IsRecorded, Grows, AllGrow}
@@ -27,11 +25,6 @@ grows_same x y e = record {
   extends = subst (λ k. Extends x.log k.log) (sym e) (Extends-refl x.log);
   recorded = λ r. subst IsRecorded (sym e) r;
 }
-
--- whatever brings an error on
-pub err_is : {T : Type 0} (r : Result T Refusal) (P R : Refusal → Type 0) → IsErrAnd r P → ((f : Refusal) → P f → R f) → IfErr r R
-err_is (Ok t) P R e h = absurd e
-err_is (Err f) P R e h = h f e
 
 pub on_err_all : {T E P : Type 0} (r : Result T E) → P → OnErr r P
 on_err_all (Ok t) p = tt

@@ -1,4 +1,5 @@
 mod Growth
+mod Zipping
 mod Members
 mod Logging
 mod Stepping

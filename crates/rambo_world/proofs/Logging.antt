@@ -1,9 +1,8 @@
 -- The logs of nodes: what a change puts into a log, and what stays of logs, letters and counts as logs grow
-use Rattle.std.proofs.Common.{◌≡◌, ◌≢◌, ℕ, ◌+◌, ◌<◌, true, false, List, [], ◌∷◌, ◌++◌, Option, Some, None, refl, sym, ap, ◌∙◌, inl, arith}
+use Rattle.std.proofs.Common.{◌≡◌, ℕ, ◌+◌, ◌<◌, true, false, List, ◌++◌, Option, Some, None, refl, sym, ap, ◌∙◌, inl, arith}
 use Rattle.std.proofs.Common.{append-nil}
 use Rattle.std.proofs.lemmas.Bool.{false≢true, true≢false}
 use Rattle.std.specs.Option.{is_some}
-use Rattle.rambo_names.specs.Quorums.{QuorumSystem}
 use Rattle.std.specs.Prelude.{if◌then◌else◌}
 use Rattle.std.specs.FinMap as copies
 use Rattle.std.specs.FinMap.{get, insert}
@@ -13,8 +12,8 @@ use Rattle.rambo_tag.specs.Tags.{is_newer, tag_of}
 use Rattle.rambo_tag.specs.Copies.{Copies, with_newer, joined}
 use Rattle.rambo_tag.specs.Logs.{greatest_after, greatest_of}
 use Rattle.rambo_tag.proofs.CopyOrder.{is_newer-from_lt}
-use Rattle.rambo_tag.proofs.Joins.{joined-assoc, joined-comm, joined-empty}
-use Rattle.rambo_tag.proofs.Logged.{greatest_after-append, greatest_of-nil, greatest_of-append, joined-greatest_of}
+use Rattle.rambo_tag.proofs.Joins.{joined-empty}
+use Rattle.rambo_tag.proofs.Logged.{greatest_after-append, greatest_of-append, joined-greatest_of}
 use Rattle.rambo_atomic.specs.declared.event.CallId.{CallId}
 use Rattle.rambo_atomic.specs.declared.operation.Op.{Op}
 use Rattle.rambo_atomic.specs.declared.operation.Op.TheVariants as op
@@ -28,19 +27,15 @@ use Rattle.rambo_node.specs.declared.change.Change.{Change}
 use Rattle.rambo_node.specs.declared.change.Change.TheVariants as change
 use Rattle.rambo_calls.specs.declared.stage.Stage.{Stage}
 use Rattle.rambo_calls.specs.declared.stage.Stage.TheVariants.{Query, Propagation}
-use Rattle.rambo_calls.specs.Calls.{CallState}
-use Rattle.rambo_node.specs.Nodes.{NodeState, open_call, first_node}
+use Rattle.rambo_calls.specs.Calls.{CallState, asked_in, query_in}
+use Rattle.rambo_node.specs.Nodes.{NodeState, open_call}
 use Rattle.rambo_node.specs.Hearing.{heard_kind, heard_join, heard_gossip}
 use Rattle.rambo_node.specs.Operations.{called, joined_by, stopped, called_again, query_answered, call_closed, with_copy, taken, new_copy}
 use Rattle.rambo_node.specs.Changes.{Made, made_by, quiet, stage_met, advanced, begun_again, copy_put, collection_advanced, rebid_made, attempt_advanced}
 use Rattle.rambo_node.specs.Reconfigurations.{collection_opened, attempt_opened}
+use Rattle.rambo_world.proofs.Growth.{some_is}
 use Rattle.rambo_world.proofs.Members.{Keeps, opened_keeps, collection_keeps, wish_keeps, rebid_keeps, attempt_keeps}
-use Rattle.rambo_world.specs.Logging.{copies_in, copies_brought, listed}
-
--- a new node holds nothing
-pub first_recorded : {Q : Type 0} (s : QuorumSystem Q) (founders : Q) (n : ℕ) → (first_node s founders n).registers ≡ greatest_of []
-unfolding first_node
-first_recorded s founders n = sym greatest_of-nil
+use Rattle.rambo_world.specs.Logging.{copies_in, copies_brought, listed, keeps_copies}
 
 -- the copy that a set makes is newer than the present one
 newer_tag : (held : Option Version) (name : ℕ) (value : Option (List ℕ)) → is_newer held (record { tag = record { sequence = (tag_of held).sequence + 1; name = name }; value = value }) ≡ true
@@ -81,6 +76,11 @@ module _ {Q : Type 0} (x : NodeState Q) where
   unfolding called_again
   again_logged None = refl
   again_logged (Some c) = refl
+
+  pub again_copies : (c : Option (CallState Q)) → (begun_again x c).node.registers ≡ x.registers
+  unfolding called_again
+  again_copies None = refl
+  again_copies (Some c) = refl
 
   heard_name : (j : ℕ) (k : Kind Q) → (heard_kind x j k).name ≡ x.name
   unfolding heard_join heard_gossip
@@ -130,6 +130,42 @@ module _ {Q : Type 0} (x : NodeState Q) where
   made_registers change.AdvanceRecon = kept_registers (attempt_advanced x x.attempt) (attempt_keeps x x.attempt)
   made_registers change.Stop = sym (joined-empty x.registers)
 
+-- the copy that an advance puts is of the key that its call asked for
+copy_key : {Q : Type 0} (x : NodeState Q) (o : Op) (cp : KeyedVersion) → copy_put o (taken x o) ≡ Some cp → (v : List ℕ) × (o ≡ op.Set cp.key v)
+copy_key x (op.Get key) cp e = absurd (false≢true (ap is_some e))
+copy_key x (op.Set key value) cp e = (value, ap (λ k. op.Set k value) (ap (λ c. c.key) (some_is (record { key = key; version = new_copy x key value }) cp e)))
+
+stage_key : {Q : Type 0} (x : NodeState Q) (id : CallId) (c : CallState Q) (stage : Stage) (cp : KeyedVersion) → (stage_met x id c stage).deed.copy ≡ Some cp
+    → (v : List ℕ) × (asked_in c.op stage ≡ Some (op.Set cp.key v))
+stage_key x id c Query cp e = let own = copy_key x c.op cp e in (own.0, ap Some own.1)
+stage_key x id c (Propagation kept) cp e = absurd (false≢true (ap is_some e))
+
+advanced_key : {Q : Type 0} (x : NodeState Q) (id : CallId) (found : Option (CallState Q)) (cp : KeyedVersion) → (advanced x id found).deed.copy ≡ Some cp
+    → (v : List ℕ) × (query_in found ≡ Some (op.Set cp.key v))
+advanced_key x id None cp e = absurd (false≢true (ap is_some e))
+advanced_key x id (Some c) cp e = stage_key x id c c.stage cp e
+
+pub put_key : {Q : Type 0} (x : NodeState Q) (id : CallId) (cp : KeyedVersion) → (made_by x (change.Advance id)).deed.copy ≡ Some cp
+    → (v : List ℕ) × (query_in (open_call x id) ≡ Some (op.Set cp.key v))
+unfolding made_by
+put_key x id cp e = advanced_key x id (open_call x id) cp e
+
+-- a change that keeps its node's copies
+pub kept_copies : {Q : Type 0} (x : NodeState Q) (c : Change Q) → keeps_copies c ≡ true → (made_by x c).node.registers ≡ x.registers
+unfolding made_by joined_by called stopped
+kept_copies x (change.Join contacts) e = refl
+kept_copies x (change.Call o) e = refl
+kept_copies x (change.Send to) e = refl
+kept_copies x (change.Deliver l) e = absurd (false≢true e)
+kept_copies x (change.Advance id) e = absurd (false≢true e)
+kept_copies x (change.Again id) e = again_copies x (open_call x id)
+kept_copies x change.Collect e = (opened_keeps x).registers
+kept_copies x change.AdvanceCollect e = (collection_keeps x x.collection).registers
+kept_copies x (change.Recon wish) e = (wish_keeps x wish).registers
+kept_copies x change.Rebid e = (rebid_keeps x x.attempt).registers
+kept_copies x change.AdvanceRecon e = (attempt_keeps x x.attempt).registers
+kept_copies x change.Stop e = refl
+
 greatest_of-more : (log more : List KeyedVersion) → greatest_of (log ++ more) ≡ greatest_after (greatest_of log) more
 greatest_of-more log more = greatest_of-append log more ∙ joined-greatest_of (greatest_of log) more
 
@@ -144,41 +180,6 @@ made_recorded x log more c recorded brought =
     ∙ sym (greatest_after-append x.registers more own)
     ∙ ap (λ r. greatest_after r (more ++ own)) recorded
     ∙ sym (greatest_of-more log (more ++ own))
-
--- a list of lacking copies, with one more that is newer than what is held
-pub lacking_more : (r : Copies) (lacked seen : List KeyedVersion) (c : KeyedVersion) → joined r (greatest_of lacked) ≡ joined r (greatest_of seen)
-    → joined r (greatest_of (lacked ++ c ∷ [])) ≡ joined r (greatest_of (seen ++ c ∷ []))
-lacking_more r lacked seen c e =
-    ap (joined r) (greatest_of-append lacked (c ∷ [])) ∙ sym (joined-assoc r (greatest_of lacked) (greatest_of (c ∷ [])))
-    ∙ ap (λ a. joined a (greatest_of (c ∷ []))) e
-    ∙ joined-assoc r (greatest_of seen) (greatest_of (c ∷ [])) ∙ sym (ap (joined r) (greatest_of-append seen (c ∷ [])))
-
--- one that isn't newer changes nothing
-old_copy : (r : Copies) (c : KeyedVersion) → is_newer (get r c.key) c.version ≡ false → joined r (greatest_of (c ∷ [])) ≡ r
-old_copy r c older = joined-greatest_of r (c ∷ []) ∙ ap (λ t. if t then insert r c.key c.version else r) older
-
-pub lacking_same : (r : Copies) (lacked seen : List KeyedVersion) (c : KeyedVersion) → is_newer (get r c.key) c.version ≡ false
-    → joined r (greatest_of lacked) ≡ joined r (greatest_of seen) → joined r (greatest_of lacked) ≡ joined r (greatest_of (seen ++ c ∷ []))
-lacking_same r lacked seen c older e =
-    let one = greatest_of (c ∷ []) in
-    e
-    ∙ ap (λ a. joined a (greatest_of seen)) (sym (old_copy r c older))
-    ∙ joined-assoc r one (greatest_of seen) ∙ ap (joined r) (joined-comm one (greatest_of seen))
-    ∙ sym (ap (joined r) (greatest_of-append seen (c ∷ [])))
-
-pub none_brought : {Q : Type 0} (c : Change Q) → ((l : Letter Q) → c ≢ change.Deliver l) → copies_brought c ≡ copies.empty
-none_brought (change.Join contacts) other = refl
-none_brought (change.Call o) other = refl
-none_brought (change.Send to) other = refl
-none_brought (change.Deliver l) other = absurd (other l refl)
-none_brought (change.Advance id) other = refl
-none_brought (change.Again id) other = refl
-none_brought change.Collect other = refl
-none_brought change.AdvanceCollect other = refl
-none_brought (change.Recon wish) other = refl
-none_brought change.Rebid other = refl
-none_brought change.AdvanceRecon other = refl
-none_brought change.Stop other = refl
 
 -- a letter that is told by its outline brings the copies that it is given, if it gossips
 pub told_copies : {Q : Type 0} (o : Option (GossipOutline Q)) (k : Kind Q) (c : Copies) → outlined o ≡ k → is_some o ≡ true → copies_in (kind_with k c) ≡ c
@@ -195,3 +196,8 @@ pub heard_recorded : {Q : Type 0} (x : NodeState Q) (log more : List KeyedVersio
     → (made_by x (change.Deliver l)).node.registers ≡ greatest_of (log ++ more)
 unfolding made_by
 heard_recorded x log more l recorded brought = made_recorded x log more (change.Deliver l) recorded brought ∙ ap (λ m. greatest_of (log ++ m)) (append-nil more)
+
+-- a letter that brings no copies
+pub untold_registers : {Q : Type 0} (x : NodeState Q) (l : Letter Q) → copies_in l.kind ≡ copies.empty → (made_by x (change.Deliver l)).node.registers ≡ x.registers
+unfolding made_by
+untold_registers x l none = heard_joined x l.sender l.kind ∙ ap (joined x.registers) none ∙ joined-empty x.registers

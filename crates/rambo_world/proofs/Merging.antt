@@ -1,21 +1,13 @@
 -- What a node makes of a part of another's log
-use Rattle.std.proofs.Common.{◌≡◌, ℕ, ◌-◌, ◌≤◌, min, max, List, take, drop, length, sym, ap, ◌∙◌, ◌⊎◌, inl, inr, arith}
+use Rattle.std.proofs.Common.{◌≡◌, ℕ, ◌≤◌, max, List, take, drop, sym, ap, ◌∙◌, ◌⊎◌, inl, inr, arith}
 use Rattle.std.proofs.lemmas.Bool.Decides.{leb_tells}
-use Rattle.std.proofs.lemmas.List.{length-drop, take_all, take_min, drop_min, take-take}
+use Rattle.std.proofs.lemmas.List.{take-take}
 use Rattle.std.proofs.Math.Nat.{max-eq_left, max-eq_right}
 use Rattle.rambo_tag.specs.declared.keyed_version.KeyedVersion.{KeyedVersion}
 use Rattle.rambo_tag.specs.Copies.{Copies, joined}
 use Rattle.rambo_tag.specs.Logs.{greatest_of}
 use Rattle.rambo_tag.proofs.Joins.{joined-assoc, joined-comm, joined-idem, joined-again}
 use Rattle.rambo_tag.proofs.Logged.{greatest_of-split}
-
--- a part of a list between places that may lie past its end
-pub clamped : {A : Type 0} (start end k m : ℕ) (xs : List A) → m ≡ min end (length xs) → k ≡ min start (length (take m xs)) → take (length (take m xs) - k) (drop k (take m xs)) ≡ drop start (take end xs)
-clamped start end k m xs upto from =
-    let front = take m xs in
-    let long = length-drop k front in
-    take_all (length front - k) (drop k front) (omega (arith, long))
-    ∙ ap (λ n. drop n front) from ∙ drop_min start front ∙ ap (drop start) (ap (λ n. take n xs) upto ∙ take_min end xs)
 
 -- the order of two merges doesn't matter
 pub joined-swap : (a b c : Copies) → joined (joined a b) c ≡ joined (joined a c) b

@@ -2,7 +2,7 @@
 use Rattle.std.proofs.Common.{◌≡◌, ℕ, zero, suc, ◌+◌, ◌-◌, ◌*◌, ◌<◌, Bool, true, false, if◌then◌else◌, List, [], ◌∷◌, ◌++◌, take, length, replicate, None, Some, slice_get, slice_index, get_or, refl, sym, ap, ◌∙◌, subst, inl, inr, arith}
 use Rattle.std.proofs.lemmas.Bool.{false≢true, true≢false}
 use Rattle.std.proofs.lemmas.Option.{slice_get_cases, slice_get_within, get_or_from_slice_get}
-use Rattle.std.proofs.lemmas.List.{map-append, take_more, length-replicate}
+use Rattle.std.proofs.lemmas.List.{take_more, length-replicate}
 use Rattle.std.specs.Option.{is_some}
 use Rattle.rambo_names.specs.Names.{rising}
 use Rattle.rambo_names.specs.Quorums.{QuorumSystem}
@@ -16,7 +16,7 @@ use Rattle.rambo_node.specs.Nodes.{NodeState, first_node}
 use Rattle.rambo_sequence.specs.declared.mark.Mark.{Mark}
 use Rattle.rambo_run.specs.Runs.{maps_of}
 use Rattle.rambo_run.specs.Worlds.{first_nodes, first_world}
-use Rattle.rambo_world.specs.Kept.{KeptNode, SentState, state_of, states_of, whole_letters, log_at, merged_at, fresh_nodes, IsRecorded, HasMerged, IsKept}
+use Rattle.rambo_world.specs.Kept.{KeptNode, SentState, kept_of, states_of, whole_letters, log_at, merged_at, fresh_nodes, IsRecorded, HasMerged, IsKept}
 use Rattle.rambo_world.proofs.Growth.{some_is}
 use Rattle.rambo_world.specs.Deliveries.{world_of}
 
@@ -29,12 +29,10 @@ maps_push : {Q : Type 0} (xs : List (NodeState Q)) (x : NodeState Q) → maps_of
 maps_push [] x = refl
 maps_push (y ∷ ys) x = more_maps (is_idle y.status) (record { name = y.name; floor = y.map.floor; active = y.map.configs }) (maps_of (ys ++ x ∷ [])) (maps_of ys) (maps_of (x ∷ [])) (maps_push ys x)
 
-pub maps_next : {Q : Type 0} (ks : List (KeptNode Q)) (place : ℕ) (k : KeptNode Q) → place < length ks → k ≡ get_or ks place k
-    → maps_of (states_of (take (place + 1) ks)) ≡ maps_of (states_of (take place ks)) ++ maps_of (k.state ∷ [])
-maps_next ks place k below is =
-    ap (λ l. maps_of (states_of l)) (take_more ks place k below ∙ ap (λ x. take place ks ++ x ∷ []) (sym is))
-    ∙ ap maps_of (map-append state_of (take place ks) (k ∷ []))
-    ∙ maps_push (states_of (take place ks)) k.state
+pub maps_next : {Q : Type 0} (xs : List (NodeState Q)) (place : ℕ) (x : NodeState Q) → place < length xs → x ≡ get_or xs place x
+    → maps_of (take (place + 1) xs) ≡ maps_of (take place xs) ++ maps_of (x ∷ [])
+maps_next xs place x below is =
+    ap maps_of (take_more xs place x below ∙ ap (λ y. take place xs ++ y ∷ []) (sym is)) ∙ maps_push (take place xs) x
 
 -- an idle node has no map to show, and any other node has its own
 pub no_map : {Q : Type 0} (x : NodeState Q) → is_idle x.status ≡ true → maps_of (x ∷ []) ≡ []
@@ -60,25 +58,37 @@ abbrev pub fresh_node : {Q : Type 0} → QuorumSystem Q → Q → ℕ → KeptNo
 fresh_node s founders n = record { state = first_node s founders n; log = [] }
 
 -- the last name goes behind the others
-fresh_push : {Q : Type 0} (s : QuorumSystem Q) (founders : Q) (k n : ℕ) → fresh_nodes s founders (rising k n) ++ fresh_node s founders (n + k) ∷ [] ≡ fresh_nodes s founders (rising (suc k) n)
-unfolding rising fresh_nodes
-fresh_push s founders zero n = ap (λ m. fresh_node s founders m ∷ []) (let e : n + zero ≡ n = omega arith in e)
-fresh_push s founders (suc k) n =
-    ap (λ m. fresh_node s founders n ∷ (fresh_nodes s founders (rising k (n + 1)) ++ fresh_node s founders m ∷ [])) (let e : n + suc k ≡ n + 1 + k = omega arith in e)
-    ∙ ap (λ l. fresh_node s founders n ∷ l) (fresh_push s founders k (n + 1))
+first_push : {Q : Type 0} (s : QuorumSystem Q) (founders : Q) (k n : ℕ) → first_nodes s founders (rising k n) ++ first_node s founders (n + k) ∷ [] ≡ first_nodes s founders (rising (suc k) n)
+unfolding rising
+first_push s founders zero n = ap (λ m. first_node s founders m ∷ []) (let e : n + zero ≡ n = omega arith in e)
+first_push s founders (suc k) n =
+    ap (λ m. first_node s founders n ∷ (first_nodes s founders (rising k (n + 1)) ++ first_node s founders m ∷ [])) (let e : n + suc k ≡ n + 1 + k = omega arith in e)
+    ∙ ap (λ l. first_node s founders n ∷ l) (first_push s founders k (n + 1))
 
 -- so the nodes are made in their order
-pub fresh_none : {Q : Type 0} (s : QuorumSystem Q) (founders : Q) → [] ≡ fresh_nodes s founders (rising 0 1)
-unfolding rising fresh_nodes
-fresh_none s founders = refl
+pub first_none : {Q : Type 0} (s : QuorumSystem Q) (founders : Q) → [] ≡ first_nodes s founders (rising 0 1)
+unfolding rising
+first_none s founders = refl
 
-pub fresh_next : {Q : Type 0} (s : QuorumSystem Q) (founders : Q) (place : ℕ) (made : List (KeptNode Q)) (k : KeptNode Q) → made ≡ fresh_nodes s founders (rising place 1)
-    → k ≡ fresh_node s founders (place + 1) → made ++ k ∷ [] ≡ fresh_nodes s founders (rising (place + 1) 1)
-fresh_next s founders place made k is node =
+pub first_next : {Q : Type 0} (s : QuorumSystem Q) (founders : Q) (place : ℕ) (made : List (NodeState Q)) (x : NodeState Q) → made ≡ first_nodes s founders (rising place 1)
+    → x ≡ first_node s founders (place + 1) → made ++ x ∷ [] ≡ first_nodes s founders (rising (place + 1) 1)
+first_next s founders place made x is node =
     (λ i. is i ++ node i ∷ [])
-    ∙ ap (λ m. fresh_nodes s founders (rising place 1) ++ fresh_node s founders m ∷ []) (let e : place + 1 ≡ 1 + place = omega arith in e)
-    ∙ fresh_push s founders place 1
-    ∙ ap (λ m. fresh_nodes s founders (rising m 1)) (let e : suc place ≡ place + 1 = omega arith in e)
+    ∙ ap (λ m. first_nodes s founders (rising place 1) ++ first_node s founders m ∷ []) (let e : place + 1 ≡ 1 + place = omega arith in e)
+    ∙ first_push s founders place 1
+    ∙ ap (λ m. first_nodes s founders (rising m 1)) (let e : suc place ≡ place + 1 = omega arith in e)
+
+pub first_length : {Q : Type 0} (s : QuorumSystem Q) (founders : Q) (k n : ℕ) → length (first_nodes s founders (rising k n)) ≡ k
+unfolding rising
+first_length s founders zero n = refl
+first_length s founders (suc k) n = ap suc (first_length s founders k (n + 1))
+
+-- with empty logs they are the nodes before any step
+pub first_kept_nodes : {Q : Type 0} (s : QuorumSystem Q) (founders : Q) (ns : List ℕ) (count : ℕ) → kept_of (first_nodes s founders ns) (replicate count []) ≡ fresh_nodes s founders ns
+unfolding fresh_nodes
+first_kept_nodes s founders [] count = refl
+first_kept_nodes s founders (n ∷ ns) zero = ap (λ l. fresh_node s founders n ∷ l) (first_kept_nodes s founders ns zero)
+first_kept_nodes s founders (n ∷ ns) (suc count) = ap (λ l. fresh_node s founders n ∷ l) (first_kept_nodes s founders ns count)
 
 pub fresh_length : {Q : Type 0} (s : QuorumSystem Q) (founders : Q) (k n : ℕ) → length (fresh_nodes s founders (rising k n)) ≡ k
 unfolding rising fresh_nodes

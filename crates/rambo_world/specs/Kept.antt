@@ -6,9 +6,10 @@ use Rattle.std.specs.Option.{IsSomeAnd}
 use Rattle.rambo_names.specs.Names.{IsName}
 use Rattle.rambo_names.specs.Quorums.{QuorumSystem}
 use Rattle.rambo_tag.specs.declared.keyed_version.KeyedVersion.{KeyedVersion}
-use Rattle.rambo_tag.specs.Copies.{joined}
+use Rattle.rambo_tag.specs.Copies.{Copies, joined}
 use Rattle.rambo_tag.specs.Logs.{greatest_of}
 use Rattle.rambo_joiner.specs.Statuses.{is_active}
+use Rattle.rambo_logs.specs.NodeLogs.{part, lacked}
 use Rattle.rambo_gossip.specs.declared.letter.Letter.{Letter}
 use Rattle.rambo_gossip.specs.declared.letter.Gossip.{Gossip}
 use Rattle.rambo_gossip.specs.declared.letter.Kind.{Kind}
@@ -22,6 +23,12 @@ use Rattle.rambo_run.specs.Worlds.{node_at}
 pub record KeptNode (Q : Type 0) : Type 0 where
   pub state : NodeState Q
   pub log : List KeyedVersion
+
+-- nodes with their logs; one that has none has the empty one
+abbrev pub kept_of : {Q : Type 0} → List (NodeState Q) → List (List KeyedVersion) → List (KeptNode Q)
+kept_of [] ls = []
+kept_of (x ∷ xs) [] = record { state = x; log = [] } ∷ kept_of xs []
+kept_of (x ∷ xs) (l ∷ ls) = record { state = x; log = l } ∷ kept_of xs ls
 
 -- a letter as it is kept: without copies, and how long its sender's log then was, or 0 where it tells of no copies
 pub record SentState (Q : Type 0) : Type 0 where
@@ -53,6 +60,10 @@ log_in (Some k) = k.log
 -- the log of the node of a name
 abbrev pub log_at : {Q : Type 0} → List (KeptNode Q) → ℕ → List KeyedVersion
 log_at ks name = log_in (kept_at ks name)
+
+-- of a part of the log of a letter's sender, the copies that its addressee lacks
+abbrev pub brought : {Q : Type 0} → List (KeptNode Q) → Letter Q → ℕ → ℕ → Copies
+brought ks l start end = greatest_of (lacked (greatest_of (log_at ks l.addressee)) (part (log_at ks l.sender) start end))
 
 -- the letter as it was sent
 abbrev pub whole_letter : {Q : Type 0} → List (KeptNode Q) → SentState Q → Letter Q

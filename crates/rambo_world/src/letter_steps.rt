@@ -75,8 +75,7 @@ fn hear<Q: Quorums, S: Replica>(
     let Outline { letter, told } = sent;
     let (from, to) = (letter.sender, letter.addressee);
     let before = merged.of(to, from);
-    let copies = nodes.lacking(to, from, before, before.max(told))?;
-    nodes.hear(&letter, copies)?;
+    nodes.hear(&letter, before, before.max(told))?;
     merged.raise(to, from, told);
     Ok(())
 }

@@ -3,7 +3,6 @@
 
 mod letter_steps;
 mod letters;
-mod logged_node;
 mod merged_counts;
 mod node_steps;
 mod nodes;

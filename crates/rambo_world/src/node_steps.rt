@@ -1,10 +1,11 @@
 //! Steps of one node.
-ghost use Rattle.std.specs.Prelude.{◌≡◌, ◌<◌, ◌++◌, ◌∷◌, [], false, None, Some, OnErr, IfOk, IfErr};
+ghost use Rattle.std.specs.Prelude.{◌≡◌, ◌<◌, ◌++◌, ◌∷◌, [], false, true, None, Some, OnErr, IfOk, IfErr};
 ghost use Rattle.std.specs.Vec.{vec_capacity, vec_len};
 ghost use Rattle.rambo_names.specs.Refusals.{least};
 ghost use Rattle.rambo_atomic.specs.Faults.{fault_of};
 ghost use Rattle.rambo_run.specs.Steps.{causes_at, turn_at, with_event, with_mark};
 ghost use Rattle.rambo_run.specs.Worlds.{node_at};
+ghost use Rattle.rambo_world.specs.Logging.{keeps_copies};
 ghost use Rattle.rambo_world.specs.Worlds.{EventFits, sends};
 
 use crate::state::State;
@@ -15,13 +16,14 @@ use rambo_sequence::Mark;
 use rambo_tag::Replica;
 
 impl<Q: Quorums, S: Replica> State<Q, S> {
-    // A node takes a change that isn't refused and that sends no letter.
+    // A node takes a change that isn't refused, sends no letter, and keeps the node's copies.
     // (a deed is large, and where this is inlined it is moved piece by piece)
     #[inline(never)]
     pub(crate) fn change(&mut self, name: Name, change: &Change<Q>) -> Result<Effect<Q>, Refusal>
         requires accepted { least (causes_at Q.system (node_at self.old name) change.now) ≡ None }
         requires fits { EventFits self.old name change.now }
         requires quiet { sends change.now ≡ false }
+        requires keeps { keeps_copies change.now ≡ true }
         ensures ok { IfOk result (λ e. turn_at self.old name (node_at self.old name) change.now ≡ record { world = self.new; effect = e }) }
         ensures err { OnErr result (self.new ≡ self.old) }
         ensures refused { IfErr result (λ r. r ≡ Refusal.OutOfMemory) }

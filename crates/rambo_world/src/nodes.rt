@@ -1,23 +1,29 @@
-//! The nodes of a world.
-ghost use Rattle.std.specs.Prelude.{◌≡◌, ◌+◌, ◌-◌, ◌<◌, ◌≤◌, None, Some, take, drop, OnOk, OnErr, IfOk, IfErr};
+//! The nodes of a world, and the logs of their copies.
+ghost use Rattle.std.specs.Prelude.{◌≡◌, ◌+◌, ◌-◌, ◌<◌, ◌≤◌, List, ℕ, None, Some, length, true, OnOk, OnErr, IfOk, IfErr};
 ghost use Rattle.std.specs.Vec.{vec_len, vec_capacity};
 ghost use Rattle.rambo_names.specs.Names.{IsName, rising};
 ghost use Rattle.rambo_names.specs.Refusals.{least};
+ghost use Rattle.rambo_tag.specs.declared.keyed_version.KeyedVersion.{KeyedVersion};
 ghost use Rattle.rambo_tag.specs.Copies.{joined};
 ghost use Rattle.rambo_tag.specs.Logs.{greatest_of};
+ghost use Rattle.rambo_atomic.specs.declared.operation.Op.TheVariants as asked;
+ghost use Rattle.rambo_calls.specs.Calls.{query_in};
 ghost use Rattle.rambo_gossip.specs.Letters.{letter_with};
+ghost use Rattle.rambo_logs.specs.NodeLogs.{part, extended};
 ghost use Rattle.rambo_node.specs.Changes.{made_by};
-ghost use Rattle.rambo_node.specs.Nodes.{NodeState};
+ghost use Rattle.rambo_node.specs.Nodes.{NodeState, first_node, open_call};
 ghost use Rattle.rambo_node.specs.Notes.{noted, MayStand};
 ghost use Rattle.rambo_run.specs.Runs.{maps_of};
 ghost use Rattle.rambo_run.specs.Steps.{causes_at};
-ghost use Rattle.rambo_world.specs.Kept.{KeptNode, states_of, state_at, kept_at, log_at, moved, outline, AllGrow, fresh_nodes};
+ghost use Rattle.rambo_run.specs.Worlds.{first_nodes};
+ghost use Rattle.rambo_world.specs.Kept.{KeptNode, states_of, state_at, kept_at, log_at, moved, outline, AllGrow, fresh_nodes, brought};
+ghost use Rattle.rambo_world.specs.Logging.{listed, keeps_copies};
 
-use crate::logged_node::LoggedNode;
 use crate::outline::Outline;
 use rambo_atomic::{CallId, History, Op};
 use rambo_config_map::Places;
 use rambo_gossip::LetterOutline;
+use rambo_logs::Logs;
 use rambo_names::{Name, Quorums, Refusal};
 use rambo_node::{Change, Deed, Node};
 use rambo_run::NodeMap;
@@ -26,12 +32,13 @@ use rambo_tag::{KeyedVersion, Replica};
 use std::alloc::Global;
 use std::marker::Model;
 
-/// The nodes of the names 1 to 64.
+/// The nodes of the names 1 to 64, and of each the log of the copies that its registers took on.
 #[derive(Drop)]
 pub(crate) struct Nodes<Q: Quorums, S: Replica> {
-    list: Vec<LoggedNode<Q, S>>,
+    list: Vec<Node<Q, S>>,
+    logs: Logs,
     // Never used: it tells the prover that a node has a size, which it doesn't see behind a `Vec`.
-    spare: LoggedNode<Q, S>,
+    spare: Node<Q, S>,
 }
 
 impl<Q: Quorums, S: Replica> Model for Nodes<Q, S> {
@@ -39,15 +46,15 @@ impl<Q: Quorums, S: Replica> Model for Nodes<Q, S> {
     ghost use Rattle.std.specs.Coded.{codes};
     ghost use Rattle.rambo_names.specs.Names.{names_code};
     ghost use Rattle.rambo_tag.specs.Copies.{copies_code};
-    ghost use Rattle.rambo_world.specs.Kept.{KeptNode};
+    ghost use Rattle.rambo_world.specs.Kept.{KeptNode, kept_of};
 
     ghost Value = { List (KeptNode Q) };
 
     ghost coded = { Prim.hlevel (codes, names_code, copies_code, Q.code) };
 
-    ghost view = { λ n. n.list.items };
+    ghost view = { λ n. kept_of n.list.items n.logs.logs };
 
-    ghost invariant = { λ n. length n.list.items ≡ 64 };
+    ghost invariant = { λ n. (length n.list.items ≡ 64) × (length n.logs.logs ≡ 64) };
 }
 
 impl<Q: Quorums, S: Replica> Nodes<Q, S> {
@@ -56,21 +63,17 @@ impl<Q: Quorums, S: Replica> Nodes<Q, S> {
         ensures first { IfOk result (λ n. n ≡ fresh_nodes Q.system founders (rising 64 1)) }
         ensures refused { IfErr result (λ r. r ≡ Refusal.OutOfMemory) }
     {
-        let mut list = Vec::new(alloc);
-        for place in 0..64 {
-            let name = Name::new(place + 1)?;
-            list.push(LoggedNode::new(alloc, name, founders, replica)?)?;
-        }
-        let name = Name::new(1)?;
-        let spare = LoggedNode::new(alloc, name, founders, replica)?;
-        Ok(Nodes { list, spare })
+        let logs = Logs::new(alloc)?;
+        let spare = first_node(alloc, 1, founders, replica)?;
+        let list = first_nodes(alloc, founders, replica)?;
+        Ok(Nodes { list, logs, spare })
     }
 
     // The node of a name.
     pub(crate) fn node(&self, name: Name) -> &Node<Q, S>
         ensures { state_at self.now name ≡ Some result.now }
     {
-        self.list[place_of(name)].node()
+        &self.list[place_of(name)]
     }
 
     // The maps of the nodes that aren't idle.
@@ -81,24 +84,18 @@ impl<Q: Quorums, S: Replica> Nodes<Q, S> {
         maps_of(alloc, self.list.as_slice())
     }
 
-    // Why a change of a node is refused, if it is.
-    pub(crate) fn judge(&self, name: Name, change: &Change<Q>) -> Result<(), Refusal>
-        ensures ok { OnOk result (least (causes_at Q.system (state_at self.now name) change.now) ≡ None) }
-        ensures refused { IfErr result (λ r. least (causes_at Q.system (state_at self.now name) change.now) ≡ Some r) }
-    {
-        self.list[place_of(name)].judge(change)
-    }
-
-    // A node takes a change that isn't refused.
+    // Takes a change of a node that isn't refused, where that keeps the node's copies.
     pub(crate) fn act(&mut self, name: Name, change: &Change<Q>) -> Result<Deed<Q>, Refusal>
-        requires { least (causes_at Q.system (state_at self.old name) change.now) ≡ None }
+        requires accepted { least (causes_at Q.system (state_at self.old name) change.now) ≡ None }
+        requires keeps { keeps_copies change.now ≡ true }
         ensures nodes { OnOk result (states_of self.new ≡ moved self.old name (λ x. (made_by x change.now).node)) }
-        ensures deed { IfOk result (λ d. (x : NodeState Q) → state_at self.old name ≡ Some x → (d.effect ≡ (made_by x change.now).deed.effect) × (d.event ≡ (made_by x change.now).deed.event) × (d.mark ≡ (made_by x change.now).deed.mark)) }
+        ensures deed { IfOk result (λ d. (x : NodeState Q) → state_at self.old name ≡ Some x → d ≡ (made_by x change.now).deed) }
         ensures refused { IfErr result (λ r. r ≡ Refusal.OutOfMemory) }
         ensures err { OnErr result (self.new ≡ self.old) }
         ensures grow { AllGrow self.old self.new }
     {
-        self.list[place_of(name)].act(change)
+        let deed = self.list[place_of(name)].act(change)?;
+        Ok(deed)
     }
 
     // A call of a node begins that isn't refused.
@@ -110,10 +107,12 @@ impl<Q: Quorums, S: Replica> Nodes<Q, S> {
         ensures err { OnErr result (self.new ≡ self.old) }
         ensures grow { AllGrow self.old self.new }
     {
-        self.list[place_of(name)].begin(op)
+        let id = self.list[place_of(name)].begin(op)?;
+        Ok(id)
     }
 
-    // A call goes on whose advance isn't refused, and what it leaves goes into the history and among the marks.
+    // A call goes on whose advance isn't refused, and what it leaves goes into the history, among the marks, and into
+    // the log of its node.
     pub(crate) fn go_on(
         &mut self,
         id: CallId,
@@ -131,63 +130,122 @@ impl<Q: Quorums, S: Replica> Nodes<Q, S> {
         ensures err { OnErr result ((self.new ≡ self.old) × (history.new.events ≡ history.old.events) × (marks.new.items ≡ marks.old.items)) }
         ensures grow { AllGrow self.old self.new }
     {
-        self.list[place_of(id.name)].go_on(id, history, marks)
+        make_room(&self.list[place_of(id.name)], &id, &mut self.logs)?;
+        let copy = self.list[place_of(id.name)].go_on(id, history, marks)?;
+        log_copy(&mut self.logs, id.name, copy);
+        Ok(())
     }
 
-    // The addressee of a letter that isn't refused hears it, with these copies.
+    // The addressee of a letter that isn't refused hears it, with those copies of its sender's log from one place up to
+    // another, as far as there are any, that the addressee lacks: it makes the same of them as of all.
     pub(crate) fn hear(
         &mut self,
         letter: &LetterOutline<'_, Q>,
-        copies: Vec<KeyedVersion>,
+        start: usize,
+        end: usize,
     ) -> Result<(), Refusal>
         requires { least (causes_at Q.system (state_at self.old letter.now.addressee) (Change.Deliver letter.now)) ≡ None }
-        ensures nodes { OnOk result (states_of self.new ≡ moved self.old letter.now.addressee (λ x. (made_by x (Change.Deliver (letter_with letter.now (greatest_of copies.items)))).node)) }
+        ensures nodes { OnOk result (states_of self.new ≡ moved self.old letter.now.addressee (λ x. (made_by x (Change.Deliver (letter_with letter.now (brought self.old letter.now start end)))).node)) }
+        ensures enough { joined (greatest_of (log_at self.old letter.now.addressee)) (brought self.old letter.now start end) ≡ joined (greatest_of (log_at self.old letter.now.addressee)) (greatest_of (part (log_at self.old letter.now.sender) start end)) }
         ensures refused { IfErr result (λ r. r ≡ Refusal.OutOfMemory) }
         ensures err { OnErr result (self.new ≡ self.old) }
         ensures grow { AllGrow self.old self.new }
     {
-        self.list[place_of(letter.addressee)].hear(letter, copies)
+        let (to, from) = (letter.addressee, letter.sender);
+        self.logs.bring(to, from, start, end)?;
+        let copies = self.logs.brought();
+        self.list[place_of(to)].hear_outlined(letter, copies)?;
+        if letter.gossip.is_some() {
+            self.logs.take_on(to);
+        }
+        Ok(())
     }
 
-    // Of the copies of one node's log from one place up to another, as far as there are any, those that another lacks:
-    // it makes the same of them as of all.
-    pub(crate) fn lacking(
-        &self,
-        to: Name,
-        from: Name,
-        start: usize,
-        end: usize,
-    ) -> Result<Vec<KeyedVersion>, Refusal>
-        ensures enough { IfOk result (λ more. (x : NodeState Q) → state_at self.now to ≡ Some x → joined x.registers (greatest_of more.items) ≡ joined x.registers (greatest_of (drop start (take end (log_at self.now from))))) }
-        ensures refused { IfErr result (λ r. r ≡ Refusal.OutOfMemory) }
-    {
-        let log = self.list[place_of(from)].log();
-        self.list[place_of(to)].lacking(between(log, start, end))
-    }
-
-    // The letter of a node to another, as it is kept.
+    // The letter of a node to another, as it is kept: a joining node tells of no copy.
     pub(crate) fn outline(&self, from: Name, to: Name) -> Outline<'_, Q>
         ensures sent { (k : KeptNode Q) → kept_at self.now from ≡ Some k → result ≡ outline k to }
         ensures named { IsName from }
     {
-        self.list[place_of(from)].outline_for(to)
+        let node = &self.list[place_of(from)];
+        let told = if node.status().is_active() {
+            self.logs.len(from)
+        } else {
+            0
+        };
+        Outline {
+            letter: node.outline_for(to),
+            told,
+        }
     }
 }
 
-// The copies of a log from one place up to another, as far as there are any.
-fn between(log: &[KeyedVersion], start: usize, end: usize) -> &[KeyedVersion]
-    ensures { result.now ≡ drop start (take end log.now) }
+// The node of a number before any step.
+fn first_node<Q: Quorums, S: Replica>(
+    alloc: Global,
+    number: u64,
+    founders: Q,
+    replica: &S,
+) -> Result<Node<Q, S>, Refusal>
+    requires { IsName number }
+    ensures first { IfOk result (λ x. x ≡ first_node Q.system founders number) }
+    ensures refused { IfErr result (λ r. r ≡ Refusal.OutOfMemory) }
 {
-    let front = &log[..end.min(log.len())];
-    &front[start.min(front.len())..]
+    let name = Name::new(number)?;
+    Ok(Node::new(alloc, name, founders, replica.fresh()?))
+}
+
+// The nodes of the names 1 to 64 before any step.
+fn first_nodes<Q: Quorums, S: Replica>(
+    alloc: Global,
+    founders: Q,
+    replica: &S,
+) -> Result<Vec<Node<Q, S>>, Refusal>
+    ensures first { IfOk result (λ xs. xs.items ≡ first_nodes Q.system founders (rising 64 1)) }
+    ensures refused { IfErr result (λ r. r ≡ Refusal.OutOfMemory) }
+{
+    let mut list = Vec::new(alloc);
+    for place in 0..64 {
+        list.push(first_node(alloc, place + 1, founders, replica)?)?;
+    }
+    Ok(list)
+}
+
+// Makes room for the copy that the advance of a call will put into the log of its node, if it will put one.
+fn make_room<Q: Quorums, S: Replica>(
+    node: &Node<Q, S>,
+    id: &CallId,
+    logs: &mut Logs,
+) -> Result<(), Refusal>
+    ensures same { logs.new.logs ≡ logs.old.logs }
+    ensures room { OnOk result ((key value : List ℕ) → query_in (open_call node.now id.now) ≡ Some (asked.Set key value) → logs.new.room ≡ Some (record { name = id.now.name; key = key })) }
+    ensures refused { IfErr result (λ r. r ≡ Refusal.OutOfMemory) }
+{
+    match node.query(id) {
+        Some(Op::Set(key, _)) => {
+            logs.reserve(id.name, key.as_slice())?;
+            Ok(())
+        }
+        Some(Op::Get(_)) => Ok(()),
+        None => Ok(()),
+    }
+}
+
+// Puts a copy, if there is one, at the end of the log of a name, where room was made for it.
+fn log_copy(logs: &mut Logs, name: Name, copy: Option<KeyedVersion>)
+    requires { (c : KeyedVersion) → copy ≡ Some c → logs.old.room ≡ Some (record { name = name; key = c.key }) }
+    ensures { logs.new.logs ≡ extended logs.old.logs name (listed copy) }
+{
+    if let Some(copy) = copy {
+        logs.put(name, copy);
+    }
 }
 
 // The maps of those nodes that aren't idle.
 fn maps_of<Q: Quorums, S: Replica>(
     alloc: Global,
-    nodes: &[LoggedNode<Q, S>],
+    nodes: &[Node<Q, S>],
 ) -> Result<Vec<NodeMap<Q>>, Refusal>
-    ensures maps { IfOk result (λ maps. maps.items ≡ maps_of (states_of nodes.now)) }
+    ensures maps { IfOk result (λ maps. maps.items ≡ maps_of nodes.now) }
     ensures refused { IfErr result (λ r. r ≡ Refusal.OutOfMemory) }
 {
     let mut maps = Vec::new(alloc);

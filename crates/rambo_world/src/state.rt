@@ -69,7 +69,7 @@ impl<Q: Quorums, S: Replica> State<Q, S> {
             Step::AdvanceRecon(name) => (*name, Change::AdvanceRecon),
             Step::Stop(name) => (*name, Change::Stop),
         };
-        self.nodes.judge(name, &change)
+        self.nodes.node(name).judge(&change)
     }
 }
 

@@ -1,13 +1,14 @@
 use Rattle.std.proofs.Common.{◌≡◌, ◌∙◌, ◌-◌, max, take, drop, Some, refl, sym, ap, subst}
 use Rattle.rambo_tag.specs.Copies.{joined}
 use Rattle.rambo_tag.specs.Logs.{greatest_of}
+use Rattle.rambo_logs.specs.NodeLogs.{part}
 use Rattle.rambo_gossip.specs.declared.letter.Letter.{Letter}
 use Rattle.rambo_gossip.specs.Letters.{letter_with}
 use Rattle.rambo_gossip.specs.Outlines.{outlined}
 use Rattle.rambo_node.specs.declared.change.Change.TheVariants as change
 use Rattle.rambo_node.specs.Changes.{made_by}
 use Rattle.rambo_node.specs.Hearing.{heard_letter}
-use Rattle.rambo_world.specs.Kept.{SentState, states_of, state_at, log_at, sent_at, merged_at, moved, IsKept}
+use Rattle.rambo_world.specs.Kept.{SentState, states_of, state_at, log_in, log_at, brought, sent_at, merged_at, moved, IsKept}
 use Rattle.rambo_world.proofs.Stepping.{kept_stays, letters_stay}
 use Rattle.rambo_world.proofs.Turns.{there, kept_there}
 use Rattle.rambo_world.proofs.Deliveries.{delivered_moved, no_delivery, sent_before, moved_state, kept_raised, deliver_world}
@@ -38,13 +39,17 @@ returns-clause-kept g c =
     let sent_is = kept.sent (c.args.number - 1) sent (sent_before ss c.args.number sent found) in
     let count = c.of-before.ensures.count in
     let upto = c.max.ensures ∙ ap (λ m. max m sent.told) count in
-    let pack = greatest_of c.in_ok-copies.copies.items in
+    let pack = brought ks l c.of-before.result c.max.result in
     let m = merged_at counts l.addressee l.sender in
     let state : state_at ks l.addressee ≡ Some k.0.state = x.1 ∙ ap Some (sym k.2) in
+    let own : k.0.state.registers ≡ greatest_of (log_at ks l.addressee) = kept.recorded (l.addressee - 1) k.0 k.1 ∙ ap greatest_of (sym (ap log_in k.1)) in
+    let enough : joined (greatest_of (log_at ks l.addressee)) pack ≡ joined (greatest_of (log_at ks l.addressee)) (greatest_of (part (log_at ks l.sender) c.of-before.result c.max.result)) =
+    subst (λ l. joined (greatest_of (log_at ks l.addressee)) (brought ks l c.of-before.result c.max.result) ≡ joined (greatest_of (log_at ks l.addressee)) (greatest_of (part (log_at ks l.sender) c.of-before.result c.max.result))) (sym same) c.hear.ensures.enough in
     let packed : joined k.0.state.registers pack ≡ joined k.0.state.registers (greatest_of (drop m (take (max m sent.told) (log_at ks l.sender)))) =
-    c.in_ok-copies.ensures.enough k.0.state state ∙ (λ i. joined k.0.state.registers (greatest_of (drop (count i) (take (upto i) (log_at ks l.sender))))) in
+    ap (λ r. joined r pack) own ∙ enough ∙ ap (λ r. joined r (greatest_of (part (log_at ks l.sender) c.of-before.result c.max.result))) (sym own)
+    ∙ (λ i. joined k.0.state.registers (greatest_of (drop (count i) (take (upto i) (log_at ks l.sender))))) in
     let heard : states_of c.hear.new.self ≡ moved ks l.addressee (λ y. heard_letter y (letter_with l pack)) =
-    c.in_ok-hear.ensures.nodes ∙ ap (λ l. moved ks l.addressee (λ y. (made_by y (change.Deliver (letter_with l pack))).node)) (sym same) ∙ delivered_moved ks l.addressee (letter_with l pack) (letter_with l pack) refl in
+    c.in_ok-hear.ensures.nodes ∙ ap (λ l. moved ks l.addressee (λ y. (made_by y (change.Deliver (letter_with l (brought ks l c.of-before.result c.max.result)))).node)) (sym same) ∙ delivered_moved ks l.addressee (letter_with l pack) (letter_with l pack) refl in
     subst (IsKept c.hear.new.self ss) (sym c.raise.ensures)
     (kept_raised ks c.hear.new.self ss counts kept c.hear.ensures.grow sent sent_is k.0 pack c.of-before.ensures.to c.of-before.ensures.from k.1 packed
     (kept_stays ks c.hear.new.self c.hear.ensures.grow ss counts kept)
@@ -67,12 +72,16 @@ returns-clause-ok g c h ms =
     let sent_is = kept.sent (c.args.number - 1) sent (sent_before ss c.args.number sent found) in
     let count = c.of-before.ensures.count in
     let upto = c.max.ensures ∙ ap (λ m. max m sent.told) count in
-    let pack = greatest_of c.in_ok-copies.copies.items in
+    let pack = brought ks l c.of-before.result c.max.result in
     let m = merged_at counts l.addressee l.sender in
     let state : state_at ks l.addressee ≡ Some k.0.state = x.1 ∙ ap Some (sym k.2) in
+    let own : k.0.state.registers ≡ greatest_of (log_at ks l.addressee) = kept.recorded (l.addressee - 1) k.0 k.1 ∙ ap greatest_of (sym (ap log_in k.1)) in
+    let enough : joined (greatest_of (log_at ks l.addressee)) pack ≡ joined (greatest_of (log_at ks l.addressee)) (greatest_of (part (log_at ks l.sender) c.of-before.result c.max.result)) =
+    subst (λ l. joined (greatest_of (log_at ks l.addressee)) (brought ks l c.of-before.result c.max.result) ≡ joined (greatest_of (log_at ks l.addressee)) (greatest_of (part (log_at ks l.sender) c.of-before.result c.max.result))) (sym same) c.hear.ensures.enough in
     let packed : joined k.0.state.registers pack ≡ joined k.0.state.registers (greatest_of (drop m (take (max m sent.told) (log_at ks l.sender)))) =
-    c.in_ok-copies.ensures.enough k.0.state state ∙ (λ i. joined k.0.state.registers (greatest_of (drop (count i) (take (upto i) (log_at ks l.sender))))) in
+    ap (λ r. joined r pack) own ∙ enough ∙ ap (λ r. joined r (greatest_of (part (log_at ks l.sender) c.of-before.result c.max.result))) (sym own)
+    ∙ (λ i. joined k.0.state.registers (greatest_of (drop (count i) (take (upto i) (log_at ks l.sender))))) in
     let heard : states_of c.hear.new.self ≡ moved ks l.addressee (λ y. heard_letter y (letter_with l pack)) =
-    c.in_ok-hear.ensures.nodes ∙ ap (λ l. moved ks l.addressee (λ y. (made_by y (change.Deliver (letter_with l pack))).node)) (sym same) ∙ delivered_moved ks l.addressee (letter_with l pack) (letter_with l pack) refl in
+    c.in_ok-hear.ensures.nodes ∙ ap (λ l. moved ks l.addressee (λ y. (made_by y (change.Deliver (letter_with l (brought ks l c.of-before.result c.max.result)))).node)) (sym same) ∙ delivered_moved ks l.addressee (letter_with l pack) (letter_with l pack) refl in
     deliver_world ks c.hear.new.self ss counts kept c.hear.ensures.grow sent sent_is k.0 pack c.of-before.ensures.to c.of-before.ensures.from k.1 packed
     h ms c.args.number found state heard (letters_stay ks c.hear.new.self c.hear.ensures.grow ss kept.sent)

@@ -1,52 +1,68 @@
-use Rattle.std.proofs.Common.{◌≡◌, ◌<◌, ◌∙◌, length, None, Some, slice_set, sym, ap, subst, OnOk}
-use Rattle.std.proofs.lemmas.Result.{on_ok_weaker, on_err_weaker, IfOk-weaker}
+use Rattle.std.proofs.Common.{◌≡◌, ◌<◌, ◌∙◌, length, None, Some, slice_set, sym, ap, subst}
 use Rattle.rambo_names.specs.Refusals.{least}
 use Rattle.rambo_node.specs.Changes.{made_by}
 use Rattle.rambo_run.specs.Steps.{causes_at}
-use Rattle.rambo_world.specs.Kept.{states_of, state_at, moved, AllGrow}
+use Rattle.rambo_world.specs.Kept.{kept_of, state_at, moved, AllGrow}
 use Rattle.rambo_world.proofs.Sizes.{up_fits, back_fits}
-use Rattle.rambo_world.proofs.Growth.{put, state_here, unchanged, grow, some_is}
+use Rattle.rambo_world.proofs.Growth.{some_is, on_err_all}
+use Rattle.rambo_world.proofs.Zipping.{node_here, put_node, node_unchanged, node_grows}
+use Rattle.rambo_world.proofs.Logging.{made_name, kept_copies}
 use Rattle.rambo_world.proofs.nodes.Nodes.act.Goals as goal
-
-pub returns-clause-nodes : goal.returns-clause-nodes
-returns-clause-nodes g c =
-    let ks = c.self.inside.list.items in
-    let x = c.index_mut.result.now in
-    let below : c.place_of.result < length ks = subst (λ n. c.place_of.result < n) (sym c.self.invariant) c.place_of.ensures.within in
-    let y = c.act.new.self in
-    subst (λ now. OnOk c.act.result (states_of (slice_set ks c.place_of.result y) ≡ moved now c.args.name (λ s. (made_by s c.args.change.now).node))) c.self.view_is
-    (on_ok_weaker c.act.result (put ks c.place_of.result c.args.name x y c.place_of.ensures.place c.place_of.ensures.named.0 below c.index_mut.ensures.value (λ s. (made_by s c.args.change.now).node)) c.act.ensures.node)
-
-pub returns-clause-deed : goal.returns-clause-deed
-returns-clause-deed g c =
-    let ks = c.self.inside.list.items in
-    let x = c.index_mut.result.now in
-    let below : c.place_of.result < length ks = subst (λ n. c.place_of.result < n) (sym c.self.invariant) c.place_of.ensures.within in
-    let y = c.act.new.self in
-    let here = subst (λ now. state_at now c.args.name ≡ Some x.state) c.self.view_is (state_here ks c.place_of.result c.args.name x y c.place_of.ensures.place c.place_of.ensures.named.0 below c.index_mut.ensures.value) in
-    IfOk-weaker c.act.result _ _ (λ d e s found. let same = ap (λ s. (made_by s c.args.change.now).deed) (some_is x.state s (sym here ∙ found)) in
-    (e.0 ∙ ap (λ d. d.effect) same, e.1 ∙ ap (λ d. d.event) same, e.2 ∙ ap (λ d. d.mark) same)) c.act.ensures.deed
-
-pub returns-clause-err : goal.returns-clause-err
-returns-clause-err g c =
-    let ks = c.self.inside.list.items in
-    let x = c.index_mut.result.now in
-    let below : c.place_of.result < length ks = subst (λ n. c.place_of.result < n) (sym c.self.invariant) c.place_of.ensures.within in
-    let y = c.act.new.self in
-    on_err_weaker c.act.result (λ e. unchanged ks c.place_of.result c.args.name x y c.place_of.ensures.place c.place_of.ensures.named.0 below c.index_mut.ensures.value e ∙ c.self.view_is) c.act.ensures.err
-
-pub returns-clause-grow : goal.returns-clause-grow
-returns-clause-grow g c =
-    let ks = c.self.inside.list.items in
-    let x = c.index_mut.result.now in
-    let below : c.place_of.result < length ks = subst (λ n. c.place_of.result < n) (sym c.self.invariant) c.place_of.ensures.within in
-    let y = c.act.new.self in
-    subst (λ now. AllGrow now (slice_set ks c.place_of.result y)) c.self.view_is (grow ks c.place_of.result c.args.name x y c.place_of.ensures.place c.place_of.ensures.named.0 below c.index_mut.ensures.value c.act.ensures.grows)
 
 pub act-requires : goal.act-requires
 act-requires g c =
-    let ks = c.self.inside.list.items in
+    let xs = c.self.inside.list.items in
+    let ls = c.self.inside.logs.logs in
     let x = c.index_mut.result.now in
-    let below : c.place_of.result < length ks = subst (λ n. c.place_of.result < n) (sym c.self.invariant) c.place_of.ensures.within in
-    let here = subst (λ now. state_at now c.args.name ≡ Some x.state) c.self.view_is (state_here ks c.place_of.result c.args.name x x c.place_of.ensures.place c.place_of.ensures.named.0 below c.index_mut.ensures.value) in
-    (back_fits _ _ _ (up_fits _ _ _ c.requires-raw.1.1.0), (c.requires-raw.1.1.1.0, subst (λ o. least (causes_at g.Q.Quorums.system o c.args.change.now) ≡ None) here c.requires))
+    let below : c.place_of.result < length xs = subst (λ n. c.place_of.result < n) (sym c.self.invariant.0) c.place_of.ensures.within in
+    let here = subst (λ now. state_at now c.args.name ≡ Some x) c.self.view_is (node_here xs ls c.place_of.result c.args.name x x c.place_of.ensures.place c.place_of.ensures.named.0 below c.index_mut.ensures.value) in
+    (back_fits _ _ _ (up_fits _ _ _ c.requires-raw.1.1.0), (c.requires-raw.1.1.1.0, subst (λ o. least (causes_at g.Q.Quorums.system o c.args.change.now) ≡ None) here c.requires.accepted))
+
+pub returns-clause-nodes : goal.returns-clause-nodes
+returns-clause-nodes g c =
+    let xs = c.self.inside.list.items in
+    let ls = c.self.inside.logs.logs in
+    let x = c.index_mut.result.now in
+    let below : c.place_of.result < length xs = subst (λ n. c.place_of.result < n) (sym c.self.invariant.0) c.place_of.ensures.within in
+    let y = c.act.new.self in
+    put_node xs ls c.place_of.result c.args.name x y c.place_of.ensures.place c.place_of.ensures.named.0 below c.index_mut.ensures.value ls (λ s. (made_by s c.args.change.now).node) c.in_ok-deed.ensures.node
+    ∙ ap (λ now. moved now c.args.name (λ s. (made_by s c.args.change.now).node)) c.self.view_is
+
+pub returns-clause-deed : goal.returns-clause-deed
+returns-clause-deed g c s found =
+    let xs = c.self.inside.list.items in
+    let ls = c.self.inside.logs.logs in
+    let x = c.index_mut.result.now in
+    let below : c.place_of.result < length xs = subst (λ n. c.place_of.result < n) (sym c.self.invariant.0) c.place_of.ensures.within in
+    let here = subst (λ now. state_at now c.args.name ≡ Some x) c.self.view_is (node_here xs ls c.place_of.result c.args.name x x c.place_of.ensures.place c.place_of.ensures.named.0 below c.index_mut.ensures.value) in
+    c.in_ok-deed.ensures.deed ∙ ap (λ s. (made_by s c.args.change.now).deed) (some_is x s (sym here ∙ found))
+
+pub returns-clause-grow : goal.returns-clause-grow
+returns-clause-grow g c =
+    let xs = c.self.inside.list.items in
+    let ls = c.self.inside.logs.logs in
+    let x = c.index_mut.result.now in
+    let below : c.place_of.result < length xs = subst (λ n. c.place_of.result < n) (sym c.self.invariant.0) c.place_of.ensures.within in
+    let y = c.act.new.self in
+    subst (λ now. AllGrow now (kept_of (slice_set xs c.place_of.result y) ls)) c.self.view_is
+    (node_grows xs ls c.place_of.result c.args.name x y c.place_of.ensures.place c.place_of.ensures.named.0 below c.index_mut.ensures.value
+    (ap (λ y. y.name) c.in_ok-deed.ensures.node ∙ made_name x c.args.change.now) (ap (λ y. y.registers) c.in_ok-deed.ensures.node ∙ kept_copies x c.args.change.now c.requires.keeps))
+
+pub returns-in_err-deed-clause-err : goal.returns-in_err-deed-clause-err
+returns-in_err-deed-clause-err g c =
+    let xs = c.self.inside.list.items in
+    let ls = c.self.inside.logs.logs in
+    let x = c.index_mut.result.now in
+    let below : c.place_of.result < length xs = subst (λ n. c.place_of.result < n) (sym c.self.invariant.0) c.place_of.ensures.within in
+    let y = c.act.new.self in
+    on_err_all c.from_residual.result (node_unchanged xs ls c.place_of.result c.args.name x y c.place_of.ensures.place c.place_of.ensures.named.0 below c.index_mut.ensures.value c.in_err-deed.ensures.err ∙ c.self.view_is)
+
+pub returns-in_err-deed-clause-grow : goal.returns-in_err-deed-clause-grow
+returns-in_err-deed-clause-grow g c =
+    let xs = c.self.inside.list.items in
+    let ls = c.self.inside.logs.logs in
+    let x = c.index_mut.result.now in
+    let below : c.place_of.result < length xs = subst (λ n. c.place_of.result < n) (sym c.self.invariant.0) c.place_of.ensures.within in
+    let y = c.act.new.self in
+    subst (λ now. AllGrow now (kept_of (slice_set xs c.place_of.result y) ls)) c.self.view_is
+    (node_grows xs ls c.place_of.result c.args.name x y c.place_of.ensures.place c.place_of.ensures.named.0 below c.index_mut.ensures.value (ap (λ y. y.name) c.in_err-deed.ensures.err) (ap (λ y. y.registers) c.in_err-deed.ensures.err))

@@ -1,52 +1,71 @@
-use Rattle.std.proofs.Common.{◌≡◌, ◌<◌, ◌∙◌, ◌+◌, length, None, Some, slice_set, sym, ap, subst, OnOk}
-use Rattle.std.proofs.lemmas.Result.{on_ok_weaker, on_err_weaker, IfOk-weaker}
+use Rattle.std.proofs.Common.{◌≡◌, ◌<◌, ◌∙◌, ◌+◌, length, None, Some, slice_set, sym, ap, subst}
 use Rattle.rambo_names.specs.Refusals.{least}
 use Rattle.rambo_node.specs.Changes.{made_by}
-use Rattle.rambo_node.specs.declared.change.Change.TheVariants as change
 use Rattle.rambo_run.specs.Steps.{causes_at}
-use Rattle.rambo_world.specs.Kept.{states_of, state_at, moved, AllGrow}
+use Rattle.rambo_world.specs.Kept.{kept_of, state_at, moved, AllGrow}
 use Rattle.rambo_world.proofs.Sizes.{up_fits, back_fits}
-use Rattle.rambo_world.proofs.Growth.{put, state_here, unchanged, grow, some_is}
+use Rattle.rambo_world.proofs.Growth.{some_is, on_err_all}
+use Rattle.rambo_world.proofs.Zipping.{node_here, put_node, node_unchanged, node_grows}
+use Rattle.rambo_node.specs.Operations.{called}
+use Rattle.rambo_node.specs.declared.change.Change.TheVariants as change
+use Rattle.rambo_world.proofs.Logging.{made_name}
 use Rattle.rambo_world.proofs.nodes.Nodes.begin.Goals as goal
-
-pub returns-clause-nodes : goal.returns-clause-nodes
-returns-clause-nodes g c =
-    let ks = c.self.inside.list.items in
-    let x = c.index_mut.result.now in
-    let below : c.place_of.result < length ks = subst (λ n. c.place_of.result < n) (sym c.self.invariant) c.place_of.ensures.within in
-    let y = c.begin.new.self in
-    subst (λ now. OnOk c.begin.result (states_of (slice_set ks c.place_of.result y) ≡ moved now c.args.name (λ s. (made_by s (change.Call c.args.op)).node))) c.self.view_is
-    (on_ok_weaker c.begin.result (put ks c.place_of.result c.args.name x y c.place_of.ensures.place c.place_of.ensures.named.0 below c.index_mut.ensures.value (λ s. (made_by s (change.Call c.args.op)).node)) c.begin.ensures.node)
-
-pub returns-clause-grow : goal.returns-clause-grow
-returns-clause-grow g c =
-    let ks = c.self.inside.list.items in
-    let x = c.index_mut.result.now in
-    let below : c.place_of.result < length ks = subst (λ n. c.place_of.result < n) (sym c.self.invariant) c.place_of.ensures.within in
-    let y = c.begin.new.self in
-    subst (λ now. AllGrow now (slice_set ks c.place_of.result y)) c.self.view_is (grow ks c.place_of.result c.args.name x y c.place_of.ensures.place c.place_of.ensures.named.0 below c.index_mut.ensures.value c.begin.ensures.grows)
-
-pub returns-clause-id : goal.returns-clause-id
-returns-clause-id g c =
-    let ks = c.self.inside.list.items in
-    let x = c.index_mut.result.now in
-    let below : c.place_of.result < length ks = subst (λ n. c.place_of.result < n) (sym c.self.invariant) c.place_of.ensures.within in
-    let y = c.begin.new.self in
-    let here = subst (λ now. state_at now c.args.name ≡ Some x.state) c.self.view_is (state_here ks c.place_of.result c.args.name x x c.place_of.ensures.place c.place_of.ensures.named.0 below c.index_mut.ensures.value) in
-    IfOk-weaker c.begin.result _ _ (λ id e s found. e ∙ ap (λ s. record { name = s.name; number = s.made + 1 }) (some_is x.state s (sym here ∙ found))) c.begin.ensures.id
-
-pub returns-clause-err : goal.returns-clause-err
-returns-clause-err g c =
-    let ks = c.self.inside.list.items in
-    let x = c.index_mut.result.now in
-    let below : c.place_of.result < length ks = subst (λ n. c.place_of.result < n) (sym c.self.invariant) c.place_of.ensures.within in
-    let y = c.begin.new.self in
-    on_err_weaker c.begin.result (λ e. unchanged ks c.place_of.result c.args.name x y c.place_of.ensures.place c.place_of.ensures.named.0 below c.index_mut.ensures.value e ∙ c.self.view_is) c.begin.ensures.err
 
 pub begin-requires : goal.begin-requires
 begin-requires g c =
-    let ks = c.self.inside.list.items in
+    let xs = c.self.inside.list.items in
+    let ls = c.self.inside.logs.logs in
     let x = c.index_mut.result.now in
-    let below : c.place_of.result < length ks = subst (λ n. c.place_of.result < n) (sym c.self.invariant) c.place_of.ensures.within in
-    let here = subst (λ now. state_at now c.args.name ≡ Some x.state) c.self.view_is (state_here ks c.place_of.result c.args.name x x c.place_of.ensures.place c.place_of.ensures.named.0 below c.index_mut.ensures.value) in
+    let below : c.place_of.result < length xs = subst (λ n. c.place_of.result < n) (sym c.self.invariant.0) c.place_of.ensures.within in
+    let here = subst (λ now. state_at now c.args.name ≡ Some x) c.self.view_is (node_here xs ls c.place_of.result c.args.name x x c.place_of.ensures.place c.place_of.ensures.named.0 below c.index_mut.ensures.value) in
     (back_fits _ _ _ (up_fits _ _ _ c.requires-raw.1.1.0), subst (λ o. least (causes_at g.Q.Quorums.system o (change.Call c.args.op)) ≡ None) here c.requires)
+
+pub returns-clause-nodes : goal.returns-clause-nodes
+returns-clause-nodes g c =
+    let xs = c.self.inside.list.items in
+    let ls = c.self.inside.logs.logs in
+    let x = c.index_mut.result.now in
+    let below : c.place_of.result < length xs = subst (λ n. c.place_of.result < n) (sym c.self.invariant.0) c.place_of.ensures.within in
+    let y = c.begin.new.self in
+    put_node xs ls c.place_of.result c.args.name x y c.place_of.ensures.place c.place_of.ensures.named.0 below c.index_mut.ensures.value ls (λ s. (made_by s (change.Call c.args.op)).node) c.in_ok-id.ensures.node
+    ∙ ap (λ now. moved now c.args.name (λ s. (made_by s (change.Call c.args.op)).node)) c.self.view_is
+
+pub returns-clause-id : goal.returns-clause-id
+returns-clause-id g c s found =
+    let xs = c.self.inside.list.items in
+    let ls = c.self.inside.logs.logs in
+    let x = c.index_mut.result.now in
+    let below : c.place_of.result < length xs = subst (λ n. c.place_of.result < n) (sym c.self.invariant.0) c.place_of.ensures.within in
+    let here = subst (λ now. state_at now c.args.name ≡ Some x) c.self.view_is (node_here xs ls c.place_of.result c.args.name x x c.place_of.ensures.place c.place_of.ensures.named.0 below c.index_mut.ensures.value) in
+    c.in_ok-id.ensures.id ∙ ap (λ s. record { name = s.name; number = s.made + 1 }) (some_is x s (sym here ∙ found))
+
+pub returns-clause-grow : goal.returns-clause-grow
+unfolding made_by called
+returns-clause-grow g c =
+    let xs = c.self.inside.list.items in
+    let ls = c.self.inside.logs.logs in
+    let x = c.index_mut.result.now in
+    let below : c.place_of.result < length xs = subst (λ n. c.place_of.result < n) (sym c.self.invariant.0) c.place_of.ensures.within in
+    let y = c.begin.new.self in
+    subst (λ now. AllGrow now (kept_of (slice_set xs c.place_of.result y) ls)) c.self.view_is
+    (node_grows xs ls c.place_of.result c.args.name x y c.place_of.ensures.place c.place_of.ensures.named.0 below c.index_mut.ensures.value
+    (ap (λ y. y.name) c.in_ok-id.ensures.node ∙ made_name x (change.Call c.args.op)) (ap (λ y. y.registers) c.in_ok-id.ensures.node))
+
+pub returns-in_err-id-clause-err : goal.returns-in_err-id-clause-err
+returns-in_err-id-clause-err g c =
+    let xs = c.self.inside.list.items in
+    let ls = c.self.inside.logs.logs in
+    let x = c.index_mut.result.now in
+    let below : c.place_of.result < length xs = subst (λ n. c.place_of.result < n) (sym c.self.invariant.0) c.place_of.ensures.within in
+    let y = c.begin.new.self in
+    on_err_all c.from_residual.result (node_unchanged xs ls c.place_of.result c.args.name x y c.place_of.ensures.place c.place_of.ensures.named.0 below c.index_mut.ensures.value c.in_err-id.ensures.err ∙ c.self.view_is)
+
+pub returns-in_err-id-clause-grow : goal.returns-in_err-id-clause-grow
+returns-in_err-id-clause-grow g c =
+    let xs = c.self.inside.list.items in
+    let ls = c.self.inside.logs.logs in
+    let x = c.index_mut.result.now in
+    let below : c.place_of.result < length xs = subst (λ n. c.place_of.result < n) (sym c.self.invariant.0) c.place_of.ensures.within in
+    let y = c.begin.new.self in
+    subst (λ now. AllGrow now (kept_of (slice_set xs c.place_of.result y) ls)) c.self.view_is
+    (node_grows xs ls c.place_of.result c.args.name x y c.place_of.ensures.place c.place_of.ensures.named.0 below c.index_mut.ensures.value (ap (λ y. y.name) c.in_err-id.ensures.err) (ap (λ y. y.registers) c.in_err-id.ensures.err))

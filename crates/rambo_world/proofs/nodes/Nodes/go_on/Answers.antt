@@ -1,62 +1,118 @@
-use Rattle.std.proofs.Common.{◌≡◌, ◌<◌, ◌∙◌, length, None, Some, slice_set, sym, ap, subst, OnOk}
-use Rattle.std.proofs.lemmas.Result.{on_ok_weaker, on_err_weaker, IfOk-weaker}
+use Rattle.std.proofs.Common.{◌≡◌, ◌<◌, ◌-◌, ◌∙◌, ◌++◌, List, [], length, None, Some, slice_set, refl, sym, ap, subst}
+use Rattle.std.proofs.lemmas.List.{length-set}
+use Rattle.std.specs.Prelude.{slice_index_or}
 use Rattle.rambo_names.specs.Refusals.{least}
+use Rattle.rambo_tag.specs.declared.keyed_version.KeyedVersion.{KeyedVersion}
+use Rattle.rambo_tag.specs.Copies.{joined}
+use Rattle.rambo_tag.proofs.Logged.{greatest_of-nil}
+use Rattle.rambo_calls.specs.Calls.{query_in}
+use Rattle.rambo_logs.specs.NodeLogs.{extended}
 use Rattle.rambo_node.specs.Changes.{made_by}
+use Rattle.rambo_node.specs.Nodes.{open_call}
 use Rattle.rambo_node.specs.Notes.{noted}
 use Rattle.rambo_node.specs.declared.change.Change.TheVariants as change
 use Rattle.rambo_run.specs.Steps.{causes_at}
-use Rattle.rambo_world.specs.Kept.{states_of, state_at, moved, AllGrow}
+use Rattle.rambo_world.specs.Kept.{kept_of, state_at, moved, AllGrow}
+use Rattle.rambo_world.specs.Logging.{listed}
 use Rattle.rambo_world.proofs.Sizes.{up_fits, back_fits}
-use Rattle.rambo_world.proofs.Growth.{put, state_here, unchanged, grow, some_is}
+use Rattle.rambo_world.proofs.Growth.{some_is, on_err_all}
+use Rattle.rambo_world.proofs.Logging.{made_name, made_recorded, put_key}
+use Rattle.rambo_world.proofs.Zipping.{node_here, put_node, node_unchanged, log_grows, all_same}
 use Rattle.rambo_world.proofs.nodes.Nodes.go_on.Goals as goal
 
-pub returns-clause-nodes : goal.returns-clause-nodes
-returns-clause-nodes g c =
-    let ks = c.self.inside.list.items in
-    let x = c.index_mut.result.now in
-    let below : c.place_of.result < length ks = subst (λ n. c.place_of.result < n) (sym c.self.invariant) c.place_of.ensures.within in
-    let y = c.go_on.new.self in
-    subst (λ now. OnOk c.go_on.result (states_of (slice_set ks c.place_of.result y) ≡ moved now c.args.id.name (λ s. (made_by s (change.Advance c.args.id)).node))) c.self.view_is
-    (on_ok_weaker c.go_on.result (put ks c.place_of.result c.args.id.name x y c.place_of.ensures.place c.place_of.ensures.named.0 below c.index_mut.ensures.value (λ s. (made_by s (change.Advance c.args.id)).node)) c.go_on.ensures.node)
+pub make_room-requires : goal.make_room-requires
+make_room-requires g c = back_fits _ _ _ (up_fits _ _ _ c.requires-raw.1.1.0)
 
-pub returns-clause-grow : goal.returns-clause-grow
-returns-clause-grow g c =
-    let ks = c.self.inside.list.items in
-    let x = c.index_mut.result.now in
-    let below : c.place_of.result < length ks = subst (λ n. c.place_of.result < n) (sym c.self.invariant) c.place_of.ensures.within in
-    let y = c.go_on.new.self in
-    subst (λ now. AllGrow now (slice_set ks c.place_of.result y)) c.self.view_is (grow ks c.place_of.result c.args.id.name x y c.place_of.ensures.place c.place_of.ensures.named.0 below c.index_mut.ensures.value c.go_on.ensures.grows)
-
-pub returns-clause-event : goal.returns-clause-event
-returns-clause-event g c =
-    let ks = c.self.inside.list.items in
-    let x = c.index_mut.result.now in
-    let below : c.place_of.result < length ks = subst (λ n. c.place_of.result < n) (sym c.self.invariant) c.place_of.ensures.within in
-    let y = c.go_on.new.self in
-    let here = subst (λ now. state_at now c.args.id.name ≡ Some x.state) c.self.view_is (state_here ks c.place_of.result c.args.id.name x x c.place_of.ensures.place c.place_of.ensures.named.0 below c.index_mut.ensures.value) in
-    on_ok_weaker c.go_on.result (λ e s found. e ∙ ap (λ s. noted c.args.history.now.events (made_by s (change.Advance c.args.id)).deed.event) (some_is x.state s (sym here ∙ found))) c.go_on.ensures.event
-
-pub returns-clause-mark : goal.returns-clause-mark
-returns-clause-mark g c =
-    let ks = c.self.inside.list.items in
-    let x = c.index_mut.result.now in
-    let below : c.place_of.result < length ks = subst (λ n. c.place_of.result < n) (sym c.self.invariant) c.place_of.ensures.within in
-    let y = c.go_on.new.self in
-    let here = subst (λ now. state_at now c.args.id.name ≡ Some x.state) c.self.view_is (state_here ks c.place_of.result c.args.id.name x x c.place_of.ensures.place c.place_of.ensures.named.0 below c.index_mut.ensures.value) in
-    on_ok_weaker c.go_on.result (λ e s found. e ∙ ap (λ s. noted c.args.marks.now.items (made_by s (change.Advance c.args.id)).deed.mark) (some_is x.state s (sym here ∙ found))) c.go_on.ensures.mark
-
-pub returns-clause-err : goal.returns-clause-err
-returns-clause-err g c =
-    let ks = c.self.inside.list.items in
-    let x = c.index_mut.result.now in
-    let below : c.place_of.result < length ks = subst (λ n. c.place_of.result < n) (sym c.self.invariant) c.place_of.ensures.within in
-    let y = c.go_on.new.self in
-    on_err_weaker c.go_on.result (λ e. (unchanged ks c.place_of.result c.args.id.name x y c.place_of.ensures.place c.place_of.ensures.named.0 below c.index_mut.ensures.value e.0 ∙ c.self.view_is, e.1, e.2)) c.go_on.ensures.err
+pub returns-in_err-make_room-clause-grow : goal.returns-in_err-make_room-clause-grow
+returns-in_err-make_room-clause-grow g c =
+    all_same c.args.self.now (kept_of c.self.inside.list.items c.make_room.new.logs.logs) (ap (kept_of c.self.inside.list.items) c.make_room.ensures.same ∙ c.self.view_is)
 
 pub go_on-requires : goal.go_on-requires
 go_on-requires g c =
-    let ks = c.self.inside.list.items in
+    let xs = c.self.inside.list.items in
+    let ls = c.self.inside.logs.logs in
     let x = c.index_mut.result.now in
-    let below : c.place_of.result < length ks = subst (λ n. c.place_of.result < n) (sym c.self.invariant) c.place_of.ensures.within in
-    let here = subst (λ now. state_at now c.args.id.name ≡ Some x.state) c.self.view_is (state_here ks c.place_of.result c.args.id.name x x c.place_of.ensures.place c.place_of.ensures.named.0 below c.index_mut.ensures.value) in
-    (back_fits _ _ _ (up_fits _ _ _ c.requires-raw.1.1.0), (subst (λ o. least (causes_at g.Q.Quorums.system o (change.Advance c.args.id)) ≡ None) here c.requires.accepted, (c.requires.room, (c.requires.fits x.state here, c.requires.space))))
+    let below : c.place_of-2.result < length xs = subst (λ n. c.place_of-2.result < n) (sym c.self.invariant.0) c.place_of-2.ensures.within in
+    let here = subst (λ now. state_at now c.args.id.name ≡ Some x) c.self.view_is (node_here xs ls c.place_of-2.result c.args.id.name x x c.place_of-2.ensures.place c.place_of-2.ensures.named.0 below c.index_mut.ensures.value) in
+    (back_fits _ _ _ (up_fits _ _ _ c.requires-raw.1.1.0), (subst (λ o. least (causes_at g.Q.Quorums.system o (change.Advance c.args.id)) ≡ None) here c.requires.accepted, (c.requires.room, (c.requires.fits x here, c.requires.space))))
+
+pub invariant_of-self-in_err-copy : goal.invariant_of-self-in_err-copy
+invariant_of-self-in_err-copy g c = (length-set c.self.inside.list.items _ _ ∙ c.self.invariant.0, ap length c.make_room.ensures.same ∙ c.self.invariant.1)
+
+err_same : (g : _) (c : goal.After-from_residual-in_err-copy g) → kept_of (slice_set c.self.inside.list.items c.place_of-2.result c.go_on.new.self) c.make_room.new.logs.logs ≡ c.args.self.now
+err_same g c =
+    let xs = c.self.inside.list.items in
+    let ls = c.self.inside.logs.logs in
+    let x = c.index_mut.result.now in
+    let below : c.place_of-2.result < length xs = subst (λ n. c.place_of-2.result < n) (sym c.self.invariant.0) c.place_of-2.ensures.within in
+    ap (kept_of (slice_set xs c.place_of-2.result c.go_on.new.self)) c.make_room.ensures.same
+    ∙ node_unchanged xs ls c.place_of-2.result c.args.id.name x c.go_on.new.self c.place_of-2.ensures.place c.place_of-2.ensures.named.0 below c.index_mut.ensures.value c.in_err-copy.ensures.err.0 ∙ c.self.view_is
+
+pub returns-in_err-copy-clause-err : goal.returns-in_err-copy-clause-err
+returns-in_err-copy-clause-err g c = on_err_all c.from_residual-in_err-copy.result (err_same g c, c.in_err-copy.ensures.err.1, c.in_err-copy.ensures.err.2)
+
+pub returns-in_err-copy-clause-grow : goal.returns-in_err-copy-clause-grow
+returns-in_err-copy-clause-grow g c = all_same c.args.self.now _ (err_same g c)
+
+-- the room is for the key of the copy
+pub log_copy-requires : goal.log_copy-requires
+log_copy-requires g c cp found =
+    let xs = c.self.inside.list.items in
+    let ls = c.self.inside.logs.logs in
+    let asking = c.index.result.now in
+    let x = c.index_mut.result.now in
+    let below : c.place_of-2.result < length xs = subst (λ n. c.place_of-2.result < n) (sym c.self.invariant.0) c.place_of-2.ensures.within in
+    let first : c.place_of.result < length xs = subst (λ n. c.place_of.result < n) (sym c.self.invariant.0) c.place_of.ensures.within in
+    let same = some_is x asking (sym (node_here xs ls c.place_of-2.result c.args.id.name x x c.place_of-2.ensures.place c.place_of-2.ensures.named.0 below c.index_mut.ensures.value) ∙ node_here xs ls c.place_of.result c.args.id.name asking asking c.place_of.ensures.place c.place_of.ensures.named.0 first c.index.ensures) in
+    let own = put_key x c.args.id cp (sym c.in_ok-copy.ensures.copy ∙ found) in
+    c.in_ok-make_room.ensures.room cp.key own.0 (ap (λ y. query_in (open_call y c.args.id)) (sym same) ∙ own.1)
+
+logs_after : (g : _) (c : goal.After-log_copy g) → c.log_copy.new.logs.logs ≡ extended c.self.inside.logs.logs c.args.id.name (listed (made_by c.index_mut.result.now (change.Advance c.args.id)).deed.copy)
+logs_after g c = c.log_copy.ensures ∙ λ i. extended (c.make_room.ensures.same i) c.args.id.name (listed (c.in_ok-copy.ensures.copy i))
+
+pub invariant_of-self-2 : goal.invariant_of-self-2
+invariant_of-self-2 g c = (length-set c.self.inside.list.items _ _ ∙ c.self.invariant.0, ap length (logs_after g c) ∙ length-set c.self.inside.logs.logs _ _ ∙ c.self.invariant.1)
+
+pub returns-clause-nodes : goal.returns-clause-nodes
+returns-clause-nodes g c =
+    let xs = c.self.inside.list.items in
+    let ls = c.self.inside.logs.logs in
+    let x = c.index_mut.result.now in
+    let below : c.place_of-2.result < length xs = subst (λ n. c.place_of-2.result < n) (sym c.self.invariant.0) c.place_of-2.ensures.within in
+    put_node xs ls c.place_of-2.result c.args.id.name x c.go_on.new.self c.place_of-2.ensures.place c.place_of-2.ensures.named.0 below c.index_mut.ensures.value c.log_copy.new.logs.logs (λ y. (made_by y (change.Advance c.args.id)).node) c.in_ok-copy.ensures.node
+    ∙ ap (λ now. moved now c.args.id.name (λ y. (made_by y (change.Advance c.args.id)).node)) c.self.view_is
+
+pub returns-clause-event : goal.returns-clause-event
+returns-clause-event g c y found =
+    let xs = c.self.inside.list.items in
+    let ls = c.self.inside.logs.logs in
+    let x = c.index_mut.result.now in
+    let below : c.place_of-2.result < length xs = subst (λ n. c.place_of-2.result < n) (sym c.self.invariant.0) c.place_of-2.ensures.within in
+    let here = subst (λ now. state_at now c.args.id.name ≡ Some x) c.self.view_is (node_here xs ls c.place_of-2.result c.args.id.name x x c.place_of-2.ensures.place c.place_of-2.ensures.named.0 below c.index_mut.ensures.value) in
+    c.in_ok-copy.ensures.event ∙ ap (λ y. noted c.args.history.now.events (made_by y (change.Advance c.args.id)).deed.event) (some_is x y (sym here ∙ found))
+
+pub returns-clause-mark : goal.returns-clause-mark
+returns-clause-mark g c y found =
+    let xs = c.self.inside.list.items in
+    let ls = c.self.inside.logs.logs in
+    let x = c.index_mut.result.now in
+    let below : c.place_of-2.result < length xs = subst (λ n. c.place_of-2.result < n) (sym c.self.invariant.0) c.place_of-2.ensures.within in
+    let here = subst (λ now. state_at now c.args.id.name ≡ Some x) c.self.view_is (node_here xs ls c.place_of-2.result c.args.id.name x x c.place_of-2.ensures.place c.place_of-2.ensures.named.0 below c.index_mut.ensures.value) in
+    c.in_ok-copy.ensures.mark ∙ ap (λ y. noted c.args.marks.now.items (made_by y (change.Advance c.args.id)).deed.mark) (some_is x y (sym here ∙ found))
+
+pub returns-clause-grow : goal.returns-clause-grow
+returns-clause-grow g c =
+    let xs = c.self.inside.list.items in
+    let ls = c.self.inside.logs.logs in
+    let x = c.index_mut.result.now in
+    let below : c.place_of-2.result < length xs = subst (λ n. c.place_of-2.result < n) (sym c.self.invariant.0) c.place_of-2.ensures.within in
+    let own : List KeyedVersion = slice_index_or ls (c.args.id.name - 1) [] in
+    let more : List KeyedVersion = listed (made_by x (change.Advance c.args.id)).deed.copy in
+    let within : c.args.id.name - 1 < length ls = subst (λ n. n < length ls) c.place_of-2.ensures.place (subst (λ n. c.place_of-2.result < n) (sym c.self.invariant.1) c.place_of-2.ensures.within) in
+    subst (λ now. AllGrow now (kept_of (slice_set xs c.place_of-2.result c.go_on.new.self) c.log_copy.new.logs.logs)) c.self.view_is
+    (subst (λ ms. AllGrow (kept_of xs ls) (kept_of (slice_set xs c.place_of-2.result c.go_on.new.self) ms)) (sym (logs_after g c))
+    (log_grows xs ls c.place_of-2.result c.args.id.name x c.go_on.new.self c.place_of-2.ensures.place c.place_of-2.ensures.named.0 below c.index_mut.ensures.value (own ++ more) within (record {
+      name = ap (λ y. y.name) c.in_ok-copy.ensures.node ∙ made_name x (change.Advance c.args.id);
+      extends = (more, refl);
+      recorded = λ before. ap (λ y. y.registers) c.in_ok-copy.ensures.node ∙ made_recorded x own [] (change.Advance c.args.id) before (ap (joined x.registers) greatest_of-nil);
+    })))

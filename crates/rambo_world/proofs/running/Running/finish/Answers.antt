@@ -15,16 +15,16 @@ drop-state-inside-requires-room-T-Destruct g c κs within =
     let nodes = back_fits _ _ _ (next _ _ _ _ (next _ _ _ _ (next _ _ _ _ (next _ _ _ _ (next _ _ _ _ (up_fits _ _ _ state)))))) in
     back_fits _ _ _ (up_fits _ _ _ nodes)
 
-pub drop-state-inside-requires-3-room-T-Destruct : goal.drop-state-inside-requires-3-room-T-Destruct
-drop-state-inside-requires-3-room-T-Destruct g c κs within =
+pub drop-state-inside-requires-12-room-T-Destruct : goal.drop-state-inside-requires-12-room-T-Destruct
+drop-state-inside-requires-12-room-T-Destruct g c κs within =
     let state = back_fits _ _ _ (up_fits _ _ _ c.requires-raw.1.1) in
     let nodes = back_fits _ _ _ (next _ _ _ _ (next _ _ _ _ (next _ _ _ _ (next _ _ _ _ (next _ _ _ _ (up_fits _ _ _ state)))))) in
-    let node = back_fits _ _ _ (next _ _ _ _ (up_fits _ _ _ (back_fits _ _ _ (up_fits _ _ _ nodes)))) in
+    let node = back_fits _ _ _ (up_fits _ _ _ nodes) in
     let calls = back_fits _ _ _ (next _ _ _ _ (up_fits _ _ _ node)) in
     variant_fits _ _ _ _ (back_fits _ _ _ (up_fits _ _ _ calls))
 
-pub drop-state-inside-requires-8-room-T-Destruct : goal.drop-state-inside-requires-8-room-T-Destruct
-drop-state-inside-requires-8-room-T-Destruct g c κs within =
+pub drop-state-inside-requires-16-room-T-Destruct : goal.drop-state-inside-requires-16-room-T-Destruct
+drop-state-inside-requires-16-room-T-Destruct g c κs within =
     let state = back_fits _ _ _ (up_fits _ _ _ c.requires-raw.1.1) in
     let letters = back_fits _ _ _ (next _ _ _ _ (next _ _ _ _ (next _ _ _ _ (next _ _ _ _ (up_fits _ _ _ state))))) in
     variant_fits _ _ _ _ (back_fits _ _ _ (up_fits _ _ _ letters))

@@ -1,10 +1,11 @@
-use Rattle.std.proofs.Common.{◌≡◌, ◌∙◌, ℕ, false, Option, None, Some, refl, sym, ap, subst, IfOk}
+use Rattle.std.proofs.Common.{◌≡◌, ◌∙◌, ℕ, false, true, Option, None, Some, refl, sym, ap, subst, IfOk}
 use Rattle.std.proofs.lemmas.Result.{IfOk-weaker}
 use Rattle.rambo_node.specs.declared.change.Change.{Change}
 use Rattle.rambo_node.specs.declared.change.Change.TheVariants as change
 use Rattle.rambo_run.specs.declared.step.Step.TheVariants as step
 use Rattle.rambo_run.specs.Steps.{Meant, meant, refusal, turn}
 use Rattle.rambo_run.specs.Worlds.{WorldState}
+use Rattle.rambo_world.specs.Logging.{keeps_copies}
 use Rattle.rambo_world.specs.Worlds.{sends}
 use Rattle.rambo_world.proofs.Sizes.{up_fits, back_fits, variant_fits}
 use Rattle.rambo_world.proofs.Turns.{step_refusal, step_turn, step_fits}
@@ -80,6 +81,19 @@ quiet g c = elim c.match-step.branch [
   | in-Stop b ↦ ap (λ p. sends p.1) b.name-is
 ]
 
+-- and keeps the copies of its node
+keeps : (g : Over) (c : goal.After-change-1 g) → keeps_copies c.match-step.name.1 ≡ true
+keeps g c = elim c.match-step.branch [
+  | in-Join b ↦ ap (λ p. keeps_copies p.1) b.name-is
+  | in-Again b ↦ ap (λ p. keeps_copies p.1) b.name-is
+  | in-Collect b ↦ ap (λ p. keeps_copies p.1) b.name-is
+  | in-AdvanceCollect b ↦ ap (λ p. keeps_copies p.1) b.name-is
+  | in-Recon b ↦ ap (λ p. keeps_copies p.1) b.name-is
+  | in-Rebid b ↦ ap (λ p. keeps_copies p.1) b.name-is
+  | in-AdvanceRecon b ↦ ap (λ p. keeps_copies p.1) b.name-is
+  | in-Stop b ↦ ap (λ p. keeps_copies p.1) b.name-is
+]
+
 pub change-requires : goal.change-requires
 unfolding of_pair
 change-requires g c =
@@ -89,7 +103,7 @@ change-requires g c =
     let n = c.match-step.name.0 in
     let change = c.match-step.name.1 in
     let is = means g c w in
-    (c.requires-raw.1.1.0, (variant_fits _ _ _ _ (back_fits _ _ _ (up_fits _ _ _ c.requires-raw.1.1.0)), (sym (step_refusal w st n change is s) ∙ c.requires.accepted, (step_fits w st n change is s c.requires.fits c.requires.accepted, quiet g c))))
+    (c.requires-raw.1.1.0, (variant_fits _ _ _ _ (back_fits _ _ _ (up_fits _ _ _ c.requires-raw.1.1.0)), (sym (step_refusal w st n change is s) ∙ c.requires.accepted, (step_fits w st n change is s c.requires.fits c.requires.accepted, (quiet g c, keeps g c)))))
 
 -- the same once the change is made
 means_then : (g : Over) (c : goal.Joined-change g) (w : WorldState g.row.Q.Denot) → meant w c.args.step.now ≡ of_pair c.match-step.name

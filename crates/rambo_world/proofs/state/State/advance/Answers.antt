@@ -1,4 +1,4 @@
-use Rattle.std.proofs.Common.{◌≡◌, ◌∙◌, ◌+◌, ◌++◌, ◌∷◌, [], None, Some, refl, sym, ap, subst, arith}
+use Rattle.std.proofs.Common.{◌≡◌, ◌∙◌, None, refl, sym, ap, subst, arith}
 use Rattle.rambo_names.specs.Refusals.{least}
 use Rattle.rambo_atomic.specs.Faults.{fault_of}
 use Rattle.rambo_node.specs.Changes.{made_by}
@@ -7,17 +7,17 @@ use Rattle.rambo_node.specs.declared.change.Change.TheVariants as change
 use Rattle.rambo_run.specs.Steps.{causes_at, turn_at}
 use Rattle.rambo_run.specs.Worlds.{node_at}
 use Rattle.rambo_world.specs.Deliveries.{world_of}
-use Rattle.rambo_world.specs.Kept.{state_at, moved}
+use Rattle.rambo_world.specs.Kept.{state_at}
 use Rattle.rambo_world.specs.Worlds.{EventFits}
 use Rattle.rambo_world.proofs.Growth.{some_is}
-use Rattle.rambo_world.proofs.Sizes.{up_fits, back_fits, next, first_fits}
+use Rattle.rambo_world.proofs.Sizes.{up_fits, back_fits, next}
 use Rattle.rambo_world.proofs.Stepping.{kept_stays, letters_stay}
 use Rattle.rambo_world.proofs.Turns.{there}
 use Rattle.rambo_world.proofs.Changing.{changed_world, noted-event, noted-mark}
 use Rattle.rambo_world.proofs.state.State.advance.Goals as goal
 
 pub node-requires : goal.node-requires
-node-requires g c = ((back_fits _ _ _ (next _ _ _ _ (next _ _ _ _ (next _ _ _ _ (next _ _ _ _ (next _ _ _ _ (up_fits _ _ _ c.requires-raw.1.1.0))))))), (first_fits _ _ _ _ _ _ (back_fits _ _ _ (up_fits _ _ _ (back_fits _ _ _ (next _ _ _ _ (next _ _ _ _ (next _ _ _ _ (next _ _ _ _ (next _ _ _ _ (up_fits _ _ _ c.requires-raw.1.1.0)))))))))))
+node-requires g c = ((back_fits _ _ _ (next _ _ _ _ (next _ _ _ _ (next _ _ _ _ (next _ _ _ _ (next _ _ _ _ (up_fits _ _ _ c.requires-raw.1.1.0))))))), ((back_fits _ _ _ (up_fits _ _ _ (back_fits _ _ _ (next _ _ _ _ (next _ _ _ _ (next _ _ _ _ (next _ _ _ _ (next _ _ _ _ (up_fits _ _ _ c.requires-raw.1.1.0)))))))))))
 
 pub advance_effect-requires : goal.advance_effect-requires
 advance_effect-requires g c =
@@ -25,7 +25,7 @@ advance_effect-requires g c =
     let ks = c.self.inside.nodes in
     let w = world_of ks c.self.inside.letters c.self.inside.history.events c.self.inside.marks.items in
     let accepted : least (causes_at s (state_at ks c.args.id.name) (change.Advance c.args.id)) ≡ None = subst (λ w. least (causes_at s (node_at w c.args.id.name) (change.Advance c.args.id)) ≡ None) (sym c.self.view_is) c.requires.accepted in
-    ((first_fits _ _ _ _ _ _ (back_fits _ _ _ (up_fits _ _ _ (back_fits _ _ _ (next _ _ _ _ (next _ _ _ _ (next _ _ _ _ (next _ _ _ _ (next _ _ _ _ (up_fits _ _ _ c.requires-raw.1.1.0)))))))))), subst (λ o. least (causes_at s o (change.Advance c.args.id)) ≡ None) c.node.ensures accepted)
+    (((back_fits _ _ _ (up_fits _ _ _ (back_fits _ _ _ (next _ _ _ _ (next _ _ _ _ (next _ _ _ _ (next _ _ _ _ (next _ _ _ _ (up_fits _ _ _ c.requires-raw.1.1.0)))))))))), subst (λ o. least (causes_at s o (change.Advance c.args.id)) ≡ None) c.node.ensures accepted)
 
 pub go_on-requires : goal.go_on-requires
 go_on-requires g c =

@@ -15,7 +15,7 @@ use Rattle.rambo_world.proofs.state.State.change.Goals as goal
 pub act-requires : goal.act-requires
 act-requires g c = (
   back_fits _ _ _ (next _ _ _ _ (next _ _ _ _ (next _ _ _ _ (next _ _ _ _ (next _ _ _ _ (up_fits _ _ _ c.requires-raw.1.1.0)))))),
-  (c.requires-raw.1.1.1.0, subst (λ w. least (causes_at g.Q.Quorums.system (node_at w c.args.name) c.args.change.now) ≡ None) (sym c.self.view_is) c.requires.accepted),
+  (c.requires-raw.1.1.1.0, (subst (λ w. least (causes_at g.Q.Quorums.system (node_at w c.args.name) c.args.change.now) ≡ None) (sym c.self.view_is) c.requires.accepted, c.requires.keeps)),
 )
 
 pub push_event-requires : goal.push_event-requires
@@ -30,7 +30,7 @@ push_event-requires g c =
     let room = c.in_ok-reserve.ensures.ok in
     record {
       room = omega (arith, room);
-      fits = λ e found. ap (λ h. fault_of h e) c.in_ok-reserve.ensures.events ∙ fits x.0 e x.1 (sym (c.in_ok-deed.ensures.deed x.0 x.1).1 ∙ found);
+      fits = λ e found. ap (λ h. fault_of h e) c.in_ok-reserve.ensures.events ∙ fits x.0 e x.1 (sym (ap (λ d. d.event) (c.in_ok-deed.ensures.deed x.0 x.1)) ∙ found);
     }
 
 pub invariant_of-self-2 : goal.invariant_of-self-2
@@ -47,5 +47,5 @@ returns-clause-ok g c =
     let deed = c.in_ok-deed.ensures.deed x.0 x.1 in
     ap (λ w. turn_at w n (node_at w n) c.args.change.now) (sym c.self.view_is)
     ∙ changed_world ks c.act.new.self c.self.inside.letters c.self.inside.history.events c.push_event.new.history.events c.self.inside.marks.items c.push_mark.new.marks.items n c.args.change.now
-    c.in_ok-deed.deed.effect x.0 c.in_ok-deed.ensures.nodes (letters_stay ks c.act.new.self c.act.ensures.grow c.self.inside.letters c.self.invariant.sent) x.1 c.requires.quiet deed.0
-    (c.push_event.ensures ∙ (λ i. with_event (c.in_ok-reserve.ensures.events i) (deed.1 i))) (c.push_mark.ensures ∙ (λ i. with_mark (c.in_ok-reserve-2.ensures.items i) (deed.2 i)))
+    c.in_ok-deed.deed.effect x.0 c.in_ok-deed.ensures.nodes (letters_stay ks c.act.new.self c.act.ensures.grow c.self.inside.letters c.self.invariant.sent) x.1 c.requires.quiet (ap (λ d. d.effect) deed)
+    (c.push_event.ensures ∙ (λ i. with_event (c.in_ok-reserve.ensures.events i) (deed i).event)) (c.push_mark.ensures ∙ (λ i. with_mark (c.in_ok-reserve-2.ensures.items i) (deed i).mark))

@@ -4,33 +4,36 @@ use Rattle.rambo_node.specs.declared.change.Change.TheVariants as change
 use Rattle.rambo_run.specs.declared.step.Step.TheVariants as step
 use Rattle.rambo_run.specs.Steps.{Meant, meant, refusal}
 use Rattle.rambo_run.specs.Worlds.{WorldState}
-use Rattle.rambo_world.proofs.Sizes.{up_fits, back_fits, next, first_fits, variant_fits}
-use Rattle.rambo_world.proofs.Turns.{step_refusal, judged_at, deliver_refusal}
+use Rattle.rambo_world.proofs.Sizes.{up_fits, back_fits, next, variant_fits}
+use Rattle.rambo_world.proofs.Turns.{judged_at, deliver_refusal}
 use Rattle.rambo_world.specs.Deliveries.{world_of}
 use Rattle.rambo_world.proofs.state.State.judge.Given.{Over}
 use Rattle.rambo_world.proofs.state.State.judge.Goals as goal
 use Rattle.rambo_world.proofs.state.State.judge.Goals.{in-Join, in-Again, in-Collect, in-AdvanceCollect, in-Recon, in-Rebid, in-AdvanceRecon, in-Stop}
 
 pub node-requires : goal.node-requires
-node-requires g c = ((back_fits _ _ _ (next _ _ _ _ (next _ _ _ _ (next _ _ _ _ (next _ _ _ _ (next _ _ _ _ (up_fits _ _ _ c.requires-raw.1.1))))))), (first_fits _ _ _ _ _ _ (back_fits _ _ _ (up_fits _ _ _ (back_fits _ _ _ (next _ _ _ _ (next _ _ _ _ (next _ _ _ _ (next _ _ _ _ (next _ _ _ _ (up_fits _ _ _ c.requires-raw.1.1)))))))))))
+node-requires g c = ((back_fits _ _ _ (next _ _ _ _ (next _ _ _ _ (next _ _ _ _ (next _ _ _ _ (next _ _ _ _ (up_fits _ _ _ c.requires-raw.1.1))))))), ((back_fits _ _ _ (up_fits _ _ _ (back_fits _ _ _ (next _ _ _ _ (next _ _ _ _ (next _ _ _ _ (next _ _ _ _ (next _ _ _ _ (up_fits _ _ _ c.requires-raw.1.1)))))))))))
 
 pub may_call-requires : goal.may_call-requires
-may_call-requires g c = (first_fits _ _ _ _ _ _ (back_fits _ _ _ (up_fits _ _ _ (back_fits _ _ _ (next _ _ _ _ (next _ _ _ _ (next _ _ _ _ (next _ _ _ _ (next _ _ _ _ (up_fits _ _ _ c.requires-raw.1.1))))))))))
+may_call-requires g c = ((back_fits _ _ _ (up_fits _ _ _ (back_fits _ _ _ (next _ _ _ _ (next _ _ _ _ (next _ _ _ _ (next _ _ _ _ (next _ _ _ _ (up_fits _ _ _ c.requires-raw.1.1))))))))))
 
 pub node-requires-in-Send : goal.node-requires-in-Send
-node-requires-in-Send g c = ((back_fits _ _ _ (next _ _ _ _ (next _ _ _ _ (next _ _ _ _ (next _ _ _ _ (next _ _ _ _ (up_fits _ _ _ c.requires-raw.1.1))))))), (first_fits _ _ _ _ _ _ (back_fits _ _ _ (up_fits _ _ _ (back_fits _ _ _ (next _ _ _ _ (next _ _ _ _ (next _ _ _ _ (next _ _ _ _ (next _ _ _ _ (up_fits _ _ _ c.requires-raw.1.1)))))))))))
+node-requires-in-Send g c = ((back_fits _ _ _ (next _ _ _ _ (next _ _ _ _ (next _ _ _ _ (next _ _ _ _ (next _ _ _ _ (up_fits _ _ _ c.requires-raw.1.1))))))), ((back_fits _ _ _ (up_fits _ _ _ (back_fits _ _ _ (next _ _ _ _ (next _ _ _ _ (next _ _ _ _ (next _ _ _ _ (next _ _ _ _ (up_fits _ _ _ c.requires-raw.1.1)))))))))))
 
 pub may_send-requires : goal.may_send-requires
-may_send-requires g c = (first_fits _ _ _ _ _ _ (back_fits _ _ _ (up_fits _ _ _ (back_fits _ _ _ (next _ _ _ _ (next _ _ _ _ (next _ _ _ _ (next _ _ _ _ (next _ _ _ _ (up_fits _ _ _ c.requires-raw.1.1))))))))))
+may_send-requires g c = ((back_fits _ _ _ (up_fits _ _ _ (back_fits _ _ _ (next _ _ _ _ (next _ _ _ _ (next _ _ _ _ (next _ _ _ _ (next _ _ _ _ (up_fits _ _ _ c.requires-raw.1.1))))))))))
 
 pub node-requires-in-Advance : goal.node-requires-in-Advance
-node-requires-in-Advance g c = ((back_fits _ _ _ (next _ _ _ _ (next _ _ _ _ (next _ _ _ _ (next _ _ _ _ (next _ _ _ _ (up_fits _ _ _ c.requires-raw.1.1))))))), (first_fits _ _ _ _ _ _ (back_fits _ _ _ (up_fits _ _ _ (back_fits _ _ _ (next _ _ _ _ (next _ _ _ _ (next _ _ _ _ (next _ _ _ _ (next _ _ _ _ (up_fits _ _ _ c.requires-raw.1.1)))))))))))
+node-requires-in-Advance g c = ((back_fits _ _ _ (next _ _ _ _ (next _ _ _ _ (next _ _ _ _ (next _ _ _ _ (next _ _ _ _ (up_fits _ _ _ c.requires-raw.1.1))))))), ((back_fits _ _ _ (up_fits _ _ _ (back_fits _ _ _ (next _ _ _ _ (next _ _ _ _ (next _ _ _ _ (next _ _ _ _ (next _ _ _ _ (up_fits _ _ _ c.requires-raw.1.1)))))))))))
 
 pub may_advance-requires : goal.may_advance-requires
-may_advance-requires g c = (first_fits _ _ _ _ _ _ (back_fits _ _ _ (up_fits _ _ _ (back_fits _ _ _ (next _ _ _ _ (next _ _ _ _ (next _ _ _ _ (next _ _ _ _ (next _ _ _ _ (up_fits _ _ _ c.requires-raw.1.1))))))))))
+may_advance-requires g c = ((back_fits _ _ _ (up_fits _ _ _ (back_fits _ _ _ (next _ _ _ _ (next _ _ _ _ (next _ _ _ _ (next _ _ _ _ (next _ _ _ _ (up_fits _ _ _ c.requires-raw.1.1))))))))))
+
+pub node-requires-2 : goal.node-requires-2
+node-requires-2 g c = (back_fits _ _ _ (next _ _ _ _ (next _ _ _ _ (next _ _ _ _ (next _ _ _ _ (next _ _ _ _ (up_fits _ _ _ c.requires-raw.1.1)))))), back_fits _ _ _ (up_fits _ _ _ (back_fits _ _ _ (next _ _ _ _ (next _ _ _ _ (next _ _ _ _ (next _ _ _ _ (next _ _ _ _ (up_fits _ _ _ c.requires-raw.1.1)))))))))
 
 pub judge-requires : goal.judge-requires
-judge-requires g c = (back_fits _ _ _ (next _ _ _ _ (next _ _ _ _ (next _ _ _ _ (next _ _ _ _ (next _ _ _ _ (up_fits _ _ _ c.requires-raw.1.1)))))), variant_fits _ _ _ _ (back_fits _ _ _ (up_fits _ _ _ c.requires-raw.1.1)))
+judge-requires g c = (back_fits _ _ _ (up_fits _ _ _ (back_fits _ _ _ (next _ _ _ _ (next _ _ _ _ (next _ _ _ _ (next _ _ _ _ (next _ _ _ _ (up_fits _ _ _ c.requires-raw.1.1)))))))), variant_fits _ _ _ _ (back_fits _ _ _ (up_fits _ _ _ c.requires-raw.1.1)))
 
 pub may_deliver-requires : goal.may_deliver-requires
 may_deliver-requires g c = c.requires-raw.1.1
@@ -115,13 +118,13 @@ unfolding of_pair
 returns-clause-ok g c =
     let s = g.Q.Quorums.system in
     let w = world_of c.self.inside.nodes c.self.inside.letters c.self.inside.history.events c.self.inside.marks.items in
-    let is = step_refusal w c.args.step.now c.match-step.name.0 c.match-step.name.1 (means g c w) s in
-    subst (λ w. OnOk c.judge.result (refusal s w c.args.step.now ≡ None)) c.self.view_is (subst (λ o. OnOk c.judge.result (o ≡ None)) (sym is) c.judge.ensures.ok)
+    let is = judged_at s w c.args.step.now c.match-step.name.0 c.match-step.name.1 c.node-2.result.now (means g c w) c.node-2.ensures in
+    subst (λ w. OnOk c.judge.result (refusal s w c.args.step.now ≡ None)) c.self.view_is (subst (λ o. OnOk c.judge.result (o ≡ None)) is c.judge.ensures.ok)
 
 pub returns-clause-refused : goal.returns-clause-refused
 unfolding of_pair
 returns-clause-refused g c =
     let s = g.Q.Quorums.system in
     let w = world_of c.self.inside.nodes c.self.inside.letters c.self.inside.history.events c.self.inside.marks.items in
-    let is = step_refusal w c.args.step.now c.match-step.name.0 c.match-step.name.1 (means g c w) s in
-    subst (λ w. IfErr c.judge.result (λ r. refusal s w c.args.step.now ≡ Some r)) c.self.view_is (subst (λ o. IfErr c.judge.result (λ r. o ≡ Some r)) (sym is) c.judge.ensures.refused)
+    let is = judged_at s w c.args.step.now c.match-step.name.0 c.match-step.name.1 c.node-2.result.now (means g c w) c.node-2.ensures in
+    subst (λ w. IfErr c.judge.result (λ r. refusal s w c.args.step.now ≡ Some r)) c.self.view_is (subst (λ o. IfErr c.judge.result (λ r. o ≡ Some r)) is c.judge.ensures.refused)

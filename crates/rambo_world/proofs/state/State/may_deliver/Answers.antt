@@ -4,7 +4,7 @@ use Rattle.rambo_run.specs.Worlds.{letter_at}
 use Rattle.rambo_node.specs.declared.change.Change.TheVariants as change
 use Rattle.rambo_run.specs.Steps.{causes_at, causes_of, delivery}
 use Rattle.rambo_world.specs.Kept.{SentState, sent_at, state_at}
-use Rattle.rambo_world.proofs.Sizes.{up_fits, back_fits, next, first_fits}
+use Rattle.rambo_world.proofs.Sizes.{up_fits, back_fits, next}
 use Rattle.rambo_world.proofs.Deliveries.{sent_causes, no_causes}
 use Rattle.rambo_world.proofs.state.State.may_deliver.Goals as goal
 
@@ -12,10 +12,10 @@ pub get-requires : goal.get-requires
 get-requires g c = back_fits _ _ _ (next _ _ _ _ (next _ _ _ _ (next _ _ _ _ (next _ _ _ _ (up_fits _ _ _ c.requires-raw.1.1)))))
 
 pub node-requires : goal.node-requires
-node-requires g c = ((back_fits _ _ _ (next _ _ _ _ (next _ _ _ _ (next _ _ _ _ (next _ _ _ _ (next _ _ _ _ (up_fits _ _ _ c.requires-raw.1.1))))))), (first_fits _ _ _ _ _ _ (back_fits _ _ _ (up_fits _ _ _ (back_fits _ _ _ (next _ _ _ _ (next _ _ _ _ (next _ _ _ _ (next _ _ _ _ (next _ _ _ _ (up_fits _ _ _ c.requires-raw.1.1)))))))))))
+node-requires g c = ((back_fits _ _ _ (next _ _ _ _ (next _ _ _ _ (next _ _ _ _ (next _ _ _ _ (next _ _ _ _ (up_fits _ _ _ c.requires-raw.1.1))))))), ((back_fits _ _ _ (up_fits _ _ _ (back_fits _ _ _ (next _ _ _ _ (next _ _ _ _ (next _ _ _ _ (next _ _ _ _ (next _ _ _ _ (up_fits _ _ _ c.requires-raw.1.1)))))))))))
 
 pub may_hear_outlined-requires : goal.may_hear_outlined-requires
-may_hear_outlined-requires g c = (first_fits _ _ _ _ _ _ (back_fits _ _ _ (up_fits _ _ _ (back_fits _ _ _ (next _ _ _ _ (next _ _ _ _ (next _ _ _ _ (next _ _ _ _ (next _ _ _ _ (up_fits _ _ _ c.requires-raw.1.1))))))))))
+may_hear_outlined-requires g c = ((back_fits _ _ _ (up_fits _ _ _ (back_fits _ _ _ (next _ _ _ _ (next _ _ _ _ (next _ _ _ _ (next _ _ _ _ (next _ _ _ _ (up_fits _ _ _ c.requires-raw.1.1))))))))))
 
 pub returns-in-Some-clause-ok : goal.returns-in-Some-clause-ok
 returns-in-Some-clause-ok g c =

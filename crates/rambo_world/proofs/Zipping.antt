@@ -1,0 +1,137 @@
+-- Nodes with their logs, and what a change of one of them makes of the list
+use Rattle.std.proofs.Common.{◌≡◌, ℕ, zero, suc, ◌-◌, ◌≤◌, ◌<◌, List, [], ◌∷◌, length, get_or, append-nil, Some, slice_get, slice_set, refl, sym, ap, ◌∙◌, subst, arith}
+use Rattle.std.specs.Prelude.{slice_index_or}
+use Rattle.std.proofs.lemmas.Bool.{false≢true}
+use Rattle.std.proofs.lemmas.Option.{slice_get_read, get_or_from_slice_get}
+use Rattle.std.specs.Option.{is_some, IsSomeAnd}
+use Rattle.rambo_tag.specs.declared.keyed_version.KeyedVersion.{KeyedVersion}
+use Rattle.rambo_tag.specs.Copies.{joined}
+use Rattle.rambo_tag.specs.Logs.{greatest_of}
+use Rattle.rambo_gossip.specs.declared.letter.Letter.{Letter}
+use Rattle.rambo_logs.specs.NodeLogs.{part, lacked}
+use Rattle.rambo_node.specs.Nodes.{NodeState}
+use Rattle.rambo_world.specs.Kept.{KeptNode, kept_of, kept_at, log_in, log_at, brought, states_of, state_at, moved, Grows, AllGrow}
+use Rattle.rambo_world.proofs.Growth.{some_is, grows_same, put, kept_here, state_here, unchanged, grow}
+
+-- a node with its log
+abbrev pub with_log : {Q : Type 0} → NodeState Q → List KeyedVersion → KeptNode Q
+with_log x l = record { state = x; log = l }
+
+-- the nodes alone
+pub states_of-kept : {Q : Type 0} (xs : List (NodeState Q)) (ls : List (List KeyedVersion)) → states_of (kept_of xs ls) ≡ xs
+states_of-kept [] ls = refl
+states_of-kept (x ∷ xs) [] = ap (λ zs. x ∷ zs) (states_of-kept xs [])
+states_of-kept (x ∷ xs) (l ∷ ls) = ap (λ zs. x ∷ zs) (states_of-kept xs ls)
+
+pub length-kept : {Q : Type 0} (xs : List (NodeState Q)) (ls : List (List KeyedVersion)) → length (kept_of xs ls) ≡ length xs
+length-kept [] ls = refl
+length-kept (x ∷ xs) [] = ap suc (length-kept xs [])
+length-kept (x ∷ xs) (l ∷ ls) = ap suc (length-kept xs ls)
+
+-- the node of a place, with its log
+pub kept_of-at : {Q : Type 0} (xs : List (NodeState Q)) (ls : List (List KeyedVersion)) (place : ℕ) (x : NodeState Q)
+    → slice_get xs place ≡ Some x → slice_get (kept_of xs ls) place ≡ Some (with_log x (slice_index_or ls place []))
+kept_of-at [] ls place x e = absurd (false≢true (ap is_some e))
+kept_of-at (y ∷ ys) [] zero x e = ap (λ z. Some (with_log z [])) (some_is y x e)
+kept_of-at (y ∷ ys) [] (suc place) x e = kept_of-at ys [] place x e
+kept_of-at (y ∷ ys) (l ∷ ls) zero x e = ap (λ z. Some (with_log z l)) (some_is y x e)
+kept_of-at (y ∷ ys) (l ∷ ls) (suc place) x e = kept_of-at ys ls place x e
+
+-- the log of a name
+log_of-at : {Q : Type 0} (xs : List (NodeState Q)) (ls : List (List KeyedVersion)) → length xs ≡ length ls → (i : ℕ) → log_in (slice_get (kept_of xs ls) i) ≡ slice_index_or ls i []
+log_of-at [] [] same i = refl
+log_of-at [] (l ∷ ls) same i = absurd (omega (arith, same))
+log_of-at (x ∷ xs) [] same i = absurd (omega (arith, same))
+log_of-at (x ∷ xs) (l ∷ ls) same zero = refl
+log_of-at (x ∷ xs) (l ∷ ls) same (suc i) = log_of-at xs ls (omega (arith, same)) i
+
+pub log_of : {Q : Type 0} (xs : List (NodeState Q)) (ls : List (List KeyedVersion)) → length xs ≡ length ls → (name : ℕ) → log_at (kept_of xs ls) name ≡ slice_index_or ls (name - 1) []
+log_of xs ls same name = log_of-at xs ls same (name - 1)
+
+-- what is brought, by the logs
+module _ {Q : Type 0} (xs : List (NodeState Q)) (ls : List (List KeyedVersion)) (same : length xs ≡ length ls) (l : Letter Q) (start end : ℕ) where
+  abbrev own : List KeyedVersion
+  own = slice_index_or ls (l.addressee - 1) []
+
+  abbrev told : List KeyedVersion
+  told = slice_index_or ls (l.sender - 1) []
+
+  pub brought_is : brought (kept_of xs ls) l start end ≡ greatest_of (lacked (greatest_of own) (part told start end))
+  brought_is = λ i. greatest_of (lacked (greatest_of (log_of xs ls same l.addressee i)) (part (log_of xs ls same l.sender i) start end))
+
+  pub enough_brought : joined (greatest_of own) (greatest_of (lacked (greatest_of own) (part told start end))) ≡ joined (greatest_of own) (greatest_of (part told start end))
+      → joined (greatest_of (log_at (kept_of xs ls) l.addressee)) (brought (kept_of xs ls) l start end) ≡ joined (greatest_of (log_at (kept_of xs ls) l.addressee)) (greatest_of (part (log_at (kept_of xs ls) l.sender) start end))
+  enough_brought e =
+      (λ i. joined (greatest_of (log_of xs ls same l.addressee i)) (brought_is i)) ∙ e
+      ∙ sym (λ i. joined (greatest_of (log_of xs ls same l.addressee i)) (greatest_of (part (log_of xs ls same l.sender i) start end)))
+
+-- nodes that all stay as they are
+pub all_same : {Q : Type 0} (ks new : List (KeptNode Q)) → new ≡ ks → AllGrow ks new
+all_same ks new e = subst (AllGrow ks) (sym e) (record { count = refl; grow = λ place x found. subst (λ o. IsSomeAnd o (Grows x)) (sym found) (grows_same x x refl) })
+
+-- another node there, with the same log
+kept_of-set : {Q : Type 0} (xs : List (NodeState Q)) (ls : List (List KeyedVersion)) (place : ℕ) (y : NodeState Q)
+    → kept_of (slice_set xs place y) ls ≡ slice_set (kept_of xs ls) place (with_log y (slice_index_or ls place []))
+kept_of-set [] ls place y = refl
+kept_of-set (x ∷ xs) [] zero y = refl
+kept_of-set (x ∷ xs) [] (suc place) y = ap (λ zs. with_log x [] ∷ zs) (kept_of-set xs [] place y)
+kept_of-set (x ∷ xs) (l ∷ ls) zero y = refl
+kept_of-set (x ∷ xs) (l ∷ ls) (suc place) y = ap (λ zs. with_log x l ∷ zs) (kept_of-set xs ls place y)
+
+-- and with another log
+kept_of-both : {Q : Type 0} (xs : List (NodeState Q)) (ls : List (List KeyedVersion)) (place : ℕ) (y : NodeState Q) (m : List KeyedVersion) → place < length ls
+    → kept_of (slice_set xs place y) (slice_set ls place m) ≡ slice_set (kept_of xs ls) place (with_log y m)
+kept_of-both [] ls place y m below = refl
+kept_of-both (x ∷ xs) [] place y m below = absurd (omega (arith, below))
+kept_of-both (x ∷ xs) (l ∷ ls) zero y m below = refl
+kept_of-both (x ∷ xs) (l ∷ ls) (suc place) y m below = ap (λ zs. with_log x l ∷ zs) (kept_of-both xs ls place y m (omega (arith, below)))
+
+-- the node of a name changes
+module _ {Q : Type 0} (xs : List (NodeState Q)) (ls : List (List KeyedVersion)) (place name : ℕ) (x y : NodeState Q)
+    (at : place ≡ name - 1) (named : 1 ≤ name) (below : place < length xs) (is : x ≡ get_or xs place x) where
+  abbrev ks : List (KeptNode Q)
+  ks = kept_of xs ls
+
+  abbrev log : List KeyedVersion
+  log = slice_index_or ls place []
+
+  there : slice_get ks place ≡ Some (with_log x log)
+  there = kept_of-at xs ls place x (slice_get_read xs (length xs) place x refl below is)
+
+  kept_is : with_log x log ≡ get_or ks place (with_log x log)
+  kept_is = sym (get_or_from_slice_get ks place (with_log x log) (with_log x log) there)
+
+  kept_below : place < length ks
+  kept_below = subst (λ n. place < n) (sym (length-kept xs ls)) below
+
+  pub node_here : state_at ks name ≡ Some x
+  node_here = state_here ks place name (with_log x log) (with_log x log) at named kept_below kept_is
+
+  pub log_here : kept_at ks name ≡ Some (with_log x (slice_index_or ls (name - 1) []))
+  log_here = kept_here ks place name (with_log x log) (with_log x log) at named kept_below kept_is ∙ ap (λ p. Some (with_log x (slice_index_or ls p []))) at
+
+  -- whatever becomes of the logs, the nodes are those with this one changed
+  pub put_node : (ms : List (List KeyedVersion)) (f : NodeState Q → NodeState Q) → y ≡ f x → states_of (kept_of (slice_set xs place y) ms) ≡ moved ks name f
+  put_node ms f e =
+      states_of-kept (slice_set xs place y) ms ∙ sym (states_of-kept (slice_set xs place y) ls) ∙ ap states_of (kept_of-set xs ls place y)
+      ∙ put ks place name (with_log x log) (with_log y log) at named kept_below kept_is f e
+
+  pub node_unchanged : y ≡ x → kept_of (slice_set xs place y) ls ≡ ks
+  node_unchanged e = kept_of-set xs ls place y ∙ unchanged ks place name (with_log x log) (with_log y log) at named kept_below kept_is (ap (λ z. with_log z log) e)
+
+  -- a node that keeps its copies, and its log
+  pub node_grows : y.name ≡ x.name → y.registers ≡ x.registers → AllGrow ks (kept_of (slice_set xs place y) ls)
+  node_grows name_stays copies_stay =
+      subst (AllGrow ks) (sym (kept_of-set xs ls place y))
+      (grow ks place name (with_log x log) (with_log y log) at named kept_below kept_is (record {
+        name = name_stays;
+        extends = ([], sym (append-nil log));
+        recorded = λ before. copies_stay ∙ before;
+      }))
+
+  -- a node that takes on copies, with these at the end of its log
+  pub log_grows : (m : List KeyedVersion) → name - 1 < length ls → Grows (with_log x (slice_index_or ls (name - 1) [])) (with_log y m) → AllGrow ks (kept_of (slice_set xs place y) (slice_set ls (name - 1) m))
+  log_grows m within grows =
+      subst (λ p. AllGrow ks (kept_of (slice_set xs place y) (slice_set ls p m))) at
+      (subst (AllGrow ks) (sym (kept_of-both xs ls place y m (subst (λ p. p < length ls) (sym at) within)))
+      (grow ks place name (with_log x log) (with_log y m) at named kept_below kept_is (subst (λ p. Grows (with_log x (slice_index_or ls p [])) (with_log y m)) (sym at) grows)))
