@@ -1,5 +1,5 @@
 -- A run that goes on as the lines of a script are read
-use Rattle.std.proofs.Common.{◌≡◌, ◌≢◌, ◌⊎◌, ℕ, ◌+◌, ◌≤◌, List, [], ◌∷◌, ◌++◌, length, inl, inr, refl, sym, ap, subst, ◌∙◌, arith, length-append, map}
+use Rattle.std.proofs.Common.{◌≡◌, ◌≢◌, ◌⊎◌, ℕ, ◌+◌, ◌≤◌, List, [], ◌∷◌, ◌++◌, Option, length, inl, inr, refl, sym, ap, subst, ◌∙◌, arith, length-append, map}
 use Rattle.rambo_names.specs.Names.{NameSet}
 use Rattle.rambo_names.specs.Quorums.{majorities}
 use Rattle.rambo_sequence.specs.Sequences.{sequences_of}
@@ -9,18 +9,23 @@ use Rattle.rambo_run.specs.Steps.{refusal}
 use Rattle.rambo_run.specs.Runs.{after, maps_of, result_of, run_from}
 use Rattle.rambo_world.specs.Worlds.{RunningOf}
 use Rattle.rambo_world.proofs.Longer.{run_from-more, run_from-none}
+use Rattle.rambo_text.specs.declared.fault.Fault.{Fault}
 use Rattle.rambo_text.specs.declared.fault.Fault.TheVariants.{OutOfMemory}
 use Rattle.rambo_text.specs.declared.fault.ReplayFault.{ReplayFault}
 use Rattle.rambo_text.specs.declared.fault.ReplayFault.TheVariants.{Script}
 use Rattle.rambo_text.specs.declared.fault.ScriptFault.{ScriptFault}
-use Rattle.rambo_text.specs.Words.{IsFirstLine}
+use Rattle.rambo_text.specs.Words.{IsFirstLine, IsFirstWord}
+use Rattle.rambo_text.proofs.WordSplits.{words_joined}
 use Rattle.rambo_outcome.specs.Lines.{Ordered, items_text}
 use Rattle.rambo_outcome.proofs.Telling.{told_along, text_more, text_whole}
-use Rattle.rambo_script.specs.Scripts.{AreFounders, founders_line}
+use Rattle.rambo_script.specs.declared.kind.StepKind.{StepKind}
+use Rattle.rambo_script.specs.StepLines.{word_of}
+use Rattle.rambo_script.specs.Scripts.{AreFounders, founders_line, IsShort}
 use Rattle.rambo_script.specs.Faults.{IsLineFault, TellNoFounders, TellNoStep, TellsBytes}
 use Rattle.rambo_script.specs.Replays.{IsReplay, GivesUp}
-use Rattle.rambo_script.specs.Runs.{IsFounded, TakesStep, IsFaultAt, ended}
+use Rattle.rambo_script.specs.Runs.{IsFounded, TakesStep, IsPartsFault, IsFaultAt, ended}
 use Rattle.rambo_script.proofs.FaultOnce.{same_first}
+use Rattle.rambo_script.proofs.Fitting.{line_needs}
 use Rattle.rambo_script.proofs.LineByLine.{Reads, script, less_left, reads-first, reads-next, reads-all, first-fault, reads-fault}
 
 -- some steps: their lines were read, the run took them, and the text is what was told of them
@@ -74,8 +79,8 @@ runs_next bytes rest line more r new number next text longer now some first is t
     let s = majorities in
     let st = takes.step in
     let steps = now.steps ++ st ∷ [] in
-    let founders : new.founders ≡ r.founders = ap (λ (v : RunningOf NameSet). v.founders) takes.taken in
-    let state : new.state ≡ after s r.state st = ap (λ (v : RunningOf NameSet). v.state) takes.taken in
+    let founders : new.founders ≡ r.founders = ap (λ (v : RunningOf NameSet). v.founders) takes.takes.taken in
+    let state : new.state ≡ after s r.state st = ap (λ (v : RunningOf NameSet). v.state) takes.takes.taken in
     let first_w = first_world s r.founders in
     let fewer = less_left rest line more some first in
     record {
@@ -83,7 +88,7 @@ runs_next bytes rest line more r new number next text longer now some first is t
       reads = subst (λ f. Reads bytes f steps more) (sym founders)
           (reads-next bytes rest line more r.founders now.steps steps now.reads some first (record { step = st; new_is = refl; has_line = takes.has_line; line_is = takes.line_is }));
       ran = state ∙ ap (λ w. after s w st) now.ran ∙ sym (run_from-more s first_w now.steps st) ∙ ap (λ f. run_from s (first_world s f) steps) (sym founders);
-      told = text_more s first_w now.steps st r.state new.state (result_of (refusal s r.state st) r.state st) next text longer now.ran state refl (is ∙ ap (λ n. n + 1) now.counted) now.told takes.told
+      told = text_more s first_w now.steps st r.state new.state (result_of (refusal s r.state st) r.state st) next text longer now.ran state refl (is ∙ ap (λ n. n + 1) now.counted) now.told takes.takes.told
           ∙ ap (λ f. items_text (told_along s (first_world s f) 1 steps)) (sym founders);
       counted = is ∙ ap (λ n. n + 1) now.counted ∙ sym (length-append now.steps (st ∷ []));
       within = let h = now.within in omega (arith, h, fewer, is);
@@ -113,3 +118,15 @@ later_fault bytes rest line more r number next text f now some first is (inl spe
 later_fault bytes rest line more r number next text f now some first is (inr found) =
     let counted = now.counted in
     inr (found.0, found.1, reads-fault TellsBytes bytes rest line more r.founders now.steps found.0 now.reads some first (found.2 ∙ omega (arith, is, counted)) found.3)
+
+-- the words behind the first are unfit, or there is no room for the bytes that they tell
+line_fault : (line : List ℕ) (kind : StepKind) (more : Option (List ℕ)) (g : Fault) → IsShort line → IsFirstWord line (word_of kind) more → IsPartsFault kind more g
+    → ((g ≡ OutOfMemory) × TellsBytes line) ⊎ IsLineFault TellNoStep line g
+line_fault line kind more g short first (inl spent) = inl (spent.0, line_needs line (word_of kind) more kind short first refl spent.1)
+line_fault line kind more g short first (inr unfit) =
+    inr (inr (short, (word_of kind ∷ unfit.0, words_joined line (word_of kind) more unfit.0 first unfit.1, inr (kind, unfit.0, refl, unfit.2))))
+
+pub parts_fault : (line : List ℕ) (kind : StepKind) (more : Option (List ℕ)) (number : ℕ) (f : ReplayFault) → IsShort line → IsFirstWord line (word_of kind) more
+    → IsFaultAt number (IsPartsFault kind more) f → IsFaultAt number (λ g. ((g ≡ OutOfMemory) × TellsBytes line) ⊎ IsLineFault TellNoStep line g) f
+parts_fault line kind more number f short first (inl spent) = inl spent
+parts_fault line kind more number f short first (inr found) = inr (found.0, found.1, found.2, line_fault line kind more found.0.fault short first found.3)

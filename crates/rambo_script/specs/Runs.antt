@@ -1,5 +1,5 @@
 -- A run that goes on as the lines of a script are read
-use Rattle.std.specs.Prelude.{◌≡◌, ◌⊎◌, ℕ, List, ◌++◌, map}
+use Rattle.std.specs.Prelude.{◌≡◌, ◌⊎◌, ℕ, List, Option, ◌++◌, map}
 use Rattle.rambo_names.specs.Names.{NameSet}
 use Rattle.rambo_names.specs.Quorums.{majorities}
 use Rattle.rambo_sequence.specs.Sequences.{sequences_of}
@@ -9,12 +9,15 @@ use Rattle.rambo_run.specs.Steps.{refusal}
 use Rattle.rambo_run.specs.Runs.{after, maps_of, result_of}
 use Rattle.rambo_world.specs.Worlds.{RunningOf}
 use Rattle.rambo_text.specs.declared.fault.Fault.{Fault}
+use Rattle.rambo_text.specs.declared.fault.Fault.TheVariants.{OutOfMemory}
 use Rattle.rambo_text.specs.declared.fault.ScriptFault.{ScriptFault}
 use Rattle.rambo_text.specs.declared.fault.ReplayFault.{ReplayFault}
 use Rattle.rambo_text.specs.declared.fault.ReplayFault.TheVariants.{Script, Memory}
 use Rattle.rambo_text.specs.Words.{IsFirstLine}
 use Rattle.rambo_outcome.specs.Lines.{Ordered, items_text}
 use Rattle.rambo_outcome.specs.Outcomes.{step_items, map_item}
+use Rattle.rambo_script.specs.declared.kind.StepKind.{StepKind}
+use Rattle.rambo_script.specs.Parts.{NeedRoom, TellStep, TellUnfit}
 use Rattle.rambo_script.specs.StepLines.{step_line}
 use Rattle.rambo_script.specs.Scripts.{AreFounders, HasLine, founders_line}
 
@@ -27,13 +30,27 @@ pub record IsFounded (bytes : List ℕ) (r : RunningOf NameSet) : Type 0 where
   pub line_is : line ≡ founders_line r.founders
   pub state_is : r.state ≡ first_world majorities r.founders
 
--- a run took the step of this number, which a line tells, and what is told of it came to the end of a text
+-- a run took a step of this number, and what is told of it came to the end of a text
+pub record Takes (step : Step NameSet) (number : ℕ) (old new : RunningOf NameSet) (text longer : List ℕ) : Type 0 where
+  pub taken : new ≡ record old { state = after majorities old.state step }
+  pub told : longer ≡ text ++ items_text (step_items majorities new.state.history number (result_of (refusal majorities old.state step) old.state step))
+
+-- a line tells it
 pub record TakesStep (line : List ℕ) (number : ℕ) (old new : RunningOf NameSet) (text longer : List ℕ) : Type 0 where
   pub step : Step NameSet
   pub has_line : HasLine step
   pub line_is : line ≡ step_line step
-  pub taken : new ≡ record old { state = after majorities old.state step }
-  pub told : longer ≡ text ++ items_text (step_items majorities new.state.history number (result_of (refusal majorities old.state step) old.state step))
+  pub takes : Takes step number old new text longer
+
+-- the words behind the first one, which is that of a kind, tell it
+pub record TakesTold (kind : StepKind) (more : Option (List ℕ)) (number : ℕ) (old new : RunningOf NameSet) (text longer : List ℕ) : Type 0 where
+  pub step : Step NameSet
+  pub tell : TellStep kind more step
+  pub takes : Takes step number old new text longer
+
+-- or they tell none, or there is no room for the bytes that they tell
+abbrev pub IsPartsFault : StepKind → Option (List ℕ) → Fault → Type 0
+IsPartsFault kind more f = ((f ≡ OutOfMemory) × NeedRoom kind more) ⊎ TellUnfit kind more f
 
 -- a text, with the sequences and the maps behind it
 abbrev pub ended : WorldState NameSet → List ℕ → List ℕ

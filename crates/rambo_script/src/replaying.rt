@@ -1,15 +1,25 @@
 //! From a script to the text of what its run gives.
-ghost use Rattle.std.specs.Prelude.{◌≡◌, ◌⊎◌, ◌+◌, ◌<◌, ◌^◌, Ok, OnOk, IfOk, IfErr};
+ghost use Rattle.std.specs.Prelude.{◌≡◌, ◌⊎◌, ◌+◌, ◌<◌, ◌^◌, ◌++◌, Ok, OnOk, IfOk, IfErr};
 ghost use Rattle.std.specs.Io.KnownBytes.{IsAtEnd};
+ghost use Rattle.std.specs.Option.{option_copied};
+ghost use Rattle.rambo_atomic.specs.Histories.{call_in};
+ghost use Rattle.rambo_run.specs.declared.step.Step.TheVariants as step;
+ghost use Rattle.rambo_outcome.specs.Lines.{items_text};
+ghost use Rattle.rambo_outcome.specs.Outcomes.{call_items};
 ghost use Rattle.rambo_script.specs.Faults.{IsLineFault, TellNoStep, TellsBytes};
 ghost use Rattle.rambo_script.specs.Replays.{IsReplay, Replays, Leaves, GivesUp, reads_failed, writes_failed};
-ghost use Rattle.rambo_script.specs.Runs.{IsFounded, TakesStep, ended, IsFaultAt};
+ghost use Rattle.rambo_script.specs.Runs.{IsFounded, Takes, TakesStep, TakesTold, IsPartsFault, ended, IsFaultAt};
 
-use crate::reading::read_step;
+use crate::kind::StepKind;
+use crate::reading::{
+    get_asked, read_call, read_kind, read_letter, read_names, read_parts, set_asked,
+};
 use crate::script::{at_line, read_founders};
-use rambo_atomic::{Sink, Source, read_all, write_all};
-use rambo_names::{Majority, Refusal};
-use rambo_outcome::{write_maps, write_sequences, write_step};
+use rambo_atomic::{CallId, History, Op, Sink, Source, read_all, write_all};
+use rambo_names::{Majority, Name, Refusal};
+use rambo_outcome::{
+    write_answered, write_called, write_maps, write_refused, write_sequences, write_step,
+};
 use rambo_tag::Registers;
 use rambo_text::{Fault, ReplayFault, next_line};
 use rambo_world::Running;
@@ -99,7 +109,148 @@ fn take_line(
     ensures taken { OnOk result (TakesStep line.now number running.old running.new text.old.items text.new.items) }
     ensures fault { IfErr result (λ f. IsFaultAt (number + 1) (λ g. ((g ≡ Fault.OutOfMemory) × TellsBytes line.now) ⊎ IsLineFault TellNoStep line.now g) f) }
 {
-    let step = at_line(number + 1, read_step(alloc, line))?;
+    let (kind, more) = at_line(number + 1, read_kind(line))?;
+    match kind {
+        StepKind::Send => take_send(number, more, running, text),
+        StepKind::Deliver => take_deliver(number, more, running, text),
+        StepKind::Advance => take_advance(number, more, running, text),
+        StepKind::Get => take_get(alloc, number, more, running, text),
+        StepKind::Set => take_put(alloc, number, more, running, text),
+        _ => take_step(alloc, kind, number, more, running, text),
+    }
+}
+
+// Takes the sending that the words behind the first tell, and appends what is told of it.
+fn take_send(
+    number: u64,
+    more: Option<&[u8]>,
+    running: &mut MajorityRun,
+    text: &mut Vec<u8>,
+) -> Result<(), ReplayFault>
+    requires { number < 2 ^ 63 }
+    ensures taken { OnOk result (TakesTold StepKind.Send (option_copied more.entry) number running.old running.new text.old.items text.new.items) }
+    ensures fault { IfErr result (λ f. IsFaultAt (number + 1) (IsPartsFault StepKind.Send (option_copied more.entry)) f) }
+{
+    let (from, to) = at_line(number + 1, read_names(more))?;
+    match in_memory(running.send(from, to))? {
+        Ok(_) => Ok(()),
+        Err(refusal) => in_memory(write_refused(number, refusal, text)),
+    }
+}
+
+// Takes the delivery that the words behind the first tell, and appends what is told of it.
+fn take_deliver(
+    number: u64,
+    more: Option<&[u8]>,
+    running: &mut MajorityRun,
+    text: &mut Vec<u8>,
+) -> Result<(), ReplayFault>
+    requires { number < 2 ^ 63 }
+    ensures taken { OnOk result (TakesTold StepKind.Deliver (option_copied more.entry) number running.old running.new text.old.items text.new.items) }
+    ensures fault { IfErr result (λ f. IsFaultAt (number + 1) (IsPartsFault StepKind.Deliver (option_copied more.entry)) f) }
+{
+    let letter = at_line(number + 1, read_letter(more))?;
+    match in_memory(running.deliver(letter))? {
+        Ok(()) => Ok(()),
+        Err(refusal) => in_memory(write_refused(number, refusal, text)),
+    }
+}
+
+// Takes the advance of a call that the words behind the first tell, and appends what is told of it.
+fn take_advance(
+    number: u64,
+    more: Option<&[u8]>,
+    running: &mut MajorityRun,
+    text: &mut Vec<u8>,
+) -> Result<(), ReplayFault>
+    requires { number < 2 ^ 63 }
+    ensures taken { OnOk result (TakesTold StepKind.Advance (option_copied more.entry) number running.old running.new text.old.items text.new.items) }
+    ensures fault { IfErr result (λ f. IsFaultAt (number + 1) (IsPartsFault StepKind.Advance (option_copied more.entry)) f) }
+{
+    let id = at_line(number + 1, read_call(more))?;
+    match in_memory(running.advance(id))? {
+        Ok(Some(answer)) => in_memory(write_answered(&id, &answer, text)),
+        Ok(None) => Ok(()),
+        Err(refusal) => in_memory(write_refused(number, refusal, text)),
+    }
+}
+
+// Takes the get that the words behind the first tell, and appends what is told of it.
+fn take_get(
+    alloc: Global,
+    number: u64,
+    more: Option<&[u8]>,
+    running: &mut MajorityRun,
+    text: &mut Vec<u8>,
+) -> Result<(), ReplayFault>
+    requires { number < 2 ^ 63 }
+    ensures taken { OnOk result (TakesTold StepKind.Get (option_copied more.entry) number running.old running.new text.old.items text.new.items) }
+    ensures fault { IfErr result (λ f. IsFaultAt (number + 1) (IsPartsFault StepKind.Get (option_copied more.entry)) f) }
+{
+    let (name, op) = at_line(number + 1, get_asked(alloc, more))?;
+    take_call(number, name, &op, running, text)
+}
+
+// Takes the set that the words behind the first tell, and appends what is told of it.
+fn take_put(
+    alloc: Global,
+    number: u64,
+    more: Option<&[u8]>,
+    running: &mut MajorityRun,
+    text: &mut Vec<u8>,
+) -> Result<(), ReplayFault>
+    requires { number < 2 ^ 63 }
+    ensures taken { OnOk result (TakesTold StepKind.Set (option_copied more.entry) number running.old running.new text.old.items text.new.items) }
+    ensures fault { IfErr result (λ f. IsFaultAt (number + 1) (IsPartsFault StepKind.Set (option_copied more.entry)) f) }
+{
+    let (name, op) = at_line(number + 1, set_asked(alloc, more))?;
+    take_call(number, name, &op, running, text)
+}
+
+// Takes the call of an operation, and appends what is told of it.
+fn take_call(
+    number: u64,
+    name: Name,
+    op: &Op,
+    running: &mut MajorityRun,
+    text: &mut Vec<u8>,
+) -> Result<(), ReplayFault>
+    ensures taken { OnOk result (Takes (step.Call name op.now) number running.old running.new text.old.items text.new.items) }
+    ensures fault { IfErr result (λ f. f ≡ ReplayFault.Memory) }
+{
+    match in_memory(running.call(name, op))? {
+        Ok(id) => in_memory(write_call(&id, running.history(), text)),
+        Err(refusal) => in_memory(write_refused(number, refusal, text)),
+    }
+}
+
+// Appends the line of a call, with what the history says that it asked.
+fn write_call(id: &CallId, history: &History, text: &mut Vec<u8>) -> Result<(), Refusal>
+    ensures ok { OnOk result (text.new.items ≡ text.old.items ++ items_text (call_items id.now (call_in history.now.events id.now))) }
+    ensures refused { IfErr result (λ r. r ≡ Refusal.OutOfMemory) }
+{
+    match history.call(id) {
+        Some(op) => write_called(id, op, text),
+        None => Ok(()),
+    }
+}
+
+// Takes a step of any kind that the words behind the first tell, and appends what is told of it.
+// (a step is large, and where this is inlined the other kinds pay for its room)
+#[inline(never)]
+fn take_step(
+    alloc: Global,
+    kind: StepKind,
+    number: u64,
+    more: Option<&[u8]>,
+    running: &mut MajorityRun,
+    text: &mut Vec<u8>,
+) -> Result<(), ReplayFault>
+    requires { number < 2 ^ 63 }
+    ensures taken { OnOk result (TakesTold kind (option_copied more.entry) number running.old running.new text.old.items text.new.items) }
+    ensures fault { IfErr result (λ f. IsFaultAt (number + 1) (IsPartsFault kind (option_copied more.entry)) f) }
+{
+    let step = at_line(number + 1, read_parts(alloc, kind, more))?;
     let told = in_memory(running.take(&step))?;
     in_memory(write_step(number, &told, running.history(), text))
 }

@@ -14,3 +14,4 @@ mod Deliveries
 pub mod Longer
 mod Starting
 mod Reached
+mod Single

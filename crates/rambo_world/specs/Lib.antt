@@ -3,3 +3,4 @@ pub mod Logging
 pub mod Shared
 pub mod Worlds
 pub mod Deliveries
+pub mod Told

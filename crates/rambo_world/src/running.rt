@@ -6,13 +6,16 @@ ghost use Rattle.rambo_sequence.specs.Sequences.{sequences_of, sequence_in};
 ghost use Rattle.rambo_run.specs.Runs.{after, result_of, results_from, run_from, maps_of, outcome_at};
 ghost use Rattle.rambo_run.specs.Steps.{refusal};
 ghost use Rattle.rambo_run.specs.Worlds.{first_world};
+ghost use Rattle.rambo_run.specs.declared.step.Step.TheVariants as step;
+ghost use Rattle.rambo_node.specs.Changes.{answer_in};
+ghost use Rattle.rambo_world.specs.Told.{IsSent, IsCalled, sent, called, delivered, advanced};
 ghost use Rattle.rambo_world.specs.Worlds.{founding_causes, AgreesSoFar};
 
 use crate::runs::outcome;
 use crate::state::State;
 use crate::world::may_found;
-use rambo_atomic::History;
-use rambo_names::{Quorums, Refusal};
+use rambo_atomic::{Answer, CallId, History, Op};
+use rambo_names::{Name, Quorums, Refusal};
 use rambo_node::Effect;
 use rambo_run::{NodeMap, Outcome, Step};
 use rambo_sequence::KeySequence;
@@ -71,6 +74,74 @@ impl<Q: Quorums, S: Replica> Running<Q, S> {
         self.state.take(step)
     }
 
+    /// A node sends a letter to another: the number of the letter, or why that was refused, after which the run goes on.
+    ///
+    /// `OutOfMemory` where there is no room for the letter; then nothing changes. A refusal needs no room.
+    pub fn send(&mut self, from: Name, to: Name) -> Result<Result<u64, Refusal>, Refusal>
+        ensures told { IfOk result (λ r. sent r ≡ result_of (refusal Q.system self.old.state (step.Send from to)) self.old.state (step.Send from to)) }
+        ensures after { OnOk result (self.new ≡ record self.old { state = after Q.system self.old.state (step.Send from to) }) }
+        ensures accepted { OnErr result (refusal Q.system self.old.state (step.Send from to) ≡ None) }
+        ensures err { OnErr result (self.new ≡ self.old) }
+        ensures refused { IfErr result (λ r. r ≡ Refusal.OutOfMemory) }
+    {
+        if let Err(refusal) = self.state.nodes.node(from).may_send(to) {
+            return Ok(Err(refusal));
+        }
+        let effect = self.state.send(from, to)?;
+        Ok(Ok(number_sent(&effect)))
+    }
+
+    /// The letter of a number comes to its addressee, or why that was refused, after which the run goes on.
+    ///
+    /// `OutOfMemory` where there is no room for what the letter tells; then nothing changes. A refusal needs no room.
+    pub fn deliver(&mut self, number: u64) -> Result<Result<(), Refusal>, Refusal>
+        ensures told { IfOk result (λ r. delivered r ≡ result_of (refusal Q.system self.old.state (step.Deliver number)) self.old.state (step.Deliver number)) }
+        ensures after { OnOk result (self.new ≡ record self.old { state = after Q.system self.old.state (step.Deliver number) }) }
+        ensures accepted { OnErr result (refusal Q.system self.old.state (step.Deliver number) ≡ None) }
+        ensures err { OnErr result (self.new ≡ self.old) }
+        ensures refused { IfErr result (λ r. r ≡ Refusal.OutOfMemory) }
+    {
+        if let Err(refusal) = self.state.may_deliver(number) {
+            return Ok(Err(refusal));
+        }
+        self.state.deliver(number)?;
+        Ok(Ok(()))
+    }
+
+    /// A client asks a node for an operation: the call, or why that was refused, after which the run goes on.
+    ///
+    /// `OutOfMemory` where there is no room for the call; then nothing changes. A refusal needs no room.
+    pub fn call(&mut self, name: Name, op: &Op) -> Result<Result<CallId, Refusal>, Refusal>
+        ensures told { IfOk result (λ r. called r ≡ result_of (refusal Q.system self.old.state (step.Call name op.now)) self.old.state (step.Call name op.now)) }
+        ensures after { OnOk result (self.new ≡ record self.old { state = after Q.system self.old.state (step.Call name op.now) }) }
+        ensures accepted { OnErr result (refusal Q.system self.old.state (step.Call name op.now) ≡ None) }
+        ensures err { OnErr result (self.new ≡ self.old) }
+        ensures refused { IfErr result (λ r. r ≡ Refusal.OutOfMemory) }
+    {
+        if let Err(refusal) = self.state.nodes.node(name).may_call(op) {
+            return Ok(Err(refusal));
+        }
+        let effect = self.state.call(name, op)?;
+        Ok(Ok(call_made(&effect)))
+    }
+
+    /// A call goes on: its answer, if it got one, or why that was refused, after which the run goes on.
+    ///
+    /// `OutOfMemory` where there is no room for what it does; then nothing changes. A refusal needs no room.
+    pub fn advance(&mut self, id: CallId) -> Result<Result<Option<Answer>, Refusal>, Refusal>
+        ensures told { IfOk result (λ r. advanced id r ≡ result_of (refusal Q.system self.old.state (step.Advance id)) self.old.state (step.Advance id)) }
+        ensures after { OnOk result (self.new ≡ record self.old { state = after Q.system self.old.state (step.Advance id) }) }
+        ensures accepted { OnErr result (refusal Q.system self.old.state (step.Advance id) ≡ None) }
+        ensures err { OnErr result (self.new ≡ self.old) }
+        ensures refused { IfErr result (λ r. r ≡ Refusal.OutOfMemory) }
+    {
+        if let Err(refusal) = self.state.nodes.node(id.name).may_advance(&id) {
+            return Ok(Err(refusal));
+        }
+        let effect = self.state.advance(id)?;
+        Ok(Ok(answer_got(effect)))
+    }
+
     /// Takes all of these steps, and gives what they did, the history, the sequences and the maps. A step that is
     /// refused is noted with its refusal, and the run goes on. With no step before, that is the outcome of the run of these
     /// steps, for any system of quorums.
@@ -117,5 +188,37 @@ impl<Q: Quorums, S: Replica> Running<Q, S> {
         ensures refused { IfErr result (λ r. r ≡ Refusal.OutOfMemory) }
     {
         self.state.maps(alloc)
+    }
+}
+
+// The number of the letter whose sending this is.
+fn number_sent<Q: Quorums>(effect: &Effect<Q>) -> u64
+    requires { IsSent effect.now }
+    ensures { effect.now ≡ Effect.Sent result }
+{
+    match effect {
+        Effect::Sent(number) => *number,
+        _ => unreachable!(),
+    }
+}
+
+// The call that was made.
+fn call_made<Q: Quorums>(effect: &Effect<Q>) -> CallId
+    requires { IsCalled effect.now }
+    ensures { effect.now ≡ Effect.Called result }
+{
+    match effect {
+        Effect::Called(id) => *id,
+        _ => unreachable!(),
+    }
+}
+
+// The answer that a call got as it went on, if it did.
+fn answer_got<Q: Quorums>(effect: Effect<Q>) -> Option<Answer>
+    ensures { result ≡ answer_in effect }
+{
+    match effect {
+        Effect::Answered(_, answer) => Some(answer),
+        _ => None,
     }
 }

@@ -1,7 +1,7 @@
 use Rattle.std.proofs.Common.{inl, inr, refl, rules}
 use Rattle.rambo_script.specs.declared.kind.StepKind.TheVariants.{Set}
 use Rattle.rambo_script.proofs.Fitting.{count_fault, hex_fault}
-use Rattle.rambo_script.proofs.reading.read_put.Goals as goal
+use Rattle.rambo_script.proofs.reading.set_asked.Goals as goal
 
 pub returns-in_err-name-clause-fault : goal.returns-in_err-name-clause-fault
 returns-in_err-name-clause-fault c = search (rules, count_fault Set _ _ c.in_err-name.ensures.fault.0 c.in_err-name.ensures.fault.1)
