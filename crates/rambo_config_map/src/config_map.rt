@@ -148,14 +148,3 @@ impl<Q: Quorums> ConfigMap<Q> {
         Ok(place)
     }
 }
-
-#[cfg(test)]
-impl<Q: Quorums> ConfigMap<Q> {
-    // The map of a configuration at one place, with all places below it removed.
-    pub(crate) fn at(alloc: Global, place: u64, config: Q) -> Self {
-        ConfigMap {
-            floor: place,
-            places: Places::one(alloc, config),
-        }
-    }
-}

@@ -13,6 +13,3 @@ pub use config_map::ConfigMap;
 pub use entry::Entry;
 pub use merging::merging_laws;
 pub use places::Places;
-
-#[cfg(test)]
-mod tests;

@@ -13,6 +13,3 @@ pub use collection::Collection;
 pub use gc_move::GcMove;
 pub use laws::collecting_laws;
 pub use stage::Stage;
-
-#[cfg(test)]
-mod tests;

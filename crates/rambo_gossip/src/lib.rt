@@ -3,8 +3,6 @@
 
 mod letter;
 mod outline;
-#[cfg(test)]
-mod tests;
 
 pub use letter::{Gossip, Kind, Letter};
 pub use outline::{GossipOutline, LetterOutline};

@@ -2,3 +2,4 @@ pub mod NodeLogs
 pub mod Stored
 pub mod Numbers
 pub mod Inside
+pub mod Merged

@@ -10,6 +10,8 @@ mod hints;
 mod key_numbers;
 mod lacked;
 mod logs;
+mod merged_counts;
 mod pending;
 
 pub use logs::Logs;
+pub use merged_counts::MergedCounts;

@@ -6,7 +6,7 @@ use Rattle.clap.specs.Words.{HasKind, Text, fault_of, kind_of}
 use Rattle.clap.specs.declared.error.Error.{Error}
 use Rattle.clap.specs.declared.error.kind.ErrorKind.TheVariants.{OutOfMemory}
 use Rattle.rambo_text.specs.declared.fault.ReplayFault.TheVariants.{Memory}
-use Rattle.rambo_main.specs.Lines.{rambo}
+use Rattle.rambo_command_line.specs.Lines.{rambo}
 use Rattle.rambo_main.specs.Statuses.{AnswersTo, EndsAs, EndsBy, GivesUp, IsFine, Stream}
 
 pub answered : (words : List Text) (e : Error) (status : ℕ) (write told : Stream) → HasKind (fault_of rambo words) e

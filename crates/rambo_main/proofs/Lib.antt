@@ -1,5 +1,3 @@
 mod Answered
-mod Asked
 mod Told
 mod Untouched
-pub mod NoNames

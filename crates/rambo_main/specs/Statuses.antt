@@ -9,14 +9,14 @@ use Rattle.rambo_text.specs.Faults.{told}
 use Rattle.rambo_text.specs.declared.fault.ScriptFault.{ScriptFault}
 use Rattle.rambo_text.specs.declared.fault.ReplayFault.{ReplayFault}
 use Rattle.rambo_text.specs.declared.fault.ReplayFault.TheVariants.{Script, Read, Write, Memory}
-use Rattle.rambo_outcome.specs.Checks.{IsLeft, IsChecked}
-use Rattle.rambo_outcome.specs.Texts.{IsTextFault}
+use Rattle.rambo_check.specs.Checks.{IsLeft, IsChecked}
+use Rattle.rambo_check.specs.Texts.{IsTextFault}
 use Rattle.rambo_script.specs.Replays.{Replays, Leaves, reads_failed, writes_failed}
 use Rattle.rambo_names.specs.Names.{NameSet}
 use Rattle.rambo_local.specs.declared.fault.LocalFault.{LocalFault}
 use Rattle.rambo_local.specs.declared.fault.LocalFault.TheVariants as local
 use Rattle.rambo_local.specs.Talks.{Served, Stopped}
-use Rattle.rambo_main.specs.Lines.{rambo, founders_word, IsFounders}
+use Rattle.rambo_command_line.specs.Lines.{rambo, founders_word, IsFounders}
 
 -- a stream before and after: the bytes that it has left or has taken, where these are known, and how many of its
 -- calls failed

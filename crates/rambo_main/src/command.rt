@@ -1,13 +1,13 @@
 //! The program's work over any streams.
 ghost use Rattle.std.specs.Prelude.{◌≡◌, ◌≤◌, ◌⊎◌, map};
 ghost use Rattle.rambo_names.specs.Names.{count_of};
-ghost use Rattle.rambo_main.specs.Lines.{Asks, AsksLocal};
+ghost use Rattle.rambo_command_line.specs.Lines.{Asks, AsksLocal};
 ghost use Rattle.rambo_main.specs.Statuses.{AnswersTo, ChecksTo, LocalTo, ReplaysTo, ServesTo, of_local, stream};
-ghost use Rattle.rambo_main.specs.declared.line.Task.{Task as AnyTask};
+ghost use Rattle.rambo_command_line.specs.declared.line.Task.{Task as AnyTask};
 
-use crate::line::{Task, task_of};
 use crate::telling::{DONE, answer, tell, tell_bad_founders};
 use rambo_atomic::{Sink, Source};
+use rambo_command_line::{Task, task_of};
 use rambo_local::{LocalFault, local};
 use rambo_names::{Majority, Members};
 use rambo_script::{check_text, replay};

@@ -3,7 +3,6 @@
 #![tactic(auto)]
 
 mod command;
-mod line;
 mod telling;
 
 use command::command;
@@ -38,6 +37,3 @@ fn main(rt: HostRuntime) -> ExitCode {
 fn words(rt: &HostRuntime) -> io::Result<Vec<String>> {
     Ok(std::env::args(rt)?.skip(1).collect(rt.alloc())?)
 }
-
-#[cfg(test)]
-mod tests;

@@ -25,6 +25,3 @@ pub use quorums::Quorums;
 pub use refusal::Refusal;
 pub use set_sign::read_set;
 pub use signs::{leading_num, read_num, write_set};
-
-#[cfg(test)]
-mod tests;

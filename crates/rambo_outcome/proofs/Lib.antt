@@ -1,10 +1,2 @@
-pub mod Counts
-pub mod ItemShapes
-pub mod LineWords
-pub mod Judged
-pub mod LineFaults
 pub mod Loops
-pub mod Rows
 pub mod Telling
-pub mod TextLaws
-pub mod TextSteps

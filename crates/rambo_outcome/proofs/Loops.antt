@@ -9,7 +9,8 @@ use Rattle.rambo_atomic.specs.declared.event.Event.{Event}
 use Rattle.rambo_node.specs.declared.effect.Effect.{Effect}
 use Rattle.rambo_run.specs.Runs.{OutcomeState}
 use Rattle.rambo_text.specs.Signs.{Grows}
-use Rattle.rambo_outcome.specs.Lines.{Item, Ordered, item_line, items_text}
+use Rattle.rambo_check.specs.Lines.{Item, Ordered, items_text}
+use Rattle.rambo_check.proofs.ItemTexts.{items-append}
 use Rattle.rambo_outcome.specs.Outcomes.{step_items, steps_items, map_item, outcome_lines}
 
 -- what is still to be written after one item more
@@ -29,10 +30,6 @@ grows_on start out new more now front = (front.0 ++ more, now ∙ ap (λ t. t ++
 pub all_done : {X : Type 0} (F : List X → List ℕ) → F [] ≡ [] → (xs : List X) (i : ℕ) (out whole : List ℕ) → length xs ≤ i
     → out ++ F (drop i xs) ≡ whole → out ≡ whole
 all_done F none xs i out whole h before = sym (ap (λ t. out ++ F t) (drop_all i xs h) ∙ ap (λ t. out ++ t) none ∙ append-nil out) ∙ before
-
-pub items-append : (is js : List Item) → items_text (is ++ js) ≡ items_text is ++ items_text js
-items-append [] js = refl
-items-append (i ∷ is) js = ap (λ t. item_line i ++ t) (items-append is js) ∙ sym (append_assoc (item_line i) (items_text is) (items_text js))
 
 -- a step more
 pub step_on : {Q : Type 0} (s : QuorumSystem Q) (h : List Event) (rs : List (Result (Effect Q) Refusal)) (i : ℕ) (r : Result (Effect Q) Refusal) (out new whole : List ℕ) → i < length rs

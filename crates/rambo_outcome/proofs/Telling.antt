@@ -30,9 +30,10 @@ use Rattle.rambo_run.specs.Steps.{Meant, Turn, meant, with_event, refusal, turn_
 use Rattle.rambo_run.specs.Runs.{MapOf, after, unless_refused, run_from, run, result_of, results_from, maps_of, outcome_at, outcome_of}
 use Rattle.rambo_run.proofs.Events.{none_or_some, call_kept, call_last}
 use Rattle.rambo_sequence.specs.Sequences.{SequenceOf, sequences_of}
-use Rattle.rambo_outcome.specs.Lines.{Item, Ordered, items_text}
+use Rattle.rambo_check.specs.Lines.{Item, Ordered, items_text}
 use Rattle.rambo_outcome.specs.Outcomes.{call_items, step_items, steps_items, map_item, outcome_lines}
-use Rattle.rambo_outcome.proofs.Loops.{items-append, whole_text}
+use Rattle.rambo_check.proofs.ItemTexts.{items-append}
+use Rattle.rambo_outcome.proofs.Loops.{whole_text}
 
 -- a history, and a longer one that begins with it
 abbrev Grows : List Event → List Event → Type 0

@@ -1,11 +1,1 @@
-pub mod Checks
-pub mod EvidenceStates
-pub mod Items
-pub mod Judgings
-pub mod Laws
-pub mod Lines
 pub mod Outcomes
-pub mod Plans
-pub mod Readings
-pub mod Texts
-pub mod Verdicts

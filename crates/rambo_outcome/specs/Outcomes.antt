@@ -12,7 +12,7 @@ use Rattle.rambo_atomic.specs.Histories.{call_in}
 use Rattle.rambo_node.specs.declared.effect.Effect.{Effect}
 use Rattle.rambo_node.specs.declared.effect.Effect.TheVariants as effect
 use Rattle.rambo_run.specs.Runs.{MapOf, OutcomeState}
-use Rattle.rambo_outcome.specs.Lines.{Item, Happened, Collected, Settled, Refused, Ordered, Mapped, items_text}
+use Rattle.rambo_check.specs.Lines.{Item, Happened, Collected, Settled, Refused, Ordered, Mapped, items_text}
 
 -- a call that was made, with what the history says that it asked
 abbrev pub call_items : CallId → Option Op → List Item

@@ -7,7 +7,7 @@ ghost use Rattle.rambo_text.specs.Words.{more_words};
 ghost use Rattle.rambo_text.specs.Signs.{call_text, standing_text, Grows};
 ghost use Rattle.rambo_names.specs.Signs.{set_text};
 ghost use Rattle.rambo_names.specs.Refusals.{number_of};
-ghost use Rattle.rambo_outcome.specs.Lines.{Happened, Collected, Settled, Refused, Ordered, op_words, answer_words, item_line};
+ghost use Rattle.rambo_check.specs.Lines.{Happened, Collected, Settled, Refused, Ordered, op_words, answer_words, item_line};
 ghost use Rattle.rambo_outcome.specs.Outcomes.{members_at, map_item};
 
 use rambo_atomic::{Answer, CallId, Op};

@@ -1,7 +1,7 @@
 //! The text of an outcome.
 ghost use Rattle.std.specs.Prelude.{◌≡◌, ◌++◌, ℕ, OnOk, OnErr, IfOk, IfErr, map};
 ghost use Rattle.rambo_text.specs.Signs.{Grows};
-ghost use Rattle.rambo_outcome.specs.Lines.{Ordered, items_text};
+ghost use Rattle.rambo_check.specs.Lines.{Ordered, items_text};
 ghost use Rattle.rambo_outcome.specs.Outcomes.{step_items, steps_items, map_item, outcome_lines};
 
 use crate::line::{

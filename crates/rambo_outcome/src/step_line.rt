@@ -2,7 +2,7 @@
 ghost use Rattle.std.specs.Prelude.{◌≡◌, ◌++◌, OnOk, OnErr, IfErr};
 ghost use Rattle.rambo_atomic.specs.declared.event.Event.TheVariants as event;
 ghost use Rattle.rambo_names.specs.Refusals.{number_of};
-ghost use Rattle.rambo_outcome.specs.Lines.{Happened, Refused, item_line};
+ghost use Rattle.rambo_check.specs.Lines.{Happened, Refused, item_line};
 
 use crate::line::{append_answered, append_called, append_refused};
 use rambo_atomic::{Answer, CallId, Op};

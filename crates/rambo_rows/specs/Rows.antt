@@ -3,7 +3,7 @@ use Rattle.std.specs.Prelude.{◌≡◌, ◌⊎◌, ◌++◌, true, false, ℕ, 
 use Rattle.rambo_names.specs.Names.{NameSet}
 use Rattle.rambo_names.specs.Signs.{set_text}
 use Rattle.rambo_local.specs.Talks.{Served}
-use Rattle.rambo_outcome.specs.Checks.{IsChecked}
+use Rattle.rambo_check.specs.Checks.{IsChecked}
 use Rattle.rambo_script.specs.Replays.{IsReplay}
 
 -- of a client that sent an input, or more than was read of it behind a fault, this is all that was replied

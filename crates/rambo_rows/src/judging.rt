@@ -3,7 +3,7 @@ ghost use Rattle.std.specs.Prelude.{◌≡◌, ◌≤◌, ◌++◌, None, true, 
 ghost use Rattle.rambo_names.specs.Names.{count_of};
 ghost use Rattle.rambo_names.specs.Signs.{set_text};
 ghost use Rattle.rambo_local.specs.Talks.{Served};
-ghost use Rattle.rambo_outcome.specs.Checks.{IsChecked};
+ghost use Rattle.rambo_check.specs.Checks.{IsChecked};
 ghost use Rattle.rambo_rows.specs.Rows.{IsServed, Shows};
 ghost use Rattle.rambo_script.specs.Replays.{IsReplay, Replays};
 

@@ -33,6 +33,3 @@ fn main(rt: HostRuntime) -> ExitCode {
         _ => ExitCode::FAILURE,
     }
 }
-
-#[cfg(test)]
-mod tests;

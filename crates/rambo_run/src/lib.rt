@@ -13,6 +13,3 @@ pub use laws::{
 };
 pub use outcome::{NodeMap, Outcome};
 pub use step::Step;
-
-#[cfg(test)]
-mod tests;

@@ -1,9 +1,2 @@
-pub mod Fitting
-pub mod LineByLine
-pub mod Plain
-pub mod Alike
-pub mod StepShapes
-pub mod Texts
-pub mod FaultOnce
 mod AfterRun
 mod RunAlong

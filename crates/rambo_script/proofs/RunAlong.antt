@@ -16,17 +16,17 @@ use Rattle.rambo_text.specs.declared.fault.ReplayFault.TheVariants.{Script}
 use Rattle.rambo_text.specs.declared.fault.ScriptFault.{ScriptFault}
 use Rattle.rambo_text.specs.Words.{IsFirstLine, IsFirstWord}
 use Rattle.rambo_text.proofs.WordSplits.{words_joined}
-use Rattle.rambo_outcome.specs.Lines.{Ordered, items_text}
+use Rattle.rambo_check.specs.Lines.{Ordered, items_text}
 use Rattle.rambo_outcome.proofs.Telling.{told_along, text_more, text_whole}
-use Rattle.rambo_script.specs.declared.kind.StepKind.{StepKind}
-use Rattle.rambo_script.specs.StepLines.{word_of}
-use Rattle.rambo_script.specs.Scripts.{AreFounders, founders_line, IsShort}
-use Rattle.rambo_script.specs.Faults.{IsLineFault, TellNoFounders, TellNoStep, TellsBytes}
+use Rattle.rambo_lines.specs.declared.kind.StepKind.{StepKind}
+use Rattle.rambo_lines.specs.StepLines.{word_of}
+use Rattle.rambo_lines.specs.Scripts.{AreFounders, founders_line, IsShort}
+use Rattle.rambo_lines.specs.Faults.{IsLineFault, TellNoFounders, TellNoStep, TellsBytes}
 use Rattle.rambo_script.specs.Replays.{IsReplay, GivesUp}
 use Rattle.rambo_script.specs.Runs.{IsFounded, TakesStep, IsPartsFault, IsFaultAt, ended}
-use Rattle.rambo_script.proofs.FaultOnce.{same_first}
-use Rattle.rambo_script.proofs.Fitting.{line_needs}
-use Rattle.rambo_script.proofs.LineByLine.{Reads, script, less_left, reads-first, reads-next, reads-all, first-fault, reads-fault}
+use Rattle.rambo_lines.proofs.FaultOnce.{same_first}
+use Rattle.rambo_lines.proofs.Fitting.{line_needs}
+use Rattle.rambo_lines.proofs.LineByLine.{Reads, script, less_left, reads-first, reads-next, reads-all, first-fault, reads-fault}
 
 -- some steps: their lines were read, the run took them, and the text is what was told of them
 pub record Runs (bytes : List ℕ) (r : RunningOf NameSet) (number : ℕ) (text rest : List ℕ) : Type 0 where

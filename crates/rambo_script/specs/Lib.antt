@@ -1,8 +1,2 @@
-pub mod StepLines
-pub mod Scripts
-pub mod Faults
-pub mod Parts
-pub mod Pushes
-pub mod Laws
 pub mod Replays
 pub mod Runs

@@ -8,8 +8,8 @@ use Rattle.rambo_text.specs.declared.fault.ReplayFault.{ReplayFault}
 use Rattle.rambo_text.specs.declared.fault.ScriptFault.{ScriptFault}
 use Rattle.rambo_text.specs.declared.fault.ReplayFault.TheVariants.{Script, Read, Write, Memory}
 use Rattle.rambo_outcome.specs.Outcomes.{outcome_lines}
-use Rattle.rambo_script.specs.Scripts.{ScriptState, IsScript}
-use Rattle.rambo_script.specs.Faults.{IsScriptFault, TellsBytes, RanOut}
+use Rattle.rambo_lines.specs.Scripts.{ScriptState, IsScript}
+use Rattle.rambo_lines.specs.Faults.{IsScriptFault, TellsBytes, RanOut}
 
 -- the text of what the run of a script gives
 abbrev pub replayed : ScriptState → List ℕ

@@ -14,12 +14,12 @@ use Rattle.rambo_text.specs.declared.fault.ScriptFault.{ScriptFault}
 use Rattle.rambo_text.specs.declared.fault.ReplayFault.{ReplayFault}
 use Rattle.rambo_text.specs.declared.fault.ReplayFault.TheVariants.{Script, Memory}
 use Rattle.rambo_text.specs.Words.{IsFirstLine}
-use Rattle.rambo_outcome.specs.Lines.{Ordered, items_text}
+use Rattle.rambo_check.specs.Lines.{Ordered, items_text}
 use Rattle.rambo_outcome.specs.Outcomes.{step_items, map_item}
-use Rattle.rambo_script.specs.declared.kind.StepKind.{StepKind}
-use Rattle.rambo_script.specs.Parts.{NeedRoom, TellStep, TellUnfit}
-use Rattle.rambo_script.specs.StepLines.{step_line}
-use Rattle.rambo_script.specs.Scripts.{AreFounders, HasLine, founders_line}
+use Rattle.rambo_lines.specs.declared.kind.StepKind.{StepKind}
+use Rattle.rambo_lines.specs.Parts.{NeedRoom, TellStep, TellUnfit}
+use Rattle.rambo_lines.specs.StepLines.{step_line}
+use Rattle.rambo_lines.specs.Scripts.{AreFounders, HasLine, founders_line}
 
 -- the first line tells the founders of a run that took no step
 pub record IsFounded (bytes : List ℕ) (r : RunningOf NameSet) : Type 0 where

@@ -4,18 +4,17 @@ ghost use Rattle.std.specs.Io.KnownBytes.{IsAtEnd};
 ghost use Rattle.std.specs.Option.{option_copied};
 ghost use Rattle.rambo_atomic.specs.Histories.{call_in};
 ghost use Rattle.rambo_run.specs.declared.step.Step.TheVariants as step;
-ghost use Rattle.rambo_outcome.specs.Lines.{items_text};
+ghost use Rattle.rambo_check.specs.Lines.{items_text};
 ghost use Rattle.rambo_outcome.specs.Outcomes.{call_items};
-ghost use Rattle.rambo_script.specs.Faults.{IsLineFault, TellNoStep, TellsBytes};
+ghost use Rattle.rambo_lines.specs.Faults.{IsLineFault, TellNoStep, TellsBytes};
 ghost use Rattle.rambo_script.specs.Replays.{IsReplay, Replays, Leaves, GivesUp, reads_failed, writes_failed};
 ghost use Rattle.rambo_script.specs.Runs.{IsFounded, Takes, TakesStep, TakesTold, IsPartsFault, ended, IsFaultAt};
 
-use crate::kind::StepKind;
-use crate::reading::{
-    get_asked, read_call, read_kind, read_letter, read_names, read_parts, set_asked,
-};
-use crate::script::{at_line, read_founders};
 use rambo_atomic::{CallId, History, Op, Sink, Source, read_all, write_all};
+use rambo_lines::{
+    StepKind, at_line, get_asked, read_call, read_founders, read_kind, read_letter, read_names,
+    read_parts, set_asked,
+};
 use rambo_names::{Majority, Name, Refusal};
 use rambo_outcome::{
     write_answered, write_called, write_maps, write_refused, write_sequences, write_step,

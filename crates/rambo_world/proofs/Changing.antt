@@ -14,7 +14,8 @@ use Rattle.rambo_node.specs.Nodes.{NodeState, open_call}
 use Rattle.rambo_node.specs.Notes.{noted}
 use Rattle.rambo_sequence.specs.declared.mark.Mark.{Mark}
 use Rattle.rambo_run.specs.Steps.{turn_at, with_letter, with_event, with_mark, effect_in}
-use Rattle.rambo_world.specs.Kept.{KeptNode, SentState, states_of, whole_letters, moved, moved_in, state_at}
+use Rattle.rambo_letters.specs.Kept.{SentState}
+use Rattle.rambo_world.specs.Kept.{KeptNode, states_of, whole_letters, moved, moved_in, state_at}
 use Rattle.rambo_world.specs.Worlds.{sends}
 use Rattle.rambo_world.specs.Deliveries.{world_of}
 use Rattle.rambo_world.proofs.Members.{collection_keeps, rebid_keeps, attempt_keeps}

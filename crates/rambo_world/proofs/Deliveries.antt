@@ -22,8 +22,10 @@ use Rattle.rambo_sequence.specs.declared.mark.Mark.{Mark}
 use Rattle.rambo_run.specs.declared.step.Step.TheVariants as step
 use Rattle.rambo_run.specs.Worlds.{WorldState, letter_at}
 use Rattle.rambo_run.specs.Steps.{causes_at, causes_of, delivery, turn, turn_at, turn_of}
-use Rattle.rambo_world.specs.Kept.{KeptNode, SentState, state_of, states_of, moved_in, kept_at, state_at, log_at, whole_letter, whole_letters, sent_at, moved, merged_at, merged_raised, AllGrow, IsSent, HasMerged, IsKept}
-use Rattle.rambo_world.proofs.Growth.{some_is}
+use Rattle.rambo_letters.specs.Kept.{SentState, sent_at}
+use Rattle.rambo_logs.specs.Merged.{merged_at, merged_raised}
+use Rattle.rambo_world.specs.Kept.{KeptNode, state_of, states_of, moved_in, kept_at, state_at, log_at, whole_letter, whole_letters, moved, AllGrow, IsSent, HasMerged, IsKept}
+use Rattle.rambo_letters.proofs.Lists.{some_is}
 use Rattle.rambo_world.proofs.Merging.{merge_told, merged_told}
 use Rattle.rambo_world.proofs.Delivering.{letter_at-sent, causes_with, heard_alike, heard_registers, raised_same, raised_other, own_place, place_below}
 use Rattle.rambo_world.proofs.Stepping.{told_stays}

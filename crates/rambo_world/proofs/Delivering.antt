@@ -16,16 +16,14 @@ use Rattle.rambo_node.specs.Nodes.{NodeState}
 use Rattle.rambo_node.specs.Refusals.{hear_causes}
 use Rattle.rambo_run.specs.Steps.{causes_at}
 use Rattle.rambo_run.specs.Worlds.{letter_at}
-use Rattle.rambo_world.specs.Kept.{KeptNode, SentState, whole_letter, whole_letters, sent_at, merged_at, merged_raised}
+use Rattle.rambo_letters.specs.Kept.{SentState, sent_at}
+use Rattle.rambo_logs.specs.Merged.{merged_at, merged_raised}
+use Rattle.rambo_world.specs.Kept.{KeptNode, whole_letter, whole_letters}
 
 -- the letter of a number
 pub letter_at-sent : {Q : Type 0} (ks : List (KeptNode Q)) (ss : List (SentState Q)) (number : ℕ) → letter_at (whole_letters ks ss) number ≡ option_map (whole_letter ks) (sent_at ss number)
 letter_at-sent ks ss zero = refl
 letter_at-sent ks ss (suc i) = slice_get-map (whole_letter ks) ss i
-
-pub sent_here : {Q : Type 0} (ss : List (SentState Q)) (number : ℕ) → number ≢ 0 → slice_get ss (number - 1) ≡ sent_at ss number
-sent_here ss zero some = absurd (some refl)
-sent_here ss (suc i) some = let same : suc i - 1 ≡ i = omega arith in ap (slice_get ss) same
 
 -- copies don't bear on refusals
 pub hear_causes-with : {Q : Type 0} (x : NodeState Q) (k : Kind Q) (c : Copies) → hear_causes x (kind_with k c) ≡ hear_causes x k

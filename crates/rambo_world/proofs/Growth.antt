@@ -6,14 +6,8 @@ use Rattle.std.proofs.lemmas.List.{map-set, set-get_or, length-set, get_or-set_s
 use Rattle.std.specs.Option.{IsSomeAnd, option_map}
 use Rattle.rambo_tag.specs.declared.keyed_version.KeyedVersion.{KeyedVersion}
 use Rattle.rambo_node.specs.Nodes.{NodeState}
+use Rattle.rambo_letters.proofs.Lists.{some_is}
 use Rattle.rambo_world.specs.Kept.{KeptNode, state_of, states_of, state_at, kept_at, moved, moved_in, Extends, IsRecorded, Grows, AllGrow}
-
-abbrev or_this : {X : Type 0} → X → Option X → X
-or_this x None = x
-or_this x (Some y) = y
-
-pub some_is : {X : Type 0} (x y : X) → Some x ≡ Some y → x ≡ y
-some_is x y e = ap (or_this x) e
 
 pub Extends-refl : (log : List KeyedVersion) → Extends log log
 Extends-refl log = ([], sym (append-nil log))
@@ -25,10 +19,6 @@ grows_same x y e = record {
   extends = subst (λ k. Extends x.log k.log) (sym e) (Extends-refl x.log);
   recorded = λ r. subst IsRecorded (sym e) r;
 }
-
-pub on_err_all : {T E P : Type 0} (r : Result T E) → P → OnErr r P
-on_err_all (Ok t) p = tt
-on_err_all (Err e) p = p
 
 -- the state of a kept node
 pub state_at-kept : {Q : Type 0} (ks : List (KeptNode Q)) (name : ℕ) → 1 ≤ name → state_at ks name ≡ option_map state_of (kept_at ks name)

@@ -6,10 +6,8 @@ mod Stepping
 mod Merging
 mod Delivering
 mod Turns
-pub mod Sizes
 mod Changing
 mod Sendings
-mod Sharing
 mod Deliveries
 pub mod Longer
 mod Starting

@@ -33,7 +33,7 @@ use Rattle.rambo_node.specs.Hearing.{heard_kind, heard_join, heard_gossip}
 use Rattle.rambo_node.specs.Operations.{called, joined_by, stopped, called_again, query_answered, call_closed, with_copy, taken, new_copy}
 use Rattle.rambo_node.specs.Changes.{Made, made_by, quiet, stage_met, advanced, begun_again, copy_put, collection_advanced, rebid_made, attempt_advanced}
 use Rattle.rambo_node.specs.Reconfigurations.{collection_opened, attempt_opened}
-use Rattle.rambo_world.proofs.Growth.{some_is}
+use Rattle.rambo_letters.proofs.Lists.{some_is}
 use Rattle.rambo_world.proofs.Members.{Keeps, opened_keeps, collection_keeps, wish_keeps, rebid_keeps, attempt_keeps}
 use Rattle.rambo_world.specs.Logging.{copies_in, copies_brought, listed, keeps_copies}
 

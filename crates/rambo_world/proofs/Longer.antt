@@ -20,7 +20,7 @@ use Rattle.rambo_run.specs.Runs.{MapOf, maps_of, after, unless_refused, run_from
 use Rattle.rambo_run.proofs.Fitting.{events_fit}
 use Rattle.rambo_run.proofs.EveryRun.{is_atomic}
 use Rattle.rambo_world.specs.Worlds.{EventsFit, AreAccepted, RunningOf}
-use Rattle.rambo_world.proofs.Growth.{some_is}
+use Rattle.rambo_letters.proofs.Lists.{some_is}
 
 pub run_from-more : {Q : Type 0} (s : QuorumSystem Q) (w : WorldState Q) (sts : List (Step Q)) (st : Step Q) → run_from s w (sts ++ st ∷ []) ≡ after s (run_from s w sts) st
 unfolding run_from

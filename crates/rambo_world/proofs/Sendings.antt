@@ -20,22 +20,15 @@ use Rattle.rambo_node.specs.declared.effect.Effect.TheVariants as effect
 use Rattle.rambo_sequence.specs.declared.mark.Mark.{Mark}
 use Rattle.rambo_run.specs.declared.step.Step.TheVariants as step
 use Rattle.rambo_run.specs.Steps.{turn, turn_at}
-use Rattle.rambo_world.specs.Kept.{KeptNode, SentState, states_of, whole_letter, whole_letters, log_in, log_at, kept_at, state_at, outline, IsRecorded, IsSent, IsKept}
-use Rattle.rambo_world.proofs.Growth.{some_is}
+use Rattle.rambo_letters.specs.Kept.{SentState}
+use Rattle.rambo_letters.proofs.Lists.{sent_push}
+use Rattle.rambo_world.specs.Kept.{KeptNode, states_of, whole_letter, whole_letters, log_in, log_at, kept_at, state_at, outline, IsRecorded, IsSent, IsKept}
 use Rattle.rambo_world.proofs.Turns.{step_turn}
 use Rattle.rambo_world.specs.Deliveries.{world_of}
 
 -- the name of a node
 pub name_of : {Q : Type 0} (ks : List (KeptNode Q)) (n : ℕ) (k : KeptNode Q) → k.state.name ≡ n - 1 + 1 → 1 ≤ n → k.state.name ≡ n
 name_of ks n k e named = let same : n - 1 + 1 ≡ n = omega (arith, named) in e ∙ same
-
--- a letter at the end of a list
-pub sent_push : {X : Type 0} (P : X → Type 0) (xs : List X) (x : X) → ((place : ℕ) (y : X) → slice_get xs place ≡ Some y → P y) → P x
-    → (place : ℕ) (y : X) → slice_get (xs ++ x ∷ []) place ≡ Some y → P y
-sent_push P [] x all last zero y e = subst P (some_is x y e) last
-sent_push P [] x all last (suc place) y e = absurd (false≢true (ap is_some e))
-sent_push P (z ∷ xs) x all last zero y e = all zero y e
-sent_push P (z ∷ xs) x all last (suc place) y e = sent_push P xs x (λ p w f. all (suc p) w f) last place y e
 
 -- a letter as it is kept, by whether its sender gossips
 whole_kind : {Q : Type 0} (active : Bool) (k : KeptNode Q) (g : Gossip Q) → g.copies ≡ greatest_of k.log

@@ -16,8 +16,10 @@ use Rattle.rambo_node.specs.Nodes.{NodeState, first_node}
 use Rattle.rambo_sequence.specs.declared.mark.Mark.{Mark}
 use Rattle.rambo_run.specs.Runs.{maps_of}
 use Rattle.rambo_run.specs.Worlds.{first_nodes, first_world}
-use Rattle.rambo_world.specs.Kept.{KeptNode, SentState, kept_of, states_of, whole_letters, log_at, merged_at, fresh_nodes, IsRecorded, HasMerged, IsKept}
-use Rattle.rambo_world.proofs.Growth.{some_is}
+use Rattle.rambo_letters.specs.Kept.{SentState}
+use Rattle.rambo_logs.specs.Merged.{merged_at}
+use Rattle.rambo_world.specs.Kept.{KeptNode, kept_of, states_of, whole_letters, log_at, fresh_nodes, IsRecorded, HasMerged, IsKept}
+use Rattle.rambo_letters.proofs.Lists.{some_is}
 use Rattle.rambo_world.specs.Deliveries.{world_of}
 
 -- the map of one node more

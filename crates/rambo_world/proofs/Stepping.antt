@@ -9,8 +9,11 @@ use Rattle.rambo_tag.specs.Copies.{Copies, joined}
 use Rattle.rambo_tag.specs.Logs.{greatest_of}
 use Rattle.rambo_tag.proofs.Logged.{greatest_of-append, joined-absorbed}
 use Rattle.rambo_gossip.specs.Letters.{letter_with}
-use Rattle.rambo_world.specs.Kept.{KeptNode, SentState, Extends, log_in, log_at, whole_letter, whole_letters, merged_at, IsRecorded, Grows, AllGrow, IsSent, HasMerged, IsKept}
-use Rattle.rambo_world.proofs.Growth.{some_is, Extends-refl}
+use Rattle.rambo_letters.specs.Kept.{SentState}
+use Rattle.rambo_logs.specs.Merged.{merged_at}
+use Rattle.rambo_world.specs.Kept.{KeptNode, Extends, log_in, log_at, whole_letter, whole_letters, IsRecorded, Grows, AllGrow, IsSent, HasMerged, IsKept}
+use Rattle.rambo_letters.proofs.Lists.{some_is}
+use Rattle.rambo_world.proofs.Growth.{Extends-refl}
 
 pub some_and : {X : Type 0} (P : X → Type 0) (o : Option X) → IsSomeAnd o P → (y : X) × (o ≡ Some y) × P y
 some_and P None e = absurd e

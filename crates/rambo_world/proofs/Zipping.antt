@@ -11,7 +11,8 @@ use Rattle.rambo_gossip.specs.declared.letter.Letter.{Letter}
 use Rattle.rambo_logs.specs.NodeLogs.{part, lacked}
 use Rattle.rambo_node.specs.Nodes.{NodeState}
 use Rattle.rambo_world.specs.Kept.{KeptNode, kept_of, kept_at, log_in, log_at, brought, states_of, state_at, moved, Grows, AllGrow}
-use Rattle.rambo_world.proofs.Growth.{some_is, grows_same, put, kept_here, state_here, unchanged, grow}
+use Rattle.rambo_letters.proofs.Lists.{some_is}
+use Rattle.rambo_world.proofs.Growth.{grows_same, put, kept_here, state_here, unchanged, grow}
 
 -- a node with its log
 abbrev pub with_log : {Q : Type 0} → NodeState Q → List KeyedVersion → KeptNode Q

@@ -9,7 +9,8 @@ use Rattle.rambo_run.specs.declared.step.Step.TheVariants as step
 use Rattle.rambo_run.specs.Steps.{causes_at, turn}
 use Rattle.rambo_run.specs.Worlds.{WorldState}
 use Rattle.rambo_sequence.specs.declared.mark.Mark.{Mark}
-use Rattle.rambo_world.specs.Kept.{KeptNode, SentState, states_of, state_at, sent_at, whole_letters}
+use Rattle.rambo_letters.specs.Kept.{SentState, sent_at}
+use Rattle.rambo_world.specs.Kept.{KeptNode, states_of, state_at, whole_letters}
 
 -- a world as it is kept
 abbrev pub world_of : {Q : Type 0} → List (KeptNode Q) → List (SentState Q) → List Event → List Mark → WorldState Q

@@ -1,6 +1,6 @@
 -- How the nodes and the letters of a world are kept: a letter goes without its copies, which are those of a beginning of
 -- its sender's log, and its addressee hears of them only what it lacks
-use Rattle.std.specs.Prelude.{◌≡◌, ℕ, zero, suc, ◌+◌, ◌-◌, ◌*◌, ◌≤◌, max, if◌then◌else◌, List, [], ◌∷◌, ◌++◌, map, take, length, Option, None, Some, slice_get, slice_index, slice_set}
+use Rattle.std.specs.Prelude.{◌≡◌, ℕ, ◌+◌, ◌-◌, ◌≤◌, if◌then◌else◌, List, [], ◌∷◌, ◌++◌, map, take, length, Option, None, Some, slice_get, slice_set}
 use Rattle.std.specs.FinMap as copies
 use Rattle.std.specs.Option.{IsSomeAnd}
 use Rattle.rambo_names.specs.Names.{IsName}
@@ -10,9 +10,9 @@ use Rattle.rambo_tag.specs.Copies.{Copies, joined}
 use Rattle.rambo_tag.specs.Logs.{greatest_of}
 use Rattle.rambo_joiner.specs.Statuses.{is_active}
 use Rattle.rambo_logs.specs.NodeLogs.{part, lacked}
+use Rattle.rambo_logs.specs.Merged.{merged_at}
+use Rattle.rambo_letters.specs.Kept.{SentState}
 use Rattle.rambo_gossip.specs.declared.letter.Letter.{Letter}
-use Rattle.rambo_gossip.specs.declared.letter.Gossip.{Gossip}
-use Rattle.rambo_gossip.specs.declared.letter.Kind.{Kind}
 use Rattle.rambo_gossip.specs.declared.letter.Kind.TheVariants as kind
 use Rattle.rambo_gossip.specs.Letters.{letter_with}
 use Rattle.rambo_node.specs.Letters.{letter_for}
@@ -29,16 +29,6 @@ abbrev pub kept_of : {Q : Type 0} → List (NodeState Q) → List (List KeyedVer
 kept_of [] ls = []
 kept_of (x ∷ xs) [] = record { state = x; log = [] } ∷ kept_of xs []
 kept_of (x ∷ xs) (l ∷ ls) = record { state = x; log = l } ∷ kept_of xs ls
-
--- a letter as it is kept: without copies, and how long its sender's log then was, or 0 where it tells of no copies
-pub record SentState (Q : Type 0) : Type 0 where
-  pub letter : Letter Q
-  pub told : ℕ
-
--- what a letter says: what an active node knows, or that its sender wants to join
-abbrev pub kind_of : {Q : Type 0} → Option (Gossip Q) → Kind Q
-kind_of None = kind.Join
-kind_of (Some g) = kind.Gossip g
 
 -- new is old with more at its end
 abbrev pub Extends : List KeyedVersion → List KeyedVersion → Type 0
@@ -71,11 +61,6 @@ whole_letter ks s = letter_with s.letter (greatest_of (take s.told (log_at ks s.
 
 abbrev pub whole_letters : {Q : Type 0} → List (KeptNode Q) → List (SentState Q) → List (Letter Q)
 whole_letters ks ss = map (whole_letter ks) ss
-
--- the letter of a number, from 1 on
-abbrev pub sent_at : {Q : Type 0} → List (SentState Q) → ℕ → Option (SentState Q)
-sent_at ss zero = None
-sent_at ss (suc i) = slice_get ss i
 
 -- the letter of a node as it is kept
 abbrev pub outline : {Q : Type 0} → KeptNode Q → ℕ → SentState Q
@@ -111,13 +96,6 @@ pub record Grows {Q : Type 0} (old new : KeptNode Q) : Type 0 where
 pub record AllGrow {Q : Type 0} (old new : List (KeptNode Q)) : Type 0 where
   pub count : length new ≡ length old
   pub grow : (place : ℕ) (x : KeptNode Q) → slice_get old place ≡ Some x → IsSomeAnd (slice_get new place) (Grows x)
-
--- how much of one name's log another has merged
-abbrev pub merged_at : List ℕ → ℕ → ℕ → ℕ
-merged_at counts to from = slice_index counts ((to - 1) * 64 + (from - 1))
-
-abbrev pub merged_raised : List ℕ → ℕ → ℕ → ℕ → List ℕ
-merged_raised counts to from n = slice_set counts ((to - 1) * 64 + (from - 1)) (max (merged_at counts to from) n)
 
 -- a letter that is kept: it tells of no more than its sender's log, and of nothing where it doesn't gossip
 pub record IsSent {Q : Type 0} (ks : List (KeptNode Q)) (s : SentState Q) : Type 0 where

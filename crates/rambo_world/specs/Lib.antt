@@ -1,6 +1,5 @@
 pub mod Kept
 pub mod Logging
-pub mod Shared
 pub mod Worlds
 pub mod Deliveries
 pub mod Told

@@ -7,11 +7,10 @@ ghost use Rattle.rambo_run.specs.declared.step.Step.TheVariants as step;
 ghost use Rattle.rambo_world.specs.Kept.{IsKept};
 ghost use Rattle.rambo_world.specs.Deliveries.{MayHear, IsDelivered};
 
-use crate::letters::Letters;
-use crate::merged_counts::MergedCounts;
 use crate::nodes::Nodes;
-use crate::outline::Outline;
 use crate::state::State;
+use rambo_letters::{Letters, Outline};
+use rambo_logs::MergedCounts;
 use rambo_names::{Name, Quorums, Refusal};
 use rambo_node::Effect;
 use rambo_tag::Replica;

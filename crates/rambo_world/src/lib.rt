@@ -2,15 +2,10 @@
 #![tactic(auto)]
 
 mod letter_steps;
-mod letters;
-mod merged_counts;
 mod node_steps;
 mod nodes;
-mod outline;
 mod running;
 mod runs;
-mod sent;
-mod standing;
 mod state;
 mod world;
 

@@ -19,10 +19,10 @@ ghost use Rattle.rambo_run.specs.Worlds.{first_nodes};
 ghost use Rattle.rambo_world.specs.Kept.{KeptNode, states_of, state_at, kept_at, log_at, moved, outline, AllGrow, fresh_nodes, brought};
 ghost use Rattle.rambo_world.specs.Logging.{listed, keeps_copies};
 
-use crate::outline::Outline;
 use rambo_atomic::{CallId, History, Op};
 use rambo_config_map::Places;
 use rambo_gossip::LetterOutline;
+use rambo_letters::Outline;
 use rambo_logs::Logs;
 use rambo_names::{Name, Quorums, Refusal};
 use rambo_node::{Change, Deed, Node};

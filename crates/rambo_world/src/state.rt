@@ -7,11 +7,11 @@ ghost use Rattle.rambo_run.specs.Worlds.{first_world, node_at};
 ghost use Rattle.rambo_sequence.specs.Sequences.{sequence_of, sequences_of};
 ghost use Rattle.rambo_world.specs.Worlds.{EventsFit};
 
-use crate::letters::Letters;
-use crate::merged_counts::MergedCounts;
 use crate::nodes::Nodes;
 use rambo_atomic::{CallId, History};
 use rambo_config_map::ConfigMap;
+use rambo_letters::Letters;
+use rambo_logs::MergedCounts;
 use rambo_names::{Name, Quorums, Refusal};
 use rambo_node::{Change, Effect};
 use rambo_run::{NodeMap, Step};
@@ -93,24 +93,6 @@ impl<Q: Quorums, S: Replica> State<Q, S> {
 
     // Takes a step that isn't refused.
     pub(crate) fn act(&mut self, step: &Step<Q>) -> Result<Effect<Q>, Refusal>
-        requires accepted { refusal Q.system self.old step.now ≡ None }
-        requires fits { EventsFit Q.system self.old }
-        ensures ok { IfOk result (λ e. turn self.old step.now ≡ record { world = self.new; effect = e }) }
-        ensures err { OnErr result (self.new ≡ self.old) }
-        ensures refused { IfErr result (λ r. r ≡ Refusal.OutOfMemory) }
-    {
-        match step {
-            Step::Send(from, to) => self.send(*from, *to),
-            Step::Deliver(number) => self.deliver(*number),
-            Step::Call(name, op) => self.call(*name, op),
-            Step::Advance(id) => self.advance(*id),
-            _ => self.act_by_change(step),
-        }
-    }
-
-    // The same, by the change that the step means where it has a large one: most steps are those of letters and calls,
-    // and they needn't pay for the room of a change.
-    fn act_by_change(&mut self, step: &Step<Q>) -> Result<Effect<Q>, Refusal>
         requires accepted { refusal Q.system self.old step.now ≡ None }
         requires fits { EventsFit Q.system self.old }
         ensures ok { IfOk result (λ e. turn self.old step.now ≡ record { world = self.new; effect = e }) }

@@ -23,9 +23,3 @@ pub fn new_world(alloc: Global, founders: &[u64]) -> Result<Host, Refusal> {
     let registers = Registers::new(alloc, BuildHasherDefault::new());
     World::new(alloc, Majority::of(set_of(founders)?), &registers)
 }
-
-/// Whether a world of these founders begins with no step and no call.
-pub fn begins_empty(alloc: Global, founders: &[u64]) -> Result<bool, Refusal> {
-    let world = new_world(alloc, founders)?;
-    Ok(world.steps().is_empty() && world.history().events().is_empty())
-}

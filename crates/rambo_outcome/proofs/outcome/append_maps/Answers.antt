@@ -1,5 +1,5 @@
 use Rattle.std.proofs.Common.{rules, map, refl}
-use Rattle.rambo_outcome.specs.Lines.{item_line, items_text}
+use Rattle.rambo_check.specs.Lines.{item_line, items_text}
 use Rattle.rambo_outcome.specs.Outcomes.{map_item}
 use Rattle.rambo_outcome.proofs.Loops.{one_on, grows_on}
 use Rattle.rambo_outcome.proofs.outcome.append_maps.Goals as goal

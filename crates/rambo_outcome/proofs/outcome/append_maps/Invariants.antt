@@ -1,6 +1,6 @@
 use Rattle.std.proofs.Common.{◌≡◌, ◌++◌, map, drop}
 use Rattle.rambo_text.specs.Signs.{Grows}
-use Rattle.rambo_outcome.specs.Lines.{items_text}
+use Rattle.rambo_check.specs.Lines.{items_text}
 use Rattle.rambo_outcome.specs.Outcomes.{map_item}
 use Rattle.rambo_outcome.proofs.outcome.append_maps.Given as goal
 

@@ -1,5 +1,5 @@
 use Rattle.std.proofs.Common.{map, refl}
-use Rattle.rambo_outcome.specs.Lines.{Ordered, item_line, items_text}
+use Rattle.rambo_check.specs.Lines.{Ordered, item_line, items_text}
 use Rattle.rambo_outcome.proofs.Loops.{one_on, grows_on}
 use Rattle.rambo_outcome.proofs.outcome.append_sequences.Goals as goal
 

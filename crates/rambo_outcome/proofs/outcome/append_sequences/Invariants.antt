@@ -1,6 +1,6 @@
 use Rattle.std.proofs.Common.{◌≡◌, ◌++◌, map, drop}
 use Rattle.rambo_text.specs.Signs.{Grows}
-use Rattle.rambo_outcome.specs.Lines.{Ordered, items_text}
+use Rattle.rambo_check.specs.Lines.{Ordered, items_text}
 use Rattle.rambo_outcome.proofs.outcome.append_sequences.Given as goal
 
 abbrev pub invariant-loop-sequence : goal.invariant-loop-sequence

@@ -1,7 +1,7 @@
 use Rattle.std.proofs.Common.{◌≡◌, sym, subst, ◌+◌}
 use Rattle.std.proofs.lemmas.Result.{MatchResult-from_err}
 use Rattle.rambo_text.specs.Signs.{Grows}
-use Rattle.rambo_outcome.specs.Lines.{items_text}
+use Rattle.rambo_check.specs.Lines.{items_text}
 use Rattle.rambo_outcome.specs.Outcomes.{step_items}
 use Rattle.rambo_outcome.proofs.Loops.{step_on, grows_on}
 use Rattle.rambo_outcome.proofs.outcome.append_steps.Goals as goal

@@ -1,5 +1,5 @@
 use Rattle.std.proofs.Common.{ap, ◌∙◌, ◌++◌, map}
-use Rattle.rambo_outcome.specs.Lines.{Ordered, items_text}
+use Rattle.rambo_check.specs.Lines.{Ordered, items_text}
 use Rattle.rambo_outcome.specs.Outcomes.{steps_items, map_item, outcome_lines}
 use Rattle.rambo_outcome.proofs.Loops.{whole_text}
 use Rattle.rambo_outcome.proofs.outcome.outcome_text.Goals as goal

@@ -2,8 +2,8 @@ use Rattle.std.proofs.Common.{rules, subst}
 use Rattle.std.proofs.lemmas.Result.{IfOk-at_ok, IfErr-weaker}
 use Rattle.std.specs.Option.{option_copied}
 use Rattle.rambo_text.specs.Words.{IsFirstWord}
-use Rattle.rambo_script.specs.declared.kind.StepKind.TheVariants as kind
-use Rattle.rambo_script.specs.StepLines.{word_of}
+use Rattle.rambo_lines.specs.declared.kind.StepKind.TheVariants as kind
+use Rattle.rambo_lines.specs.StepLines.{word_of}
 use Rattle.rambo_script.proofs.RunAlong.{parts_fault}
 use Rattle.rambo_script.proofs.replaying.take_line.Goals as goal
 

@@ -8,7 +8,9 @@ use Rattle.rambo_gossip.specs.Outlines.{outlined}
 use Rattle.rambo_node.specs.declared.change.Change.TheVariants as change
 use Rattle.rambo_node.specs.Changes.{made_by}
 use Rattle.rambo_node.specs.Hearing.{heard_letter}
-use Rattle.rambo_world.specs.Kept.{SentState, states_of, state_at, log_in, log_at, brought, sent_at, merged_at, moved, IsKept}
+use Rattle.rambo_letters.specs.Kept.{SentState, sent_at}
+use Rattle.rambo_logs.specs.Merged.{merged_at}
+use Rattle.rambo_world.specs.Kept.{states_of, state_at, log_in, log_at, brought, moved, IsKept}
 use Rattle.rambo_world.proofs.Stepping.{kept_stays, letters_stay}
 use Rattle.rambo_world.proofs.Turns.{there, kept_there}
 use Rattle.rambo_world.proofs.Deliveries.{delivered_moved, no_delivery, sent_before, moved_state, kept_raised, deliver_world}

@@ -3,8 +3,8 @@ use Rattle.rambo_names.specs.Refusals.{least}
 use Rattle.rambo_node.specs.Changes.{made_by}
 use Rattle.rambo_run.specs.Steps.{causes_at}
 use Rattle.rambo_world.specs.Kept.{kept_of, state_at, moved, AllGrow}
-use Rattle.rambo_world.proofs.Sizes.{up_fits, back_fits}
-use Rattle.rambo_world.proofs.Growth.{some_is, on_err_all}
+use Rattle.rambo_letters.proofs.Sizes.{up_fits, back_fits}
+use Rattle.rambo_letters.proofs.Lists.{some_is, on_err_all}
 use Rattle.rambo_world.proofs.Zipping.{node_here, put_node, node_unchanged, node_grows}
 use Rattle.rambo_node.specs.Operations.{called}
 use Rattle.rambo_node.specs.declared.change.Change.TheVariants as change

@@ -14,8 +14,8 @@ use Rattle.rambo_node.specs.declared.change.Change.TheVariants as change
 use Rattle.rambo_run.specs.Steps.{causes_at}
 use Rattle.rambo_world.specs.Kept.{kept_of, state_at, moved, AllGrow}
 use Rattle.rambo_world.specs.Logging.{listed}
-use Rattle.rambo_world.proofs.Sizes.{up_fits, back_fits}
-use Rattle.rambo_world.proofs.Growth.{some_is, on_err_all}
+use Rattle.rambo_letters.proofs.Sizes.{up_fits, back_fits}
+use Rattle.rambo_letters.proofs.Lists.{some_is, on_err_all}
 use Rattle.rambo_world.proofs.Logging.{made_name, made_recorded, put_key}
 use Rattle.rambo_world.proofs.Zipping.{node_here, put_node, node_unchanged, log_grows, all_same}
 use Rattle.rambo_world.proofs.nodes.Nodes.go_on.Goals as goal

@@ -13,8 +13,8 @@ use Rattle.rambo_node.specs.Changes.{made_by}
 use Rattle.rambo_node.specs.declared.change.Change.TheVariants as change
 use Rattle.rambo_run.specs.Steps.{causes_at}
 use Rattle.rambo_world.specs.Kept.{KeptNode, kept_of, state_at, log_at, brought, moved, AllGrow}
-use Rattle.rambo_world.proofs.Sizes.{up_fits, back_fits}
-use Rattle.rambo_world.proofs.Growth.{on_err_all}
+use Rattle.rambo_letters.proofs.Sizes.{up_fits, back_fits}
+use Rattle.rambo_letters.proofs.Lists.{on_err_all}
 use Rattle.rambo_world.proofs.Logging.{made_name, heard_recorded, told_copies, untold_copies, untold_registers}
 use Rattle.rambo_world.proofs.Zipping.{node_here, put_node, node_unchanged, node_grows, log_grows, brought_is, enough_brought, all_same}
 use Rattle.rambo_world.proofs.nodes.Nodes.hear.Goals as goal

@@ -1,7 +1,7 @@
 use Rattle.std.proofs.Common.{◌≡◌, IfOk, subst}
 use Rattle.rambo_run.specs.Runs.{maps_of}
 use Rattle.rambo_world.specs.Worlds.{RunningOf, AgreesSoFar}
-use Rattle.rambo_world.proofs.Sizes.{up_fits, back_fits}
+use Rattle.rambo_letters.proofs.Sizes.{up_fits, back_fits}
 use Rattle.rambo_world.proofs.Reached.{reached_agrees}
 use Rattle.rambo_world.proofs.running.Running.maps.Goals as goal
 

@@ -1,4 +1,4 @@
-use Rattle.rambo_world.proofs.Sizes.{up_fits, back_fits, next}
+use Rattle.rambo_letters.proofs.Sizes.{up_fits, back_fits, next}
 use Rattle.rambo_world.proofs.state.State.reserve.Goals as goal
 
 pub reserve-requires : goal.reserve-requires

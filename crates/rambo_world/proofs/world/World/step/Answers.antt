@@ -1,5 +1,5 @@
 use Rattle.std.proofs.Common.{◌≡◌, ◌++◌, ◌∷◌, [], sym, ap, ◌∙◌, subst}
-use Rattle.rambo_world.proofs.Sizes.{up_fits, back_fits}
+use Rattle.rambo_letters.proofs.Sizes.{up_fits, back_fits}
 use Rattle.rambo_run.specs.Runs.{run}
 use Rattle.rambo_world.specs.Worlds.{EventsFit, AreAccepted}
 use Rattle.rambo_world.proofs.Longer.{kept_run, accepted_more, events_fit_run}

@@ -1,0 +1,9 @@
+pub mod ItemTexts
+pub mod Counts
+pub mod ItemShapes
+pub mod LineWords
+pub mod Judged
+pub mod LineFaults
+pub mod Rows
+pub mod TextLaws
+pub mod TextSteps

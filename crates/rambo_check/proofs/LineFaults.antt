@@ -1,0 +1,131 @@
+-- Faults of a line, from those of what follows its first words
+use Rattle.std.proofs.Common.{◌≡◌, ◌≢◌, ◌⊎◌, inl, inr, ℕ, suc, List, [], ◌∷◌, Bool, true, false, cond, Option, None, Some, codes, map, refl, sym, ap, ◌∙◌, subst}
+use Rattle.std.specs.Borrow.{Bor}
+use Rattle.std.specs.Option.{option_copied, is_some}
+use Rattle.std.specs.Str.{bytes_eq}
+use Rattle.rambo_names.specs.Names.{NameSet}
+use Rattle.rambo_names.specs.Signs.{set_text}
+use Rattle.rambo_text.specs.declared.fault.Fault.{Fault}
+use Rattle.rambo_text.specs.declared.fault.Fault.TheVariants.{UnknownWord, WrongCount, OutOfMemory}
+use Rattle.rambo_text.specs.Forms.{Form, Num, Name, Set, Call, Hex, IsBadWord}
+use Rattle.rambo_text.specs.Words.{AreMore, IsFirstWord}
+use Rattle.rambo_text.proofs.WordSplits.{words_joined}
+use Rattle.rambo_check.specs.Plans.{Plan, Forms, each, call_plan, answer_plan, collected_plan, decided_plan, refused_plan, sequence_plan, map_plan, plan, IsPlanFault, IsLineFault, IsFaulty}
+use Rattle.rambo_check.proofs.LineWords.{more_has_words}
+use Rattle.rambo_check.proofs.Rows.{length-each}
+
+pub then_so : {X : Type 0} (b : Bool) (x y : X) → true ≡ b → cond b x y ≡ x
+then_so true x y e = refl
+then_so false x y e = cc
+
+pub else_so : {X : Type 0} (b : Bool) (x y : X) → false ≡ b → cond b x y ≡ y
+else_so true x y e = cc
+else_so false x y e = refl
+
+-- a line's fault is that of the words behind the first
+pub line_fault : (line first : List ℕ) (more : Option (List ℕ)) (p : List (List ℕ) → Plan) (f : Fault) → IsFirstWord line first more
+    → ((ws : List (List ℕ)) → plan (first ∷ ws) ≡ p ws) → IsFaulty p more f → (f ≡ OutOfMemory) ⊎ IsLineFault line f
+line_fault line first more p f is same (inl memory) = inl memory
+line_fault line first more p f is same (inr bad) =
+    inr (first ∷ bad.0, words_joined line first more bad.0 is bad.1, subst (λ q. IsPlanFault q f) (sym (same bad.0)) bad.2)
+
+abbrev IsWord : List ℕ → List ℕ → Bool → Type 0
+IsWord w text b = b ≡ bytes_eq w text
+
+pub plan_call : (w : List ℕ) → true ≡ bytes_eq w (codes "call")
+    → (ws : List (List ℕ)) → plan (w ∷ ws) ≡ call_plan ws
+plan_call w is ws = then_so _ _ _ is
+
+pub plan_answer : (w : List ℕ) → false ≡ bytes_eq w (codes "call") → true ≡ bytes_eq w (codes "answer")
+    → (ws : List (List ℕ)) → plan (w ∷ ws) ≡ answer_plan ws
+plan_answer w a is ws = else_so _ _ _ a ∙ then_so _ _ _ is
+
+pub plan_collected : (w : List ℕ) → false ≡ bytes_eq w (codes "call") → false ≡ bytes_eq w (codes "answer") → true ≡ bytes_eq w (codes "collected")
+    → (ws : List (List ℕ)) → plan (w ∷ ws) ≡ collected_plan ws
+plan_collected w a b is ws = else_so _ _ _ a ∙ else_so _ _ _ b ∙ then_so _ _ _ is
+
+pub plan_decided : (w : List ℕ) → false ≡ bytes_eq w (codes "call") → false ≡ bytes_eq w (codes "answer") → false ≡ bytes_eq w (codes "collected")
+    → true ≡ bytes_eq w (codes "decided")
+    → (ws : List (List ℕ)) → plan (w ∷ ws) ≡ decided_plan ws
+plan_decided w a b c is ws = else_so _ _ _ a ∙ else_so _ _ _ b ∙ else_so _ _ _ c ∙ then_so _ _ _ is
+
+pub plan_refused : (w : List ℕ) → false ≡ bytes_eq w (codes "call") → false ≡ bytes_eq w (codes "answer") → false ≡ bytes_eq w (codes "collected")
+    → false ≡ bytes_eq w (codes "decided") → true ≡ bytes_eq w (codes "refused")
+    → (ws : List (List ℕ)) → plan (w ∷ ws) ≡ refused_plan ws
+plan_refused w a b c d is ws = else_so _ _ _ a ∙ else_so _ _ _ b ∙ else_so _ _ _ c ∙ else_so _ _ _ d ∙ then_so _ _ _ is
+
+pub plan_sequence : (w : List ℕ) → false ≡ bytes_eq w (codes "call") → false ≡ bytes_eq w (codes "answer") → false ≡ bytes_eq w (codes "collected")
+    → false ≡ bytes_eq w (codes "decided") → false ≡ bytes_eq w (codes "refused") → true ≡ bytes_eq w (codes "sequence")
+    → (ws : List (List ℕ)) → plan (w ∷ ws) ≡ sequence_plan ws
+plan_sequence w a b c d e is ws = else_so _ _ _ a ∙ else_so _ _ _ b ∙ else_so _ _ _ c ∙ else_so _ _ _ d ∙ else_so _ _ _ e ∙ then_so _ _ _ is
+
+pub plan_map : (w : List ℕ) → false ≡ bytes_eq w (codes "call") → false ≡ bytes_eq w (codes "answer") → false ≡ bytes_eq w (codes "collected")
+    → false ≡ bytes_eq w (codes "decided") → false ≡ bytes_eq w (codes "refused") → false ≡ bytes_eq w (codes "sequence")
+    → true ≡ bytes_eq w (codes "map")
+    → (ws : List (List ℕ)) → plan (w ∷ ws) ≡ map_plan ws
+plan_map w a b c d e f is ws = else_so _ _ _ a ∙ else_so _ _ _ b ∙ else_so _ _ _ c ∙ else_so _ _ _ d ∙ else_so _ _ _ e ∙ else_so _ _ _ f ∙ then_so _ _ _ is
+
+pub plan_unknown : (line w : List ℕ) (more : Option (List ℕ)) → IsFirstWord line w more
+    → false ≡ bytes_eq w (codes "call") → false ≡ bytes_eq w (codes "answer") → false ≡ bytes_eq w (codes "collected")
+    → false ≡ bytes_eq w (codes "decided") → false ≡ bytes_eq w (codes "refused") → false ≡ bytes_eq w (codes "sequence")
+    → false ≡ bytes_eq w (codes "map") → IsLineFault line UnknownWord
+plan_unknown line w more is a b c d e f g =
+    let all = more_has_words more in (
+      w ∷ all.0,
+      words_joined line w more all.0 is all.1,
+      subst (λ q. IsPlanFault q UnknownWord)
+          (sym (else_so _ _ _ a ∙ else_so _ _ _ b ∙ else_so _ _ _ c ∙ else_so _ _ _ d ∙ else_so _ _ _ e ∙ else_so _ _ _ f ∙ else_so _ _ _ g)) refl,
+    )
+
+-- what follows the first two words behind `call` or `answer`
+pub on_two : (start more : Option (List ℕ)) (id kind : List ℕ) (p : List (List ℕ) → Plan) (q : List (List ℕ) → Plan) (f : Fault)
+    → ((ws : List (List ℕ)) → AreMore more ws → AreMore start (id ∷ kind ∷ ws))
+    → ((ws : List (List ℕ)) → p (id ∷ kind ∷ ws) ≡ q ws) → IsFaulty q more f → IsFaulty p start f
+on_two start more id kind p q f two same (inl memory) = inl memory
+on_two start more id kind p q f two same (inr bad) =
+    inr (id ∷ kind ∷ bad.0, two bad.0 bad.1, subst (λ r. IsPlanFault r f) (sym (same bad.0)) bad.2)
+
+pub call_unknown : (start more : Option (List ℕ)) (id kind : List ℕ) → ((ws : List (List ℕ)) → AreMore more ws → AreMore start (id ∷ kind ∷ ws))
+    → false ≡ bytes_eq kind (codes "get") → false ≡ bytes_eq kind (codes "set") → IsFaulty call_plan start UnknownWord
+call_unknown start more id kind two a b =
+    let all = more_has_words more in
+    inr (id ∷ kind ∷ all.0, two all.0 all.1, subst (λ q. IsPlanFault q UnknownWord) (sym (else_so _ _ _ a ∙ else_so _ _ _ b)) refl)
+
+pub answer_unknown : (start more : Option (List ℕ)) (id kind : List ℕ) → ((ws : List (List ℕ)) → AreMore more ws → AreMore start (id ∷ kind ∷ ws))
+    → false ≡ bytes_eq kind (codes "ok") → false ≡ bytes_eq kind (codes "nil") → false ≡ bytes_eq kind (codes "value") → IsFaulty answer_plan start UnknownWord
+answer_unknown start more id kind two a b d =
+    let all = more_has_words more in
+    inr (id ∷ kind ∷ all.0, two all.0 all.1, subst (λ q. IsPlanFault q UnknownWord) (sym (else_so _ _ _ a ∙ else_so _ _ _ b ∙ else_so _ _ _ d)) refl)
+
+-- the words of a sequence
+pub sequence_bad : (start : Option (List ℕ)) (k : List ℕ) (ws : List (List ℕ)) (f : Fault) → AreMore start (k ∷ ws) → IsBadWord (Hex ∷ each Call ws) (k ∷ ws) f
+    → IsFaulty sequence_plan start f
+sequence_bad start k ws f all bad = inr (k ∷ ws, all, inr (ap suc (length-each Call ws), bad))
+
+-- a row's fault
+pub row_bad : (m : Form) (more : Option (List ℕ)) (f : Fault) → IsFaulty (λ ws. Forms (each m ws) ws) more f
+    → (f ≡ OutOfMemory) ⊎ ((ws : List (List ℕ)) × AreMore more ws × IsBadWord (each m ws) ws f)
+row_bad m more f (inl memory) = inl memory
+row_bad m more f (inr bad) = elim bad.2 [ inl h ↦ absurd (h.0 (length-each m bad.0)) | inr h ↦ inr (bad.0, bad.1, h.1) ]
+
+-- the words of a map
+pub map_bad : (start : Option (List ℕ)) (more : Option (Bor (List ℕ))) (n p : List ℕ) (ws : List (List ℕ)) (f : Fault) → is_some more ≡ true
+    → AreMore (option_copied more) ws → AreMore start (n ∷ p ∷ ws) → IsBadWord (Name ∷ Num ∷ each Set ws) (n ∷ p ∷ ws) f → IsFaulty map_plan start f
+map_bad start None n p ws f some all whole bad = cc
+map_bad start (Some rest) n p [] f some all whole bad = absurd (all.some refl)
+map_bad start (Some rest) n p (v ∷ vs) f some all whole bad =
+    inr (n ∷ p ∷ v ∷ vs, whole, inr (ap (λ k. suc (suc (suc k))) (length-each Set vs), bad))
+
+pub map_short : (start : Option (List ℕ)) (more : Option (Bor (List ℕ))) (n p : List ℕ) → is_some more ≡ false
+    → ((ws : List (List ℕ)) → AreMore (option_copied more) ws → AreMore start (n ∷ p ∷ ws)) → IsFaulty map_plan start WrongCount
+map_short start None n p none two = inr (n ∷ p ∷ [], two [] refl, inl ((λ e. cc), refl))
+map_short start (Some rest) n p none two = cc
+
+-- a map has a set
+pub some_sets : (more : Option (Bor (List ℕ))) (words : List (List ℕ)) → is_some more ≡ true → AreMore (option_copied more) words → words ≢ []
+some_sets None words some all = cc
+some_sets (Some rest) words some all = all.some
+
+pub no_sets : (sets : List NameSet) → map set_text sets ≢ [] → sets ≢ []
+no_sets [] some = λ e. some refl
+no_sets (s ∷ ss) some = λ e. cc

@@ -1,0 +1,19 @@
+use Rattle.std.proofs.Common.{◌∷◌, [], inl, inr, refl}
+use Rattle.std.specs.Option.{option_copied}
+use Rattle.std.proofs.lemmas.Result.{err_from_is_err_and}
+use Rattle.rambo_text.specs.Forms.{Call, Hex}
+use Rattle.rambo_check.proofs.Counts.{other_count}
+use Rattle.rambo_check.proofs.operands.read_call_and_bytes.Goals as goal
+
+pub returns-in_default-clause-fault : goal.returns-in_default-clause-fault
+returns-in_default-clause-fault c = other_count (Call ∷ Hex ∷ []) c.args.id.now (option_copied c.args.more) 1 refl c.in_default.ensures.none
+
+pub returns-in_err-bytes-clause-fault : goal.returns-in_err-bytes-clause-fault
+returns-in_err-bytes-clause-fault c =
+    let p = err_from_is_err_and c.from_residual.result c.from_residual.ensures.1 in
+    let id = c.in-Some-read_call.ensures.found in
+    rw (p.1, p.2)
+    (elim c.in_err-bytes.ensures.fault [
+      | inl h ↦ inl h
+      | inr h ↦ inr (c.in-Some.bytes.now ∷ [], c.in-Some.ensures.found, inr (refl, inr ((c.in-Some-read_call.id, id.0, id.1), inl ((λ s. h.1 s.0 s.1 s.2), h.0))))
+    ])

@@ -1,0 +1,16 @@
+use Rattle.std.proofs.Common.{ℕ, List, ◌++◌, map}
+use Rattle.std.specs.List.{All}
+use Rattle.std.specs.Option.{option_copied}
+use Rattle.rambo_text.specs.Signs.{call_text, IsCall}
+use Rattle.rambo_text.specs.Words.{AreMore}
+use Rattle.rambo_check.proofs.Rows.{left_of}
+use Rattle.rambo_check.proofs.operands.read_calls.Given as goal
+
+abbrev pub invariant-loop-more : goal.invariant-loop-more
+invariant-loop-more l = record {
+  calls : All IsCall l.calls.items;
+  words : (ws : List (List ℕ)) → AreMore (option_copied l.more) ws → AreMore (option_copied l.initial.more) (map call_text l.calls.items ++ ws);
+}
+
+abbrev pub decreases-loop-more : goal.decreases-loop-more
+decreases-loop-more l = left_of (option_copied l.more)

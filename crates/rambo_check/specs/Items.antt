@@ -1,0 +1,47 @@
+-- Which items there are, and how they are spelt
+use Rattle.std.specs.Prelude.{◌≡◌, ◌≢◌, ℕ, ◌<◌, ◌^◌, List, [], ◌∷◌, Option, All}
+use Rattle.rambo_names.specs.Names.{IsName}
+use Rattle.rambo_atomic.specs.declared.operation.Op.{Op}
+use Rattle.rambo_atomic.specs.declared.operation.Op.TheVariants as op
+use Rattle.rambo_atomic.specs.declared.operation.Answer.{Answer}
+use Rattle.rambo_atomic.specs.declared.operation.Answer.TheVariants as answer
+use Rattle.rambo_atomic.specs.declared.event.Event.{Event}
+use Rattle.rambo_atomic.specs.declared.event.Event.TheVariants as event
+use Rattle.rambo_text.specs.Signs.{IsCall, AreBytes}
+use Rattle.rambo_text.specs.Words.{AreMore}
+use Rattle.rambo_check.specs.Lines.{Item, Happened, Collected, Settled, Refused, Ordered, Mapped, item_words}
+
+abbrev pub IsOp : Op → Type 0
+IsOp (op.Get key) = AreBytes key
+IsOp (op.Set key value) = AreBytes key × AreBytes value
+
+abbrev pub IsAnswer : Answer → Type 0
+IsAnswer answer.Ok = Unit {0}
+IsAnswer answer.Nil = Unit {0}
+IsAnswer (answer.Value value) = AreBytes value
+
+abbrev pub IsEvent : Event → Type 0
+IsEvent (event.Call c o) = IsCall c × IsOp o
+IsEvent (event.Answer c a) = IsCall c × IsAnswer a
+
+-- names, numbers and bytes are in their ranges, and a map has a configuration
+abbrev pub IsItem : Item → Type 0
+IsItem (Happened e) = IsEvent e
+IsItem (Collected name place) = IsName name × (place < 2 ^ 64)
+IsItem (Settled name place members) = IsName name × (place < 2 ^ 64)
+IsItem (Refused step number) = (step < 2 ^ 64) × (number < 2 ^ 64)
+IsItem (Ordered s) = AreBytes s.key × All IsCall s.calls
+IsItem (Mapped name floor sets) = IsName name × (floor < 2 ^ 64) × (sets ≢ [])
+
+-- the item's words are this one and those behind it
+abbrev pub IsSpelling : List ℕ → Option (List ℕ) → Item → Type 0
+IsSpelling first more i = IsItem i × (words : List (List ℕ)) × AreMore more words × (item_words i ≡ first ∷ words)
+
+-- a line that is only read for its form
+abbrev pub IsPassed : Item → Type 0
+IsPassed (Happened e) = ⊥
+IsPassed (Collected name place) = Unit {0}
+IsPassed (Settled name place members) = Unit {0}
+IsPassed (Refused step number) = Unit {0}
+IsPassed (Ordered s) = ⊥
+IsPassed (Mapped name floor sets) = Unit {0}

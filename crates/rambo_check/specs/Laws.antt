@@ -1,0 +1,40 @@
+-- What is true of every outcome text
+use Rattle.std.specs.Prelude.{◌≡◌, ◌≢◌, ℕ, List, IfSome}
+use Rattle.std.specs.List.{AllByRecursion}
+use Rattle.rambo_text.specs.declared.fault.Fault.TheVariants.{OutOfMemory}
+use Rattle.rambo_text.specs.declared.fault.ScriptFault.{ScriptFault}
+use Rattle.rambo_text.specs.Signs.{AreNames}
+use Rattle.rambo_check.specs.Lines.{Item, Happened, Collected, Settled, Refused, Ordered, Mapped}
+use Rattle.rambo_check.specs.Items.{IsItem}
+use Rattle.rambo_check.specs.EvidenceStates.{EvidenceState}
+use Rattle.rambo_check.specs.Texts.{AreLinesOf, IsTold, IsTextFault}
+
+-- the sets of a line have names alone
+abbrev pub HasNames : Item → Type 0
+HasNames (Happened e) = Unit {0}
+HasNames (Collected name place) = Unit {0}
+HasNames (Settled name place members) = IfSome members AreNames
+HasNames (Refused step number) = Unit {0}
+HasNames (Ordered s) = Unit {0}
+HasNames (Mapped name floor sets) = AllByRecursion AreNames sets
+
+-- lines that may stand in an outcome text
+pub record AreLines (items : List Item) : Type 0 where
+  pub in_range : AllByRecursion IsItem items
+  pub names : AllByRecursion HasNames items
+
+-- a text has the lines of one outcome at most
+abbrev pub OneReading : Type 0
+OneReading = (text : List ℕ) (items others : List Item) → AreLines items → AreLines others → AreLinesOf text items → AreLinesOf text others → items ≡ others
+
+-- a text tells one evidence at most
+abbrev pub OneEvidence : Type 0
+OneEvidence = (text : List ℕ) (s t : EvidenceState) → IsTold text s → IsTold text t → s ≡ t
+
+-- what tells an evidence has no fault: memory alone may run out while it is read
+abbrev pub NoToldIsFaulty : Type 0
+NoToldIsFaulty = (text : List ℕ) (s : EvidenceState) (f : ScriptFault) → IsTold text s → IsTextFault text f → f.fault ≡ OutOfMemory
+
+-- a text has one fault at most, beside that memory may run out
+abbrev pub OneFault : Type 0
+OneFault = (text : List ℕ) (f g : ScriptFault) → f.fault ≢ OutOfMemory → g.fault ≢ OutOfMemory → IsTextFault text f → IsTextFault text g → f ≡ g

@@ -1,0 +1,10 @@
+pub mod Checks
+pub mod EvidenceStates
+pub mod Items
+pub mod Judgings
+pub mod Laws
+pub mod Lines
+pub mod Plans
+pub mod Readings
+pub mod Texts
+pub mod Verdicts

@@ -1,0 +1,42 @@
+-- Outcome texts, and what is wrong with other texts
+use Rattle.std.specs.Prelude.{◌≡◌, ◌≢◌, ◌⊎◌, ℕ, ◌+◌, List, [], ◌∷◌, ◌++◌, length}
+use Rattle.rambo_text.specs.declared.fault.Fault.{Fault}
+use Rattle.rambo_text.specs.declared.fault.Fault.TheVariants.{OutOfMemory, BadHistory}
+use Rattle.rambo_text.specs.declared.fault.ScriptFault.{ScriptFault}
+use Rattle.rambo_text.specs.Words.{IsFirstLine, AreWords}
+use Rattle.rambo_check.specs.EvidenceStates.{EvidenceState, evidence_of, IsBadItem, AreGood}
+use Rattle.rambo_check.specs.Items.{IsItem}
+use Rattle.rambo_check.specs.Lines.{Item, item_words, items_text}
+use Rattle.rambo_check.specs.Plans.{IsLineFault}
+
+-- the text is the lines of these items, of which the last may lack its line feed
+abbrev pub AreLinesOf : List ℕ → List Item → Type 0
+AreLinesOf text items = (text ≡ items_text items) ⊎ (text ++ 10 ∷ [] ≡ items_text items)
+
+-- the text tells this
+pub record IsTold (text : List ℕ) (s : EvidenceState) : Type 0 where
+  pub items : List Item
+  pub good : AreGood items
+  pub lines : AreLinesOf text items
+  pub evidence : s ≡ evidence_of items
+
+-- the line spells an item that is bad behind those before it
+abbrev pub IsBadLine : EvidenceState → List ℕ → Type 0
+IsBadLine s line = (i : Item) × IsItem i × AreWords line (item_words i) × IsBadItem s i
+
+-- the fault of a line behind good ones: of its words, of what it tells, or that memory ran out while it was read
+abbrev pub IsFaultBehind : EvidenceState → List ℕ → Fault → Type 0
+IsFaultBehind s line f = (f ≡ OutOfMemory) ⊎ (IsLineFault line f ⊎ ((f ≡ BadHistory) × IsBadLine s line))
+
+-- the first faulty line of a text, and its fault
+pub record IsTextFault (text : List ℕ) (f : ScriptFault) : Type 0 where
+  pub items : List Item
+  pub good : AreGood items
+  pub line : List ℕ
+  pub rest : List ℕ
+  pub left : List ℕ
+  pub whole : text ≡ items_text items ++ left
+  pub there : left ≢ []
+  pub first : IsFirstLine left line rest
+  pub number : f.line ≡ length items + 1
+  pub fault : IsFaultBehind (evidence_of items) line f.fault

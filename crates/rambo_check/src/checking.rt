@@ -1,0 +1,59 @@
+//! Checking an outcome text.
+ghost use Rattle.std.specs.Prelude.{◌≡◌, ◌≢◌, ℕ, Bool, List, IfOk, IfErr, OnOk};
+ghost use Rattle.std.specs.Io.KnownBytes.{Appends, IsAtEnd};
+ghost use Rattle.rambo_atomic.specs.Streams.{counted, Begins};
+ghost use Rattle.rambo_text.specs.declared.fault.ReplayFault.TheVariants as fault;
+ghost use Rattle.rambo_text.specs.declared.fault.ScriptFault.{ScriptFault};
+ghost use Rattle.rambo_check.specs.Checks.{IsLeft, IsJudged, IsChecked};
+ghost use Rattle.rambo_check.specs.Texts.{IsTextFault};
+
+use crate::evidence::Evidence;
+use crate::judging::judge_all;
+use crate::text::read_outcome;
+use crate::verdict_text::{all_yes, verdict_text};
+use rambo_atomic::{Sink, Source, write_all};
+use rambo_names::Refusal;
+use rambo_text::ReplayFault;
+use std::alloc::Global;
+
+/// Reads an outcome text to its end and writes a line for each key that has a call or a sequence there, in byte order:
+/// `yes` where the sequence explains the key's calls and answers, and else `no` with the least rule that it breaks.
+/// Answers whether each is yes.
+///
+/// `Script` at the first faulty line, with the first fault there, or where memory ran out while it was read. `Read`
+/// and `Write` where that stream failed, and `Memory` where memory ran out elsewhere. Nothing was written then, but
+/// after `Write` a beginning of the lines.
+pub fn check_text<R: Source, W: Sink>(
+    alloc: Global,
+    reader: &mut R,
+    writer: &mut W,
+) -> Result<bool, ReplayFault>
+    ensures checked { IfOk result (λ all. (text : List ℕ) × (written : List ℕ) × IsLeft (R.left reader.old) text
+        × IsChecked text written all × Appends (W.taken writer.old) (W.taken writer.new) written) }
+    ensures end { OnOk result (IsAtEnd (R.left reader.new)) }
+    ensures fine { OnOk result ((R.failures reader.new ≡ R.failures reader.old) × (W.failures writer.new ≡ W.failures writer.old)) }
+    ensures script { IfErr result (λ f. (g : ScriptFault) → f ≡ fault.Script g
+        → (text : List ℕ) × IsLeft (R.left reader.old) text × IsTextFault text g × IsAtEnd (R.left reader.new)) }
+    ensures read { IfErr result (λ f. f ≡ fault.Read → R.failures reader.new ≡ counted (R.failures reader.old)) }
+    ensures other { IfErr result (λ f. f ≢ fault.Read → R.failures reader.new ≡ R.failures reader.old) }
+    ensures write { IfErr result (λ f. f ≡ fault.Write → (W.failures writer.new ≡ counted (W.failures writer.old))
+        × ((text : List ℕ) × (written : List ℕ) × (all : Bool) × IsLeft (R.left reader.old) text
+        × IsChecked text written all × Begins (W.taken writer.old) (W.taken writer.new) written)) }
+    ensures unwritten { IfErr result (λ f. f ≢ fault.Write → writer.new ≡ writer.old) }
+{
+    let evidence = read_outcome(alloc, reader)?;
+    let Ok((lines, all)) = judged_lines(alloc, &evidence) else {
+        return Err(ReplayFault::Memory);
+    };
+    write_all(writer, lines.as_slice())?;
+    Ok(all)
+}
+
+// The lines for what was told, and whether each is yes.
+fn judged_lines(alloc: Global, evidence: &Evidence) -> Result<(Vec<u8>, bool), Refusal>
+    ensures judged { IfOk result (λ r. IsJudged evidence.now r.0.items r.1) }
+{
+    let verdicts = judge_all(alloc, evidence)?;
+    let lines = verdict_text(alloc, &verdicts)?;
+    Ok((lines, all_yes(&verdicts)))
+}

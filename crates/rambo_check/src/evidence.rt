@@ -1,0 +1,101 @@
+//! What an outcome text tells.
+ghost use Rattle.std.specs.Prelude.{◌≡◌, ◌++◌, ◌∷◌, [], ◌⊎◌, map, None, IsSome, OnOk, IfErr};
+ghost use Rattle.std.specs.Map.{lookup};
+ghost use Rattle.std.specs.Str.{bytes_eq};
+ghost use Rattle.rambo_atomic.specs.Faults.{fault_of};
+ghost use Rattle.rambo_text.specs.declared.fault.Fault.TheVariants as fault;
+ghost use Rattle.rambo_check.specs.Verdicts.{order_of};
+
+use crate::order::Order;
+use indexmap::IndexMap;
+use rambo_atomic::{CallId, Event, History, HistoryFault};
+use rambo_names::Bytes;
+use rambo_text::Fault;
+use std::alloc::Global;
+use std::marker::Model;
+
+/// The history that a text tells, and the order of each key that has one.
+#[derive(Drop)]
+pub(crate) struct Evidence {
+    history: History,
+    orders: IndexMap<Bytes, Order>,
+}
+
+impl Model for Evidence {
+    ghost use Rattle.rambo_check.specs.EvidenceStates.{EvidenceState};
+
+    ghost Value = { EvidenceState };
+
+    ghost view = { λ e. record { events = e.history.events; orders = e.orders.entries } };
+}
+
+impl Evidence {
+    /// No call, no answer and no order.
+    pub(crate) fn new(alloc: Global) -> Evidence
+        ensures events { result.events ≡ [] }
+        ensures orders { result.orders ≡ [] }
+    {
+        Evidence {
+            history: History::new(alloc),
+            orders: IndexMap::new(alloc),
+        }
+    }
+
+    /// Puts an event at the end of the history.
+    ///
+    /// `BadHistory` where it can't stand there, and `OutOfMemory` where there is no room for it.
+    pub(crate) fn push(&mut self, event: Event) -> Result<(), Fault>
+        ensures fits { OnOk result (fault_of self.old.events event ≡ None) }
+        ensures events { OnOk result (self.new.events ≡ self.old.events ++ event ∷ []) }
+        ensures orders { self.new.orders ≡ self.old.orders }
+        ensures fault { IfErr result (λ f. (f ≡ fault.OutOfMemory) ⊎ ((f ≡ fault.BadHistory) × IsSome (fault_of self.old.events event))) }
+    {
+        match self.history.push(event) {
+            Ok(()) => Ok(()),
+            Err(HistoryFault::OutOfMemory) => Err(Fault::OutOfMemory),
+            Err(HistoryFault::CalledTwice | HistoryFault::NotOpen | HistoryFault::WrongKind) => {
+                Err(Fault::BadHistory)
+            }
+        }
+    }
+
+    /// Gives a key an order.
+    ///
+    /// `BadHistory` where the key has one, and `OutOfMemory` where there is no room for it.
+    pub(crate) fn put(&mut self, key: Bytes, order: Order) -> Result<(), Fault>
+        ensures fits { OnOk result (lookup (bytes_eq key) self.old.orders ≡ None) }
+        ensures orders { OnOk result (self.new.orders ≡ self.old.orders ++ (key, order) ∷ []) }
+        ensures events { self.new.events ≡ self.old.events }
+        ensures fault { IfErr result (λ f. (f ≡ fault.OutOfMemory) ⊎ ((f ≡ fault.BadHistory) × IsSome (lookup (bytes_eq key) self.old.orders))) }
+    {
+        match self.orders.insert(key, order) {
+            Ok(None) => Ok(()),
+            Ok(Some(_)) => Err(Fault::BadHistory),
+            Err(_) => Err(Fault::OutOfMemory),
+        }
+    }
+
+    /// The history.
+    pub(crate) fn history(&self) -> &History
+        ensures { result.now.events ≡ self.now.events }
+    {
+        &self.history
+    }
+
+    /// The keys that have an order.
+    pub(crate) fn keys(&self) -> &[Bytes]
+        ensures { result.now ≡ map (λ o. o.0) self.now.orders }
+    {
+        self.orders.keys().as_slice()
+    }
+
+    /// The order of a key: the empty one where it has none.
+    pub(crate) fn order(&self, key: &Bytes) -> &[CallId]
+        ensures { result.now ≡ order_of self.now key.now }
+    {
+        match self.orders.get(key) {
+            Some(order) => order.calls.as_slice(),
+            None => &[],
+        }
+    }
+}

@@ -1,0 +1,73 @@
+//! The verdict on each key.
+ghost use Rattle.std.specs.Prelude.{◌≡◌, ◌||◌, List, ℕ, IfOk, IfErr, OnOk};
+ghost use Rattle.std.specs.Str.{bytes_eq};
+ghost use Rattle.rambo_check.specs.Judgings.{AreRight, is_judged, is_call_of};
+ghost use Rattle.rambo_check.specs.Verdicts.{order_of, AreVerdicts};
+
+use crate::evidence::Evidence;
+use indexmap::IndexMap;
+use rambo_atomic::{Checker, Event, Verdict};
+use rambo_names::{Bytes, Refusal};
+use std::alloc::Global;
+
+/// The verdict on each key that has a call or an order, keys in byte order.
+///
+/// `OutOfMemory` where there is no room for them, or for what judging takes.
+pub(crate) fn judge_all(
+    alloc: Global,
+    evidence: &Evidence,
+) -> Result<IndexMap<Bytes, Verdict>, Refusal>
+    ensures verdicts { IfOk result (λ vs. AreVerdicts evidence.now vs.entries) }
+    ensures refused { IfErr result (λ r. r ≡ Refusal.OutOfMemory) }
+{
+    let checker = Checker::new(evidence.history())?;
+    let mut verdicts = IndexMap::new(alloc);
+    for key in evidence.keys() {
+        judge_key(&checker, evidence, key, &mut verdicts)?;
+    }
+    for event in evidence.history().events() {
+        judge_called(&checker, evidence, event, &mut verdicts)?;
+    }
+    verdicts.sort_keys()?;
+    Ok(verdicts)
+}
+
+// Adds the verdict on the key of a call.
+fn judge_called(
+    checker: &Checker,
+    evidence: &Evidence,
+    event: &Event,
+    verdicts: &mut IndexMap<Bytes, Verdict>,
+) -> Result<(), Refusal>
+    requires history { checker.now ≡ evidence.now.events }
+    requires right { AreRight evidence.now verdicts.old.entries }
+    ensures right { OnOk result (AreRight evidence.now verdicts.new.entries) }
+    ensures judged { OnOk result ((q : List ℕ) → is_judged verdicts.new.entries q ≡ (is_call_of q event.now || is_judged verdicts.old.entries q)) }
+    ensures refused { IfErr result (λ r. r ≡ Refusal.OutOfMemory) }
+{
+    match event {
+        Event::Call(_, op) => judge_key(checker, evidence, op.key(), verdicts),
+        Event::Answer(_, _) => Ok(()),
+    }
+}
+
+// Adds the verdict on a key, where there is none.
+fn judge_key(
+    checker: &Checker,
+    evidence: &Evidence,
+    key: &Bytes,
+    verdicts: &mut IndexMap<Bytes, Verdict>,
+) -> Result<(), Refusal>
+    requires history { checker.now ≡ evidence.now.events }
+    requires right { AreRight evidence.now verdicts.old.entries }
+    ensures right { OnOk result (AreRight evidence.now verdicts.new.entries) }
+    ensures judged { OnOk result ((q : List ℕ) → is_judged verdicts.new.entries q ≡ (bytes_eq key.now q || is_judged verdicts.old.entries q)) }
+    ensures refused { IfErr result (λ r. r ≡ Refusal.OutOfMemory) }
+{
+    if verdicts.get(key).is_some() {
+        return Ok(());
+    }
+    let verdict = checker.judge(key.as_slice(), evidence.order(key))?;
+    verdicts.insert(key.clone()?, verdict)?;
+    Ok(())
+}

@@ -1,0 +1,19 @@
+//! The checker of outcome texts.
+//!
+//! - `check_text`: for each key of such a text, whether its sequence explains its calls and answers.
+//! - `one_reading`, `one_evidence`, `no_told_is_faulty` and `one_fault`: laws of such texts.
+#![tactic(auto)]
+
+mod checking;
+mod evidence;
+mod item;
+mod judging;
+mod kept;
+mod laws;
+mod operands;
+mod order;
+mod text;
+mod verdict_text;
+
+pub use checking::check_text;
+pub use laws::{no_told_is_faulty, one_evidence, one_fault, one_reading};

@@ -1,0 +1,114 @@
+//! Reading the words that follow the first of a line.
+ghost use Rattle.std.specs.Prelude.{◌≡◌, ℕ, ◌<◌, [], ◌∷◌, List, map, All, length, IfOk, IfErr, IfSome, IfNone, OnOk};
+ghost use Rattle.std.specs.Option.{option_copied};
+ghost use Rattle.rambo_names.specs.Names.{NameSet};
+ghost use Rattle.rambo_names.specs.Signs.{set_text};
+ghost use Rattle.rambo_text.specs.Forms.{Num, Name, Set, Call, Hex};
+ghost use Rattle.rambo_text.specs.Signs.{call_text, hex_text, IsCall, AreBytes};
+ghost use Rattle.rambo_text.specs.Words.{AreMore};
+ghost use Rattle.rambo_check.specs.Plans.{Forms, each, IsFaulty};
+
+use rambo_atomic::CallId;
+use rambo_names::{Bytes, read_set};
+use rambo_text::{Fault, next_word, one_word, read_call, read_hex, two_words};
+use std::alloc::Global;
+
+/// The first two words that follow, and what stands behind them.
+///
+/// None where there are fewer.
+pub(crate) fn first_two(more: Option<&[u8]>) -> Option<(&[u8], &[u8], Option<&[u8]>)>
+    ensures found { IfSome result (λ r. (words : List (List ℕ)) → AreMore (option_copied r.2) words
+        → AreMore (option_copied more.entry) (r.0.now ∷ r.1.now ∷ words)) }
+    ensures none { IfNone result ((words : List (List ℕ)) × AreMore (option_copied more.entry) words × (length words < 2)) }
+{
+    let (first, more) = next_word(more?);
+    let (second, more) = next_word(more?);
+    Some((first, second, more))
+}
+
+/// A call, behind which nothing stands.
+pub(crate) fn read_call_alone(id: &[u8], more: Option<&[u8]>) -> Result<CallId, Fault>
+    ensures call { IfOk result (λ c. IsCall c × (id.now ≡ call_text c)) }
+    ensures none { OnOk result (AreMore (option_copied more.entry) []) }
+    ensures fault { IfErr result (IsFaulty (λ ws. Forms (Call ∷ []) (id.now ∷ ws)) (option_copied more.entry)) }
+{
+    if more.is_some() {
+        return Err(Fault::WrongCount);
+    }
+    read_call(id).ok_or(Fault::BadNumber)
+}
+
+/// A call, and the bytes behind it.
+pub(crate) fn read_call_and_bytes(
+    alloc: Global,
+    id: &[u8],
+    more: Option<&[u8]>,
+) -> Result<(CallId, Bytes), Fault>
+    ensures call { IfOk result (λ r. IsCall r.0 × (id.now ≡ call_text r.0)) }
+    ensures bytes { IfOk result (λ r. AreBytes r.1 × AreMore (option_copied more.entry) (hex_text r.1 ∷ [])) }
+    ensures fault { IfErr result (IsFaulty (λ ws. Forms (Call ∷ Hex ∷ []) (id.now ∷ ws)) (option_copied more.entry)) }
+{
+    let Some(bytes) = one_word(more) else {
+        return Err(Fault::WrongCount);
+    };
+    let Some(id) = read_call(id) else {
+        return Err(Fault::BadNumber);
+    };
+    let bytes = read_hex(alloc, bytes)?;
+    Ok((id, bytes))
+}
+
+/// A call, and the two spellings of bytes behind it.
+pub(crate) fn read_call_and_pair(
+    alloc: Global,
+    id: &[u8],
+    more: Option<&[u8]>,
+) -> Result<(CallId, Bytes, Bytes), Fault>
+    ensures call { IfOk result (λ r. IsCall r.0 × (id.now ≡ call_text r.0)) }
+    ensures bytes { IfOk result (λ r. AreBytes r.1 × AreBytes r.2 × AreMore (option_copied more.entry) (hex_text r.1 ∷ hex_text r.2 ∷ [])) }
+    ensures fault { IfErr result (IsFaulty (λ ws. Forms (Call ∷ Hex ∷ Hex ∷ []) (id.now ∷ ws)) (option_copied more.entry)) }
+{
+    let Some((first, second)) = two_words(more) else {
+        return Err(Fault::WrongCount);
+    };
+    let Some(id) = read_call(id) else {
+        return Err(Fault::BadNumber);
+    };
+    let first = read_hex(alloc, first)?;
+    let second = read_hex(alloc, second)?;
+    Ok((id, first, second))
+}
+
+/// Any number of calls.
+pub(crate) fn read_calls(alloc: Global, more: Option<&[u8]>) -> Result<Vec<CallId>, Fault>
+    ensures calls { IfOk result (λ cs. All IsCall cs.items × AreMore (option_copied more.entry) (map call_text cs.items)) }
+    ensures fault { IfErr result (IsFaulty (λ ws. Forms (each Call ws) ws) (option_copied more.entry)) }
+{
+    let mut calls = Vec::new(alloc);
+    let mut more = more;
+    while let Some(rest) = more {
+        let (word, others) = next_word(rest);
+        let Some(id) = read_call(word) else {
+            return Err(Fault::BadNumber);
+        };
+        calls.push(id)?;
+        more = others;
+    }
+    Ok(calls)
+}
+
+/// Any number of sets of names.
+pub(crate) fn read_sets(more: Option<&[u8]>) -> Result<(), Fault>
+    ensures sets { OnOk result ((sets : List NameSet) × AreMore (option_copied more.entry) (map set_text sets)) }
+    ensures fault { IfErr result (IsFaulty (λ ws. Forms (each Set ws) ws) (option_copied more.entry)) }
+{
+    let mut more = more;
+    while let Some(rest) = more {
+        let (word, others) = next_word(rest);
+        let Some(_set) = read_set(word) else {
+            return Err(Fault::BadNumber);
+        };
+        more = others;
+    }
+    Ok(())
+}

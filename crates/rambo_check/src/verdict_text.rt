@@ -1,0 +1,73 @@
+//! The text of verdicts.
+ghost use Rattle.std.specs.Prelude.{◌≡◌, ◌++◌, [], ◌∷◌, IfOk, IfErr, OnOk};
+ghost use Rattle.rambo_text.specs.Words.{words_text};
+ghost use Rattle.rambo_check.specs.Verdicts.{is_yes, all_yes, verdict_words, verdicts_text};
+
+use indexmap::IndexMap;
+use rambo_atomic::Verdict;
+use rambo_names::{Bytes, Refusal};
+use rambo_text::{write_hex, write_num};
+use std::alloc::Global;
+
+/// A line for each verdict.
+///
+/// `OutOfMemory` where there is no room for them.
+pub(crate) fn verdict_text(
+    alloc: Global,
+    verdicts: &IndexMap<Bytes, Verdict>,
+) -> Result<Vec<u8>, Refusal>
+    ensures text { IfOk result (λ text. text.items ≡ verdicts_text verdicts.now.entries) }
+    ensures refused { IfErr result (λ r. r ≡ Refusal.OutOfMemory) }
+{
+    let mut out = Vec::new(alloc);
+    let mut rest = verdicts.as_slice();
+    while let Some(((key, verdict), others)) = rest.split_first() {
+        write_verdict(key, *verdict, &mut out)?;
+        rest = others;
+    }
+    Ok(out)
+}
+
+/// Whether each verdict is yes.
+pub(crate) fn all_yes(verdicts: &IndexMap<Bytes, Verdict>) -> bool
+    ensures { result ≡ all_yes verdicts.now.entries }
+{
+    let mut rest = verdicts.as_slice();
+    while let Some(((_key, verdict), others)) = rest.split_first() {
+        if !is_yes(*verdict) {
+            return false;
+        }
+        rest = others;
+    }
+    true
+}
+
+fn is_yes(verdict: Verdict) -> bool
+    ensures { result ≡ is_yes verdict }
+{
+    match verdict {
+        Verdict::Yes => true,
+        Verdict::No(_) => false,
+    }
+}
+
+// Appends the line of a verdict.
+fn write_verdict(key: &Bytes, verdict: Verdict, out: &mut Vec<u8>) -> Result<(), Refusal>
+    ensures ok { OnOk result (out.new.items ≡ out.old.items ++ (words_text (verdict_words key.now verdict) ++ 10 ∷ [])) }
+    ensures refused { IfErr result (λ r. r ≡ Refusal.OutOfMemory) }
+{
+    match verdict {
+        Verdict::Yes => {
+            out.extend_from_slice(b"yes ")?;
+            write_hex(key.as_slice(), out)?;
+        }
+        Verdict::No(rule) => {
+            out.extend_from_slice(b"no ")?;
+            write_hex(key.as_slice(), out)?;
+            out.push(b' ')?;
+            write_num(rule.number(), out)?;
+        }
+    }
+    out.push(b'\n')?;
+    Ok(())
+}

@@ -1,0 +1,351 @@
+-- That words in which clap finds no fault ask for a task
+use Rattle.std.proofs.Common.{◌≡◌, ◌∙◌, ◌⊎◌, ℕ, zero, suc, Bool, true, false, cond, refl, sym, ap, ap₂, subst, inl, inr, List, [], ◌∷◌, length, codes, true≢false}
+use Rattle.std.specs.Prelude.{Option, Some, None, IfSome, option_map, slice_get}
+use Rattle.std.specs.List.{find}
+use Rattle.std.specs.Option.{option_and_then, option_map_or, unwrap_or}
+use Rattle.std.specs.Str.{bytes_eq, chars}
+use Rattle.std.proofs.lemmas.Slice.Eq.{bytes_eq-Decides}
+use Rattle.clap.specs.Lexer.{long_of, short_of}
+use Rattle.clap.specs.Kinds.{HasKind, Kinds, or_else}
+use Rattle.clap.specs.Walk.{Held, Names, Outcome, Row, Rule, Step, Text, Walk, after_flag, arg_by_index, arg_by_long, arg_by_short, bundle_met, bundle_step, first_of, idle, rows_of, long_or_other, nothing_held, plain, short_or_plain, subcommand_met, takes_values, value, walk_from, walked}
+use Rattle.clap.specs.Simple.{App, Shape, built, entered, built_leaf, inherited, marked_built, HasMatchesOf, is_simple, names_of, subcommand_of, subcommand_rows_of, with_leaf_noted}
+use Rattle.clap.specs.Faults.{bundle_fault, bundle_step_fault, entered_fault, fault_of, is_simple_and_free, flag_word_fault, flags_fault, long_fault, short_fault, step_fault, stray_fault, turn_fault, use_fault, walk_fault}
+use Rattle.clap.specs.Matches.{first_value, found_of, subcommand_name_of}
+use Rattle.clap.specs.Values.{kind_of}
+use Rattle.clap.specs.declared.error.Error.{Error}
+use Rattle.clap.specs.declared.parser.matches.ArgMatches.{ArgMatches}
+use Rattle.clap.specs.declared.parser.matches.ArgMatches.TheViews.{out-ArgMatches}
+use Rattle.clap.specs.declared.error.kind.ErrorKind.{ErrorKind}
+use Rattle.clap.specs.declared.error.kind.ErrorKind.TheVariants.{UnknownArgument, InvalidSubcommand, OutOfMemory}
+use Rattle.clap.proofs.OnLiterals.{clap_on_literals}
+use Rattle.clap.proofs.WalkLemmas.{first_value-rows, walk_stopped}
+use Rattle.rambo_command_line.specs.Lines.{AsksByName, AsksLocal, founders_word, plain as plain_shape, rambo}
+
+-- the tasks that have no arguments
+pub data Task : Type 0 where
+  Replay : Task
+  Check : Task
+
+abbrev name_of : Task → Text
+name_of Replay = codes "replay"
+name_of Check = codes "check"
+
+abbrev Asks : List Text → Task → Type 0
+Asks words t = AsksByName words (name_of t)
+
+abbrev subcommand : Task → Shape
+subcommand t = plain_shape (name_of t)
+
+-- ---- lists of kinds
+
+abbrev is_none : Kinds → Bool
+is_none [] = true
+is_none (k ∷ ks) = false
+
+some_kind : (k : ErrorKind) (ks : Kinds) → k ∷ ks ≡ [] → ⊥
+some_kind k ks e = true≢false (sym (ap is_none e))
+
+first_none : (a b : Kinds) → or_else a b ≡ [] → a ≡ []
+first_none [] b e = refl
+first_none (k ∷ ks) b e = absurd (some_kind _ _ e)
+
+second_none : (a b : Kinds) → or_else a b ≡ [] → b ≡ []
+second_none [] b e = e
+second_none (k ∷ ks) b e = absurd (some_kind _ _ e)
+
+stray_at : (is_leaf : Bool) → cond is_leaf (UnknownArgument ∷ []) (UnknownArgument ∷ InvalidSubcommand ∷ []) ≡ [] → ⊥
+stray_at true e = some_kind _ _ e
+stray_at false e = some_kind _ _ e
+
+stray_fails : (s : Shape) → stray_fault s ≡ [] → ⊥
+stray_fails s e = stray_at s.is_leaf e
+
+-- ---- flags, of a command whose arguments are all requests for help or the version
+
+-- a use of the argument ends the parse
+abbrev IsRequest : Rule → Type 0
+IsRequest a = (takes_values a ≡ false) × ((rows : List Row) → use_fault false a [] rows ≡ [] → ⊥)
+
+abbrev AreRequests : List Rule → Type 0
+AreRequests [] = Unit {0}
+AreRequests (a ∷ c) = IsRequest a × AreRequests c
+
+found_at : (b : Bool) (a : Rule) (o : Option Rule) → IsRequest a → IfSome o IsRequest → IfSome (cond b (Some a) o) IsRequest
+found_at true a o r rest = r
+found_at false a o r rest = rest
+
+found : (p : Rule → Bool) (c : List Rule) → AreRequests c → IfSome (find p c) IsRequest
+found p [] r = tt
+found p (a ∷ c) r = found_at (p a) a (find p c) r.0 (found p c r.1)
+
+long_fails : (c : List Rule) (o : Option Rule) (v : Option Text) (h : Held) → IfSome o IsRequest → long_fault c false o v h ≡ [] → ⊥
+long_fails c None v h r e = some_kind _ _ e
+long_fails c (Some a) (Some v) h r e = some_kind _ _ (rw r.0 at e)
+long_fails c (Some a) None h r e = r.1 _ (second_none _ _ (rw r.0 at e))
+
+short_fails : (c : List Rule) (o : Option Rule) (rest : Text) (h : Held) (next : Held → Kinds) → IfSome o IsRequest → short_fault c false o rest h next ≡ [] → ⊥
+short_fails c None rest h next r e = some_kind _ _ e
+short_fails c (Some a) rest h next r e = r.1 _ (second_none _ _ (first_none _ _ (rw r.0 at e)))
+
+char_plain : (c : List Rule) → AreRequests c → (x : Option ℕ) (flags : Text) (h : Held) (next : Text → ℕ → Held → Kinds) (met : Text → ℕ → Outcome → Held → Held × Outcome)
+    → bundle_step_fault c false x flags 0 h next ≡ [] → bundle_step c x flags 0 plain h met ≡ (h, plain)
+char_plain c r None flags h next met e = refl
+char_plain c r (Some x) flags h next met e = absurd (short_fails c (arg_by_short c x) _ h _ (found _ c r) e)
+
+bundle_plain : (c : List Rule) → AreRequests c → (k : ℕ) (flags : Text) (h : Held) → flags_fault c false k flags 0 h ≡ [] → bundle_met c k flags 0 plain h ≡ (h, plain)
+unfolding flags_fault bundle_met
+bundle_plain c r zero flags h e = refl
+bundle_plain c r (suc k) flags h e = char_plain c r (slice_get (chars flags) 0) flags h (flags_fault c false k) (bundle_met c k) e
+
+short_value : (c : List Rule) → AreRequests c → (word : Text) (s : Option Text) → option_map_or (λ flags. bundle_fault c false flags nothing_held) s [] ≡ []
+    → short_or_plain c idle word s nothing_held ≡ (nothing_held, value)
+short_value c r word None e = refl
+short_value c r word (Some flags) e = ap (λ (p : Held × Outcome). after_flag c idle word p.0 p.1) (bundle_plain c r (length flags) flags nothing_held e)
+
+-- a word that is no subcommand goes to a positional
+word_value : (c : List Rule) → AreRequests c → (word : Text) (l : Option (Text × Option Text)) → flag_word_fault c false l word nothing_held ≡ []
+    → long_or_other c idle word l nothing_held ≡ (nothing_held, value)
+word_value c r word (Some p) e = absurd (long_fails c (arg_by_long c p.0) p.1 nothing_held (found _ c r) e)
+word_value c r word None e = short_value c r word (short_of word) e
+
+-- ---- words that no argument takes
+
+-- where a command has no positional, and the word is no flag that it has
+module _ (s : Shape) (names : Names) (requests : AreRequests s.rules) (no_positional : arg_by_index s.rules 1 ≡ None) (once : s.args_override_self ≡ false) where
+  -- the walk behind `--`
+  abbrev trailing : Walk
+  trailing = record (walk_from nothing_held) { is_trailing = true }
+
+  stray_trails : (word : Text) → turn_fault s names trailing word ≡ [] → ⊥
+  stray_trails word e = stray_fails s (rw no_positional at e)
+
+  trailing_ends : (words : List Text) → walk_fault s names trailing words ≡ [] → words ≡ []
+  unfolding walk_fault
+  trailing_ends [] e = refl
+  trailing_ends (word ∷ words) e = absurd (stray_trails word (first_none _ _ e))
+
+  other_fails : (word : Text) → subcommand_met names idle word ≡ None → bytes_eq word (codes "--") ≡ false → turn_fault s names (walk_from nothing_held) word ≡ [] → ⊥
+  other_fails word unmet no_mark e =
+      let none = rw (unmet, no_mark) at e in
+      let found : flag_word_fault s.rules s.args_override_self (long_of word) word nothing_held ≡ [] = first_none _ _ none in
+      let flag : flag_word_fault s.rules false (long_of word) word nothing_held ≡ [] = rw once at found in
+      let step = subst (λ (p : Held × Step). step_fault s 1 p.0 p.1 ≡ []) (word_value s.rules requests word (long_of word) flag) (second_none _ _ none) in
+      stray_fails s (rw no_positional at step)
+
+  -- behind the mark of the last option
+  marked_ends : (word : Text) (words : List Text) → subcommand_met names idle (codes "--") ≡ None → word ≡ codes "--" → walk_fault s names (walk_from nothing_held) (word ∷ words) ≡ [] → words ≡ []
+  unfolding walk_fault walked
+  marked_ends word words unmet mark e =
+      let at : walk_fault s names (walk_from nothing_held) (codes "--" ∷ words) ≡ [] = subst (λ (w : Text). walk_fault s names (walk_from nothing_held) (w ∷ words) ≡ []) mark e in
+      let behind : walk_fault s names (walked s.rules names (walk_from nothing_held) (codes "--")) words ≡ [] = second_none _ _ at in
+      trailing_ends words (rw unmet at behind)
+
+-- ---- the words behind a task
+
+leaf_at : (s : Shape) → AreRequests s.rules → arg_by_index s.rules 1 ≡ None → s.args_override_self ≡ false → (b : Bool) (word : Text) (words : List Text) → bytes_eq word (codes "--") ≡ b
+    → walk_fault s [] (walk_from nothing_held) (word ∷ words) ≡ [] → word ∷ words ≡ codes "--" ∷ []
+unfolding walk_fault
+leaf_at s r n o true word words is e =
+    let mark : word ≡ codes "--" = (bytes_eq-Decides word (codes "--")).0 is in
+    ap₂ (λ (w : Text) (ws : List Text). w ∷ ws) mark (marked_ends s [] r n o word words refl mark e)
+leaf_at s r n o false word words is e = absurd (other_fails s [] r n o word refl is (first_none _ _ e))
+
+leaf_words : (s : Shape) → AreRequests s.rules → arg_by_index s.rules 1 ≡ None → s.args_override_self ≡ false → (words : List Text)
+    → walk_fault s [] (walk_from nothing_held) words ≡ [] → (words ≡ []) ⊎ (words ≡ codes "--" ∷ [])
+leaf_words s r n o [] e = inl refl
+leaf_words s r n o (word ∷ words) e = inr (leaf_at s r n o (bytes_eq word (codes "--")) word words refl e)
+
+-- ---- the program
+
+abbrev names : Names
+names = names_of (built rambo)
+
+abbrev top : Shape
+top = (built rambo).top
+
+abbrev leaf : Task → Shape
+leaf Replay = built_leaf (inherited (with_leaf_noted (marked_built rambo.top)) (subcommand Replay))
+leaf Check = built_leaf (inherited (with_leaf_noted (marked_built rambo.top)) (subcommand Check))
+
+leaf_requests : (t : Task) → AreRequests (leaf t).rules
+leaf_requests Replay = ((refl, λ rows e. some_kind _ _ e), tt)
+leaf_requests Check = ((refl, λ rows e. some_kind _ _ e), tt)
+
+top_requests : AreRequests top.rules
+top_requests = ((refl, λ rows e. some_kind _ _ e), ((refl, λ rows e. some_kind _ _ e), tt))
+
+leaf_none : (t : Task) → arg_by_index (leaf t).rules 1 ≡ None
+leaf_none Replay = refl
+leaf_none Check = refl
+
+leaf_once : (t : Task) → (leaf t).args_override_self ≡ false
+leaf_once Replay = refl
+leaf_once Check = refl
+
+-- the fault of the words behind a task is a fault of all words
+below : (t : Task) (words : List Text) → fault_of rambo (name_of t ∷ words) ≡ [] → entered_fault (built rambo) (Some (name_of t, words)) ≡ []
+unfolding walked
+below Replay words e = subst (λ (w : Walk). entered_fault (built rambo) w.stopped ≡ []) (sym (walk_stopped top.rules names (walk_from nothing_held) (codes "replay") [] words)) (first_none _ _ (second_none _ _ e))
+below Check words e = subst (λ (w : Walk). entered_fault (built rambo) w.stopped ≡ []) (sym (walk_stopped top.rules names (walk_from nothing_held) (codes "check") [] words)) (first_none _ _ (second_none _ _ e))
+
+leaf_fault : (t : Task) (words : List Text) → entered_fault (built rambo) (Some (name_of t, words)) ≡ [] → walk_fault (leaf t) [] (walk_from nothing_held) words ≡ []
+leaf_fault Replay words e = first_none _ _ e
+leaf_fault Check words e = first_none _ _ e
+
+behind : (t : Task) (words : List Text) → (words ≡ []) ⊎ (words ≡ codes "--" ∷ []) → Asks (name_of t ∷ words) t
+behind t words (inl is) = inl (ap (λ (ws : List Text). name_of t ∷ ws) is)
+behind t words (inr is) = inr (ap (λ (ws : List Text). name_of t ∷ ws) is)
+
+named_words : (t : Task) (words : List Text) → fault_of rambo (name_of t ∷ words) ≡ [] → Asks (name_of t ∷ words) t
+named_words t words e = behind t words (leaf_words (leaf t) (leaf_requests t) (leaf_none t) (leaf_once t) words (leaf_fault t words (below t words e)))
+
+named_at : (t : Task) (word : Text) (words : List Text) → name_of t ≡ word → fault_of rambo (word ∷ words) ≡ [] → Asks (word ∷ words) t
+named_at t word words is e = subst (λ (w : Text). Asks (w ∷ words) t) is (named_words t words (subst (λ (w : Text). fault_of rambo (w ∷ words) ≡ []) (sym is) e))
+
+help_fails : (words : List Text) → fault_of rambo (codes "help" ∷ words) ≡ [] → ⊥
+unfolding walk_fault
+help_fails words e = some_kind _ _ e
+
+mark_fails : fault_of rambo (codes "--" ∷ []) ≡ [] → ⊥
+unfolding clap_on_literals
+mark_fails e = some_kind _ _ e
+
+no_words_fail : fault_of rambo [] ≡ [] → ⊥
+unfolding clap_on_literals
+no_words_fail e = some_kind _ _ e
+
+-- a word that is none of the names
+other_at : (b : Bool) (word : Text) (words : List Text) → bytes_eq word (codes "--") ≡ b → subcommand_met names idle word ≡ None → fault_of rambo (word ∷ words) ≡ [] → ⊥
+unfolding walk_fault
+other_at true word words is unmet e =
+    let mark : word ≡ codes "--" = (bytes_eq-Decides word (codes "--")).0 is in
+    let none : words ≡ [] = marked_ends top names top_requests refl refl word words refl mark (first_none _ _ e) in
+    mark_fails (subst (λ (ws : List Text). fault_of rambo ws ≡ []) (ap₂ (λ (w : Text) (ws : List Text). w ∷ ws) mark none) e)
+other_at false word words is unmet e = other_fails top names top_requests refl refl word unmet is (first_none _ _ (first_none _ _ e))
+
+-- the words behind `local` are left to it
+pub local_named : (words : List Text) → option_map (λ p. p.0) (subcommand_of rambo (codes "local" ∷ words)) ≡ Some (codes "local")
+unfolding walked
+local_named words =
+    subst (λ (w : Walk). option_map (λ p. p.0) (entered (built rambo) w.stopped) ≡ Some (codes "local"))
+    (walk_stopped top.rules names (walk_from nothing_held) (codes "local") [] words) refl
+
+-- the first word is one of the four names, or none
+abbrev Found : List Text → Type 0
+Found words = ((t : Task) × Asks words t) ⊎ (option_map (λ p. p.0) (subcommand_of rambo words) ≡ Some (codes "local"))
+
+first_at : (r c l h : Bool) (word : Text) (words : List Text) → bytes_eq (codes "replay") word ≡ r → bytes_eq (codes "check") word ≡ c → bytes_eq (codes "local") word ≡ l → bytes_eq (codes "help") word ≡ h
+    → fault_of rambo (word ∷ words) ≡ [] → Found (word ∷ words)
+first_at true c l h word words is_r is_c is_l is_h e = inl (Replay, named_at Replay word words ((bytes_eq-Decides (codes "replay") word).0 is_r) e)
+first_at false true l h word words is_r is_c is_l is_h e = inl (Check, named_at Check word words ((bytes_eq-Decides (codes "check") word).0 is_c) e)
+first_at false false true h word words is_r is_c is_l is_h e =
+    inr (subst (λ (w : Text). option_map (λ p. p.0) (subcommand_of rambo (w ∷ words)) ≡ Some (codes "local")) ((bytes_eq-Decides (codes "local") word).0 is_l) (local_named words))
+first_at false false false true word words is_r is_c is_l is_h e =
+    absurd (help_fails words (subst (λ (w : Text). fault_of rambo (w ∷ words) ≡ []) (sym ((bytes_eq-Decides (codes "help") word).0 is_h)) e))
+first_at false false false false word words is_r is_c is_l is_h e =
+    let unmet : subcommand_met names idle word ≡ None = rw (is_r, is_c, is_l, is_h) refl in
+    absurd (other_at (bytes_eq word (codes "--")) word words refl unmet e)
+
+pub faultless_asks : (words : List Text) → fault_of rambo words ≡ [] → Found words
+faultless_asks [] e = absurd (no_words_fail e)
+faultless_asks (word ∷ words) e = first_at (bytes_eq (codes "replay") word) (bytes_eq (codes "check") word) (bytes_eq (codes "local") word) (bytes_eq (codes "help") word) word words refl refl refl refl e
+
+-- ---- words that ask for a task
+
+at_literal : (t : Task) → (fault_of rambo (name_of t ∷ []) ≡ []) × (option_map (λ p. p.0) (subcommand_of rambo (name_of t ∷ [])) ≡ Some (name_of t))
+unfolding clap_on_literals
+at_literal Replay = (refl, refl)
+at_literal Check = (refl, refl)
+
+at_marked : (t : Task) → (fault_of rambo (name_of t ∷ codes "--" ∷ []) ≡ []) × (option_map (λ p. p.0) (subcommand_of rambo (name_of t ∷ codes "--" ∷ [])) ≡ Some (name_of t))
+unfolding clap_on_literals
+at_marked Replay = (refl, refl)
+at_marked Check = (refl, refl)
+
+pub asks_faultless : (words : List Text) (t : Task) → Asks words t → fault_of rambo words ≡ []
+asks_faultless words t (inl is) = subst (λ (ws : List Text). fault_of rambo ws ≡ []) (sym is) (at_literal t).0
+asks_faultless words t (inr is) = subst (λ (ws : List Text). fault_of rambo ws ≡ []) (sym is) (at_marked t).0
+
+memory_alone : (e : Error) → HasKind [] e → kind_of e ≡ OutOfMemory
+memory_alone e (inl is) = is
+memory_alone e (inr among) = absurd among
+
+pub asks_named : (words : List Text) (t : Task) → Asks words t → option_map (λ p. p.0) (subcommand_of rambo words) ≡ Some (name_of t)
+asks_named words t (inl is) = subst (λ (ws : List Text). option_map (λ p. p.0) (subcommand_of rambo ws) ≡ Some (name_of t)) (sym is) (at_literal t).1
+asks_named words t (inr is) = subst (λ (ws : List Text). option_map (λ p. p.0) (subcommand_of rambo ws) ≡ Some (name_of t)) (sym is) (at_marked t).1
+
+pub rambo_is_free : is_simple_and_free rambo ≡ true
+unfolding clap_on_literals
+rambo_is_free = refl
+
+-- ---- the task that a parse met
+
+name_read : {A B C : Type 0} (f : B → C) (g : A → B) (o : Option A) → option_map f (option_map g o) ≡ option_map (λ x. f (g x)) o
+name_read f g None = refl
+name_read f g (Some x) = refl
+
+rows_read : (f : List Row → Option Text) (o : Option (Text × List Row)) → option_and_then (λ p. f p.1) o ≡ option_and_then f (option_map (λ p. p.1) o)
+rows_read f None = refl
+rows_read f (Some p) = refl
+
+replay_at : (words : List Text) (t : Task) → Asks words t → option_map (λ p. p.0) (subcommand_of rambo words) ≡ Some (codes "replay") → Asks words Replay
+replay_at words Replay asks is = asks
+replay_at words Check asks is = absurd (true≢false (ap (λ (o : Option Text). option_map_or (bytes_eq (codes "replay")) o true) (sym is ∙ asks_named words Check asks)))
+
+check_at : (words : List Text) (t : Task) → Asks words t → ¬ (option_map (λ p. p.0) (subcommand_of rambo words) ≡ Some (codes "replay")) → Asks words Check
+check_at words Replay asks is_not = absurd (is_not (asks_named words Replay asks))
+check_at words Check asks is_not = asks
+
+rambo_is_simple : is_simple rambo ≡ true
+unfolding clap_on_literals
+rambo_is_simple = refl
+
+module _ (a : App) (words : List Text) (m : ArgMatches) (is : a ≡ rambo) (kinds : is_simple_and_free a ≡ true → fault_of a words ≡ []) (matches : HasMatchesOf a words m) where
+  faultless : fault_of rambo words ≡ []
+  faultless = subst (λ (b : App). fault_of b words ≡ []) is (kinds (ap is_simple_and_free is ∙ rambo_is_free))
+
+  rows_are : subcommand_rows_of m ≡ subcommand_of rambo words
+  rows_are = (matches (ap is_simple is ∙ rambo_is_simple)).1 ∙ ap (λ (b : App). subcommand_of b words) is
+
+  -- what stands behind `--founders`
+  pub word_is : (local : ArgMatches) → option_map (λ p. p.1) (subcommand_rows_of m) ≡ Some (rows_of (found_of local))
+      → founders_word words ≡ unwrap_or (first_value (found_of local) (codes "founders")) (codes "1")
+  word_is local e =
+      ap (λ o. unwrap_or (option_and_then (λ p. first_of (codes "founders") p.1) o) (codes "1")) (sym rows_are)
+      ∙ ap (λ o. unwrap_or o (codes "1"))
+      (rows_read (first_of (codes "founders")) (subcommand_rows_of m) ∙ ap (option_and_then (first_of (codes "founders"))) e ∙ sym (first_value-rows (found_of local) (codes "founders")))
+
+  named : option_map (λ p. p.0) (subcommand_of rambo words) ≡ subcommand_name_of m
+  named =
+      let rows : subcommand_rows_of m ≡ subcommand_of rambo words = (matches (ap is_simple is ∙ rambo_is_simple)).1 ∙ ap (λ (b : App). subcommand_of b words) is in
+      ap (option_map (λ p. p.0)) (sym rows) ∙ name_read (λ p. p.0) _ (out-ArgMatches m).subcommand
+
+  pub met_replay : subcommand_name_of m ≡ Some (codes "replay") → AsksByName words (codes "replay")
+  met_replay met = elim (faultless_asks words faultless) [
+    | inl asks ↦ replay_at words asks.0 asks.1 (named ∙ met)
+    | inr local ↦ absurd (true≢false (ap (λ (o : Option Text). option_map_or (bytes_eq (codes "local")) o true) (sym local ∙ named ∙ met)))
+  ]
+
+  pub met_check : ¬ (subcommand_name_of m ≡ Some (codes "replay")) → ¬ (subcommand_name_of m ≡ Some (codes "local")) → AsksByName words (codes "check")
+  met_check unmet not_local = elim (faultless_asks words faultless) [
+    | inl asks ↦ check_at words asks.0 asks.1 (λ met. unmet (sym named ∙ met))
+    | inr local ↦ absurd (not_local (sym named ∙ local))
+  ]
+
+  pub met_local : subcommand_name_of m ≡ Some (codes "local") → AsksLocal words
+  met_local met = (faultless, named ∙ met)
+
+-- the kind of an error that such words give
+pub asks_memory : (words : List Text) (name : Text) (e : Error) → (name ≡ codes "replay") ⊎ (name ≡ codes "check") → AsksByName words name → HasKind (fault_of rambo words) e → kind_of e ≡ OutOfMemory
+asks_memory words name e (inl is) asks kind = memory_alone e (subst (λ (kinds : Kinds). HasKind kinds e) (asks_faultless words Replay (subst (AsksByName words) is asks)) kind)
+asks_memory words name e (inr is) asks kind = memory_alone e (subst (λ (kinds : Kinds). HasKind kinds e) (asks_faultless words Check (subst (AsksByName words) is asks)) kind)
+
+pub local_memory : (words : List Text) (e : Error) → AsksLocal words → HasKind (fault_of rambo words) e → kind_of e ≡ OutOfMemory
+local_memory words e asks kind = memory_alone e (subst (λ (kinds : Kinds). HasKind kinds e) asks.0 kind)
+
+-- no words ask for two of them
+pub replay_or_local : (words : List Text) → AsksByName words (codes "replay") → AsksLocal words → ⊥
+replay_or_local words asks local = true≢false (ap (λ (o : Option Text). option_map_or (bytes_eq (codes "local")) o true) (sym local.1 ∙ asks_named words Replay asks))
+
+pub check_or_local : (words : List Text) → AsksByName words (codes "check") → AsksLocal words → ⊥
+check_or_local words asks local = true≢false (ap (λ (o : Option Text). option_map_or (bytes_eq (codes "local")) o true) (sym local.1 ∙ asks_named words Check asks))

@@ -1,0 +1,203 @@
+//! The command line.
+ghost use Rattle.std.specs.Prelude.{◌≡◌, map, IfOk, IfErr};
+ghost use Rattle.clap.specs.Words.{HasKind, app_of, fault_of};
+ghost use Rattle.rambo_command_line.specs.Lines.{Asks, IsFounders, IsLocal, rambo};
+
+use clap::{Arg, ArgAction, Command, Error};
+use rambo_names::{Members, read_set};
+use std::alloc::{AllocError, Global};
+use std::convert::AsStr;
+
+const STATUSES: &str = "Exit statuses:
+  0  done
+  1  a stream failed or memory ran out (fault read, fault write, fault memory)
+  2  the command line or the input is faulty
+  3  check said no of some key";
+
+const SCRIPTS: &str =
+    "A script is lines, each a step of its words with one space between. A NAME is a
+node, 1 to 64. A SET is names in rising order with commas between, or - for
+none. A CALL is the name of its node, a dot and its number there, from 1. Keys
+and values are HEX, pairs of digits 0 to 9 and a to f, or - for no bytes.
+
+  founders SET          the first line: the nodes that are active from the start
+  join NAME SET         an idle node asks to join, by way of these contacts
+  get NAME KEY          a client asks a node for the value of a key
+  set NAME KEY VALUE    a client asks a node to set a key to a value
+  send NAME NAME        the first node sends a letter to the second
+  deliver NUMBER        a letter comes to its addressee; they count from 1
+  advance CALL          a call whose replies suffice goes on, or is answered
+  again CALL            a call begins its present phase anew
+  recon NAME SET        a node begins to have this set chosen as next members
+  rebid NAME            the node begins this anew, with a higher ballot
+  advance-recon NAME    it goes on where its replies suffice, to the decision
+  collect NAME          a node begins to remove its oldest set of members
+  advance-collect NAME  it goes on where its replies suffice, to the removal
+  stop NAME             a node stops for good
+
+The first faulty line is told with its number, as script fault S2 at line 3:
+  S1  the first line names no founders
+  S2  the first word of a line is none of these
+  S3  a line has another number of words than its step has
+  S4  a word is not the number, name, set or call that belongs there
+  S5  a word is not the HEX that belongs there
+  S6  a line has over 16,384 bytes
+  S7  memory ran out while the line was read
+
+Exit statuses:
+  0  done
+  1  a stream failed or memory ran out (fault read, fault write, fault memory)
+  2  the command line or the script is faulty";
+
+const OUTCOMES: &str =
+    "What replay writes is read: the calls and their answers in order, for each key
+the sequence of its calls, and lines on members, refusals and maps, which are
+passed over.
+
+  call CALL get KEY
+  call CALL set KEY VALUE
+  answer CALL ok
+  answer CALL nil
+  answer CALL value VALUE
+  sequence KEY CALL CALL ..
+  decided NAME PLACE SET
+  decided NAME PLACE removed
+  collected NAME PLACE
+  refused STEP REFUSAL
+  map NAME FLOOR SET SET ..
+
+For each key the verdict is yes KEY, or no KEY and the least rule that its
+sequence breaks:
+  1  an answered call of the key is missing
+  2  a call stands there twice
+  3  an entry is no call of the key, or a get without an answer
+  4  a get does not answer the set before it, or nil where there is none
+  5  a call was answered before another was made, and stands behind it
+
+The first faulty line is told with its number, as script fault S2 at line 3:
+  S2  the first word of a line is none of these, or the third of a call or answer
+  S3  a line has another number of words than its kind has
+  S4  a word is not the number, name, set or call that belongs there
+  S5  a word is not the HEX that belongs there
+  S7  memory ran out while the line was read
+  S8  a call is made twice, an answer has no open call or is not of its kind, or
+      a key has a second sequence
+
+Exit statuses:
+  0  yes of all keys
+  1  a stream failed or memory ran out (fault read, fault write, fault memory)
+  2  the command line or the outcome text is faulty
+  3  no of some key";
+
+const COMMANDS: &str =
+    "Commands are RESP2 arrays of bulk strings, as redis clients send them. Names of
+commands are read in small and capital letters. Keys have at most 256 bytes.
+
+  PING         replies PONG
+  PING WORD    replies the word
+  GET KEY      replies the value of the key, or nil
+  SET KEY VAL  sets the key to the value, and replies OK
+
+A command is an error that is none of these, has another number of words, or
+has too long a key. Behind bytes that spell no command the fault is replied,
+and the end is as at the end of the input:
+  P1  a command does not begin with *, or an item with $
+  P2  a number is not in plain decimal
+  P3  a command has over 128 items
+  P4  an item has over 4,096 bytes
+  P5  a line or an item does not end in CR LF
+
+Example:
+  printf '*2\\r\\n$4\\r\\nPING\\r\\n$2\\r\\nhi\\r\\n' | rambo local --founders 1,2,3
+
+Exit statuses:
+  0  done
+  1  a stream failed or memory ran out (fault read, fault write, fault memory)
+  2  the command line is faulty, or the founders are none (bad founders)";
+
+/// The founders of a store where no others are told.
+const FOUNDERS: &str = "1";
+
+/// What a command line asks for.
+#[derive(Clone, Copy, Debug)]
+pub enum Task {
+    /// From a script to the text of what its run gives.
+    Replay,
+    /// From an outcome text to a verdict on each key.
+    Check,
+    /// A client is served by a store of these founders, of which there is one at least; none where a word is no sign of
+    /// such a set.
+    Local(Option<Members>),
+}
+
+/// What the words behind the program's name ask for.
+///
+/// An error is clap's: a mistake in the words, a request for help or the version, or `OutOfMemory`.
+pub fn task_of<S: AsStr>(alloc: Global, words: &[S]) -> Result<Task, Error>
+    ensures task { IfOk result (Asks (map S.text words.now)) }
+    ensures other { IfErr result (HasKind (fault_of rambo (map S.text words.now))) }
+{
+    let command = rambo_command(alloc)?;
+    let matches = command.try_get_matches_from(words)?;
+    if let Some(local) = matches.subcommand_matches("local") {
+        let word = local.get_str("founders").unwrap_or(FOUNDERS);
+        return Ok(Task::Local(founders_of(word)));
+    }
+    if matches.subcommand_matches("replay").is_some() {
+        Ok(Task::Replay)
+    } else {
+        Ok(Task::Check)
+    }
+}
+
+// The founders that a word tells, where it is the sign of some.
+fn founders_of(word: &str) -> Option<Members>
+    ensures { IsFounders word.now result }
+{
+    let founders = read_set(word.as_bytes())?;
+    if founders.count() == 0 {
+        return None;
+    }
+    Some(founders)
+}
+
+// The program and its three commands.
+fn rambo_command<'a>(alloc: Global) -> Result<Command<'a>, AllocError>
+    ensures { IfOk result (λ c. app_of c ≡ rambo) }
+{
+    let replay = Command::new(alloc, "replay")
+        .about("Runs the script on standard input and writes what its run gives")
+        .after_help(SCRIPTS);
+    let check = Command::new(alloc, "check")
+        .about("Reads the outcome text on standard input and writes yes or no for each of its keys")
+        .after_help(OUTCOMES);
+    let local = local_command(alloc)?;
+    let program = Command::new(alloc, "rambo")
+        .bin_name("rambo")?
+        .version("0.1.0")
+        .about(
+            "Runs scripts of a replicated key-value store, checks what they give, and serves one client",
+        )
+        .after_help(STATUSES)
+        .no_binary_name(true)
+        .subcommand_required(true);
+    program
+        .subcommand(replay)?
+        .subcommand(check)?
+        .subcommand(local)
+}
+
+// The command that serves a client.
+fn local_command<'a>(alloc: Global) -> Result<Command<'a>, AllocError>
+    ensures { IfOk result IsLocal }
+{
+    let founders = Arg::new(alloc, "founders")
+        .long("founders")
+        .action(ArgAction::Set)
+        .value_name("SET")
+        .help("The nodes of the store, names in rising order with commas between [default: 1]");
+    Command::new(alloc, "local")
+        .about("Serves one client in RESP2: commands on standard input, replies on standard output")
+        .after_help(COMMANDS)
+        .arg(founders)
+}

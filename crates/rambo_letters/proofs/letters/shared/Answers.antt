@@ -1,0 +1,13 @@
+use Rattle.std.proofs.Common.{◌++◌, ◌∷◌, [], ◌∙◌, append-nil, slice_get, sym, ap}
+use Rattle.rambo_letters.specs.Shared.{standing_of}
+use Rattle.rambo_letters.proofs.Sharing.{get_last}
+use Rattle.rambo_letters.proofs.letters.shared.Goals as goal
+
+pub returns-in_err-push-clause-grows : goal.returns-in_err-push-clause-grows
+returns-in_err-push-clause-grows g c = ([], c.in_err-push.ensures.items ∙ sym (append-nil c.args.standings.now.items))
+
+pub returns-clause-at : goal.returns-clause-at
+returns-clause-at g c =
+    let old = c.args.standings.now.items in
+    ap (λ ms. slice_get ms c.len-count.result) (c.in_ok-push.ensures.items ∙ ap (λ m. old ++ m ∷ []) c.of.ensures)
+    ∙ ap (slice_get (old ++ standing_of c.args.gossip.now ∷ [])) (c.len-count.ensures ∙ c.args.standings.now.ok.0) ∙ get_last old (standing_of c.args.gossip.now)

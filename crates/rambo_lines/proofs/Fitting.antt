@@ -1,0 +1,127 @@
+-- Words of the forms of a kind, or not
+use Rattle.std.proofs.Common.{◌≡◌, ◌≢◌, ◌⊎◌, ℕ, ◌+◌, Bool, true, false, cond, not, true≢false, eqb, List, [], ◌∷◌, length, filter, codes, Option, None, Some, inl, inr, refl, sym, ap, subst, ◌∙◌}
+use Rattle.rambo_text.specs.declared.fault.Fault.{Fault}
+use Rattle.rambo_text.specs.declared.fault.Fault.TheVariants.{NoFounders, UnknownWord, WrongCount, BadHex, OutOfMemory}
+use Rattle.rambo_text.specs.Forms.{Set, Hex, IsSpelt, IsBadWord}
+use Rattle.rambo_text.specs.Signs.{hex_text, AreBytes}
+use Rattle.rambo_text.specs.Words.{IsFirstWord, AreWords, AreMore}
+use Rattle.rambo_lines.specs.declared.kind.StepKind.{StepKind}
+use Rattle.rambo_lines.specs.StepLines.{word_of, forms_of}
+use Rattle.rambo_lines.specs.Scripts.{IsShort}
+use Rattle.rambo_lines.specs.Faults.{IsLineFault, TellNoStep, TellNoFounders, TellsBytes, AreUnfit}
+use Rattle.std.specs.FinSet.{contains}
+use Rattle.std.specs.Str.{bytes_eq}
+use Rattle.std.proofs.lemmas.Slice.Eq.{bytes_eq-Decides}
+use Rattle.rambo_names.specs.Names.{NameSet, names, rising, how_many, count_of}
+use Rattle.rambo_names.specs.Signs.{set_text, names_text}
+use Rattle.rambo_text.proofs.WordSplits.{words_joined}
+use Rattle.rambo_lines.specs.Parts.{TellUnfit, TellFault, NeedRoom}
+use Rattle.std.proofs.lemmas.Bool.Decides.{nat_tests}
+use Rattle.std.proofs.Common.{arith}
+
+-- one byte more in front of the words of a line
+in_front : (b : ℕ) (line : List ℕ) → (words : List (List ℕ)) × AreWords line words → (words : List (List ℕ)) × AreWords (b ∷ line) words
+in_front b line ([], are) = absurd (are.some refl)
+in_front b line (w ∷ ws, are) =
+    elim (eqb b 32) as (λ t. eqb b 32 ≡ t → (words : List (List ℕ)) × AreWords (b ∷ line) words) [
+      | true ↦ λ is. ([] ∷ w ∷ ws, record { some = λ e. cc; no_space = (tt, are.no_space); whole = (λ i. (let e : b ≡ 32 = grind (arith, nat_tests) in e) i ∷ are.whole i) })
+      | false ↦ λ is. ((b ∷ w) ∷ ws, record { some = λ e. cc; no_space = ((grind (arith, nat_tests), are.no_space.0), are.no_space.1); whole = ap (λ l. b ∷ l) are.whole })
+    ] refl
+
+-- each line is some words
+pub words_there : (line : List ℕ) → (words : List (List ℕ)) × AreWords line words
+words_there [] = ([] ∷ [], record { some = λ e. cc; no_space = (tt, tt); whole = refl })
+words_there (b ∷ line) = in_front b line (words_there line)
+
+pub more_there : (more : Option (List ℕ)) → (words : List (List ℕ)) × AreMore more words
+more_there None = ([], refl)
+more_there (Some rest) = words_there rest
+
+-- another number of words
+pub count_fault : (kind : StepKind) (more : Option (List ℕ)) (f : Fault) → f ≡ WrongCount → ((words : List (List ℕ)) → AreMore more words → length words ≢ length (forms_of kind)) → TellUnfit kind more f
+count_fault kind more f is none = let there = more_there more in (there.0, there.1, inl (none there.0 there.1, is))
+
+-- the words of a step of a kind that are unfit
+pub step_fault : (line word : List ℕ) (more : Option (List ℕ)) (kind : StepKind) (f : Fault) → IsShort line → IsFirstWord line word more → word ≡ word_of kind → TellFault kind more f
+    → (f ≡ OutOfMemory) ⊎ IsLineFault TellNoStep line f
+step_fault line word more kind f short first is (inl spent) = inl spent
+step_fault line word more kind f short first is (inr unfit) =
+    inr (inr (short, (word ∷ unfit.0, words_joined line word more unfit.0 first unfit.1, inr (kind, unfit.0, ap (λ w. w ∷ unfit.0) is, unfit.2))))
+
+-- the words of a step of a kind tell bytes
+pub line_needs : (line word : List ℕ) (more : Option (List ℕ)) (kind : StepKind) → IsShort line → IsFirstWord line word more → word ≡ word_of kind → NeedRoom kind more → TellsBytes line
+line_needs line word more kind short first is room = record {
+  short = short;
+  kind = kind;
+  others = room.0;
+  words = subst (λ w. AreWords line (w ∷ room.0)) is (words_joined line word more room.0 first room.1);
+  tell = room.2;
+}
+
+-- no kind has this word
+pub unknown_fault : (line word : List ℕ) (more : Option (List ℕ)) → IsShort line → IsFirstWord line word more → ((kind : StepKind) → word ≢ word_of kind)
+    → IsLineFault TellNoStep line UnknownWord
+unknown_fault line word more short first none =
+    let there = more_there more in
+    inr (short, (word ∷ there.0, words_joined line word more there.0 first there.1, inl ((λ kind others e. none kind cc), refl)))
+
+-- a word that spells no bytes, or for whose bytes there is no room
+pub hex_fault : (kind : StepKind) (more : Option (List ℕ)) (words : List (List ℕ)) (word : List ℕ) (f : Fault) → AreMore more words → length words ≡ length (forms_of kind)
+    → (¬ (IsSpelt Hex word) → f ≡ BadHex → IsBadWord (forms_of kind) words f)
+    → (f ≡ OutOfMemory) ⊎ ((f ≡ BadHex) × ((bs : List ℕ) → AreBytes bs → word ≢ hex_text bs)) → TellFault kind more f
+hex_fault kind more words word f are many bad (inl spent) = inl spent
+hex_fault kind more words word f are many bad (inr no_bytes) =
+    inr (words, are, inr (many, bad (λ spelt. no_bytes.1 spelt.0 spelt.1 spelt.2) no_bytes.0))
+
+-- a first line whose words tell no founders
+abbrev NoFounding : List ℕ → Fault → Type 0
+NoFounding = IsLineFault TellNoFounders
+
+-- the first word is another one
+pub other_word : (line word : List ℕ) (more : Option (List ℕ)) → IsShort line → IsFirstWord line word more → word ≢ codes "founders" → NoFounding line NoFounders
+other_word line word more short first other =
+    let there = more_there more in
+    inr (short, (word ∷ there.0, words_joined line word more there.0 first there.1, inl ((λ others e. other cc), refl)))
+
+-- the words behind it are unfit
+pub unfit_founders : (line word : List ℕ) (more : Option (List ℕ)) (others : List (List ℕ)) (f : Fault) → IsShort line → IsFirstWord line word more → word ≡ codes "founders"
+    → AreMore more others → AreUnfit (Set ∷ []) others f → NoFounding line f
+unfit_founders line word more others f short first is are unfit =
+    inr (short, (word ∷ others, words_joined line word more others first are, inr (inl (others, ap (λ w. w ∷ others) is, unfit))))
+
+-- there are not as many words
+pub founders_count : (line word : List ℕ) (more : Option (List ℕ)) (f : Fault) → IsShort line → IsFirstWord line word more → word ≡ codes "founders"
+    → f ≡ WrongCount → ((words : List (List ℕ)) → AreMore more words → length words ≢ 1) → NoFounding line f
+founders_count line word more f short first is fault none =
+    let there = more_there more in
+    unfit_founders line word more there.0 f short first is there.1 (inl (none there.0 there.1, fault))
+
+none_of : (p : ℕ → Bool) (xs : List ℕ) → how_many p xs ≡ 0 → filter p xs ≡ []
+none_of p [] none = refl
+none_of p (x ∷ xs) none =
+    elim (p x) as (λ t. cond t 1 0 + how_many p xs ≡ 0 → cond t (x ∷ filter p xs) (filter p xs) ≡ []) [
+      | true ↦ λ e. absurd (omega arith)
+      | false ↦ λ e. none_of p xs (omega arith)
+    ] none
+
+-- a set of no names is a dash
+pub dash : (s : NameSet) → count_of s ≡ 0 → set_text s ≡ 45 ∷ []
+unfolding count_of names
+dash s none = ap names_text (none_of (contains s) (rising 64 1) none)
+
+-- there is no founder
+pub no_founder : (line word set : List ℕ) (more : Option (List ℕ)) (s : NameSet) → IsShort line → IsFirstWord line word more → word ≡ codes "founders"
+    → AreMore more (set ∷ []) → set ≡ set_text s → count_of s ≡ 0 → NoFounding line NoFounders
+no_founder line word set more s short first is are spelt none =
+    inr (short, (word ∷ set ∷ [], words_joined line word more (set ∷ []) first are, inr (inr ((λ i. is i ∷ (spelt ∙ dash s none) i ∷ []), refl))))
+
+from_not : (t : Bool) → false ≡ not t → t ≡ true
+from_not true e = refl
+from_not false e = cc
+
+-- what `!=` tells of a word and one that is known
+pub different : (word other known : List ℕ) → other ≡ known → true ≡ not (bytes_eq word other) → word ≢ known
+different word other known is ne same = true≢false (ne ∙ ap not ((bytes_eq-Decides word other).1 (same ∙ sym is)))
+
+pub alike : (word other known : List ℕ) → other ≡ known → false ≡ not (bytes_eq word other) → word ≡ known
+alike word other known is eq = (bytes_eq-Decides word other).0 (from_not (bytes_eq word other) eq) ∙ is

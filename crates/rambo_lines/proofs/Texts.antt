@@ -1,0 +1,203 @@
+-- A text is that of one script, and has no fault then
+use Rattle.std.proofs.Common.{◌≡◌, ◌≢◌, ℕ, Bool, true, false, cond, filter, ◌+◌, List, [], ◌∷◌, ◌++◌, length, codes, inl, inr, refl, sym, ap, subst, ◌∙◌, arith, lit<, append_assoc}
+use Rattle.std.specs.List.{AllByRecursion}
+use Rattle.rambo_names.specs.Names.{NameSet, names, rising, how_many, count_of}
+use Rattle.std.specs.FinSet.{contains}
+use Rattle.rambo_names.specs.Signs.{set_text}
+use Rattle.rambo_run.specs.declared.step.Step.{Step}
+use Rattle.rambo_text.specs.declared.fault.Fault.{Fault}
+use Rattle.rambo_text.specs.declared.fault.ScriptFault.{ScriptFault}
+use Rattle.rambo_text.specs.Forms.{Set, IsBadWord}
+use Rattle.rambo_text.specs.Words.{Lacks, AreWords, IsFirstLine}
+use Rattle.rambo_text.proofs.WordSplits.{cut, no_cut, same_words}
+use Rattle.rambo_lines.specs.declared.kind.StepKind.{StepKind}
+use Rattle.rambo_lines.specs.declared.kind.StepKind.TheVariants as kind
+use Rattle.rambo_lines.specs.StepLines.{word_of, forms_of, step_words, step_line, IsStep}
+use Rattle.rambo_lines.specs.Scripts.{ScriptState, HasLine, HasLines, AreFounders, IsTextOf, IsScript, founders_words, founders_line, steps_text, script_text}
+use Rattle.rambo_lines.specs.Faults.{IsLineFault, TellNoStep, TellNoFounders, AreUnfit, IsScriptFault}
+use Rattle.rambo_lines.proofs.Plain.{small_names, lacks-set, lacks-tested, lacks-words}
+use Rattle.rambo_lines.proofs.Alike.{same_list, same_set_text}
+use Rattle.rambo_lines.proofs.StepShapes.{kind_of, parts_of, words_are, spelt, not_bad, as_many, same_kind, step_are_words, step_lacks, same_step}
+
+founders_are_words : (s : NameSet) → AreWords (founders_line s) (founders_words s)
+founders_are_words s = record { some = λ e. cc; no_space = (lacks-tested 32 (codes "founders") (lit< tt) refl, (lacks-set 32 s (lit< tt), tt)); whole = refl }
+
+pub founders_lack : (s : NameSet) → Lacks 10 (founders_line s)
+founders_lack s = lacks-words 10 (founders_words s) (λ e. cc) (lacks-tested 10 (codes "founders") (lit< tt) refl, (lacks-set 10 s (lit< tt), tt))
+
+no_nothing : (l t : List ℕ) → [] ≡ l ++ 10 ∷ t → ⊥
+no_nothing [] t e = cc
+no_nothing (x ∷ l) t e = cc
+
+same_steps : (xs ys : List (Step NameSet)) → AllByRecursion HasLine xs → AllByRecursion HasLine ys
+    → steps_text xs ≡ steps_text ys → xs ≡ ys
+same_steps [] [] a b e = refl
+same_steps [] (y ∷ ys) a b e = absurd (no_nothing (step_line y) (steps_text ys) e)
+same_steps (x ∷ xs) [] a b e = absurd (no_nothing (step_line x) (steps_text xs) (sym e))
+same_steps (x ∷ xs) (y ∷ ys) a b e =
+    let parts = cut 10 (step_line x) (step_line y) (steps_text xs) (steps_text ys) (step_lacks x a.0.is_step) (step_lacks y b.0.is_step) e in
+    (λ i. same_step x y a.0.is_step b.0.is_step parts.0 i ∷ same_steps xs ys a.1 b.1 parts.1 i)
+
+word_there : (k : StepKind) → word_of k ≡ [] → ⊥
+word_there kind.Join e = cc
+word_there kind.Get e = cc
+word_there kind.Set e = cc
+word_there kind.Send e = cc
+word_there kind.Deliver e = cc
+word_there kind.Advance e = cc
+word_there kind.Again e = cc
+word_there kind.Collect e = cc
+word_there kind.AdvanceCollect e = cc
+word_there kind.Recon e = cc
+word_there kind.Rebid e = cc
+word_there kind.AdvanceRecon e = cc
+word_there kind.Stop e = cc
+
+-- a line of a step isn't empty
+not_empty : (y : Step NameSet) → IsStep y → [] ≡ step_line y → ⊥
+not_empty y is e =
+    let words = same_words (step_line y) (step_words y) ([] ∷ []) (step_are_words y is) (record { some = λ n. cc; no_space = (tt, tt); whole = sym e }) in
+    word_there (kind_of y) (let both = sym (words_are y) ∙ words in cc)
+
+no_line_more : (xs ys : List (Step NameSet)) → AllByRecursion HasLine xs → AllByRecursion HasLine ys → steps_text xs ++ 10 ∷ [] ≡ steps_text ys → ⊥
+no_line_more [] [] a b e = cc
+no_line_more [] (y ∷ ys) a b e = not_empty y b.0.is_step (cut 10 [] (step_line y) [] (steps_text ys) tt (step_lacks y b.0.is_step) e).0
+no_line_more (x ∷ xs) [] a b e =
+    no_nothing (step_line x) (steps_text xs ++ 10 ∷ []) (sym e ∙ append_assoc (step_line x) (10 ∷ steps_text xs) (10 ∷ []))
+no_line_more (x ∷ xs) (y ∷ ys) a b e =
+    no_line_more xs ys a.1 b.1
+    (cut 10 (step_line x) (step_line y) (steps_text xs ++ 10 ∷ []) (steps_text ys) (step_lacks x a.0.is_step) (step_lacks y b.0.is_step)
+    (sym (append_assoc (step_line x) (10 ∷ steps_text xs) (10 ∷ [])) ∙ e)).1
+
+same_text : (s t : ScriptState) → HasLines s → HasLines t → script_text s ≡ script_text t → s ≡ t
+same_text s t a b e =
+    let parts = cut 10 (founders_line s.founders) (founders_line t.founders) (steps_text s.steps) (steps_text t.steps) (founders_lack s.founders) (founders_lack t.founders) e in
+    let words = same_words (founders_line t.founders) (founders_words s.founders) (founders_words t.founders)
+    (subst (λ l. AreWords l (founders_words s.founders)) parts.0 (founders_are_words s.founders)) (founders_are_words t.founders) in
+    let founders = same_set_text s.founders t.founders a.founders.names b.founders.names (cc) in
+    let steps = same_steps s.steps t.steps a.steps b.steps parts.1 in
+    (λ i. record { founders = founders i; steps = steps i })
+
+no_feed_more : (s t : ScriptState) → HasLines s → HasLines t → script_text s ++ 10 ∷ [] ≡ script_text t → ⊥
+no_feed_more s t a b e =
+    no_line_more s.steps t.steps a.steps b.steps
+    (cut 10 (founders_line s.founders) (founders_line t.founders) (steps_text s.steps ++ 10 ∷ []) (steps_text t.steps) (founders_lack s.founders) (founders_lack t.founders)
+    (sym (append_assoc (founders_line s.founders) (10 ∷ steps_text s.steps) (10 ∷ [])) ∙ e)).1
+
+pub one_reading_is : (bytes : List ℕ) (s t : ScriptState) → IsScript bytes s → IsScript bytes t → s ≡ t
+one_reading_is bytes s t a b = elim a.whole [
+  | inl whole ↦ elim b.whole [
+    | inl other ↦ same_text s t a.lines b.lines (sym whole ∙ other)
+    | inr other ↦ absurd (no_feed_more s t a.lines b.lines (ap (λ x. x ++ 10 ∷ []) (sym whole) ∙ other))
+  ]
+  | inr whole ↦ elim b.whole [
+    | inl other ↦ absurd (no_feed_more t s b.lines a.lines (ap (λ x. x ++ 10 ∷ []) (sym other) ∙ whole))
+    | inr other ↦ same_text s t a.lines b.lines (sym whole ∙ other)
+  ]
+]
+
+pub reads_back_is : (s : ScriptState) → HasLines s → IsScript (script_text s) s × ((t : ScriptState) → IsScript (script_text s) t → t ≡ s)
+reads_back_is s lines =
+    let is : IsScript (script_text s) s = record { lines = lines; whole = inl refl } in
+    (is, λ t other. one_reading_is (script_text s) t s other is)
+
+-- the first line is the front up to the first line feed
+pub head_line : (front t bytes line rest : List ℕ) → Lacks 10 front → IsTextOf bytes (front ++ 10 ∷ t) → IsFirstLine bytes line rest → line ≡ front
+head_line front t bytes line rest lacks text first = elim text [
+  | inl whole ↦ elim first.whole [
+    | inl feed ↦ (cut 10 line front rest t first.no_feed lacks (sym feed ∙ whole)).0
+    | inr last ↦ absurd (no_cut 10 line front t first.no_feed (sym last.0 ∙ whole))
+  ]
+  | inr whole ↦ elim first.whole [
+    | inl feed ↦ (cut 10 line front (rest ++ 10 ∷ []) t first.no_feed lacks (sym (append_assoc line (10 ∷ rest) (10 ∷ [])) ∙ ap (λ x. x ++ 10 ∷ []) (sym feed) ∙ whole)).0
+    | inr last ↦ (cut 10 line front [] t first.no_feed lacks (ap (λ x. x ++ 10 ∷ []) (sym last.0) ∙ whole)).0
+  ]
+]
+
+-- behind a first line that two texts have
+tail_text : (l p behind m q bytes : List ℕ) → Lacks 10 l → Lacks 10 m → bytes ≡ (l ++ 10 ∷ p) ++ behind → IsTextOf bytes (m ++ 10 ∷ q) → IsTextOf (p ++ behind) q
+tail_text l p behind m q bytes a b is text = elim text [
+  | inl whole ↦ inl (cut 10 l m (p ++ behind) q a b (sym (append_assoc l (10 ∷ p) behind) ∙ sym is ∙ whole)).1
+  | inr whole ↦ inr (cut 10 l m ((p ++ behind) ++ 10 ∷ []) q a b
+      (sym (append_assoc l (10 ∷ (p ++ behind)) (10 ∷ [])) ∙ ap (λ x. x ++ 10 ∷ []) (sym (append_assoc l (10 ∷ p) behind) ∙ sym is) ∙ whole)).1
+]
+
+no_text : (bytes : List ℕ) → bytes ≢ [] → IsTextOf bytes [] → ⊥
+no_text [] some text = some refl
+no_text (b ∷ bs) some (inl e) = cc
+no_text (b ∷ bs) some (inr e) = cc
+
+not_nothing : (xs ys : List ℕ) → ys ≢ [] → xs ++ ys ≢ []
+not_nothing [] ys some e = some e
+not_nothing (x ∷ xs) ys some e = cc
+
+-- a later line is that of a step
+step_there : (xs ys : List (Step NameSet)) (bytes behind line rest : List ℕ) → AllByRecursion HasLine xs → AllByRecursion HasLine ys → bytes ≡ steps_text xs ++ behind
+    → IsTextOf bytes (steps_text ys) → behind ≢ [] → IsFirstLine behind line rest → (st : Step NameSet) × HasLine st × (line ≡ step_line st)
+step_there xs [] bytes behind line rest a b is text some first =
+    absurd (no_text bytes (λ none. not_nothing (steps_text xs) behind some (sym is ∙ none)) text)
+step_there [] (y ∷ ys) bytes behind line rest a b is text some first =
+    (y, b.0, head_line (step_line y) (steps_text ys) behind line rest (step_lacks y b.0.is_step) (subst (λ x. IsTextOf x (steps_text (y ∷ ys))) is text) first)
+step_there (x ∷ xs) (y ∷ ys) bytes behind line rest a b is text some first =
+    step_there xs ys (steps_text xs ++ behind) behind line rest a.1 b.1 refl
+    (tail_text (step_line x) (steps_text xs) behind (step_line y) (steps_text ys) bytes (step_lacks x a.0.is_step) (step_lacks y b.0.is_step) is text) some first
+
+nothing_passes : (p : ℕ → Bool) (xs : List ℕ) → filter p xs ≡ [] → how_many p xs ≡ 0
+nothing_passes p [] e = refl
+nothing_passes p (x ∷ xs) e =
+    elim (p x) as (λ t. cond t (x ∷ filter p xs) (filter p xs) ≡ [] → cond t 1 0 + how_many p xs ≡ 0) [
+      | true ↦ λ some. cc
+      | false ↦ λ none. let rest = nothing_passes p xs none in omega arith
+    ] e
+
+-- only the empty set is a dash
+no_names : (s : NameSet) → set_text s ≡ codes "-" → count_of s ≡ 0
+unfolding count_of names
+no_names s e = nothing_passes (contains s) (rising 64 1) (same_list (names s) [] (small_names s) tt e)
+
+founders_fit : (s : NameSet) (f : Fault) (others : List (List ℕ)) → others ≡ set_text s ∷ [] → AreUnfit (Set ∷ []) others f → ⊥
+founders_fit s f others same (inl many) = many.0 (ap length same)
+founders_fit s f others same (inr bad) = not_bad (Set ∷ []) (set_text s ∷ []) f ((s, refl), tt) (subst (λ o. IsBadWord (Set ∷ []) o f) same bad.1)
+
+founders_told : (s : NameSet) (f : Fault) (words : List (List ℕ)) → AreFounders s → words ≡ founders_words s → TellNoFounders words f → ⊥
+founders_told s f words are same (inl other) = other.0 (set_text s ∷ []) same
+founders_told s f words are same (inr (inl unfit)) =
+    let others : unfit.0 ≡ set_text s ∷ [] = (let both = sym unfit.1 ∙ same in cc) in
+    founders_fit s f unfit.0 others unfit.2
+founders_told s f words are same (inr (inr none)) =
+    let some = are.some in
+    let zero_of : count_of s ≡ 0 = no_names s (let both = sym same ∙ none.0 in cc) in omega arith
+
+pub good_founders : (s : NameSet) (f : Fault) → AreFounders s → IsLineFault TellNoFounders (founders_line s) f → ⊥
+good_founders s f are (inl long) = let some = long.0 in let short = are.short in omega arith
+good_founders s f are (inr fault) =
+    founders_told s f fault.1.0 are (same_words (founders_line s) fault.1.0 (founders_words s) fault.1.1 (founders_are_words s)) fault.1.2
+
+step_fit : (st : Step NameSet) (f : Fault) (k : StepKind) (others : List (List ℕ)) → IsStep st → k ≡ kind_of st → others ≡ parts_of st → AreUnfit (forms_of k) others f → ⊥
+step_fit st f k others is kinds same (inl many) =
+    many.0 (ap length same ∙ as_many (forms_of (kind_of st)) (parts_of st) (spelt st is) ∙ ap (λ j. length (forms_of j)) (sym kinds))
+step_fit st f k others is kinds same (inr bad) =
+    not_bad (forms_of (kind_of st)) (parts_of st) f (spelt st is)
+    (subst (λ j. IsBadWord (forms_of j) (parts_of st) f) kinds (subst (λ o. IsBadWord (forms_of k) o f) same bad.1))
+
+step_told : (st : Step NameSet) (f : Fault) (words : List (List ℕ)) → IsStep st → words ≡ step_words st → TellNoStep words f → ⊥
+step_told st f words is same (inl none) = none.0 (kind_of st) (parts_of st) (same ∙ words_are st)
+step_told st f words is same (inr unfit) =
+    let both = sym unfit.2 ∙ same ∙ words_are st in
+    step_fit st f unfit.0 unfit.1 is (same_kind unfit.0 (kind_of st) (cc)) (cc) unfit.3
+
+pub good_step : (st : Step NameSet) (f : Fault) → HasLine st → IsLineFault TellNoStep (step_line st) f → ⊥
+good_step st f has (inl long) = let some = long.0 in let short = has.short in omega arith
+good_step st f has (inr fault) = step_told st f fault.1.0 has.is_step (same_words (step_line st) fault.1.0 (step_words st) fault.1.1 (step_are_words st has.is_step)) fault.1.2
+
+pub no_fault_is : (bytes : List ℕ) (s : ScriptState) (f : ScriptFault) → IsScript bytes s → ¬ (IsScriptFault bytes f)
+no_fault_is bytes s f is (inl first) =
+    let line = head_line (founders_line s.founders) (steps_text s.steps) bytes first.line first.rest (founders_lack s.founders) is.whole first.is_first in
+    good_founders s.founders f.fault is.lines.founders (subst (λ l. IsLineFault TellNoFounders l f.fault) line first.fault)
+no_fault_is bytes s f is (inr later) =
+    let next = later.is_next in
+    let before = next.before in
+    let text = tail_text (founders_line before.founders) (steps_text before.steps) next.behind (founders_line s.founders) (steps_text s.steps) bytes
+    (founders_lack before.founders) (founders_lack s.founders) next.whole is.whole in
+    let there = step_there before.steps s.steps (steps_text before.steps ++ next.behind) next.behind later.line next.rest next.lines.steps is.lines.steps refl text next.some next.is_first in
+    good_step there.0 f.fault there.1 (subst (λ l. IsLineFault TellNoStep l f.fault) there.2 later.fault)

@@ -1,0 +1,18 @@
+use Rattle.std.proofs.Common.{inl, inr, refl, rules}
+use Rattle.rambo_lines.specs.declared.kind.StepKind.TheVariants.{Set}
+use Rattle.rambo_lines.proofs.Fitting.{count_fault, hex_fault}
+use Rattle.rambo_lines.proofs.reading.set_asked.Goals as goal
+
+pub returns-in_err-name-clause-fault : goal.returns-in_err-name-clause-fault
+returns-in_err-name-clause-fault c = search (rules, count_fault Set _ _ c.in_err-name.ensures.fault.0 c.in_err-name.ensures.fault.1)
+
+pub returns-in_err-key-clause-fault : goal.returns-in_err-key-clause-fault
+returns-in_err-key-clause-fault c =
+    let name = c.in_ok-name-2.ensures.found in
+    search (rules, hex_fault Set _ _ _ _ c.in_ok-name.ensures.found refl (λ none is. inr ((_, name.0, name.1), inl (none, is))) c.in_err-key.ensures.fault)
+
+pub returns-in_err-read_hex-clause-fault : goal.returns-in_err-read_hex-clause-fault
+returns-in_err-read_hex-clause-fault c =
+    let name = c.in_ok-name-2.ensures.found in
+    let key = c.in_ok-key.ensures.found in
+    search (rules, hex_fault Set _ _ _ _ c.in_ok-name.ensures.found refl (λ none is. inr ((_, name.0, name.1), inr ((_, key.0, key.1), inl (none, is)))) c.in_err-read_hex.ensures.fault)

@@ -1,0 +1,6 @@
+pub mod StepLines
+pub mod Scripts
+pub mod Faults
+pub mod Parts
+pub mod Pushes
+pub mod Laws

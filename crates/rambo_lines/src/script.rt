@@ -1,0 +1,103 @@
+//! Whole scripts.
+ghost use Rattle.std.specs.Prelude.{◌≡◌, ◌⊎◌, Ok, Err, IfOk, IfErr, OnOk, OnErr, ◌++◌, [], ◌∷◌};
+ghost use Rattle.rambo_lines.specs.Faults.{IsLineFault, TellNoStep, TellNoFounders, TellsBytesOrStep, IsScriptFault, RanOut};
+ghost use Rattle.rambo_lines.specs.Scripts.{AreFounders, founders_line, IsScript};
+ghost use Rattle.rambo_lines.specs.Pushes.{PushesStep};
+
+use crate::parts::{one, set_of};
+use crate::reading::read_step;
+use rambo_names::{Majority, Members};
+use rambo_run::Step;
+use rambo_text::{Fault, ScriptFault, next_line, next_word};
+use std::alloc::Global;
+use std::marker::Model;
+
+/// How many bytes a line of a script may have, its line feed not counted.
+pub const LINE_LIMIT: usize = 16_384;
+
+/// The founders and the steps of a run.
+#[derive(Drop)]
+pub struct Script {
+    pub founders: Majority,
+    pub steps: Vec<Step<Majority>>,
+}
+
+impl Model for Script {
+    ghost use Rattle.std.specs.Coded.{codes};
+    ghost use Rattle.rambo_names.specs.Names.{names_code};
+    ghost use Rattle.rambo_lines.specs.Scripts.{ScriptState};
+
+    ghost Value = { ScriptState };
+
+    ghost coded = { Prim.hlevel (codes, names_code) };
+
+    ghost view = { λ s. record { founders = s.founders; steps = s.steps.items } };
+}
+
+/// The script that a text tells.
+///
+/// Else the first faulty line with its first fault; `OutOfMemory` where there is no room for a step or for its bytes,
+/// with the line that was read then, which has no fault before its bytes.
+pub fn read_script(alloc: Global, text: &[u8]) -> Result<Script, ScriptFault>
+    ensures script { IfOk result (λ s. IsScript text.now s) }
+    ensures fault { IfErr result (λ f. IsScriptFault text.now f ⊎ RanOut TellsBytesOrStep text.now f) }
+{
+    let (first, mut rest) = next_line(text);
+    let founders = at_line(1, read_founders(first))?;
+    let mut steps = Vec::new(alloc);
+    while !rest.is_empty() {
+        let (line, behind) = next_line(rest);
+        let number = steps.len() as u64 + 2;
+        at_line(number, push_step(alloc, line, &mut steps))?;
+        rest = behind;
+    }
+    Ok(Script {
+        founders: Majority::of(founders),
+        steps,
+    })
+}
+
+/// What the line of this number tells; a fault with that number.
+pub fn at_line<T>(line: u64, told: Result<T, Fault>) -> Result<T, ScriptFault>
+    ensures ok { IfOk result (λ x. told ≡ Ok x) }
+    ensures fault { IfErr result (λ f. (f.line ≡ line) × (told ≡ Err f.fault)) }
+{
+    told.map_err(|fault| ScriptFault { fault, line })
+}
+
+/// The founders that the first line of a script tells.
+///
+/// `LineTooLong` where the line is too long; `NoFounders` where its first word is another one, or there is no founder;
+/// else the first fault of the words behind the first.
+pub fn read_founders(line: &[u8]) -> Result<Members, Fault>
+    ensures found { IfOk result (λ s. AreFounders s × (line.now ≡ founders_line s)) }
+    ensures fault { IfErr result (λ f. IsLineFault TellNoFounders line.now f) }
+{
+    if line.len() > LINE_LIMIT {
+        return Err(Fault::LineTooLong);
+    }
+    let (word, more) = next_word(line);
+    if word != b"founders".as_slice() {
+        return Err(Fault::NoFounders);
+    }
+    let set = one(more)?;
+    let founders = set_of(set)?;
+    if founders.count() == 0 {
+        return Err(Fault::NoFounders);
+    }
+    Ok(founders)
+}
+
+// Appends the step that a line tells.
+fn push_step(alloc: Global, line: &[u8], steps: &mut Vec<Step<Majority>>) -> Result<(), Fault>
+    ensures ok { OnOk result (PushesStep steps.old.items steps.new.items line.now) }
+    ensures err { OnErr result (steps.new.items ≡ steps.old.items) }
+    ensures fault { IfErr result (λ f. (f ≡ Fault.OutOfMemory) ⊎ IsLineFault TellNoStep line.now f) }
+    ensures memory { IfErr result (λ f. f ≡ Fault.OutOfMemory → TellsBytesOrStep line.now) }
+{
+    let step = read_step(alloc, line)?;
+    match steps.push(step) {
+        Ok(()) => Ok(()),
+        Err(_) => Err(Fault::OutOfMemory),
+    }
+}

@@ -1,5 +1,0 @@
-use Rattle.rambo_outcome.proofs.TextLaws.{no_told_is_faulty_is}
-use Rattle.rambo_outcome.proofs.laws.no_told_is_faulty.Goals as goal
-
-pub returns : goal.returns
-returns c = no_told_is_faulty_is

@@ -1,5 +1,0 @@
-use Rattle.rambo_outcome.proofs.TextLaws.{one_evidence_is}
-use Rattle.rambo_outcome.proofs.laws.one_evidence.Goals as goal
-
-pub returns : goal.returns
-returns c = one_evidence_is

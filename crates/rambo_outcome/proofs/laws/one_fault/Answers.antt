@@ -1,5 +1,0 @@
-use Rattle.rambo_outcome.proofs.TextLaws.{one_fault_is}
-use Rattle.rambo_outcome.proofs.laws.one_fault.Goals as goal
-
-pub returns : goal.returns
-returns c = one_fault_is

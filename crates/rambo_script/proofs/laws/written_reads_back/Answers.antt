@@ -1,5 +1,0 @@
-use Rattle.rambo_script.proofs.Texts.{reads_back_is}
-use Rattle.rambo_script.proofs.laws.written_reads_back.Goals as goal
-
-pub returns : goal.returns
-returns c = reads_back_is
