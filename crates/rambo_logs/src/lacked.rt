@@ -8,6 +8,7 @@ use crate::entry::Entry;
 use crate::hints::{is_lacked, raise};
 use rambo_names::Refusal;
 use rambo_tag::{KeyedVersion, Pack};
+use std::mem;
 
 // Lists those entries whose copies the node at a place lacks.
 pub(crate) fn list_lacked(
@@ -47,7 +48,10 @@ pub(crate) fn repack(
     if entries.is_empty() && pack.copies().is_empty() {
         return Ok(());
     }
-    let mut copies = Vec::new(*puts.allocator());
+    // (the list of the copies before keeps its room)
+    let before = mem::replace(pack, Pack::new(Vec::new(*puts.allocator())));
+    let mut copies = before.into_copies();
+    copies.clear();
     for entry in entries {
         copies.push(puts[entry.place as usize].clone()?)?;
     }

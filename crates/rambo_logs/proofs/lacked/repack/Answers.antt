@@ -6,4 +6,4 @@ use Rattle.rambo_logs.proofs.lacked.repack.Goals as goal
 
 pub returns-clause-ok : goal.returns-clause-ok
 returns-clause-ok c =
-    c.new.ensures ∙ ap greatest_of (c.loop-entry.invariant ∙ ap (copies_of c.args.puts.now.items) (take_all c.loop-entry.entry-index c.args.entries.now c.loop-entry-test.false))
+    c.new-3.ensures ∙ ap greatest_of (c.loop-entry.invariant ∙ ap (copies_of c.args.puts.now.items) (take_all c.loop-entry.entry-index c.args.entries.now c.loop-entry-test.false))
