@@ -189,6 +189,20 @@ fn shared<Q: Quorums>(
     if is_told_at(standings.as_slice(), latest, gossip) {
         return Ok(latest);
     }
+    added(standings, gossip)
+}
+
+// The place of what gossip tells of configurations, behind the others.
+// (few letters come here, and where this is inlined all of them clear its room)
+#[inline(never)]
+fn added<Q: Quorums>(
+    standings: &mut Vec<Standing<Q>>,
+    gossip: &GossipOutline<'_, Q>,
+) -> Result<usize, Refusal>
+    ensures at { IfOk result (λ place. slice_get standings.new.items place ≡ Some (standing_of gossip.now)) }
+    ensures grows { (more : List (Standing _)) × (standings.new.items ≡ standings.old.items ++ more) }
+    ensures refused { IfErr result (λ r. r ≡ Refusal.OutOfMemory) }
+{
     let count = standings.len();
     standings.push(Standing::of(gossip))?;
     Ok(count)

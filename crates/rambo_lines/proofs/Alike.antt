@@ -17,7 +17,7 @@ use Rattle.rambo_text.specs.Words.{Lacks}
 use Rattle.rambo_text.proofs.Dots.{call_parts}
 use Rattle.rambo_text.proofs.Lacking.{lacks-decimal}
 use Rattle.rambo_text.proofs.WordSplits.{cut, no_cut}
-use Rattle.rambo_lines.proofs.Plain.{AreSmall, small_names}
+use Rattle.rambo_lines.proofs.Signs.{AreSmall, small_names}
 
 -- a dash is no number
 no_dash : (ds r : List ℕ) → 0 < length ds → Lacks 45 ds → 45 ∷ [] ≡ ds ++ r → ⊥

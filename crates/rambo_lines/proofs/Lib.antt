@@ -1,7 +1,8 @@
 pub mod Fitting
 pub mod LineByLine
-pub mod Plain
+pub mod Signs
 pub mod Alike
 pub mod StepShapes
 pub mod Texts
 pub mod FaultOnce
+pub mod Fronts

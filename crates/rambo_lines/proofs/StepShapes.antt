@@ -17,7 +17,7 @@ use Rattle.rambo_text.proofs.WordSplits.{same_words}
 use Rattle.rambo_lines.specs.declared.kind.StepKind.{StepKind}
 use Rattle.rambo_lines.specs.declared.kind.StepKind.TheVariants as kind
 use Rattle.rambo_lines.specs.StepLines.{word_of, forms_of, step_words, step_line, IsStep}
-use Rattle.rambo_lines.proofs.Plain.{lacks-set, lacks-hex, lacks-call, lacks-tested, lacks-words}
+use Rattle.rambo_lines.proofs.Signs.{lacks-set, lacks-hex, lacks-call, lacks-tested, lacks-words}
 use Rattle.rambo_lines.proofs.Alike.{same_set_text, same_hex, same_id}
 
 abbrev pub kind_of : Step NameSet → StepKind

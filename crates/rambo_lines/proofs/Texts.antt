@@ -15,7 +15,7 @@ use Rattle.rambo_lines.specs.declared.kind.StepKind.TheVariants as kind
 use Rattle.rambo_lines.specs.StepLines.{word_of, forms_of, step_words, step_line, IsStep}
 use Rattle.rambo_lines.specs.Scripts.{ScriptState, HasLine, HasLines, AreFounders, IsTextOf, IsScript, founders_words, founders_line, steps_text, script_text}
 use Rattle.rambo_lines.specs.Faults.{IsLineFault, TellNoStep, TellNoFounders, AreUnfit, IsScriptFault}
-use Rattle.rambo_lines.proofs.Plain.{small_names, lacks-set, lacks-tested, lacks-words}
+use Rattle.rambo_lines.proofs.Signs.{small_names, lacks-set, lacks-tested, lacks-words}
 use Rattle.rambo_lines.proofs.Alike.{same_list, same_set_text}
 use Rattle.rambo_lines.proofs.StepShapes.{kind_of, parts_of, words_are, spelt, not_bad, as_many, same_kind, step_are_words, step_lacks, same_step}
 

@@ -10,6 +10,7 @@
 mod kind;
 mod laws;
 mod parts;
+mod plain;
 mod reading;
 mod script;
 mod writing;

@@ -10,6 +10,7 @@ ghost use Rattle.rambo_lines.specs.StepLines.{step_line, word_of};
 
 use crate::kind::StepKind;
 use crate::parts::{call_of, name_of, number_of, one, set_of, three, two};
+use crate::plain::{frequent_kind, plain_call, plain_letter, plain_names};
 use crate::script::LINE_LIMIT;
 use rambo_atomic::{CallId, Op};
 use rambo_names::{Majority, Name};
@@ -40,6 +41,9 @@ pub fn read_kind(line: &[u8]) -> Result<(StepKind, Option<&[u8]>), Fault>
 {
     if line.len() > LINE_LIMIT {
         return Err(Fault::LineTooLong);
+    }
+    if let Some((kind, more)) = frequent_kind(line) {
+        return Ok((kind, Some(more)));
     }
     let (word, more) = next_word(line);
     match StepKind::of(word) {
@@ -145,6 +149,9 @@ pub fn read_names(more: Option<&[u8]>) -> Result<(Name, Name), Fault>
     ensures found { IfOk result (λ names. TellStep StepKind.Send (option_copied more.entry) (step.Send names.0 names.1)) }
     ensures fault { IfErr result (λ f. TellUnfit StepKind.Send (option_copied more.entry) f) }
 {
+    if let Some(names) = plain_names(more) {
+        return Ok(names);
+    }
     let (from, to) = two(more)?;
     Ok((name_of(from)?, name_of(to)?))
 }
@@ -161,6 +168,9 @@ pub fn read_letter(more: Option<&[u8]>) -> Result<u64, Fault>
     ensures found { IfOk result (λ number. TellStep StepKind.Deliver (option_copied more.entry) (step.Deliver number)) }
     ensures fault { IfErr result (λ f. TellUnfit StepKind.Deliver (option_copied more.entry) f) }
 {
+    if let Some(letter) = plain_letter(more) {
+        return Ok(letter);
+    }
     let letter = one(more)?;
     number_of(letter)
 }
@@ -177,6 +187,9 @@ pub fn read_call(more: Option<&[u8]>) -> Result<CallId, Fault>
     ensures found { IfOk result (λ id. TellStep StepKind.Advance (option_copied more.entry) (step.Advance id)) }
     ensures fault { IfErr result (λ f. TellUnfit StepKind.Advance (option_copied more.entry) f) }
 {
+    if let Some(id) = plain_call(more) {
+        return Ok(id);
+    }
     let call = one(more)?;
     call_of(call)
 }

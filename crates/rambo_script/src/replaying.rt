@@ -187,7 +187,7 @@ fn take_get(
     ensures fault { IfErr result (λ f. IsFaultAt (number + 1) (IsPartsFault StepKind.Get (option_copied more.entry)) f) }
 {
     let (name, op) = at_line(number + 1, get_asked(alloc, more))?;
-    take_call(number, name, &op, running, text)
+    take_call(number, name, op, running, text)
 }
 
 // Takes the set that the words behind the first tell, and appends what is told of it.
@@ -203,18 +203,18 @@ fn take_put(
     ensures fault { IfErr result (λ f. IsFaultAt (number + 1) (IsPartsFault StepKind.Set (option_copied more.entry)) f) }
 {
     let (name, op) = at_line(number + 1, set_asked(alloc, more))?;
-    take_call(number, name, &op, running, text)
+    take_call(number, name, op, running, text)
 }
 
 // Takes the call of an operation, and appends what is told of it.
 fn take_call(
     number: u64,
     name: Name,
-    op: &Op,
+    op: Op,
     running: &mut MajorityRun,
     text: &mut Vec<u8>,
 ) -> Result<(), ReplayFault>
-    ensures taken { OnOk result (Takes (step.Call name op.now) number running.old running.new text.old.items text.new.items) }
+    ensures taken { OnOk result (Takes (step.Call name op) number running.old running.new text.old.items text.new.items) }
     ensures fault { IfErr result (λ f. f ≡ ReplayFault.Memory) }
 {
     match in_memory(running.call(name, op))? {

@@ -1,7 +1,7 @@
 //! Digits, written into the room of a text.
-ghost use Rattle.std.specs.Prelude.{◌≡◌, ◌+◌, ◌/◌, ◌%◌, ◌^◌, ◌<◌, ◌≤◌, ◌++◌, ◌∷◌, [], length, decimal, vec_len, vec_capacity};
+ghost use Rattle.std.specs.Prelude.{◌≡◌, ◌+◌, ◌*◌, ◌/◌, ◌%◌, ◌^◌, ◌<◌, ◌≤◌, ◌++◌, ◌∷◌, [], length, decimal, vec_len, vec_capacity};
 ghost use Rattle.rambo_text.specs.Digits.{pair, four};
-ghost use Rattle.rambo_text.specs.Signs.{digit_of};
+ghost use Rattle.rambo_text.specs.Signs.{digit_of, pairs_text};
 
 /// How many digits the greatest number has.
 pub(crate) const MOST_DIGITS: usize = 20;
@@ -100,10 +100,51 @@ fn push_pair(number: u64, out: &mut Vec<u8>)
     out.push_reserved(PAIRS[place + 1]);
 }
 
-/// Appends the two digits of a byte, to base 16.
-pub(crate) fn push_byte(byte: u8, out: &mut Vec<u8>)
+/// Appends the two digits of each byte, to base 16, to a text that has room for them.
+pub(crate) fn push_pairs(bytes: &[u8], out: &mut Vec<u8>)
+    requires { vec_len out.old + 2 * length bytes.now ≤ vec_capacity out.old }
+    ensures { out.new.items ≡ out.old.items ++ pairs_text bytes.now }
+{
+    let mut rest = bytes;
+    loop {
+        match rest {
+            [first, second, third, fourth, others @ ..] => {
+                push_bytes(*first, *second, *third, *fourth, out);
+                rest = others;
+            }
+            [byte, others @ ..] => {
+                push_byte(*byte, out);
+                rest = others;
+            }
+            [] => return,
+        }
+    }
+}
+
+// Appends the digits of four bytes: the text is lengthened once.
+fn push_bytes(first: u8, second: u8, third: u8, fourth: u8, out: &mut Vec<u8>)
+    requires { vec_len out.old + 8 ≤ vec_capacity out.old }
+    ensures items { out.new.items ≡ out.old.items ++ pairs_text (first ∷ second ∷ third ∷ fourth ∷ []) }
+    ensures len { vec_len out.new ≡ vec_len out.old + 8 }
+    ensures capacity { vec_capacity out.old ≤ vec_capacity out.new }
+{
+    let digits = [
+        digit(first / 16),
+        digit(first % 16),
+        digit(second / 16),
+        digit(second % 16),
+        digit(third / 16),
+        digit(third % 16),
+        digit(fourth / 16),
+        digit(fourth % 16),
+    ];
+    let _ = out.extend_from_slice(&digits);
+}
+
+// Appends the two digits of a byte.
+fn push_byte(byte: u8, out: &mut Vec<u8>)
     requires { vec_len out.old + 2 ≤ vec_capacity out.old }
-    ensures items { out.new.items ≡ out.old.items ++ digit_of (byte / 16) ∷ digit_of (byte % 16) ∷ [] }
+    ensures items { out.new.items ≡ out.old.items ++ pairs_text (byte ∷ []) }
     ensures len { vec_len out.new ≡ vec_len out.old + 2 }
     ensures capacity { vec_capacity out.new ≡ vec_capacity out.old }
 {

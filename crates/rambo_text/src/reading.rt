@@ -115,7 +115,7 @@ fn read_pairs(alloc: Global, word: &[u8]) -> Result<Vec<u8>, Fault>
         let Some(byte) = byte_of(high, low) else {
             return Err(Fault::BadHex);
         };
-        bytes.push(byte)?;
+        bytes.push_reserved(byte);
         rest = others;
     }
     if rest.is_empty() {

@@ -2,7 +2,7 @@
 ghost use Rattle.std.specs.Prelude.{◌≡◌, ◌++◌, decimal, OnOk, OnErr, IfErr};
 ghost use Rattle.rambo_text.specs.Signs.{hex_text, call_text, standing_text};
 
-use crate::digits::{MOST_DIGITS, push_byte, push_num};
+use crate::digits::{MOST_DIGITS, push_num, push_pairs};
 use rambo_atomic::CallId;
 use rambo_names::{Members, Name, Refusal, write_set};
 use std::alloc::AllocError;
@@ -58,9 +58,7 @@ pub fn write_hex(bytes: &[u8], out: &mut Vec<u8>) -> Result<(), AllocError>
         return Ok(());
     }
     out.reserve(2 * bytes.len())?;
-    for byte in bytes {
-        push_byte(*byte, out);
-    }
+    push_pairs(bytes, out);
     Ok(())
 }
 

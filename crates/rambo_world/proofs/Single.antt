@@ -1,14 +1,11 @@
 -- What steps of one kind do, and what is told of them
-use Rattle.std.proofs.Common.{◌≡◌, ℕ, ◌+◌, false, length, Option, None, Some, Result, Ok, Err, OnErr, refl, sym, ap, ◌∙◌, true≢false}
+use Rattle.std.proofs.Common.{◌≡◌, false, Option, None, Some, Result, Ok, Err, OnErr, refl, sym, ap, ◌∙◌, true≢false}
 use Rattle.rambo_names.specs.declared.refusal.Refusal.{Refusal}
 use Rattle.rambo_names.specs.Quorums.{QuorumSystem}
 use Rattle.rambo_names.specs.Refusals.{least}
-use Rattle.rambo_gossip.specs.declared.letter.Letter.{Letter}
 use Rattle.rambo_node.specs.declared.change.Change.TheVariants as change
 use Rattle.rambo_node.specs.declared.effect.Effect.{Effect}
-use Rattle.rambo_node.specs.declared.effect.Effect.TheVariants as effect
 use Rattle.rambo_atomic.specs.declared.event.CallId.{CallId}
-use Rattle.rambo_atomic.specs.declared.operation.Op.{Op}
 use Rattle.rambo_calls.specs.Calls.{CallState, is_missing}
 use Rattle.rambo_calls.specs.declared.stage.Stage.{Stage}
 use Rattle.rambo_calls.specs.declared.stage.Stage.TheVariants.{Query, Propagation}
@@ -19,9 +16,9 @@ use Rattle.rambo_node.specs.Nodes.{NodeState}
 use Rattle.rambo_run.specs.declared.step.Step.{Step}
 use Rattle.rambo_run.specs.declared.step.Step.TheVariants as step
 use Rattle.rambo_run.specs.Runs.{after, result_of}
-use Rattle.rambo_run.specs.Steps.{Turn, causes_at, delivery, refusal, turn, turn_at, turn_by, turn_of}
-use Rattle.rambo_run.specs.Worlds.{WorldState, node_at, letter_at}
-use Rattle.rambo_world.specs.Told.{IsSent, IsCalled, went_on}
+use Rattle.rambo_run.specs.Steps.{Turn, causes_at, refusal, turn, turn_at, turn_by}
+use Rattle.rambo_run.specs.Worlds.{WorldState, node_at}
+use Rattle.rambo_world.specs.Told.{went_on}
 use Rattle.rambo_world.specs.Worlds.{RunningOf}
 use Rattle.rambo_world.proofs.Longer.{after-taken, after-refused}
 use Rattle.rambo_world.proofs.Turns.{there, step_refusal, step_turn}
@@ -50,38 +47,6 @@ stands s v st r e = λ i. record { founders = v.founders; state = sym (after-ref
 pub moves_on : {Q : Type 0} (s : QuorumSystem Q) (founders : Q) (w new : WorldState Q) (v : RunningOf Q) (st : Step Q) → record { founders = founders; state = w } ≡ v
     → new ≡ after s w st → record { founders = founders; state = new } ≡ record v { state = after s v.state st }
 moves_on s founders w new v st is e = λ i. record { founders = (is i).founders; state = (e ∙ ap (λ (v : RunningOf _). after s v.state st) is) i }
-
--- a letter is sent
-pub sending : {Q : Type 0} (s : QuorumSystem Q) (w new : WorldState Q) (from to : ℕ) (e : Effect Q) → refusal s w (step.Send from to) ≡ None
-    → turn w (step.Send from to) ≡ record { world = new; effect = e } → IsSent e
-unfolding made_by
-sending s w new from to e accepted is =
-    let st = step.Send from to in
-    let x = there s (node_at w from) (change.Send to) (sym (step_refusal w st from (change.Send to) refl s) ∙ accepted) in
-    (length w.letters + 1, ap (λ (t : Turn _). t.effect) (sym is ∙ step_turn w st from (change.Send to) refl ∙ ap (λ o. turn_at w from o (change.Send to)) x.1))
-
--- a call is made
-pub calling : {Q : Type 0} (s : QuorumSystem Q) (w new : WorldState Q) (n : ℕ) (o : Op) (e : Effect Q) → refusal s w (step.Call n o) ≡ None
-    → turn w (step.Call n o) ≡ record { world = new; effect = e } → IsCalled e
-unfolding made_by
-calling s w new n o e accepted is =
-    let st = step.Call n o in
-    let x = there s (node_at w n) (change.Call o) (sym (step_refusal w st n (change.Call o) refl s) ∙ accepted) in
-    (record { name = x.0.name; number = x.0.made + 1 }, ap (λ (t : Turn _). t.effect) (sym is ∙ step_turn w st n (change.Call o) refl ∙ ap (λ found. turn_at w n found (change.Call o)) x.1))
-
-heard : {Q : Type 0} (w : WorldState Q) (n : ℕ) (l : Letter Q) (o : Option (NodeState Q)) → (turn_at w n o (change.Deliver l)).effect ≡ effect.Done
-unfolding made_by
-heard w n l None = refl
-heard w n l (Some x) = refl
-
-come : {Q : Type 0} (w : WorldState Q) (o : Option (Letter Q)) → (turn_of w (delivery o)).effect ≡ effect.Done
-come w None = refl
-come w (Some l) = heard w l.addressee l (node_at w l.addressee)
-
--- a letter is delivered
-pub delivering : {Q : Type 0} (w new : WorldState Q) (number : ℕ) (e : Effect Q) → turn w (step.Deliver number) ≡ record { world = new; effect = e } → effect.Done ≡ e
-unfolding turn
-delivering w new number e is = sym (come w (letter_at w.letters number)) ∙ ap (λ (t : Turn _). t.effect) is
 
 stage_told : {Q : Type 0} (x : NodeState Q) (id : CallId) (c : CallState Q) (stage : Stage) → went_on id (answer_in (stage_met x id c stage).deed.effect) ≡ (stage_met x id c stage).deed.effect
 stage_told x id c Query = refl

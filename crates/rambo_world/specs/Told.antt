@@ -1,18 +1,10 @@
 -- What steps of one kind did, or why they were refused
-use Rattle.std.specs.Prelude.{◌≡◌, ℕ, Option, None, Some, Result, Ok, Err}
+use Rattle.std.specs.Prelude.{ℕ, Option, None, Some, Result, Ok, Err}
 use Rattle.rambo_names.specs.declared.refusal.Refusal.{Refusal}
 use Rattle.rambo_atomic.specs.declared.event.CallId.{CallId}
 use Rattle.rambo_atomic.specs.declared.operation.Answer.{Answer}
 use Rattle.rambo_node.specs.declared.effect.Effect.{Effect}
 use Rattle.rambo_node.specs.declared.effect.Effect.TheVariants as effect
-
--- a letter was sent
-abbrev pub IsSent : {Q : Type 0} → Effect Q → Type 0
-IsSent e = (number : ℕ) × (e ≡ effect.Sent number)
-
--- a call was made
-abbrev pub IsCalled : {Q : Type 0} → Effect Q → Type 0
-IsCalled e = (id : CallId) × (e ≡ effect.Called id)
 
 -- a letter was sent under a number
 abbrev pub sent : {Q : Type 0} → Result ℕ Refusal → Result (Effect Q) Refusal

@@ -1,6 +1,7 @@
 //! Letters are sent and delivered.
 ghost use Rattle.std.specs.Prelude.{◌≡◌, None, Some, OnOk, OnErr, IfOk, IfErr};
 ghost use Rattle.rambo_names.specs.Refusals.{least};
+ghost use Rattle.rambo_node.specs.declared.effect.Effect.TheVariants as effect;
 ghost use Rattle.rambo_run.specs.Worlds.{letter_at};
 ghost use Rattle.rambo_run.specs.Steps.{causes_of, delivery, refusal, turn};
 ghost use Rattle.rambo_run.specs.declared.step.Step.TheVariants as step;
@@ -12,7 +13,6 @@ use crate::state::State;
 use rambo_letters::{Letters, Outline};
 use rambo_logs::MergedCounts;
 use rambo_names::{Name, Quorums, Refusal};
-use rambo_node::Effect;
 use rambo_tag::Replica;
 
 impl<Q: Quorums, S: Replica> State<Q, S> {
@@ -30,26 +30,26 @@ impl<Q: Quorums, S: Replica> State<Q, S> {
         }
     }
 
-    // A node sends a letter to another.
-    pub(crate) fn send(&mut self, from: Name, to: Name) -> Result<Effect<Q>, Refusal>
+    // A node sends a letter to another: the number of the letter.
+    pub(crate) fn send(&mut self, from: Name, to: Name) -> Result<u64, Refusal>
         requires accepted { refusal Q.system self.old (step.Send from to) ≡ None }
-        ensures ok { IfOk result (λ e. turn self.old (step.Send from to) ≡ record { world = self.new; effect = e }) }
+        ensures ok { IfOk result (λ n. turn self.old (step.Send from to) ≡ record { world = self.new; effect = effect.Sent n }) }
         ensures err { OnErr result (self.new ≡ self.old) }
         ensures refused { IfErr result (λ r. r ≡ Refusal.OutOfMemory) }
     {
         self.letters.push(&self.nodes.outline(from, to))?;
-        Ok(Effect::Sent(self.letters.len() as u64))
+        Ok(self.letters.len() as u64)
     }
 
     // The letter of a number comes to its addressee.
-    pub(crate) fn deliver(&mut self, number: u64) -> Result<Effect<Q>, Refusal>
+    pub(crate) fn deliver(&mut self, number: u64) -> Result<(), Refusal>
         requires accepted { refusal Q.system self.old (step.Deliver number) ≡ None }
-        ensures ok { IfOk result (λ e. turn self.old (step.Deliver number) ≡ record { world = self.new; effect = e }) }
+        ensures ok { OnOk result (turn self.old (step.Deliver number) ≡ record { world = self.new; effect = effect.Done }) }
         ensures err { OnErr result (self.new ≡ self.old) }
         ensures refused { IfErr result (λ r. r ≡ Refusal.OutOfMemory) }
     {
         hear(&mut self.nodes, &self.letters, &mut self.merged, number)?;
-        Ok(Effect::Done)
+        Ok(())
     }
 }
 

@@ -42,21 +42,20 @@ impl<Q: Quorums, S: Replica> State<Q, S> {
         Ok(effect)
     }
 
-    // A client asks a node for an operation, which isn't refused.
-    pub(crate) fn call(&mut self, name: Name, op: &Op) -> Result<Effect<Q>, Refusal>
-        requires accepted { least (causes_at Q.system (node_at self.old name) (Change.Call op.now)) ≡ None }
-        requires fits { EventFits self.old name (Change.Call op.now) }
-        ensures ok { IfOk result (λ e. turn_at self.old name (node_at self.old name) (Change.Call op.now) ≡ record { world = self.new; effect = e }) }
+    // A client asks a node for an operation, which isn't refused: the call.
+    pub(crate) fn call(&mut self, name: Name, op: Op) -> Result<CallId, Refusal>
+        requires accepted { least (causes_at Q.system (node_at self.old name) (Change.Call op)) ≡ None }
+        requires fits { EventFits self.old name (Change.Call op) }
+        ensures ok { IfOk result (λ id. turn_at self.old name (node_at self.old name) (Change.Call op) ≡ record { world = self.new; effect = Effect.Called id }) }
         ensures err { OnErr result (self.new ≡ self.old) }
         ensures refused { IfErr result (λ r. r ≡ Refusal.OutOfMemory) }
     {
         self.history.reserve(1)?;
         let _ = self.history.prepare(name);
         let asked = op.clone()?;
-        let own = op.clone()?;
-        let id = self.nodes.begin(name, own)?;
+        let id = self.nodes.begin(name, op)?;
         push_call(&mut self.history, &id, asked);
-        Ok(Effect::Called(id))
+        Ok(id)
     }
 
     // A call goes on whose advance isn't refused.

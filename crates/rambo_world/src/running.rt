@@ -8,7 +8,7 @@ ghost use Rattle.rambo_run.specs.Steps.{refusal};
 ghost use Rattle.rambo_run.specs.Worlds.{first_world};
 ghost use Rattle.rambo_run.specs.declared.step.Step.TheVariants as step;
 ghost use Rattle.rambo_node.specs.Changes.{answer_in};
-ghost use Rattle.rambo_world.specs.Told.{IsSent, IsCalled, sent, called, delivered, advanced};
+ghost use Rattle.rambo_world.specs.Told.{sent, called, delivered, advanced};
 ghost use Rattle.rambo_world.specs.Worlds.{founding_causes, AgreesSoFar};
 
 use crate::runs::outcome;
@@ -87,8 +87,8 @@ impl<Q: Quorums, S: Replica> Running<Q, S> {
         if let Err(refusal) = self.state.nodes.node(from).may_send(to) {
             return Ok(Err(refusal));
         }
-        let effect = self.state.send(from, to)?;
-        Ok(Ok(number_sent(&effect)))
+        let number = self.state.send(from, to)?;
+        Ok(Ok(number))
     }
 
     /// The letter of a number comes to its addressee, or why that was refused, after which the run goes on.
@@ -111,18 +111,18 @@ impl<Q: Quorums, S: Replica> Running<Q, S> {
     /// A client asks a node for an operation: the call, or why that was refused, after which the run goes on.
     ///
     /// `OutOfMemory` where there is no room for the call; then nothing changes. A refusal needs no room.
-    pub fn call(&mut self, name: Name, op: &Op) -> Result<Result<CallId, Refusal>, Refusal>
-        ensures told { IfOk result (λ r. called r ≡ result_of (refusal Q.system self.old.state (step.Call name op.now)) self.old.state (step.Call name op.now)) }
-        ensures after { OnOk result (self.new ≡ record self.old { state = after Q.system self.old.state (step.Call name op.now) }) }
-        ensures accepted { OnErr result (refusal Q.system self.old.state (step.Call name op.now) ≡ None) }
+    pub fn call(&mut self, name: Name, op: Op) -> Result<Result<CallId, Refusal>, Refusal>
+        ensures told { IfOk result (λ r. called r ≡ result_of (refusal Q.system self.old.state (step.Call name op)) self.old.state (step.Call name op)) }
+        ensures after { OnOk result (self.new ≡ record self.old { state = after Q.system self.old.state (step.Call name op) }) }
+        ensures accepted { OnErr result (refusal Q.system self.old.state (step.Call name op) ≡ None) }
         ensures err { OnErr result (self.new ≡ self.old) }
         ensures refused { IfErr result (λ r. r ≡ Refusal.OutOfMemory) }
     {
-        if let Err(refusal) = self.state.nodes.node(name).may_call(op) {
+        if let Err(refusal) = self.state.nodes.node(name).may_call(&op) {
             return Ok(Err(refusal));
         }
-        let effect = self.state.call(name, op)?;
-        Ok(Ok(call_made(&effect)))
+        let id = self.state.call(name, op)?;
+        Ok(Ok(id))
     }
 
     /// A call goes on: its answer, if it got one, or why that was refused, after which the run goes on.
@@ -188,28 +188,6 @@ impl<Q: Quorums, S: Replica> Running<Q, S> {
         ensures refused { IfErr result (λ r. r ≡ Refusal.OutOfMemory) }
     {
         self.state.maps(alloc)
-    }
-}
-
-// The number of the letter whose sending this is.
-fn number_sent<Q: Quorums>(effect: &Effect<Q>) -> u64
-    requires { IsSent effect.now }
-    ensures { effect.now ≡ Effect.Sent result }
-{
-    match effect {
-        Effect::Sent(number) => *number,
-        _ => unreachable!(),
-    }
-}
-
-// The call that was made.
-fn call_made<Q: Quorums>(effect: &Effect<Q>) -> CallId
-    requires { IsCalled effect.now }
-    ensures { effect.now ≡ Effect.Called result }
-{
-    match effect {
-        Effect::Called(id) => *id,
-        _ => unreachable!(),
     }
 }
 

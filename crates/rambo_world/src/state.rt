@@ -100,9 +100,12 @@ impl<Q: Quorums, S: Replica> State<Q, S> {
         ensures refused { IfErr result (λ r. r ≡ Refusal.OutOfMemory) }
     {
         let (name, change) = match step {
-            Step::Send(from, to) => return self.send(*from, *to),
-            Step::Deliver(number) => return self.deliver(*number),
-            Step::Call(name, op) => return self.call(*name, op),
+            Step::Send(from, to) => return Ok(Effect::Sent(self.send(*from, *to)?)),
+            Step::Deliver(number) => {
+                self.deliver(*number)?;
+                return Ok(Effect::Done);
+            }
+            Step::Call(name, op) => return Ok(Effect::Called(self.call(*name, op.clone()?)?)),
             Step::Advance(id) => return self.advance(*id),
             Step::Join(name, contacts) => (*name, Change::Join(*contacts)),
             Step::Again(id) => (id.name, Change::Again(*id)),

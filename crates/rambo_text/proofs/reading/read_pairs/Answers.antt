@@ -1,4 +1,4 @@
-use Rattle.std.proofs.Common.{◌<◌, ◌++◌, refl, sym, ap, ◌∙◌, inr, subst, arith}
+use Rattle.std.proofs.Common.{◌<◌, ◌++◌, length, refl, sym, ap, ◌∙◌, inr, subst, arith}
 use Rattle.std.proofs.lemmas.Bool.Decides.{nat_tests}
 use Rattle.std.proofs.lemmas.List.Elements.{All-push}
 use Rattle.rambo_text.specs.Signs.{pairs_text, AreBytes}
@@ -14,11 +14,12 @@ loop-high-preserved c = record {
   whole =
       pairs-push c.args.word.now c.loop-high.bytes.items c.loop-high.rest.now c.in-Some.others.now c.in-Some-byte_of.byte _ _ c.loop-high.invariant.whole c.in-Some.ensures.found
       c.in-Some-byte_of.ensures.found.1 c.in-Some-byte_of.ensures.found.2
-      ∙ ap (λ bs. pairs_text bs ++ c.in-Some.others.now) (sym c.in_ok-push.ensures.items);
+      ∙ ap (λ bs. pairs_text bs ++ c.in-Some.others.now) (sym c.push_reserved.ensures.items);
   bytes =
-      subst AreBytes (sym c.in_ok-push.ensures.items)
+      subst AreBytes (sym c.push_reserved.ensures.items)
       (All-push (λ b. b < 256) c.loop-high.bytes.items c.in-Some-byte_of.byte c.loop-high.invariant.bytes c.in-Some-byte_of.ensures.found.0);
   left = left_on c.args.word.now c.loop-high.rest.now c.in-Some.others.now _ _ c.in-Some.ensures.found c.loop-high.invariant.left;
+  room = (let two = ap length c.in-Some.ensures.found in omega (arith, two, c.push_reserved.ensures.len, c.push_reserved.ensures.capacity, c.loop-high.invariant.room));
 }
 
 pub returns-then-is_empty-clause-found : goal.returns-then-is_empty-clause-found

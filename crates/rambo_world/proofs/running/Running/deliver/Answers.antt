@@ -1,4 +1,5 @@
-use Rattle.std.proofs.Common.{◌≡◌, None, Some, Ok, ◌∙◌, ap, sym, subst}
+use Rattle.std.proofs.Common.{◌≡◌, None, Some, Ok, ◌∙◌, sym, subst}
+use Rattle.rambo_node.specs.declared.effect.Effect.TheVariants as effect
 use Rattle.rambo_run.specs.declared.step.Step.{Step}
 use Rattle.rambo_run.specs.declared.step.Step.TheVariants as step
 use Rattle.rambo_run.specs.Runs.{result_of}
@@ -6,7 +7,7 @@ use Rattle.rambo_run.specs.Steps.{refusal}
 use Rattle.rambo_world.specs.Worlds.{RunningOf, IsReached}
 use Rattle.rambo_letters.proofs.Sizes.{up_fits, back_fits}
 use Rattle.rambo_world.proofs.Reached.{reached_next}
-use Rattle.rambo_world.proofs.Single.{on_err, refused_told, taken_told, taken_after, stands, moves_on, delivering}
+use Rattle.rambo_world.proofs.Single.{on_err, refused_told, taken_told, taken_after, stands, moves_on}
 use Rattle.rambo_world.proofs.Turns.{deliver_refusal}
 use Rattle.rambo_world.proofs.running.Running.deliver.Goals as goal
 
@@ -47,19 +48,18 @@ invariant_of-self-2 g c =
     let s = g.Q.Quorums.system in
     let st : Step g.row.Q.Denot = step.Deliver c.args.number in
     reached_next s c.self.inside.founders c.self.inside.state c.deliver.new.self st c.self.invariant
-    (taken_after s c.self.inside.state st c.deliver.new.self c.in_ok-deliver.field-0 (deliver_refusal s c.self.inside.state c.args.number ∙ c.in_default.ensures.ok) c.in_ok-deliver.ensures.ok)
+    (taken_after s c.self.inside.state st c.deliver.new.self effect.Done (deliver_refusal s c.self.inside.state c.args.number ∙ c.in_default.ensures.ok) c.in_ok-deliver.ensures.ok)
 
 pub returns-clause-told : goal.returns-clause-told
 returns-clause-told g c =
     let s = g.Q.Quorums.system in
     let st : Step g.row.Q.Denot = step.Deliver c.args.number in
-    ap Ok (delivering c.self.inside.state c.deliver.new.self c.args.number c.in_ok-deliver.field-0 c.in_ok-deliver.ensures.ok)
-    ∙ subst (λ (v : RunningOf _). Ok c.in_ok-deliver.field-0 ≡ result_of (refusal s v.state st) v.state st) c.self.view_is
-    (taken_told s c.self.inside.state st c.deliver.new.self c.in_ok-deliver.field-0 (deliver_refusal s c.self.inside.state c.args.number ∙ c.in_default.ensures.ok) c.in_ok-deliver.ensures.ok)
+    subst (λ (v : RunningOf _). Ok effect.Done ≡ result_of (refusal s v.state st) v.state st) c.self.view_is
+    (taken_told s c.self.inside.state st c.deliver.new.self effect.Done (deliver_refusal s c.self.inside.state c.args.number ∙ c.in_default.ensures.ok) c.in_ok-deliver.ensures.ok)
 
 pub returns-clause-after : goal.returns-clause-after
 returns-clause-after g c =
     let s = g.Q.Quorums.system in
     let st : Step g.row.Q.Denot = step.Deliver c.args.number in
     moves_on s c.self.inside.founders c.self.inside.state c.deliver.new.self c.args.self.now st c.self.view_is
-    (taken_after s c.self.inside.state st c.deliver.new.self c.in_ok-deliver.field-0 (deliver_refusal s c.self.inside.state c.args.number ∙ c.in_default.ensures.ok) c.in_ok-deliver.ensures.ok)
+    (taken_after s c.self.inside.state st c.deliver.new.self effect.Done (deliver_refusal s c.self.inside.state c.args.number ∙ c.in_default.ensures.ok) c.in_ok-deliver.ensures.ok)

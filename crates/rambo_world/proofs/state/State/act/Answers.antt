@@ -19,24 +19,21 @@ send-requires g c = (c.requires-raw.1.1.0, subst (λ st. refusal g.Q.Quorums.sys
 pub deliver-requires : goal.deliver-requires
 deliver-requires g c = (c.requires-raw.1.1.0, subst (λ st. refusal g.Q.Quorums.system c.args.self.now st ≡ None) c.in-Deliver.is c.requires.accepted)
 
-pub returns-in-Send-clause-ok : goal.returns-in-Send-clause-ok
-returns-in-Send-clause-ok g c = subst (λ st. IfOk c.send.result (λ e. turn c.args.self.now st ≡ record { world = c.send.new.self; effect = e })) (sym c.in-Send.is) c.send.ensures.ok
-
-pub returns-in-Deliver-clause-ok : goal.returns-in-Deliver-clause-ok
-returns-in-Deliver-clause-ok g c = subst (λ st. IfOk c.deliver.result (λ e. turn c.args.self.now st ≡ record { world = c.deliver.new.self; effect = e })) (sym c.in-Deliver.is) c.deliver.ensures.ok
-
 pub call-requires : goal.call-requires
 call-requires g c =
     let s = g.Q.Quorums.system in
     let w = c.args.self.now in
-    let accepted = subst (λ st. refusal s w st ≡ None) c.in-Call.is c.requires.accepted in
-    (c.requires-raw.1.1.0, (sym (step_refusal w (step.Call c.in-Call.name c.in-Call.op) c.in-Call.name (change.Call c.in-Call.op) refl s) ∙ accepted, step_fits w (step.Call c.in-Call.name c.in-Call.op) c.in-Call.name (change.Call c.in-Call.op) refl s c.requires.fits accepted))
+    let n = c.in-Call.name in
+    let o = c.in_ok-clone-in-Call.field-0 in
+    let accepted = subst (λ x. refusal s w (step.Call n x) ≡ None) (sym c.in_ok-clone-in-Call.ensures.same) (subst (λ st. refusal s w st ≡ None) c.in-Call.is c.requires.accepted) in
+    (c.requires-raw.1.1.0, (sym (step_refusal w (step.Call n o) n (change.Call o) refl s) ∙ accepted, step_fits w (step.Call n o) n (change.Call o) refl s c.requires.fits accepted))
 
 pub returns-in-Call-clause-ok : goal.returns-in-Call-clause-ok
 returns-in-Call-clause-ok g c =
     let w = c.args.self.now in
-    subst (λ st. IfOk c.call.result (λ e. turn w st ≡ record { world = c.call.new.self; effect = e })) (sym c.in-Call.is)
-    (IfOk-weaker c.call.result _ _ (λ e done. step_turn w (step.Call c.in-Call.name c.in-Call.op) c.in-Call.name (change.Call c.in-Call.op) refl ∙ done) c.call.ensures.ok)
+    let n = c.in-Call.name in
+    let o = c.in_ok-clone-in-Call.field-0 in
+    ap (turn w) (c.in-Call.is ∙ ap (step.Call n) (sym c.in_ok-clone-in-Call.ensures.same)) ∙ step_turn w (step.Call n o) n (change.Call o) refl ∙ c.in_ok-call-in-Call.ensures.ok
 
 pub advance-requires : goal.advance-requires
 advance-requires g c =

@@ -8,7 +8,7 @@ use Rattle.rambo_node.specs.declared.effect.Effect.TheVariants as effect
 use Rattle.rambo_run.specs.Steps.{causes_at, turn_at}
 use Rattle.rambo_run.specs.Worlds.{node_at}
 use Rattle.rambo_world.specs.Deliveries.{world_of}
-use Rattle.rambo_world.specs.Kept.{state_at, moved}
+use Rattle.rambo_world.specs.Kept.{state_at}
 use Rattle.rambo_world.specs.Worlds.{EventFits}
 use Rattle.rambo_letters.proofs.Sizes.{up_fits, back_fits, next}
 use Rattle.rambo_world.proofs.Stepping.{kept_stays, letters_stay}
@@ -21,8 +21,8 @@ begin-requires g c =
     let s = g.Q.Quorums.system in
     let ks = c.self.inside.nodes in
     let w = world_of ks c.self.inside.letters c.self.inside.history.events c.self.inside.marks.items in
-    let accepted : least (causes_at s (state_at ks c.args.name) (change.Call c.args.op.now)) ≡ None = subst (λ w. least (causes_at s (node_at w c.args.name) (change.Call c.args.op.now)) ≡ None) (sym c.self.view_is) c.requires.accepted in
-    ((back_fits _ _ _ (next _ _ _ _ (next _ _ _ _ (next _ _ _ _ (next _ _ _ _ (next _ _ _ _ (up_fits _ _ _ c.requires-raw.1.1.0))))))), subst (λ o. least (causes_at s (state_at ks c.args.name) (change.Call o)) ≡ None) (sym c.in_ok-own.ensures.same) accepted)
+    let accepted : least (causes_at s (state_at ks c.args.name) (change.Call c.args.op)) ≡ None = subst (λ w. least (causes_at s (node_at w c.args.name) (change.Call c.args.op)) ≡ None) (sym c.self.view_is) c.requires.accepted in
+    ((back_fits _ _ _ (next _ _ _ _ (next _ _ _ _ (next _ _ _ _ (next _ _ _ _ (next _ _ _ _ (up_fits _ _ _ c.requires-raw.1.1.0))))))), accepted)
 
 pub push_call-requires-clause-fits : goal.push_call-requires-clause-fits
 unfolding made_by
@@ -30,9 +30,9 @@ push_call-requires-clause-fits g c =
     let s = g.Q.Quorums.system in
     let ks = c.self.inside.nodes in
     let w = world_of ks c.self.inside.letters c.self.inside.history.events c.self.inside.marks.items in
-    let accepted : least (causes_at s (state_at ks c.args.name) (change.Call c.args.op.now)) ≡ None = subst (λ w. least (causes_at s (node_at w c.args.name) (change.Call c.args.op.now)) ≡ None) (sym c.self.view_is) c.requires.accepted in
-    let x = there s (state_at ks c.args.name) (change.Call c.args.op.now) accepted in
-    let fits = subst (λ w. EventFits w c.args.name (change.Call c.args.op.now)) (sym c.self.view_is) c.requires.fits in
+    let accepted : least (causes_at s (state_at ks c.args.name) (change.Call c.args.op)) ≡ None = subst (λ w. least (causes_at s (node_at w c.args.name) (change.Call c.args.op)) ≡ None) (sym c.self.view_is) c.requires.accepted in
+    let x = there s (state_at ks c.args.name) (change.Call c.args.op) accepted in
+    let fits = subst (λ w. EventFits w c.args.name (change.Call c.args.op)) (sym c.self.view_is) c.requires.fits in
     let id = c.in_ok-id.ensures.id x.0 x.1 in
     let asked = c.in_ok-asked.ensures.same in
     ap (λ h. fault_of h (event.Call c.in_ok-id.id c.in_ok-asked.asked)) (ap (λ h. h.events) c.prepare.ensures ∙ c.in_ok-reserve.ensures.events) ∙ fits x.0 (event.Call c.in_ok-id.id c.in_ok-asked.asked) x.1 (sym (λ i. Some (event.Call (id i) (asked i))))
@@ -46,11 +46,11 @@ returns-clause-ok g c =
     let s = g.Q.Quorums.system in
     let ks = c.self.inside.nodes in
     let w = world_of ks c.self.inside.letters c.self.inside.history.events c.self.inside.marks.items in
-    let accepted : least (causes_at s (state_at ks c.args.name) (change.Call c.args.op.now)) ≡ None = subst (λ w. least (causes_at s (node_at w c.args.name) (change.Call c.args.op.now)) ≡ None) (sym c.self.view_is) c.requires.accepted in
-    let x = there s (state_at ks c.args.name) (change.Call c.args.op.now) accepted in
+    let accepted : least (causes_at s (state_at ks c.args.name) (change.Call c.args.op)) ≡ None = subst (λ w. least (causes_at s (node_at w c.args.name) (change.Call c.args.op)) ≡ None) (sym c.self.view_is) c.requires.accepted in
+    let x = there s (state_at ks c.args.name) (change.Call c.args.op) accepted in
     let id = c.in_ok-id.ensures.id x.0 x.1 in
-    ap (λ w. turn_at w c.args.name (node_at w c.args.name) (change.Call c.args.op.now)) (sym c.self.view_is)
-    ∙ changed_world ks c.begin.new.self c.self.inside.letters c.self.inside.history.events c.push_call.new.history.events c.self.inside.marks.items c.self.inside.marks.items c.args.name (change.Call c.args.op.now)
-    (effect.Called c.in_ok-id.id) x.0 (c.in_ok-id.ensures.nodes ∙ ap (λ o. moved ks c.args.name (λ y. (made_by y (change.Call o)).node)) c.in_ok-own.ensures.same)
+    ap (λ w. turn_at w c.args.name (node_at w c.args.name) (change.Call c.args.op)) (sym c.self.view_is)
+    ∙ changed_world ks c.begin.new.self c.self.inside.letters c.self.inside.history.events c.push_call.new.history.events c.self.inside.marks.items c.self.inside.marks.items c.args.name (change.Call c.args.op)
+    (effect.Called c.in_ok-id.id) x.0 c.in_ok-id.ensures.nodes
     (letters_stay ks c.begin.new.self c.begin.ensures.grow c.self.inside.letters c.self.invariant.sent) x.1 refl (ap effect.Called id)
     (c.push_call.ensures ∙ λ i. (ap (λ h. h.events) c.prepare.ensures ∙ c.in_ok-reserve.ensures.events) i ++ event.Call (id i) (c.in_ok-asked.ensures.same i) ∷ []) refl

@@ -1,7 +1,7 @@
 use Rattle.std.proofs.Common.{◌++◌, ◌∷◌, [], ◌∙◌, append-nil, slice_get, sym, ap}
 use Rattle.rambo_letters.specs.Shared.{standing_of}
 use Rattle.rambo_letters.proofs.Sharing.{get_last}
-use Rattle.rambo_letters.proofs.letters.shared.Goals as goal
+use Rattle.rambo_letters.proofs.letters.added.Goals as goal
 
 pub returns-in_err-push-clause-grows : goal.returns-in_err-push-clause-grows
 returns-in_err-push-clause-grows g c = ([], c.in_err-push.ensures.items ∙ sym (append-nil c.args.standings.now.items))
