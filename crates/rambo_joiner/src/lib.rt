@@ -2,7 +2,5 @@
 #![tactic(auto)]
 
 mod status;
-#[cfg(test)]
-mod tests;
 
 pub use status::Status;

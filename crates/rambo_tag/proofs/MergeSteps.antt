@@ -1,7 +1,6 @@
 -- The copies of a list that are newer than a map's, as far as the list was gone through
 use Rattle.std.proofs.Common.{◌≡◌, ℕ, ◌+◌, ◌<◌, Bool, true, false, cond, List, [], ◌∷◌, ◌++◌, length, get_or, take, drop, Option, Some, None, Result, Ok, Err, refl, sym, ap, ◌∙◌, true≢false, arith}
 use Rattle.std.specs.Prelude.{if◌then◌else◌, IsOk, OnOk, OnErr, IfErr}
-use Rattle.std.specs.Map.{KeepsOthers}
 use Rattle.std.specs.FinMap.{get, insert}
 use Rattle.std.proofs.lemmas.List.{take-append-drop, take_more}
 use Rattle.rambo_tag.specs.declared.version.Version.{Version}
@@ -14,7 +13,7 @@ use Rattle.rambo_tag.proofs.CopyOrder.{is_below, is_newer-is_below, greater-left
 use Rattle.rambo_tag.proofs.Joins.{get-with_newer_same, same_copies, get-put}
 use Rattle.rambo_tag.proofs.Keys.{same_key, same_key-true}
 use Rattle.rambo_tag.proofs.Logged.{greatest_after-append, get-greatest_after, joined-greatest_of}
-use Rattle.rambo_tag.proofs.Tables.{eq_keys, is_key, version_in, get-copies_in, copies_in-put}
+use Rattle.rambo_tag.proofs.Tables.{get-copies_in}
 
 greatest_after-take_more : (a : Copies) (cs : List KeyedVersion) (i : ℕ) (c : KeyedVersion) → i < length cs → c ≡ get_or cs i c
     → greatest_after a (take (i + 1) cs) ≡ with_newer (greatest_after a (take i cs)) c.key c.version
@@ -90,16 +89,10 @@ pub not_idle : {X : Type 0} (a b : Copies) (cs : List KeyedVersion) (i : ℕ) (c
     → is_newer (get a c.key) c.version ≡ true → joined a b ≡ a → X
 not_idle a b cs i c within at is newer idle = absurd (true≢false (sym newer ∙ is_newer-idle a cs i c (ap (joined a) is ∙ idle) within at))
 
--- a newer row was put into a table
-pub greatest_after-put : (t u : Table) (key : List ℕ) (row copy : KeyedVersion) (rest next : List KeyedVersion) (all : Copies) → greatest_after (copies_in t) rest ≡ all → rest ≡ row ∷ next
-    → is_newer (get (copies_in t) row.key) row.version ≡ true → kept_in u key ≡ Some copy → KeepsOthers eq_keys (is_key key) t u → key ≡ row.key → copy ≡ row
-    → greatest_after (copies_in u) next ≡ all
-greatest_after-put t u key row copy rest next all h is newer at others its same =
-    ap (λ m. greatest_after m next)
-    (copies_in-put key copy t u at others
-    ∙ (λ i. insert (copies_in t) (its i) (same i).version)
-    ∙ ap (λ s. if s then insert (copies_in t) row.key row.version else copies_in t) (sym newer))
-    ∙ ap (greatest_after (copies_in t)) (sym is) ∙ h
+-- a copy was taken into a table, where it is newer
+pub greatest_after-step : (t u : Table) (copy : KeyedVersion) (rest next : List KeyedVersion) (all : Copies) → greatest_after (copies_in t) rest ≡ all → rest ≡ copy ∷ next
+    → copies_in u ≡ with_newer (copies_in t) copy.key copy.version → greatest_after (copies_in u) next ≡ all
+greatest_after-step t u copy rest next all h is taken = ap (λ m. greatest_after m next) taken ∙ ap (greatest_after (copies_in t)) (sym is) ∙ h
 
 -- what holds of a call that succeeds
 pub OnOk-from_ok : {T E P : Type 0} (r : Result T E) → IsOk r → OnOk r P → P
@@ -132,11 +125,11 @@ pub insert-absent : (a : Copies) (key : List ℕ) (v : Version) → get a key �
 insert-absent a key v absent = sym (ap (λ g. if is_newer g v then insert a key v else a) absent)
 
 -- what a look-up in the table tells of the copies
-pub held_in : (a : Copies) (t : Table) (key its : List ℕ) (kept : KeyedVersion) → copies_in t ≡ a → key ≡ its → Some kept ≡ kept_in t key → get a its ≡ Some kept.version
-held_in a t key its kept view is found = (λ i. get (sym view i) (sym is i)) ∙ get-copies_in t key ∙ ap version_in (sym found)
+pub held_in : (a : Copies) (t : Table) (key : List ℕ) (kept : Version) → copies_in t ≡ a → Some kept ≡ kept_in t key → get a key ≡ Some kept
+held_in a t key kept view found = ap (λ m. get m key) (sym view) ∙ get-copies_in t key ∙ sym found
 
-pub absent_in : (a : Copies) (t : Table) (key its : List ℕ) → copies_in t ≡ a → key ≡ its → None ≡ kept_in t key → get a its ≡ None
-absent_in a t key its view is none = (λ i. get (sym view i) (sym is i)) ∙ get-copies_in t key ∙ ap version_in (sym none)
+pub absent_in : (a : Copies) (t : Table) (key : List ℕ) → copies_in t ≡ a → None ≡ kept_in t key → get a key ≡ None
+absent_in a t key view none = ap (λ m. get m key) (sym view) ∙ get-copies_in t key ∙ sym none
 
 -- to merge the pack of one copy is to take it where it is newer
 pub joined-one : (a b : Copies) (cs : List KeyedVersion) (c : KeyedVersion) → 0 < length cs → length cs < 2 → c ≡ get_or cs 0 c → greatest_of cs ≡ b → joined a b ≡ with_newer a c.key c.version

@@ -1,12 +1,12 @@
 //! Tags, copies of a key's value, and the copies that a node holds.
 #![tactic(auto)]
 
+mod borrowed_key;
 mod keyed_version;
 mod merging;
 mod pack;
 mod registers;
 mod replica;
-mod row;
 mod tag;
 mod version;
 

@@ -1,16 +1,16 @@
 //! Copies in a hash table.
 ghost use Rattle.std.specs.Prelude.{◌≡◌, ◌≤◌, true, [], length, IsOk, IfOk, IfErr, OnOk, OnErr};
-ghost use Rattle.std.specs.FinMap.{empty, insert, get};
+ghost use Rattle.std.specs.FinMap.{empty, get};
 ghost use Rattle.indexmap.specs.IndexMap.{spare};
 ghost use Rattle.rambo_tag.specs.Tags.{is_newer};
 ghost use Rattle.rambo_tag.specs.Copies.{joined, with_newer};
 ghost use Rattle.rambo_tag.specs.Logs.{greatest_after};
-ghost use Rattle.rambo_tag.specs.Tables.{IsKeyed, copies_in};
+ghost use Rattle.rambo_tag.specs.Tables.{copies_in};
 
+use crate::borrowed_key::BorrowedKey;
 use crate::keyed_version::KeyedVersion;
 use crate::pack::Pack;
 use crate::replica::Replica;
-use crate::row::Row;
 use crate::version::Version;
 use indexmap::IndexMap;
 use rambo_names::{Bytes, Refusal};
@@ -23,21 +23,19 @@ use std::marker::Model;
 /// Each call takes time in the size of what it is given or makes.
 #[derive(Drop)]
 pub struct Registers<H: BuildHasher> {
-    // By each key's bytes, which stand here once more: packs share those of the copy.
-    table: IndexMap<Vec<u8>, KeyedVersion, H>,
+    // Packs share the keys and the values.
+    table: IndexMap<Bytes, Version, H>,
 }
 
 impl<H: BuildHasher> Model for Registers<H> {
     ghost use Rattle.rambo_tag.specs.Copies.{Copies, copies_code};
-    ghost use Rattle.rambo_tag.specs.Tables.{IsKeyed, copies_in};
+    ghost use Rattle.rambo_tag.specs.Tables.{copies_in};
 
     ghost Value = { Copies };
 
     ghost coded = { copies_code };
 
     ghost view = { λ r. copies_in r.table.entries };
-
-    ghost invariant = { λ r. IsKeyed r.table.entries };
 }
 
 impl<H: BuildHasher> Registers<H> {
@@ -50,17 +48,6 @@ impl<H: BuildHasher> Registers<H> {
         }
     }
 
-    // Puts the copy of a key that the table may lack.
-    fn put_new_key(&mut self, copy: KeyedVersion) -> Result<(), Refusal>
-        ensures ok { OnOk result (self.new ≡ insert self.old copy.key copy.version) }
-        ensures err { OnErr result (self.new ≡ self.old) }
-        ensures refused { IfErr result (λ r. r ≡ Refusal.OutOfMemory) }
-    {
-        let bytes = Vec::from_slice(*self.table.allocator(), copy.key.as_slice())?;
-        self.table.insert(bytes, copy)?;
-        Ok(())
-    }
-
     // Takes one copy, where it is newer than what its key holds here. A key that stands here is looked up once.
     fn merge_one(&mut self, copy: &KeyedVersion) -> Result<(), Refusal>
         ensures ok { OnOk result (self.new ≡ with_newer self.old copy.now.key copy.now.version) }
@@ -68,9 +55,13 @@ impl<H: BuildHasher> Registers<H> {
         ensures err { OnErr result (self.new ≡ self.old) }
         ensures refused { IfErr result (λ r. r ≡ Refusal.OutOfMemory) }
     {
-        match self.table.get_mut(copy.key.as_slice()) {
-            Some(kept) => kept.version.raise(&copy.version),
-            None => self.put_new_key(copy.clone()?),
+        match self.table.get_mut(&copy.key) {
+            Some(kept) => kept.raise(&copy.version),
+            None => {
+                let KeyedVersion { key, version } = copy.clone()?;
+                self.table.insert(key, version)?;
+                Ok(())
+            }
         }
     }
 
@@ -81,30 +72,29 @@ impl<H: BuildHasher> Registers<H> {
         ensures err { OnErr result (self.new ≡ self.old) }
         ensures refused { IfErr result (λ r. r ≡ Refusal.OutOfMemory) }
     {
-        let rows = self.newer_rows(pack)?;
-        if rows.is_empty() {
+        let copies = self.newer_copies(pack)?;
+        if copies.is_empty() {
             return Ok(());
         }
-        self.table.reserve(rows.len())?;
-        put_newer_rows(&mut self.table, rows);
+        self.table.reserve(copies.len())?;
+        put_newer(&mut self.table, copies);
         Ok(())
     }
 
     // Those copies of a pack that are newer than what their keys hold here.
-    fn newer_rows(&self, pack: &Pack) -> Result<Vec<Row>, Refusal>
-        ensures all { IfOk result (λ rows. greatest_after self.now rows.items ≡ joined self.now pack.now) }
+    fn newer_copies(&self, pack: &Pack) -> Result<Vec<KeyedVersion>, Refusal>
+        ensures all { IfOk result (λ copies. greatest_after self.now copies.items ≡ joined self.now pack.now) }
         ensures idle { joined self.now pack.now ≡ self.now → IsOk result }
-        ensures none { joined self.now pack.now ≡ self.now → IfOk result (λ rows. rows.items ≡ []) }
+        ensures none { joined self.now pack.now ≡ self.now → IfOk result (λ copies. copies.items ≡ []) }
         ensures refused { IfErr result (λ r. r ≡ Refusal.OutOfMemory) }
     {
-        let alloc = *self.table.allocator();
-        let mut rows = Vec::new(alloc);
+        let mut copies = Vec::new(*self.table.allocator());
         for copy in pack.copies() {
             if is_newer(&self.table, copy) {
-                rows.push(Row::of(alloc, copy)?)?;
+                copies.push(copy.clone()?)?;
             }
         }
-        Ok(rows)
+        Ok(copies)
     }
 }
 
@@ -116,17 +106,12 @@ impl<H: BuildHasher + Clone + Drop> Replica for Registers<H> {
     }
 
     fn copy(&self, key: &[u8]) -> Option<&Version> {
-        Some(&self.table.get(key)?.version)
+        self.table.get(BorrowedKey { bytes: key })
     }
 
     fn put(&mut self, key: Bytes, version: Version) -> Result<(), Refusal> {
-        match self.table.get_mut(key.as_slice()) {
-            Some(kept) => {
-                kept.version = version;
-                Ok(())
-            }
-            None => self.put_new_key(KeyedVersion { key, version }),
-        }
+        self.table.insert(key, version)?;
+        Ok(())
     }
 
     fn merge(&mut self, pack: &Pack) -> Result<(), Refusal> {
@@ -138,34 +123,37 @@ impl<H: BuildHasher + Clone + Drop> Replica for Registers<H> {
 
     fn pack(&self) -> Result<Pack, Refusal> {
         let mut copies = Vec::with_capacity(*self.table.allocator(), self.table.len())?;
-        for copy in self.table.values() {
-            copies.push(copy.clone()?)?;
+        for (key, version) in self.table.iter() {
+            copies.push(KeyedVersion {
+                key: key.clone()?,
+                version: version.clone()?,
+            })?;
         }
         Ok(Pack::new(copies))
     }
 }
 
 // Whether a copy is newer than what its key holds.
-fn is_newer<H: BuildHasher>(table: &IndexMap<Vec<u8>, KeyedVersion, H>, copy: &KeyedVersion) -> bool
+fn is_newer<H: BuildHasher>(table: &IndexMap<Bytes, Version, H>, copy: &KeyedVersion) -> bool
     ensures { result ≡ is_newer (get (copies_in table.now.entries) copy.now.key) copy.now.version }
 {
-    match table.get(copy.key.as_slice()) {
-        Some(kept) => kept.version.is_before(&copy.version),
+    match table.get(&copy.key) {
+        Some(kept) => kept.is_before(&copy.version),
         None => true,
     }
 }
 
-// Puts rows into a table that has room for them, each where it is newer. It needs no memory.
-fn put_newer_rows<H: BuildHasher>(table: &mut IndexMap<Vec<u8>, KeyedVersion, H>, rows: Vec<Row>)
-    requires room { length rows.items ≤ spare table.old }
-    requires keyed { IsKeyed table.old.entries }
-    ensures keyed { IsKeyed table.new.entries }
-    ensures copies { copies_in table.new.entries ≡ greatest_after (copies_in table.old.entries) rows.items }
+// Puts copies into a table that has room for them, each where it is newer. It needs no memory.
+fn put_newer<H: BuildHasher>(table: &mut IndexMap<Bytes, Version, H>, copies: Vec<KeyedVersion>)
+    requires room { length copies.items ≤ spare table.old }
+    ensures { copies_in table.new.entries ≡ greatest_after (copies_in table.old.entries) copies.items }
 {
-    for row in rows {
-        if is_newer(table, row.copy()) {
-            let (bytes, copy) = row.into_parts();
-            let _kept = table.insert(bytes, copy);
+    for KeyedVersion { key, version } in copies {
+        match table.get_mut(&key) {
+            Some(kept) => kept.become_greater(version),
+            None => {
+                let _kept = table.insert(key, version);
+            }
         }
     }
 }

@@ -34,6 +34,15 @@ impl Version {
         }
         Ok(())
     }
+
+    // Becomes another copy where that is the greater.
+    pub(crate) fn become_greater(&mut self, other: Version)
+        ensures { self.new ≡ (if version_lt self.old other then other else self.old) }
+    {
+        if self.is_before(&other) {
+            *self = other;
+        }
+    }
 }
 
 // By hand, to say that the clone is equal.

@@ -1,5 +1,0 @@
-//! Tests of `rambo_run`, apart from it so that its proofs aren't made again for them.
-#![tactic(auto)]
-
-#[cfg(test)]
-mod tests;

@@ -1,5 +1,0 @@
-use Rattle.rambo_tag.proofs.MergeSteps.{IsNewerOf}
-use Rattle.rambo_tag.proofs.registers.Registers.newer_rows.Given as goal
-
-abbrev pub invariant-loop-copy : goal.invariant-loop-copy
-invariant-loop-copy g l = IsNewerOf l.self l.copy-items l.copy-index l.rows.items
