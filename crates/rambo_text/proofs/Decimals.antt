@@ -1,10 +1,13 @@
 -- The digits of a number, in twos and fours
 use Rattle.std.proofs.Common.{◌≡◌, ℕ, zero, suc, ◌+◌, ◌-◌, ◌*◌, ◌/◌, ◌%◌, ◌<◌, ◌≤◌, ◌^◌, Bool, true, ◌&&◌, T, eqb, List, [], ◌∷◌, ◌++◌, length, get_or, decimal, sym, ap, ◌∙◌, append_assoc, length-append, eqb→eq, eq-zero-or-pos, inl, inr, arith}
 use Rattle.std.proofs.lemmas.Fmt.{decimal_digit, decimal_step}
+use Rattle.std.specs.Str.{bytes_eq}
+use Rattle.std.proofs.lemmas.Slice.Eq.{bytes_eq-Decides}
+use lib.Ieee.Bits.{is_true}
 use lib.Ieee.Fits.{and_l, and_r}
 use Rattle.rambo_text.specs.Digits.{pair, four}
-use Rattle.rambo_text.specs.Signs.{digit_of}
-use Rattle.rambo_text.specs.declared.digits.TheConstants.{PAIRS, DIGITS}
+use Rattle.rambo_text.specs.Signs.{pairs_text}
+use Rattle.rambo_text.specs.declared.digits.TheConstants.{PAIRS, HEX_PAIRS}
 
 pub decimal-two : (n : ℕ) → 10 ≤ n → n < 100 → decimal n ≡ pair n
 decimal-two n low high =
@@ -65,18 +68,18 @@ pairs_below (suc n) p t h =
 pub PAIRS_at : (p : ℕ) → p < 100 → (get_or PAIRS (p * 2) 0 ≡ 48 + p / 10) × (get_or PAIRS (p * 2 + 1) 0 ≡ 48 + p % 10)
 PAIRS_at p h = pairs_below 100 p tt h
 
--- what the table of digits holds
-abbrev are_digits : ℕ → Bool
-are_digits zero = true
-are_digits (suc d) = eqb (get_or DIGITS d 0) (digit_of d) && are_digits d
+-- what the table of the digits of bytes holds
+abbrev are_hex_pairs : ℕ → Bool
+are_hex_pairs zero = true
+are_hex_pairs (suc b) = bytes_eq (get_or HEX_PAIRS b []) (pairs_text (b ∷ [])) && are_hex_pairs b
 
-digits_below : (n d : ℕ) → T (are_digits n) → d < n → get_or DIGITS d 0 ≡ digit_of d
-digits_below zero d t h = absurd (omega arith)
-digits_below (suc n) d t h =
-    elim (eq-zero-or-pos (n - d)) [
-      | inl z ↦ (let e : d ≡ n = omega arith in rw e (eqb→eq _ _ (and_l _ (are_digits n) t)))
-      | inr g ↦ digits_below n d (and_r _ (are_digits n) t) (omega arith)
+hex_pairs_below : (n b : ℕ) → T (are_hex_pairs n) → b < n → get_or HEX_PAIRS b [] ≡ pairs_text (b ∷ [])
+hex_pairs_below zero b t h = absurd (omega arith)
+hex_pairs_below (suc n) b t h =
+    elim (eq-zero-or-pos (n - b)) [
+      | inl z ↦ (let e : b ≡ n = omega arith in rw e ((bytes_eq-Decides (get_or HEX_PAIRS n []) (pairs_text (n ∷ []))).0 (is_true _ (and_l _ (are_hex_pairs n) t))))
+      | inr g ↦ hex_pairs_below n b (and_r _ (are_hex_pairs n) t) (omega arith)
     ]
 
-pub DIGITS_at : (d : ℕ) → d < 16 → get_or DIGITS d 0 ≡ digit_of d
-DIGITS_at d h = digits_below 16 d tt h
+pub HEX_PAIRS_at : (b : ℕ) → b < 256 → get_or HEX_PAIRS b [] ≡ pairs_text (b ∷ [])
+HEX_PAIRS_at b h = hex_pairs_below 256 b tt h

@@ -1,8 +1,7 @@
 -- Pairs of digits
-use Rattle.std.proofs.Common.{◌≡◌, ℕ, ◌+◌, ◌/◌, ◌%◌, ◌<◌, List, [], ◌∷◌, ◌++◌, length, take, get_or, false, refl, sym, ap, ◌∙◌, append_assoc, append-nil, true≢false, arith}
+use Rattle.std.proofs.Common.{◌≡◌, ℕ, ◌+◌, ◌/◌, ◌%◌, ◌<◌, List, [], ◌∷◌, ◌++◌, length, get_or, false, refl, sym, ap, ◌∙◌, append_assoc, append-nil, true≢false, arith}
 use Rattle.std.specs.Str.{bytes_eq}
 use Rattle.std.proofs.lemmas.Slice.Eq.{bytes_eq-Decides}
-use Rattle.std.proofs.lemmas.List.{take_more}
 use Rattle.std.proofs.lemmas.List.Elements.{All-from_recursion, recursion_from_All}
 use Rattle.rambo_text.specs.Signs.{digit_of, pairs_text, hex_text, AreBytes}
 
@@ -10,10 +9,19 @@ pub pairs-append : (xs ys : List ℕ) → pairs_text (xs ++ ys) ≡ pairs_text x
 pairs-append [] ys = refl
 pairs-append (x ∷ xs) ys = ap (λ t. digit_of (x / 16) ∷ digit_of (x % 16) ∷ t) (pairs-append xs ys)
 
--- one byte more
-pub pairs-more : (xs : List ℕ) (i : ℕ) → i < length xs
-    → pairs_text (take (i + 1) xs) ≡ pairs_text (take i xs) ++ digit_of (get_or xs i 0 / 16) ∷ digit_of (get_or xs i 0 % 16) ∷ []
-pairs-more xs i h = ap pairs_text (take_more xs i 0 h) ∙ pairs-append (take i xs) (get_or xs i 0 ∷ [])
+-- eight bytes are each of them
+pub eight_bytes : (xs : List ℕ) → length xs ≡ 8
+    → xs ≡ get_or xs 0 0 ∷ get_or xs 1 0 ∷ get_or xs 2 0 ∷ get_or xs 3 0 ∷ get_or xs 4 0 ∷ get_or xs 5 0 ∷ get_or xs 6 0 ∷ get_or xs 7 0 ∷ []
+eight_bytes (a ∷ b ∷ c ∷ d ∷ e ∷ f ∷ g ∷ h ∷ []) is = refl
+eight_bytes (a ∷ b ∷ c ∷ d ∷ e ∷ f ∷ g ∷ h ∷ x ∷ xs) is = absurd (omega (arith, is))
+eight_bytes (a ∷ b ∷ c ∷ d ∷ e ∷ f ∷ g ∷ []) is = absurd (omega (arith, is))
+eight_bytes (a ∷ b ∷ c ∷ d ∷ e ∷ f ∷ []) is = absurd (omega (arith, is))
+eight_bytes (a ∷ b ∷ c ∷ d ∷ e ∷ []) is = absurd (omega (arith, is))
+eight_bytes (a ∷ b ∷ c ∷ d ∷ []) is = absurd (omega (arith, is))
+eight_bytes (a ∷ b ∷ c ∷ []) is = absurd (omega (arith, is))
+eight_bytes (a ∷ b ∷ []) is = absurd (omega (arith, is))
+eight_bytes (a ∷ []) is = absurd (omega (arith, is))
+eight_bytes [] is = absurd (omega (arith, is))
 
 -- what is left of a word is spelt by bytes, if the word is
 abbrev pub IsLeft : List ℕ → List ℕ → Type 0
@@ -61,14 +69,6 @@ pub pairs-push : (word bytes rest others : List ℕ) (b high low : ℕ) → word
 pairs-push word bytes rest others b high low whole e h l =
     whole ∙ ap (λ r. pairs_text bytes ++ r) (e ∙ (λ i. h i ∷ l i ∷ others)) ∙ sym (append_assoc (pairs_text bytes) (pairs_text (b ∷ [])) others)
     ∙ sym (ap (λ t. t ++ others) (pairs-append bytes (b ∷ [])))
-
--- the digits of a byte are written
-pub writes-pair : (out new start bytes : List ℕ) (i high low : ℕ) → i < length bytes → out ≡ start ++ pairs_text (take i bytes)
-    → new ≡ out ++ high ∷ low ∷ [] → high ≡ digit_of (get_or bytes i 0 / 16) → low ≡ digit_of (get_or bytes i 0 % 16)
-    → new ≡ start ++ pairs_text (take (i + 1) bytes)
-writes-pair out new start bytes i high low h before now hi lo =
-    now ∙ (λ j. before j ++ hi j ∷ lo j ∷ []) ∙ append_assoc start (pairs_text (take i bytes)) (digit_of (get_or bytes i 0 / 16) ∷ digit_of (get_or bytes i 0 % 16) ∷ [])
-    ∙ ap (λ t. start ++ t) (sym (pairs-more bytes i h))
 
 -- nothing is left
 pub pairs-end : (word bytes rest : List ℕ) → length rest ≡ 0 → word ≡ pairs_text bytes ++ rest → word ≡ pairs_text bytes
