@@ -1,5 +1,5 @@
 //! The verdict on each key.
-ghost use Rattle.std.specs.Prelude.{◌≡◌, ◌||◌, List, ℕ, IfOk, IfErr, OnOk};
+ghost use Rattle.std.specs.Prelude.{◌≡◌, ◌||◌, List, [], ℕ, IfOk, IfErr, OnOk};
 ghost use Rattle.std.specs.Str.{bytes_eq};
 ghost use Rattle.rambo_check.specs.Judgings.{AreRight, is_judged, is_call_of};
 ghost use Rattle.rambo_check.specs.Verdicts.{order_of, AreVerdicts};
@@ -22,14 +22,29 @@ pub(crate) fn judge_all(
 {
     let checker = Checker::new(evidence.history())?;
     let mut verdicts = IndexMap::new(alloc);
+    judge_each(&checker, evidence, &mut verdicts)?;
+    Ok(verdicts)
+}
+
+// Puts the verdict on each key that has a call or an order where there was none.
+fn judge_each(
+    checker: &Checker,
+    evidence: &Evidence,
+    verdicts: &mut IndexMap<Bytes, Verdict>,
+) -> Result<(), Refusal>
+    requires history { checker.now ≡ evidence.now.events }
+    requires none { verdicts.old.entries ≡ [] }
+    ensures verdicts { OnOk result (AreVerdicts evidence.now verdicts.new.entries) }
+    ensures refused { IfErr result (λ r. r ≡ Refusal.OutOfMemory) }
+{
     for key in evidence.keys() {
-        judge_key(&checker, evidence, key, &mut verdicts)?;
+        judge_key(checker, evidence, key, verdicts)?;
     }
     for event in evidence.history().events() {
-        judge_called(&checker, evidence, event, &mut verdicts)?;
+        judge_called(checker, evidence, event, verdicts)?;
     }
     verdicts.sort_keys()?;
-    Ok(verdicts)
+    Ok(())
 }
 
 // Adds the verdict on the key of a call.

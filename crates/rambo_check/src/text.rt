@@ -1,5 +1,5 @@
 //! Reading an outcome text.
-ghost use Rattle.std.specs.Prelude.{◌≡◌, ◌≢◌, ℕ, List, IfOk, IfErr, OnOk, OnErr};
+ghost use Rattle.std.specs.Prelude.{◌≡◌, ◌≢◌, ℕ, List, [], false, IfOk, IfErr, OnOk, OnErr};
 ghost use Rattle.std.specs.Io.KnownBytes.{IsAtEnd};
 ghost use Rattle.rambo_atomic.specs.Streams.{counted};
 ghost use Rattle.rambo_text.specs.declared.fault.ReplayFault.TheVariants as fault;
@@ -39,18 +39,41 @@ pub(crate) fn read_outcome<R: Source>(
 {
     let mut unread = Unread::new(alloc);
     let mut evidence = Evidence::new(alloc);
+    read_lines(alloc, reader, &mut unread, &mut evidence)?;
+    Ok(evidence)
+}
+
+// Takes up what all lines of a source tell, where none was read before.
+fn read_lines<R: Source>(
+    alloc: Global,
+    reader: &mut R,
+    unread: &mut Unread,
+    evidence: &mut Evidence,
+) -> Result<(), ReplayFault>
+    requires unread { unread.old ≡ record { held = []; ended = false } }
+    requires events { evidence.old.events ≡ [] }
+    requires orders { evidence.old.orders ≡ [] }
+    ensures told { OnOk result ((text : List ℕ) × IsLeft (R.left reader.old) text × IsTold text evidence.new) }
+    ensures end { OnOk result (IsAtEnd (R.left reader.new)) }
+    ensures fine { OnOk result (R.failures reader.new ≡ R.failures reader.old) }
+    ensures script { IfErr result (λ f. (g : ScriptFault) → f ≡ fault.Script g
+        → (text : List ℕ) × IsLeft (R.left reader.old) text × IsTextFault text g × IsAtEnd (R.left reader.new)) }
+    ensures read { IfErr result (λ f. f ≡ fault.Read → R.failures reader.new ≡ counted (R.failures reader.old)) }
+    ensures other { IfErr result (λ f. f ≢ fault.Read → R.failures reader.new ≡ R.failures reader.old) }
+    ensures unwritten { IfErr result (λ f. f ≢ fault.Write) }
+{
     let mut line = 0;
     while unread.find_line(reader)? {
         if line == u64::MAX {
             return Err(ReplayFault::Memory);
         }
         line += 1;
-        if let Err(fault) = take_first(alloc, &mut unread, &mut evidence) {
+        if let Err(fault) = take_first(alloc, unread, evidence) {
             unread.read_rest(reader)?;
             return Err(ReplayFault::Script(ScriptFault { fault, line }));
         }
     }
-    Ok(evidence)
+    Ok(())
 }
 
 // Takes up what the first line that is held tells, and forgets the line.

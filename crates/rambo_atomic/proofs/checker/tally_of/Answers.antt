@@ -1,3 +1,4 @@
+use Rattle.std.proofs.lemmas.Grind.{common_steps}
 use Rattle.std.proofs.Common.{◌≡◌, ◌+◌, ◌<◌, ◌++◌, ◌∷◌, [], take, length, sym, ap, ◌∙◌, cond, arith}
 use Rattle.std.proofs.lemmas.List.{take_more}
 use Rattle.rambo_atomic.proofs.Seen.{seen-none, seen-again, seen-new}
@@ -25,3 +26,39 @@ loop-id-preserved c =
           c.in_ok-insert.ensures.updates.0 c.in_ok-insert.ensures.added c.requires.calls_once w.if-not-branch.false
           (w.found-is ∙ sym (ap (λ t. c.loop-id.found + cond t 1 0) (sym w.is_answered_call.ensures ∙ w.if-is_answered_call.false) ∙ omega arith)) w.is_distinct-is
     ]
+
+pub returns-in_err-seen-clause-found : goal.returns-in_err-seen-clause-found
+returns-in_err-seen-clause-found c = grind (arith, common_steps)
+
+pub returns-in_err-seen-clause-distinct : goal.returns-in_err-seen-clause-distinct
+returns-in_err-seen-clause-distinct c = grind (arith, common_steps)
+
+pub returns-in_err-seen-clause-refused : goal.returns-in_err-seen-clause-refused
+returns-in_err-seen-clause-refused c = grind (arith, common_steps)
+
+pub offset_bounds-order-id-index : goal.offset_bounds-order-id-index
+offset_bounds-order-id-index c = grind (arith, common_steps)
+
+pub bounds-order-id-index : goal.bounds-order-id-index
+bounds-order-id-index c = grind (arith, common_steps)
+
+pub returns-in_err-insert-clause-found : goal.returns-in_err-insert-clause-found
+returns-in_err-insert-clause-found c = grind (arith, common_steps)
+
+pub returns-in_err-insert-clause-distinct : goal.returns-in_err-insert-clause-distinct
+returns-in_err-insert-clause-distinct c = grind (arith, common_steps)
+
+pub returns-in_err-insert-clause-refused : goal.returns-in_err-insert-clause-refused
+returns-in_err-insert-clause-refused c = grind (arith, common_steps)
+
+pub overflow_add-found : goal.overflow_add-found
+overflow_add-found c = grind (arith, common_steps)
+
+pub returns-clause-found : goal.returns-clause-found
+returns-clause-found c = grind (arith, common_steps)
+
+pub returns-clause-distinct : goal.returns-clause-distinct
+returns-clause-distinct c = grind (arith, common_steps)
+
+pub returns-clause-refused : goal.returns-clause-refused
+returns-clause-refused c = grind (arith, common_steps)

@@ -1,4 +1,5 @@
-use Rattle.std.proofs.Common.{◌<◌, length, ◌∙◌, arith}
+use Rattle.std.proofs.lemmas.Grind.{common_steps}
+use Rattle.std.proofs.Common.{◌<◌, length, ◌∙◌, arith, rules}
 use Rattle.rambo_calls.specs.Hearing.{heard_call}
 use Rattle.rambo_calls.proofs.CallLists.{roomy_at, roomy_rest, heard_more}
 use Rattle.rambo_calls.proofs.open_calls.hear.Goals as goal
@@ -11,3 +12,15 @@ loop-call-preserved g c room =
           (c.hear.ensures (roomy_at c.args.map.now c.loop-call.calls c.loop-call.call-index c.call-item.result below before.1)) ∙ before.0,
       roomy_rest c.args.map.now c.loop-call.calls c.loop-call.call-index c.hear.new.self below before.1,
     )
+
+pub loop-call-init : goal.loop-call-init
+loop-call-init g c = grind (arith, common_steps)
+
+pub hear-requires : goal.hear-requires
+hear-requires g c = grind (arith, common_steps)
+
+pub returns : goal.returns
+returns g c = grind (arith, common_steps)
+
+pub offset_bounds-calls-call-index : goal.offset_bounds-calls-call-index
+offset_bounds-calls-call-index g c = search rules

@@ -1,3 +1,4 @@
+use Rattle.std.proofs.lemmas.Grind.{common_steps}
 use Rattle.std.proofs.Common.{◌≡◌, ◌≢◌, ℕ, Bool, zero, suc, List, ◌∷◌, length, true, false, nat_eq, refl, ap, ◌∙◌, arith, eq-eqb}
 use Rattle.std.proofs.lemmas.Bool.{cond-true, cond-false, eqb-true}
 use Rattle.rambo_calls.specs.declared.open_call.OpenCall.{OpenCall}
@@ -26,3 +27,15 @@ loop-call-preserved g c = (
   omega (arith, c.loop-call.invariant.0, behind c.args.number c.loop-call.rest.now c.in-Some.call.now c.in-Some.others.now c.in-Some.ensures.cases.0 c.if-call-number.false),
   omega (arith, c.loop-call.invariant.1, ap length c.in-Some.ensures.cases.0),
 )
+
+pub loop-call-init : goal.loop-call-init
+loop-call-init g c = grind (arith, common_steps)
+
+pub overflow_add-count : goal.overflow_add-count
+overflow_add-count g c = grind (arith, common_steps)
+
+pub loop-call-smaller : goal.loop-call-smaller
+loop-call-smaller g c = grind (arith, common_steps)
+
+pub returns : goal.returns
+returns g c = grind (arith, common_steps)

@@ -1,4 +1,5 @@
-use Rattle.std.proofs.Common.{inl, inr, refl, rules}
+use Rattle.std.proofs.lemmas.Grind.{common_steps}
+use Rattle.std.proofs.Common.{inl, inr, refl, rules, arith}
 use Rattle.rambo_lines.specs.declared.kind.StepKind.TheVariants.{Set}
 use Rattle.rambo_lines.proofs.Fitting.{count_fault, hex_fault}
 use Rattle.rambo_lines.proofs.reading.set_asked.Goals as goal
@@ -16,3 +17,39 @@ returns-in_err-read_hex-clause-fault c =
     let name = c.in_ok-name-2.ensures.found in
     let key = c.in_ok-key.ensures.found in
     search (rules, hex_fault Set _ _ _ _ c.in_ok-name.ensures.found refl (λ none is. inr ((_, name.0, name.1), inr ((_, key.0, key.1), inl (none, is)))) c.in_err-read_hex.ensures.fault)
+
+pub returns-in_err-name-clause-found : goal.returns-in_err-name-clause-found
+returns-in_err-name-clause-found c = grind (arith, common_steps)
+
+pub returns-in_err-name-clause-memory : goal.returns-in_err-name-clause-memory
+returns-in_err-name-clause-memory c = grind (arith, common_steps)
+
+pub returns-in_err-name-2-clause-found : goal.returns-in_err-name-2-clause-found
+returns-in_err-name-2-clause-found c = grind (arith, common_steps)
+
+pub returns-in_err-name-2-clause-memory : goal.returns-in_err-name-2-clause-memory
+returns-in_err-name-2-clause-memory c = grind (arith, common_steps)
+
+pub returns-in_err-key-clause-found : goal.returns-in_err-key-clause-found
+returns-in_err-key-clause-found c = grind (arith, common_steps)
+
+pub returns-in_err-key-clause-memory : goal.returns-in_err-key-clause-memory
+returns-in_err-key-clause-memory c = grind (arith, common_steps)
+
+pub returns-in_err-read_hex-clause-found : goal.returns-in_err-read_hex-clause-found
+returns-in_err-read_hex-clause-found c = grind (arith, common_steps)
+
+pub returns-in_err-read_hex-clause-memory : goal.returns-in_err-read_hex-clause-memory
+returns-in_err-read_hex-clause-memory c = grind (arith, common_steps)
+
+pub returns-clause-found : goal.returns-clause-found
+returns-clause-found c = grind (arith, common_steps)
+
+pub returns-clause-fault : goal.returns-clause-fault
+returns-clause-fault c = grind (arith, common_steps)
+
+pub returns-clause-memory : goal.returns-clause-memory
+returns-clause-memory c = grind (arith, common_steps)
+
+pub returns-in_err-name-2-clause-fault : goal.returns-in_err-name-2-clause-fault
+returns-in_err-name-2-clause-fault c = grind arith

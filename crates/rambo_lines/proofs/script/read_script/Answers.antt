@@ -1,3 +1,4 @@
+use Rattle.std.proofs.lemmas.Grind.{common_steps}
 use Rattle.std.proofs.Common.{◌≡◌, length, ap, arith, rules}
 use Rattle.std.proofs.lemmas.Bool.Decides.{nat_tests}
 use Rattle.std.proofs.lemmas.Result.{IfOk-at_ok, IfErr-at_err}
@@ -22,3 +23,9 @@ pub loop-rest-preserved : goal.loop-rest-preserved
 loop-rest-preserved c =
     reads-next _ _ _ _ _ _ _ c.loop-rest.invariant (λ none. let z : length c.loop-rest.rest.now ≡ 0 = ap length none in grind (arith, nat_tests))
     c.next_line-in-loop-rest.ensures (IfOk-at_ok _ c.in_ok-at_line.ensures.ok c.push_step.ensures.ok)
+
+pub loop-rest-init : goal.loop-rest-init
+loop-rest-init c = grind (arith, common_steps)
+
+pub loop-rest-smaller : goal.loop-rest-smaller
+loop-rest-smaller c = grind (arith, common_steps)

@@ -1,3 +1,4 @@
+use Rattle.std.proofs.lemmas.Grind.{common_steps}
 use Rattle.std.proofs.Common.{◌≡◌, ◌+◌, ◌-◌, ◌<◌, ◌≤◌, ◌++◌, ◌∷◌, [], get_or, length, drop, take, vec_len, vec_capacity, sym, ap, ◌∙◌, subst, append_assoc, arith}
 use Rattle.std.proofs.lemmas.List.{take_more, drop_more}
 use Rattle.std.proofs.lemmas.List.Elements.{All-weaker}
@@ -28,3 +29,30 @@ loop-entry-preserved c =
       log = c.log_entry.ensures.log ∙ ap (λ l. l ++ e ∷ []) c.loop-entry.invariant.log ∙ append_assoc c.args.log.now.items (take i entries) (e ∷ []) ∙ ap (λ l. c.args.log.now.items ++ l) (sym (take_more entries i none test));
       raises = ap (λ a. all_raised puts node a (drop (i + 1) entries)) raises ∙ sym (ap (all_raised puts node hints) (drop_more entries i none test)) ∙ c.loop-entry.invariant.raises;
     }
+
+pub loop-entry-init : goal.loop-entry-init
+loop-entry-init c = grind (arith, common_steps)
+
+pub offset_bounds-entries-entry-index : goal.offset_bounds-entries-entry-index
+offset_bounds-entries-entry-index c = grind (arith, common_steps)
+
+pub log_entry-requires-clause-room : goal.log_entry-requires-clause-room
+log_entry-requires-clause-room c = grind (arith, common_steps)
+
+pub log_entry-requires-clause-node : goal.log_entry-requires-clause-node
+log_entry-requires-clause-node c = grind (arith, common_steps)
+
+pub log_entry-requires-clause-few : goal.log_entry-requires-clause-few
+log_entry-requires-clause-few c = grind (arith, common_steps)
+
+pub log_entry-requires-clause-within : goal.log_entry-requires-clause-within
+log_entry-requires-clause-within c = grind (arith, common_steps)
+
+pub log_entry-requires-clause-hints : goal.log_entry-requires-clause-hints
+log_entry-requires-clause-hints c = grind (arith, common_steps)
+
+pub returns-clause-log : goal.returns-clause-log
+returns-clause-log c = grind (arith, common_steps)
+
+pub returns-clause-hints : goal.returns-clause-hints
+returns-clause-hints c = grind (arith, common_steps)

@@ -1,4 +1,5 @@
-use Rattle.std.proofs.Common.{◌≡◌, ◌∷◌, [], ◌++◌, map, refl, ap, ◌∙◌, append_assoc}
+use Rattle.std.proofs.lemmas.Grind.{common_steps}
+use Rattle.std.proofs.Common.{◌≡◌, ◌∷◌, [], ◌++◌, map, refl, ap, ◌∙◌, append_assoc, arith}
 use Rattle.rambo_text.specs.Signs.{call_text}
 use Rattle.rambo_text.specs.Words.{more_words}
 use Rattle.rambo_outcome.proofs.Loops.{one_on, grows_on}
@@ -14,3 +15,6 @@ loop-id-preserved c =
           c.loop-id-test.true c.id-item.is now c.loop-id.invariant.text;
       front = grows_on _ c.loop-id.out.items c.write_call.new.out.items word now c.loop-id.invariant.front;
     }
+
+pub returns-clause-ok : goal.returns-clause-ok
+returns-clause-ok c = grind (arith, common_steps)

@@ -1,4 +1,5 @@
-use Rattle.std.proofs.Common.{rules, ◌≡◌, ◌∷◌, [], ◌++◌, map, refl, ap, ◌∙◌, append_assoc}
+use Rattle.std.proofs.lemmas.Grind.{common_steps}
+use Rattle.std.proofs.Common.{rules, ◌≡◌, ◌∷◌, [], ◌++◌, map, refl, ap, ◌∙◌, append_assoc, arith}
 use Rattle.rambo_names.specs.Signs.{set_text}
 use Rattle.rambo_text.specs.Words.{more_words}
 use Rattle.rambo_outcome.proofs.Loops.{one_on, grows_on}
@@ -20,3 +21,6 @@ loop-config-preserved g c =
           c.loop-config-test.true c.config-item.is now c.loop-config.invariant.text;
       front = grows_on _ c.loop-config.out.items c.write_set.new.out.items word now c.loop-config.invariant.front;
     }
+
+pub returns-clause-ok : goal.returns-clause-ok
+returns-clause-ok g c = grind (arith, common_steps)

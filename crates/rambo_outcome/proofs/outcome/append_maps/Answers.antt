@@ -1,4 +1,5 @@
-use Rattle.std.proofs.Common.{rules, map, refl}
+use Rattle.std.proofs.lemmas.Grind.{common_steps}
+use Rattle.std.proofs.Common.{rules, map, refl, arith}
 use Rattle.rambo_check.specs.Lines.{item_line, items_text}
 use Rattle.rambo_outcome.specs.Outcomes.{map_item}
 use Rattle.rambo_outcome.proofs.Loops.{one_on, grows_on}
@@ -15,3 +16,6 @@ loop-node-preserved g c = record {
       c.loop-node-test.true c.node-item.is c.in_ok-append_map.ensures.ok c.loop-node.invariant.text;
   front = grows_on _ c.loop-node.out.items c.append_map.new.out.items (item_line (map_item g.Q.Quorums.system c.node-item.result)) c.in_ok-append_map.ensures.ok c.loop-node.invariant.front;
 }
+
+pub returns-clause-ok : goal.returns-clause-ok
+returns-clause-ok g c = grind (arith, common_steps)

@@ -8,3 +8,39 @@ pub count-requires : goal.count-requires
 count-requires c =
     count-fits (is_due c.args.history.now.events c.as_slice.result.now) _ c.args.history.now.events c.in-Some.event.now c.in-Some.others.now
     (search rules) (grind (arith, common_steps, c.loop-event.invariant c.as_slice.result.now)) c.events-rest.ensures.fits
+
+pub loop-event-init : goal.loop-event-init
+loop-event-init c = grind (arith, common_steps)
+
+pub returns-in_err-count-clause-made : goal.returns-in_err-count-clause-made
+returns-in_err-count-clause-made c = grind (arith, common_steps)
+
+pub returns-in_err-count-clause-refused : goal.returns-in_err-count-clause-refused
+returns-in_err-count-clause-refused c = grind (arith, common_steps)
+
+pub loop-event-smaller-in_ok-count : goal.loop-event-smaller-in_ok-count
+loop-event-smaller-in_ok-count c = grind (arith, common_steps)
+
+pub loop-event-preserved-in_ok-count : goal.loop-event-preserved-in_ok-count
+loop-event-preserved-in_ok-count c = grind (arith, common_steps)
+
+pub loop-event-smaller-else-is_some : goal.loop-event-smaller-else-is_some
+loop-event-smaller-else-is_some c = grind (arith, common_steps)
+
+pub loop-event-preserved-else-is_some : goal.loop-event-preserved-else-is_some
+loop-event-preserved-else-is_some c = grind (arith, common_steps)
+
+pub loop-event-smaller : goal.loop-event-smaller
+loop-event-smaller c = grind (arith, common_steps)
+
+pub loop-event-preserved : goal.loop-event-preserved
+loop-event-preserved c = grind (arith, common_steps)
+
+pub invariant_of-result : goal.invariant_of-result
+invariant_of-result c = grind (arith, common_steps)
+
+pub returns-clause-made : goal.returns-clause-made
+returns-clause-made c = grind (arith, common_steps)
+
+pub returns-clause-refused : goal.returns-clause-refused
+returns-clause-refused c = grind (arith, common_steps)

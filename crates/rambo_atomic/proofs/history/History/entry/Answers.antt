@@ -1,4 +1,5 @@
-use Rattle.std.proofs.Common.{sym, ap, ◌∙◌, None, Some}
+use Rattle.std.proofs.lemmas.Grind.{common_steps}
+use Rattle.std.proofs.Common.{sym, ap, ◌∙◌, None, Some, arith}
 use Rattle.std.specs.List.{slice_get}
 use Rattle.std.specs.Option.{option_copied}
 use Rattle.rambo_atomic.specs.Looks.{op_of, answer_of}
@@ -32,3 +33,45 @@ returns-clause-answer c =
           ∙ sym (answer_in-place c.args.self.now.events c.args.id.now (Some w.in-Some.place) (sym (stands ∙ sym c.answered-answered.ensures ∙ w.in-Some.is)))
       | in-None w ↦ ap option_copied w.answer-is ∙ sym (answer_in-place c.args.self.now.events c.args.id.now None (sym (stands ∙ sym c.answered-answered.ensures ∙ w.in-None.is)))
     ]
+
+pub returns-in_err-places-clause-answer : goal.returns-in_err-places-clause-answer
+returns-in_err-places-clause-answer c = grind (arith, common_steps)
+
+pub returns-in_err-places-clause-called : goal.returns-in_err-places-clause-called
+returns-in_err-places-clause-called c = grind (arith, common_steps)
+
+pub returns-in_err-places-clause-answered : goal.returns-in_err-places-clause-answered
+returns-in_err-places-clause-answered c = grind (arith, common_steps)
+
+pub returns-in_err-places-clause-within : goal.returns-in_err-places-clause-within
+returns-in_err-places-clause-within c = grind (arith, common_steps)
+
+pub returns-in_err-places-clause-well_formed : goal.returns-in_err-places-clause-well_formed
+returns-in_err-places-clause-well_formed c = grind (arith, common_steps)
+
+pub returns-in_err-op-clause-answer : goal.returns-in_err-op-clause-answer
+returns-in_err-op-clause-answer c = grind (arith, common_steps)
+
+pub returns-in_err-op-clause-called : goal.returns-in_err-op-clause-called
+returns-in_err-op-clause-called c = grind (arith, common_steps)
+
+pub returns-in_err-op-clause-answered : goal.returns-in_err-op-clause-answered
+returns-in_err-op-clause-answered c = grind (arith, common_steps)
+
+pub returns-in_err-op-clause-within : goal.returns-in_err-op-clause-within
+returns-in_err-op-clause-within c = grind (arith, common_steps)
+
+pub returns-in_err-op-clause-well_formed : goal.returns-in_err-op-clause-well_formed
+returns-in_err-op-clause-well_formed c = grind (arith, common_steps)
+
+pub returns-clause-called : goal.returns-clause-called
+returns-clause-called c = grind (arith, common_steps)
+
+pub returns-clause-answered : goal.returns-clause-answered
+returns-clause-answered c = grind (arith, common_steps)
+
+pub returns-clause-within : goal.returns-clause-within
+returns-clause-within c = grind (arith, common_steps)
+
+pub returns-clause-well_formed : goal.returns-clause-well_formed
+returns-clause-well_formed c = grind (arith, common_steps)

@@ -1,3 +1,4 @@
+use Rattle.std.proofs.lemmas.Grind.{common_steps}
 use Rattle.std.proofs.Common.{sym, ap, ◌∙◌, true≢false, arith}
 use Rattle.rambo_atomic.proofs.Unreads.{TakesIn-then}
 use Rattle.rambo_atomic.proofs.unread.Unread.find_line.Goals as goal
@@ -10,3 +11,54 @@ loop-self-preserved g c = record {
   work = omega (arith, c.loop-self.invariant.work, c.in_ok-read_piece.ensures.reads, c.in_ok-read_piece.ensures.fits);
   fine = c.in_ok-read_piece.ensures.fine ∙ c.loop-self.invariant.fine;
 }
+
+pub loop-self-init : goal.loop-self-init
+loop-self-init g c = grind (arith, common_steps)
+
+pub read_piece-requires : goal.read_piece-requires
+read_piece-requires g c = grind (arith, common_steps)
+
+pub loop-self-smaller : goal.loop-self-smaller
+loop-self-smaller g c = grind (arith, common_steps)
+
+pub returns-in_err-read_piece-clause-knows : goal.returns-in_err-read_piece-clause-knows
+returns-in_err-read_piece-clause-knows g c = grind (arith, common_steps)
+
+pub returns-in_err-read_piece-clause-bytes : goal.returns-in_err-read_piece-clause-bytes
+returns-in_err-read_piece-clause-bytes g c = grind (arith, common_steps)
+
+pub returns-in_err-read_piece-clause-ended : goal.returns-in_err-read_piece-clause-ended
+returns-in_err-read_piece-clause-ended g c = grind (arith, common_steps)
+
+pub returns-in_err-read_piece-clause-line : goal.returns-in_err-read_piece-clause-line
+returns-in_err-read_piece-clause-line g c = grind (arith, common_steps)
+
+pub returns-in_err-read_piece-clause-work : goal.returns-in_err-read_piece-clause-work
+returns-in_err-read_piece-clause-work g c = grind (arith, common_steps)
+
+pub returns-in_err-read_piece-clause-fine : goal.returns-in_err-read_piece-clause-fine
+returns-in_err-read_piece-clause-fine g c = grind (arith, common_steps)
+
+pub returns-in_err-read_piece-clause-fault : goal.returns-in_err-read_piece-clause-fault
+returns-in_err-read_piece-clause-fault g c = grind (arith, common_steps)
+
+pub returns-clause-knows : goal.returns-clause-knows
+returns-clause-knows g c = grind (arith, common_steps)
+
+pub returns-clause-bytes : goal.returns-clause-bytes
+returns-clause-bytes g c = grind (arith, common_steps)
+
+pub returns-clause-ended : goal.returns-clause-ended
+returns-clause-ended g c = grind (arith, common_steps)
+
+pub returns-clause-line : goal.returns-clause-line
+returns-clause-line g c = grind (arith, common_steps)
+
+pub returns-clause-work : goal.returns-clause-work
+returns-clause-work g c = grind (arith, common_steps)
+
+pub returns-clause-fine : goal.returns-clause-fine
+returns-clause-fine g c = grind (arith, common_steps)
+
+pub returns-clause-fault : goal.returns-clause-fault
+returns-clause-fault g c = grind (arith, common_steps)

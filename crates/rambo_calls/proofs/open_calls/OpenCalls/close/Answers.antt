@@ -1,4 +1,5 @@
-use Rattle.std.proofs.Common.{ap, ◌∙◌}
+use Rattle.std.proofs.lemmas.Grind.{common_steps}
+use Rattle.std.proofs.Common.{ap, ◌∙◌, arith}
 use Rattle.std.specs.List.{remove}
 use Rattle.rambo_calls.specs.Kept.{calls_of}
 use Rattle.rambo_calls.proofs.CallLists.{closed_at}
@@ -8,3 +9,12 @@ pub returns : goal.returns
 returns g c =
     ap calls_of (c.remove.ensures.items ∙ ap (λ cs. remove cs c.place_of-place.result) c.self.view_is)
     ∙ closed_at c.args.self.now c.args.number c.place_of-place.result c.place_of-place.ensures
+
+pub place_of-place-requires : goal.place_of-place-requires
+place_of-place-requires g c = grind (arith, common_steps)
+
+pub returns-then-place-len : goal.returns-then-place-len
+returns-then-place-len g c = grind (arith, common_steps)
+
+pub remove-requires : goal.remove-requires
+remove-requires g c = grind (arith, common_steps)

@@ -1,3 +1,4 @@
+use Rattle.std.proofs.lemmas.Grind.{common_steps}
 use Rattle.std.proofs.Common.{map, length, arith, take, drop, ◌++◌, sym, ap, ◌∙◌, subst}
 use Rattle.std.proofs.Math.Seq.{take-append_seam}
 use Rattle.rambo_calls.specs.Hearing.{heard_call}
@@ -10,3 +11,6 @@ returns g c room =
     ap calls_of (ap (λ n. take n (c.hear.new.calls ++ drop (length c.hear.new.calls) c.self.inside.list.items)) (omega (arith, c.hear.auto.calls, c.as_mut_slice.ensures.len)) ∙ take-append_seam c.hear.new.calls _)
     ∙ c.hear.ensures (subst (IsRoomy c.args.map.now) (sym whole) room)
     ∙ ap (λ cs. map (heard_call c.args.heard c.args.from c.args.map.now c.args.number c.args.merged.now c.args.me) (calls_of cs)) whole
+
+pub hear-requires : goal.hear-requires
+hear-requires g c = grind (arith, common_steps)

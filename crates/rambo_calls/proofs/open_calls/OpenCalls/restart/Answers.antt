@@ -1,3 +1,4 @@
+use Rattle.std.proofs.lemmas.Grind.{common_steps}
 use Rattle.std.proofs.Common.{◌≡◌, sym, ap, ◌∙◌, subst, length, slice_set, get_or, arith}
 use Rattle.rambo_calls.specs.Hearing.{restarted}
 use Rattle.rambo_calls.specs.Calls.{place_of, find_call}
@@ -12,3 +13,15 @@ returns g c =
     subst (λ cs. calls_of (slice_set cs c.place_of-place.result c.restart.new.self) ≡ with_call (place_of c.args.number (calls_of c.args.self.now)) (find_call c.args.number (calls_of c.args.self.now)) f (calls_of c.args.self.now))
     (sym c.self.view_is) (put_at c.args.self.now c.args.number f c.place_of-place.result c.place_of-place.ensures (omega (arith, c.if-place-len.false, count)) c.restart.new.self c.index_mut.result.now
     (c.restart.ensures ∙ ap (λ x. f (call_of x)) (c.index_mut.ensures.value ∙ ap (λ cs. get_or cs c.place_of-place.result c.index_mut.result.now) c.self.view_is)))
+
+pub place_of-place-requires : goal.place_of-place-requires
+place_of-place-requires g c = grind (arith, common_steps)
+
+pub returns-then-place-len : goal.returns-then-place-len
+returns-then-place-len g c = grind (arith, common_steps)
+
+pub index_mut-requires : goal.index_mut-requires
+index_mut-requires g c = grind (arith, common_steps)
+
+pub restart-requires : goal.restart-requires
+restart-requires g c = grind (arith, common_steps)

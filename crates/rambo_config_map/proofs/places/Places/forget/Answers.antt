@@ -1,3 +1,4 @@
+use Rattle.std.proofs.lemmas.Grind.{common_steps}
 use Rattle.std.proofs.Common.{◌≡◌, arith, ap, drop, length}
 use Rattle.rambo_config_map.proofs.Rows.{full, kept, slots_of, forgotten}
 use Rattle.rambo_config_map.proofs.places.Places.forget.Goals as goal
@@ -14,3 +15,24 @@ invariant_of-self g c = (omega (arith, c.self.invariant.0, c.truncate.ensures.ca
 
 pub returns-clause-configs : goal.returns-clause-configs
 returns-clause-configs g c = (kept _ _ (row g c)).0
+
+pub returns-then-count-eq0-clause-configs : goal.returns-then-count-eq0-clause-configs
+returns-then-count-eq0-clause-configs g c = grind (arith, common_steps)
+
+pub returns-then-count-eq0-clause-capacity : goal.returns-then-count-eq0-clause-capacity
+returns-then-count-eq0-clause-capacity g c = grind (arith, common_steps)
+
+pub as_mut_slice-slots-requires : goal.as_mut_slice-slots-requires
+as_mut_slice-slots-requires g c = grind (arith, common_steps)
+
+pub rotate_left-requires : goal.rotate_left-requires
+rotate_left-requires g c = grind (arith, common_steps)
+
+pub overflow_sub-len : goal.overflow_sub-len
+overflow_sub-len g c = grind (arith, common_steps)
+
+pub truncate-requires : goal.truncate-requires
+truncate-requires g c = grind (arith, common_steps)
+
+pub returns-clause-capacity : goal.returns-clause-capacity
+returns-clause-capacity g c = grind (arith, common_steps)

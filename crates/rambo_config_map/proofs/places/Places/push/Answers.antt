@@ -1,3 +1,4 @@
+use Rattle.std.proofs.lemmas.Grind.{common_steps}
 use Rattle.std.proofs.Common.{◌≡◌, arith, ap, refl, [], ◌∷◌, ◌++◌, Some}
 use Rattle.rambo_config_map.proofs.Rows.{full, kept, slots_of, extended}
 use Rattle.rambo_config_map.proofs.places.Places.push.Goals as goal
@@ -12,3 +13,9 @@ invariant_of-self g c = (omega (arith, c.self.invariant.0, c.push_reserved.ensur
 
 pub returns-clause-configs : goal.returns-clause-configs
 returns-clause-configs g c = (kept _ _ (row g c)).0
+
+pub push_reserved-requires : goal.push_reserved-requires
+push_reserved-requires g c = grind (arith, common_steps)
+
+pub returns-clause-capacity : goal.returns-clause-capacity
+returns-clause-capacity g c = grind (arith, common_steps)

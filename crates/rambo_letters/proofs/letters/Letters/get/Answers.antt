@@ -1,3 +1,4 @@
+use Rattle.std.proofs.lemmas.Grind.{common_steps}
 use Rattle.std.proofs.Common.{◌≡◌, refl, ◌∙◌, ◌-◌, length, Some, sym, ap, slice_get, arith}
 use Rattle.std.specs.Option.{option_map}
 use Rattle.std.proofs.lemmas.Option.{slice_get_past, slice_get_read, slice_get-map}
@@ -22,3 +23,15 @@ returns g c =
     ∙ ap (option_map seen) (sym (slice_get_read xs (length xs) (c.args.number - 1) c.index.result.now refl (omega (arith, c.if-place-len.false, count)) c.index.ensures))
     ∙ sym (slice_get-map seen xs (c.args.number - 1))
     ∙ ap (λ xs. slice_get xs (c.args.number - 1)) c.self.view_is ∙ sent_here c.args.self.now c.args.number c.if-number-eq0.false
+
+pub returns-then-number-eq0 : goal.returns-then-number-eq0
+returns-then-number-eq0 g c = grind (arith, common_steps)
+
+pub overflow_sub-place : goal.overflow_sub-place
+overflow_sub-place g c = grind (arith, common_steps)
+
+pub index-requires : goal.index-requires
+index-requires g c = grind (arith, common_steps)
+
+pub read-requires : goal.read-requires
+read-requires g c = grind (arith, common_steps)

@@ -1,3 +1,4 @@
+use Rattle.std.proofs.lemmas.Grind.{common_steps}
 use Rattle.std.proofs.Common.{◌≡◌, ◌∙◌, ◌-◌, ◌+◌, ◌<◌, ◌≤◌, [], Vec, Global, length, filter, map, set, sym, ap, subst, true≢false, arith}
 use Rattle.std.specs.Prelude.{All, slice_index_or}
 use Rattle.std.specs.Vec.{vec_len, vec_capacity}
@@ -140,3 +141,57 @@ returns-clause-ok c =
     (λ i. with_brought (map (copies_of l.puts.items) (same i)) c.args.to (more_seen l.puts.items l.keys l.hints.items l.logs.items c.args.to c.args.from c.args.start c.args.end c.index.result.now es c.list_lacked.new.lacked.items
     c.self.invariant.stored c.place_of-node.result c.place_of.result c.place_of-node.ensures.place c.place_of.ensures.place c.place_of-node.ensures.within c.place_of.ensures.within c.index.ensures is picked i))
     ∙ ap (λ s. with_brought s.logs c.args.to (lacked (greatest_of (log_at s.logs c.args.to)) (part (log_at s.logs c.args.from) c.args.start c.args.end))) c.self.view_is
+
+pub index-requires : goal.index-requires
+index-requires c = grind (arith, common_steps)
+
+pub list_lacked-requires-clause-empty : goal.list_lacked-requires-clause-empty
+list_lacked-requires-clause-empty c = grind (arith, common_steps)
+
+pub list_lacked-requires-clause-node : goal.list_lacked-requires-clause-node
+list_lacked-requires-clause-node c = grind (arith, common_steps)
+
+pub list_lacked-requires-clause-hints : goal.list_lacked-requires-clause-hints
+list_lacked-requires-clause-hints c = grind (arith, common_steps)
+
+pub invariant_of-self : goal.invariant_of-self
+invariant_of-self c = grind (arith, common_steps)
+
+pub returns-in_err-list_lacked-clause-ok : goal.returns-in_err-list_lacked-clause-ok
+returns-in_err-list_lacked-clause-ok c = grind (arith, common_steps)
+
+pub returns-in_err-list_lacked-clause-err : goal.returns-in_err-list_lacked-clause-err
+returns-in_err-list_lacked-clause-err c = grind (arith, common_steps)
+
+pub returns-in_err-list_lacked-clause-refused : goal.returns-in_err-list_lacked-clause-refused
+returns-in_err-list_lacked-clause-refused c = grind (arith, common_steps)
+
+pub invariant_of-self-in_err-repack : goal.invariant_of-self-in_err-repack
+invariant_of-self-in_err-repack c = grind (arith, common_steps)
+
+pub returns-in_err-repack-clause-ok : goal.returns-in_err-repack-clause-ok
+returns-in_err-repack-clause-ok c = grind (arith, common_steps)
+
+pub returns-in_err-repack-clause-err : goal.returns-in_err-repack-clause-err
+returns-in_err-repack-clause-err c = grind (arith, common_steps)
+
+pub returns-in_err-repack-clause-refused : goal.returns-in_err-repack-clause-refused
+returns-in_err-repack-clause-refused c = grind (arith, common_steps)
+
+pub index_mut-requires : goal.index_mut-requires
+index_mut-requires c = grind (arith, common_steps)
+
+pub returns-in_err-reserve-clause-ok : goal.returns-in_err-reserve-clause-ok
+returns-in_err-reserve-clause-ok c = grind (arith, common_steps)
+
+pub returns-in_err-reserve-clause-refused : goal.returns-in_err-reserve-clause-refused
+returns-in_err-reserve-clause-refused c = grind (arith, common_steps)
+
+pub returns-clause-idle : goal.returns-clause-idle
+returns-clause-idle c = grind (arith, common_steps)
+
+pub returns-clause-err : goal.returns-clause-err
+returns-clause-err c = grind (arith, common_steps)
+
+pub returns-clause-refused : goal.returns-clause-refused
+returns-clause-refused c = grind (arith, common_steps)

@@ -1,6 +1,28 @@
-use Rattle.std.proofs.Common.{rules}
+use Rattle.std.proofs.lemmas.Grind.{common_steps}
+use Rattle.std.proofs.Common.{rules, arith}
 use Rattle.rambo_node.proofs.Judged.{call_next}
 use Rattle.rambo_node.proofs.node.Node.do_call.Goals as goal
 
 pub next_id-id-requires : goal.next_id-id-requires
 next_id-id-requires g c = (search rules, (call_next c.args.self.now c.args.op c.requires).1)
+
+pub returns-clause-node : goal.returns-clause-node
+returns-clause-node g c = grind (arith, common_steps)
+
+pub returns-clause-refused : goal.returns-clause-refused
+returns-clause-refused g c = grind (arith, common_steps)
+
+pub returns-clause-err : goal.returns-clause-err
+returns-clause-err g c = grind (arith, common_steps)
+
+pub returns-in_err-begin-clause-node : goal.returns-in_err-begin-clause-node
+returns-in_err-begin-clause-node g c = grind arith
+
+pub returns-in_err-begin-clause-deed : goal.returns-in_err-begin-clause-deed
+returns-in_err-begin-clause-deed g c = grind arith
+
+pub returns-in_err-begin-clause-refused : goal.returns-in_err-begin-clause-refused
+returns-in_err-begin-clause-refused g c = grind arith
+
+pub returns-in_err-begin-clause-err : goal.returns-in_err-begin-clause-err
+returns-in_err-begin-clause-err g c = grind arith

@@ -1,3 +1,4 @@
+use Rattle.std.proofs.lemmas.Grind.{common_steps}
 use Rattle.std.proofs.Common.{◌≡◌, Some, nat_le, arith, length, sym, ap, ◌∙◌, subst, rules}
 use Rattle.rambo_config_map.specs.Maps.{top_of}
 use Rattle.rambo_config_map.specs.MapLaws.{top_below}
@@ -23,3 +24,6 @@ invariant_of-self g c =
     let m = c.self.inside.map in
     subst (λ a. AttemptFits m (Some a)) (sym c.attempt_of.ensures.attempt)
     (fits_opened m _ _ _ _ (sym c.top_of-place.ensures.next) (ap (λ n. nat_le 8 (length n.map.configs)) c.self.view_is ∙ (recon_next c.args.self.now g.Q.Quorums.system c.args.wish c.requires).0))
+
+pub top_of-place-requires : goal.top_of-place-requires
+top_of-place-requires g c = grind (arith, common_steps)

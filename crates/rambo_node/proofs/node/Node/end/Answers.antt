@@ -1,4 +1,5 @@
-use Rattle.std.proofs.Common.{◌≡◌, sym, ap, ◌∙◌, subst}
+use Rattle.std.proofs.lemmas.Grind.{common_steps}
+use Rattle.std.proofs.Common.{◌≡◌, sym, ap, ◌∙◌, subst, arith}
 use Rattle.std.specs.Option.{option_copied, option_map}
 use Rattle.rambo_atomic.specs.declared.event.Event.TheVariants as event
 use Rattle.rambo_calls.specs.Calls.{find_call}
@@ -28,3 +29,30 @@ returns-clause-event g c =
     c.put_answer.ensures
     ∙ ap (λ a. noted c.args.history.now.events (option_map (event.Answer c.args.id) a))
     (c.in_ok-answer.ensures.due ∙ ap answer_due (c.find-call.ensures ∙ ap (λ y. find_call c.args.id.number y.calls) c.self.view_is))
+
+pub same-self-in_err-put_mark : goal.same-self-in_err-put_mark
+same-self-in_err-put_mark g c = grind (arith, common_steps)
+
+pub put_answer-requires-clause-room : goal.put_answer-requires-clause-room
+put_answer-requires-clause-room g c = grind (arith, common_steps)
+
+pub invariant_of-self : goal.invariant_of-self
+invariant_of-self g c = grind (arith, common_steps)
+
+pub returns-clause-node : goal.returns-clause-node
+returns-clause-node g c = grind (arith, common_steps)
+
+pub returns-clause-mark : goal.returns-clause-mark
+returns-clause-mark g c = grind (arith, common_steps)
+
+pub returns-clause-refused : goal.returns-clause-refused
+returns-clause-refused g c = grind (arith, common_steps)
+
+pub returns-clause-err : goal.returns-clause-err
+returns-clause-err g c = grind (arith, common_steps)
+
+pub same-self : goal.same-self
+same-self g c = grind arith
+
+pub returns-in_err-put_mark-clause-err : goal.returns-in_err-put_mark-clause-err
+returns-in_err-put_mark-clause-err g c = grind arith

@@ -1,4 +1,5 @@
-use Rattle.std.proofs.Common.{◌&&◌, sym, ap, ◌∙◌}
+use Rattle.std.proofs.lemmas.Grind.{common_steps}
+use Rattle.std.proofs.Common.{◌&&◌, sym, ap, ◌∙◌, arith}
 use Rattle.std.proofs.lemmas.Result.{on_ok_weaker}
 use Rattle.rambo_gossip.specs.Letters.{letter_with, kind_with}
 use Rattle.rambo_gossip.specs.Outlines.{outlined}
@@ -19,3 +20,21 @@ returns-in-Some-clause-node g c =
     on_ok_weaker c.merge.result
     (λ e. e gap ∙ sym (ap (λ o. heard_kind x j (kind_with (outlined o) copies)) c.in-Some.is) ∙ ap (λ l. heard_letter x (letter_with l copies)) c.outline.view_is)
     c.merge.ensures.ok
+
+pub returns-in-None-clause-refused : goal.returns-in-None-clause-refused
+returns-in-None-clause-refused g c = grind (arith, common_steps)
+
+pub returns-in-None-clause-join : goal.returns-in-None-clause-join
+returns-in-None-clause-join g c = grind (arith, common_steps)
+
+pub returns-in-None-clause-err : goal.returns-in-None-clause-err
+returns-in-None-clause-err g c = grind (arith, common_steps)
+
+pub returns-in-Some-clause-refused : goal.returns-in-Some-clause-refused
+returns-in-Some-clause-refused g c = grind (arith, common_steps)
+
+pub returns-in-Some-clause-join : goal.returns-in-Some-clause-join
+returns-in-Some-clause-join g c = grind (arith, common_steps)
+
+pub returns-in-Some-clause-err : goal.returns-in-Some-clause-err
+returns-in-Some-clause-err g c = grind (arith, common_steps)

@@ -1,7 +1,11 @@
-use Rattle.std.proofs.Common.{ap, ◌∙◌}
+use Rattle.std.proofs.lemmas.Grind.{common_steps}
+use Rattle.std.proofs.Common.{ap, ◌∙◌, arith}
 use Rattle.rambo_config_map.specs.Maps.{end_of}
 use Rattle.rambo_bids.specs.Wishes.{is_for}
 use Rattle.rambo_node.proofs.node.Node.is_bidding.Goals as goal
 
 pub returns : goal.returns
 returns g c = c.is_bidding.ensures ∙ ap (λ n. is_for (end_of n.map) n.attempt) c.self.view_is
+
+pub is_bidding-requires : goal.is_bidding-requires
+is_bidding-requires g c = grind (arith, common_steps)

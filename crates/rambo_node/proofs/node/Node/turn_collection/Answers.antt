@@ -1,4 +1,5 @@
-use Rattle.std.proofs.Common.{Some, sym, ap, ◌∙◌, rules}
+use Rattle.std.proofs.lemmas.Grind.{common_steps}
+use Rattle.std.proofs.Common.{Some, sym, ap, ◌∙◌, rules, arith}
 use Rattle.rambo_gc.specs.declared.gc_move.GcMove.TheVariants.{Propagating, Done}
 use Rattle.rambo_gc.specs.Collections.{move_of}
 use Rattle.rambo_node.specs.Changes.{collection_turned}
@@ -50,3 +51,18 @@ returns-in-Some-Done-clause-deed g c =
     let s = g.Q.Quorums.system in
     let met = sym (c.would_advance.ensures ∙ ap (λ n. move_of s n.map c.args.collection) c.self.view_is) ∙ c.in-Some-Done.is ∙ ap Some c.in-Some-Done.field-0-is in
     c.end_collection.ensures.deed ∙ sym (ap (λ v. (collection_turned x c.args.collection v).deed) (same_move s x.map c.args.collection Done met))
+
+pub would_advance-requires : goal.would_advance-requires
+would_advance-requires g c = grind (arith, common_steps)
+
+pub same-self-in-Some-Done : goal.same-self-in-Some-Done
+same-self-in-Some-Done g c = grind (arith, common_steps)
+
+pub same-self-in-None : goal.same-self-in-None
+same-self-in-None g c = grind (arith, common_steps)
+
+pub unreachable-unreachable : goal.unreachable-unreachable
+unreachable-unreachable g c = grind (arith, common_steps)
+
+pub same-self : goal.same-self
+same-self g c = grind arith

@@ -1,4 +1,5 @@
-use Rattle.std.proofs.Common.{◌≡◌, ◌∙◌, ◌++◌, ◌∷◌, [], None, Some, refl, sym, ap, subst}
+use Rattle.std.proofs.lemmas.Grind.{common_steps}
+use Rattle.std.proofs.Common.{◌≡◌, ◌∙◌, ◌++◌, ◌∷◌, [], None, Some, refl, sym, ap, subst, arith}
 use Rattle.rambo_names.specs.Refusals.{least}
 use Rattle.rambo_atomic.specs.declared.event.Event.TheVariants as event
 use Rattle.rambo_atomic.specs.Faults.{fault_of}
@@ -54,3 +55,30 @@ returns-clause-ok g c =
     (effect.Called c.in_ok-id.id) x.0 c.in_ok-id.ensures.nodes
     (letters_stay ks c.begin.new.self c.begin.ensures.grow c.self.inside.letters c.self.invariant.sent) x.1 refl (ap effect.Called id)
     (c.push_call.ensures ∙ λ i. (ap (λ h. h.events) c.prepare.ensures ∙ c.in_ok-reserve.ensures.events) i ++ event.Call (id i) (c.in_ok-asked.ensures.same i) ∷ []) refl
+
+pub invariant_of-self : goal.invariant_of-self
+invariant_of-self g c = grind (arith, common_steps)
+
+pub invariant_of-self-in_err-asked : goal.invariant_of-self-in_err-asked
+invariant_of-self-in_err-asked g c = grind (arith, common_steps)
+
+pub push_call-requires-clause-room : goal.push_call-requires-clause-room
+push_call-requires-clause-room g c = grind (arith, common_steps)
+
+pub returns-clause-err : goal.returns-clause-err
+returns-clause-err g c = grind (arith, common_steps)
+
+pub returns-clause-refused : goal.returns-clause-refused
+returns-clause-refused g c = grind (arith, common_steps)
+
+pub returns-in_err-asked-clause-ok : goal.returns-in_err-asked-clause-ok
+returns-in_err-asked-clause-ok g c = grind arith
+
+pub returns-in_err-asked-clause-refused : goal.returns-in_err-asked-clause-refused
+returns-in_err-asked-clause-refused g c = grind arith
+
+pub invariant_of-self-in_err-id : goal.invariant_of-self-in_err-id
+invariant_of-self-in_err-id g c = grind arith
+
+pub returns-in_err-id-clause-refused : goal.returns-in_err-id-clause-refused
+returns-in_err-id-clause-refused g c = grind arith

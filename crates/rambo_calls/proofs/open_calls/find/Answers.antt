@@ -1,0 +1,12 @@
+use Rattle.std.proofs.lemmas.Grind.{common_steps, elements}
+use Rattle.std.proofs.Common.{arith}
+use Rattle.rambo_calls.proofs.open_calls.find.Goals as goal
+
+pub place_of-requires : goal.place_of-requires
+place_of-requires g c = grind (arith, common_steps)
+
+pub get-requires : goal.get-requires
+get-requires g c = grind (arith, common_steps)
+
+pub returns : goal.returns
+returns g c = grind (arith, elements)

@@ -1,0 +1,33 @@
+use Rattle.std.proofs.lemmas.Grind.{common_steps}
+use Rattle.std.proofs.Common.{arith}
+use Rattle.rambo_config_map.proofs.config_map.ConfigMap.remove_lowest.Goals as goal
+
+pub len-requires : goal.len-requires
+len-requires g c = grind (arith, common_steps)
+
+pub returns-then-len-eq1-clause-answer : goal.returns-then-len-eq1-clause-answer
+returns-then-len-eq1-clause-answer g c = grind (arith, common_steps)
+
+pub returns-then-len-eq1-clause-ok : goal.returns-then-len-eq1-clause-ok
+returns-then-len-eq1-clause-ok g c = grind (arith, common_steps)
+
+pub returns-then-len-eq1-clause-err : goal.returns-then-len-eq1-clause-err
+returns-then-len-eq1-clause-err g c = grind (arith, common_steps)
+
+pub forget-requires : goal.forget-requires
+forget-requires g c = grind (arith, common_steps)
+
+pub overflow_add-self : goal.overflow_add-self
+overflow_add-self g c = grind (arith, common_steps)
+
+pub invariant_of-self : goal.invariant_of-self
+invariant_of-self g c = grind (arith, common_steps)
+
+pub returns-clause-answer : goal.returns-clause-answer
+returns-clause-answer g c = grind (arith, common_steps)
+
+pub returns-clause-ok : goal.returns-clause-ok
+returns-clause-ok g c = grind (arith, common_steps)
+
+pub returns-clause-err : goal.returns-clause-err
+returns-clause-err g c = grind (arith, common_steps)

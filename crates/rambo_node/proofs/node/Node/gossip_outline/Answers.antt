@@ -1,0 +1,12 @@
+use Rattle.std.proofs.lemmas.Grind.{common_steps}
+use Rattle.std.proofs.Common.{arith}
+use Rattle.rambo_node.proofs.node.Node.gossip_outline.Goals as goal
+
+pub returns-then-not-is_active : goal.returns-then-not-is_active
+returns-then-not-is_active g c = grind (arith, common_steps)
+
+pub offer_of-requires : goal.offer_of-requires
+offer_of-requires g c = grind (arith, common_steps)
+
+pub returns : goal.returns
+returns g c = grind (arith, common_steps)

@@ -1,0 +1,48 @@
+use Rattle.std.proofs.lemmas.Grind.{common_steps}
+use Rattle.std.proofs.Common.{arith}
+use Rattle.rambo_outcome.proofs.line.append_sequence.Goals as goal
+
+pub returns-in_err-extend_from_slice-clause-ok : goal.returns-in_err-extend_from_slice-clause-ok
+returns-in_err-extend_from_slice-clause-ok c = grind (arith, common_steps)
+
+pub returns-in_err-extend_from_slice-clause-err : goal.returns-in_err-extend_from_slice-clause-err
+returns-in_err-extend_from_slice-clause-err c = grind (arith, common_steps)
+
+pub returns-in_err-extend_from_slice-clause-refused : goal.returns-in_err-extend_from_slice-clause-refused
+returns-in_err-extend_from_slice-clause-refused c = grind (arith, common_steps)
+
+pub returns-in_err-write_hex-clause-ok : goal.returns-in_err-write_hex-clause-ok
+returns-in_err-write_hex-clause-ok c = grind (arith, common_steps)
+
+pub returns-in_err-write_hex-clause-err : goal.returns-in_err-write_hex-clause-err
+returns-in_err-write_hex-clause-err c = grind (arith, common_steps)
+
+pub returns-in_err-write_hex-clause-refused : goal.returns-in_err-write_hex-clause-refused
+returns-in_err-write_hex-clause-refused c = grind (arith, common_steps)
+
+pub returns-in_err-append_calls-clause-ok : goal.returns-in_err-append_calls-clause-ok
+returns-in_err-append_calls-clause-ok c = grind (arith, common_steps)
+
+pub returns-in_err-append_calls-clause-err : goal.returns-in_err-append_calls-clause-err
+returns-in_err-append_calls-clause-err c = grind (arith, common_steps)
+
+pub returns-in_err-append_calls-clause-refused : goal.returns-in_err-append_calls-clause-refused
+returns-in_err-append_calls-clause-refused c = grind (arith, common_steps)
+
+pub returns-in_err-push-clause-ok : goal.returns-in_err-push-clause-ok
+returns-in_err-push-clause-ok c = grind (arith, common_steps)
+
+pub returns-in_err-push-clause-err : goal.returns-in_err-push-clause-err
+returns-in_err-push-clause-err c = grind (arith, common_steps)
+
+pub returns-in_err-push-clause-refused : goal.returns-in_err-push-clause-refused
+returns-in_err-push-clause-refused c = grind (arith, common_steps)
+
+pub returns-clause-ok : goal.returns-clause-ok
+returns-clause-ok c = grind (arith, common_steps)
+
+pub returns-clause-err : goal.returns-clause-err
+returns-clause-err c = grind (arith, common_steps)
+
+pub returns-clause-refused : goal.returns-clause-refused
+returns-clause-refused c = grind (arith, common_steps)
