@@ -1,5 +1,5 @@
 -- Worlds without their letters: steps go the same way there
-use Rattle.std.proofs.Common.{◌≡◌, ℕ, zero, suc, ◌-◌, false, List, [], ◌∷◌, ◌++◌, length, Option, None, Some, slice_get, slice_set, refl, sym, ap, ◌∙◌, subst, append-nil, arith}
+use Rattle.std.proofs.Common.{◌≡◌, ℕ, zero, suc, ◌+◌, ◌-◌, false, List, [], ◌∷◌, ◌++◌, length, Option, None, Some, slice_get, slice_set, refl, sym, ap, ◌∙◌, subst, append-nil, arith}
 use Rattle.std.proofs.lemmas.Bool.{false≢true}
 use Rattle.std.proofs.lemmas.List.{set-get_or}
 use Rattle.std.proofs.lemmas.Option.{get_or_from_slice_get}
@@ -9,15 +9,19 @@ use Rattle.rambo_names.specs.declared.refusal.Refusal.TheVariants.{NoSuchLetter}
 use Rattle.rambo_names.specs.Quorums.{QuorumSystem}
 use Rattle.rambo_names.specs.Refusals.{least}
 use Rattle.rambo_gossip.specs.declared.letter.Letter.{Letter}
+use Rattle.rambo_atomic.specs.declared.event.CallId.{CallId}
+use Rattle.rambo_atomic.specs.declared.operation.Op.{Op}
 use Rattle.rambo_node.specs.declared.change.Change.{Change}
 use Rattle.rambo_node.specs.declared.change.Change.TheVariants as change
+use Rattle.rambo_node.specs.declared.effect.Effect.TheVariants as effect
 use Rattle.rambo_node.specs.Changes.{made_by}
 use Rattle.rambo_node.specs.Letters.{letter_for}
 use Rattle.rambo_node.specs.Nodes.{NodeState}
 use Rattle.rambo_run.specs.declared.step.Step.{Step}
 use Rattle.rambo_run.specs.declared.step.Step.TheVariants as step
 use Rattle.rambo_run.specs.Worlds.{WorldState, first_world, node_at, letter_at}
-use Rattle.rambo_run.specs.Steps.{Meant, meant, causes, causes_at, causes_of, delivery, refusal, turn, turn_at, turn_of, with_letter}
+use Rattle.rambo_run.proofs.NodeLists.{node_named}
+use Rattle.rambo_run.specs.Steps.{Turn, Meant, meant, causes, causes_at, causes_of, delivery, refusal, turn, turn_at, turn_of, with_letter}
 use Rattle.rambo_run.specs.Runs.{after, run, run_from, unless_refused}
 use Rattle.rambo_world.specs.Worlds.{EventFits, sends}
 use Rattle.rambo_world.specs.Direct.{without_letters, passed, pass_refusal, first_of, IsReachedBarLetters}
@@ -102,6 +106,10 @@ module _ {Q : Type 0} (s : QuorumSystem Q) where
           let here : refusal s v st ≡ None =
           step_refusal v st n c (means v) s ∙ ap (λ w. least (causes_at s (node_at w n) c)) (sym reached.1) ∙ sym (step_refusal w st n c (means w) s) ∙ accepted in
           subst (λ w. EventFits w n c) (sym reached.1) (step_fits v st n c (means v) s (events_fit_run s founders reached.0) here)
+
+  -- a node there has the name that it is found by
+  pub bar_named : (founders : Q) (w : WorldState Q) → IsReachedBarLetters s founders w → (n : ℕ) (x : NodeState Q) → node_at w n ≡ Some x → x.name ≡ n
+  bar_named founders w reached n x found = node_named s founders reached.0 n x (ap (λ w. node_at w n) (sym reached.1) ∙ found)
 
   -- the letters that are sent in a step
   abbrev sent_in : Option Refusal → Option (NodeState Q) → ℕ → List (Letter Q)
@@ -194,3 +202,16 @@ module _ {Q : Type 0} (s : QuorumSystem Q) where
         | Some q ↦ λ is refused. ap (λ z. without_letters (after s z (step.Deliver 1))) (after-refused s w one q is)
             ∙ ap without_letters (after-refused s w (step.Deliver 1) NoSuchLetter (no_letter w none)) ∙ bare
       ] refl e
+
+-- a call has the name of its node
+called_by : {Q : Type 0} (w : WorldState Q) (n : ℕ) (o : Op) (id : CallId) (x : Option (NodeState Q)) → node_at w n ≡ x → ((y : NodeState Q) → node_at w n ≡ Some y → y.name ≡ n)
+    → (turn_at w n x (change.Call o)).effect ≡ effect.Called id → id.name ≡ n
+unfolding made_by
+called_by w n o id None at named e = cc
+called_by w n o id (Some x) at named e =
+    let same : record { name = x.name; number = x.made + 1 } ≡ id = cc in
+    ap (λ (i : CallId). i.name) (sym same) ∙ named x at
+
+pub call_named : {Q : Type 0} (w new : WorldState Q) (n : ℕ) (o : Op) (id : CallId) → ((y : NodeState Q) → node_at w n ≡ Some y → y.name ≡ n)
+    → turn_at w n (node_at w n) (change.Call o) ≡ record { world = new; effect = effect.Called id } → id.name ≡ n
+call_named w new n o id named e = called_by w n o id (node_at w n) refl named (ap (λ (t : Turn _). t.effect) e)

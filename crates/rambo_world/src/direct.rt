@@ -64,6 +64,7 @@ impl<Q: Quorums, S: Replica> Direct<Q, S> {
     /// `OutOfMemory` where there is no room for the call; then nothing changes. A refusal needs no room.
     pub fn call(&mut self, name: Name, op: Op) -> Result<Result<CallId, Refusal>, Refusal>
         ensures told { IfOk result (λ r. called r ≡ result_of (refusal Q.system self.old.state (step.Call name op)) self.old.state (step.Call name op)) }
+        ensures named { IfOk result (λ r. IfOk r (λ id. id.name ≡ name)) }
         ensures after { OnOk result (self.new ≡ record self.old { state = after Q.system self.old.state (step.Call name op) }) }
         ensures accepted { OnErr result (refusal Q.system self.old.state (step.Call name op) ≡ None) }
         ensures err { OnErr result (self.new ≡ self.old) }
@@ -100,6 +101,7 @@ impl<Q: Quorums, S: Replica> Direct<Q, S> {
     pub fn advance(&mut self, id: CallId) -> Result<Result<Option<Answer>, Refusal>, Refusal>
         ensures told { IfOk result (λ r. advanced id r ≡ result_of (refusal Q.system self.old.state (step.Advance id)) self.old.state (step.Advance id)) }
         ensures after { OnOk result (self.new ≡ record self.old { state = after Q.system self.old.state (step.Advance id) }) }
+        ensures reached { IsReachedBarLetters Q.system self.new.founders self.new.state }
         ensures accepted { OnErr result (refusal Q.system self.old.state (step.Advance id) ≡ None) }
         ensures err { OnErr result (self.new ≡ self.old) }
         ensures refused { IfErr result (λ r. r ≡ Refusal.OutOfMemory) }

@@ -75,3 +75,16 @@ returns-clause-after g c =
     let st = step.Advance c.args.id in
     moves_on s c.self.inside.founders c.self.inside.state c.advance.new.self c.args.self.now st c.self.view_is
     (taken_after s c.self.inside.state st c.advance.new.self c.in_ok-effect.effect (subst (λ w. refusal s w st ≡ None) (ap (λ i. i.state) c.self-inside.view_is) (sym (judged_at s (world_of c.self-inside.inside.0.1.0.nodes c.self-inside.inside.0.1.0.letters c.self-inside.inside.0.1.0.history.events c.self-inside.inside.0.1.0.marks.items) st c.args.id.name (change.Advance c.args.id) c.node.result.now refl c.node.ensures) ∙ c.in_default.ensures.ok)) (step_turn c.self.inside.state st c.args.id.name (change.Advance c.args.id) refl ∙ c.in_ok-effect.ensures.ok))
+
+pub returns-clause-reached : goal.returns-clause-reached
+returns-clause-reached g c =
+    let s = g.Q.Quorums.system in
+    let st = step.Advance c.args.id in
+    bar_next s c.self.inside.founders st c.args.id.name (change.Advance c.args.id) (λ v. refl) c.self.inside.state c.advance.new.self c.self.invariant refl
+    (taken_after s c.self.inside.state st c.advance.new.self c.in_ok-effect.effect (subst (λ w. refusal s w st ≡ None) (ap (λ i. i.state) c.self-inside.view_is) (sym (judged_at s (world_of c.self-inside.inside.0.1.0.nodes c.self-inside.inside.0.1.0.letters c.self-inside.inside.0.1.0.history.events c.self-inside.inside.0.1.0.marks.items) st c.args.id.name (change.Advance c.args.id) c.node.result.now refl c.node.ensures) ∙ c.in_default.ensures.ok)) (step_turn c.self.inside.state st c.args.id.name (change.Advance c.args.id) refl ∙ c.in_ok-effect.ensures.ok))
+
+pub returns-in-Err-clause-reached : goal.returns-in-Err-clause-reached
+returns-in-Err-clause-reached g c = subst (λ (v : RunningOf _). IsReachedBarLetters g.Q.Quorums.system v.founders v.state) c.self.view_is c.self.invariant
+
+pub returns-in_err-effect-clause-reached : goal.returns-in_err-effect-clause-reached
+returns-in_err-effect-clause-reached g c = subst (IsReachedBarLetters g.Q.Quorums.system c.self.inside.founders) (sym c.in_err-effect.ensures.err) c.self.invariant

@@ -8,7 +8,7 @@ use Rattle.rambo_run.specs.Steps.{refusal}
 use Rattle.rambo_world.specs.Direct.{IsReachedBarLetters}
 use Rattle.rambo_world.specs.Worlds.{RunningOf}
 use Rattle.rambo_letters.proofs.Sizes.{up_fits, back_fits, next}
-use Rattle.rambo_world.proofs.Letterless.{bar_fits, bar_next}
+use Rattle.rambo_world.proofs.Letterless.{bar_fits, bar_named, bar_next, call_named}
 use Rattle.rambo_world.proofs.Single.{on_err, refused_told, taken_told, taken_after, stands, moves_on}
 use Rattle.rambo_world.proofs.Turns.{judged_at, step_refusal, step_turn}
 use Rattle.rambo_world.proofs.direct.Direct.call.Goals as goal
@@ -74,3 +74,9 @@ returns-clause-after g c =
     let st = step.Call c.args.name c.args.op in
     moves_on s c.self.inside.founders c.self.inside.state c.call.new.self c.args.self.now st c.self.view_is
     (taken_after s c.self.inside.state st c.call.new.self (effect.Called c.in_ok-id.id) (subst (λ w. refusal s w st ≡ None) (ap (λ i. i.state) c.self-inside.view_is) (sym (judged_at s (world_of c.self-inside.inside.0.1.0.nodes c.self-inside.inside.0.1.0.letters c.self-inside.inside.0.1.0.history.events c.self-inside.inside.0.1.0.marks.items) st c.args.name (change.Call c.args.op) c.node.result.now refl c.node.ensures) ∙ c.in_default.ensures.ok)) (step_turn c.self.inside.state st c.args.name (change.Call c.args.op) refl ∙ c.in_ok-id.ensures.ok))
+
+pub returns-clause-named : goal.returns-clause-named
+returns-clause-named g c =
+    let s = g.Q.Quorums.system in
+    let w = c.self.inside.state in
+    call_named w c.call.new.self c.args.name c.args.op c.in_ok-id.id (bar_named s c.self.inside.founders w c.self.invariant c.args.name) c.in_ok-id.ensures.ok
