@@ -1,7 +1,6 @@
 -- Histories and replies of some requests more
 use Rattle.std.proofs.Common.{◌≡◌, ℕ, List, [], ◌∷◌, ◌++◌, Result, Ok, Err, IfOk, OnOk, OnErr, refl, sym, ap, ◌∙◌, subst, append_assoc, append-nil}
 use Rattle.std.proofs.lemmas.List.{map-append}
-use Rattle.rambo_names.specs.Names.{NameSet}
 use Rattle.rambo_atomic.specs.declared.operation.Op.{Op}
 use Rattle.rambo_atomic.specs.declared.operation.Answer.{Answer}
 use Rattle.rambo_atomic.specs.declared.event.CallId.{CallId}
@@ -9,13 +8,12 @@ use Rattle.rambo_atomic.specs.declared.event.Event.{Event}
 use Rattle.rambo_atomic.specs.declared.event.Event.TheVariants as event
 use Rattle.rambo_resp.specs.declared.reply.Reply.{Reply}
 use Rattle.rambo_resp.specs.Replies.{reply_spelling}
-use Rattle.rambo_world.specs.Worlds.{WorldOf}
 use Rattle.rambo_local.specs.declared.request.Request.{Request}
 use Rattle.rambo_local.specs.declared.request.Request.TheVariants.{Says, Does}
 use Rattle.rambo_local.specs.Maps.{Map, no_values, after, answer_of}
 use Rattle.rambo_local.specs.Requests.{request_of}
 use Rattle.rambo_local.specs.Replies.{reply_to, after_one, after_all, replies, requests}
-use Rattle.rambo_local.specs.Calls.{id_at, Calls, IsHistory, BeginsHistory, history_of}
+use Rattle.rambo_local.specs.Calls.{id_at, Calls, IsHistory, BeginsHistory, IsOfRun}
 use Rattle.rambo_local.proofs.Histories.{right}
 
 pub calls-append : (name : ℕ) (m : Map) (qs rs : List Request) (es fs : List Event) → Calls name m qs es → Calls name (after_all m qs) rs fs → Calls name m (qs ++ rs) (es ++ fs)
@@ -66,12 +64,12 @@ module _ (name : ℕ) (qs : List Request) (h0 : List Event) (calls : IsHistory n
       (calls-append name no_values qs (Does o ∷ []) h0 (event.Call id o ∷ event.Answer id a ∷ []) calls
       (id.number, [], (λ i. event.Call (named i) o ∷ event.Answer (named i) (e i) ∷ []), refl))
 
-  pub answered_right : (new : WorldOf NameSet) (mid : List Event) (a : Answer) → mid ≡ h0 ++ event.Call id o ∷ [] → history_of new ≡ mid ++ event.Answer id a ∷ []
-      → (a ≡ answer_of (after_all no_values qs) o) × IsHistory name (qs ++ Does o ∷ []) (history_of new)
-  answered_right new mid a e f =
+  pub answered_right : (h mid : List Event) (a : Answer) → IsOfRun h → mid ≡ h0 ++ event.Call id o ∷ [] → h ≡ mid ++ event.Answer id a ∷ []
+      → (a ≡ answer_of (after_all no_values qs) o) × IsHistory name (qs ++ Does o ∷ []) h
+  answered_right h mid a ran e f =
       let is = f ∙ ap (λ l. l ++ event.Answer id a ∷ []) e ∙ append_assoc h0 (event.Call id o ∷ []) (event.Answer id a ∷ []) in
-      let mine = right new name qs h0 id o a calls is in
-      (mine, grown (history_of new) a mine is)
+      let mine = right h name qs h0 id o a ran calls is in
+      (mine, grown h a mine is)
 
   pub called_begins : (h : List Event) → h ≡ h0 ++ event.Call id o ∷ [] → BeginsHistory name (qs ++ Does o ∷ []) h
   called_begins h e =
@@ -91,9 +89,17 @@ pub on_err : {A E : Type 0} (r : Result A E) (P : Type 0) → P → OnErr r P
 on_err (Ok x) P p = tt
 on_err (Err e) P p = p
 
+pub on_ok : {A E : Type 0} (r : Result A E) (P : Type 0) → P → OnOk r P
+on_ok (Ok x) P p = p
+on_ok (Err e) P p = tt
+
 pub on_ok-from : {A E : Type 0} (r : Result A E) (P : A → Type 0) (Q : Type 0) → ((x : A) → P x → Q) → IfOk r P → OnOk r Q
 on_ok-from (Ok x) P Q f p = f x p
 on_ok-from (Err e) P Q f p = tt
+
+pub if_ok-and : {A E : Type 0} (r : Result A E) (P : A → Type 0) (Q : Type 0) → IfOk r P → OnOk r Q → IfOk r (λ x. Q × P x)
+if_ok-and (Ok x) P Q p q = (q, p)
+if_ok-and (Err e) P Q p q = tt
 
 pub on_ok-weaker : {A E : Type 0} (r : Result A E) (P Q : Type 0) → (P → Q) → OnOk r P → OnOk r Q
 on_ok-weaker (Ok x) P Q f p = f p

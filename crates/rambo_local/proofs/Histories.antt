@@ -14,6 +14,7 @@ use Rattle.rambo_node.specs.declared.effect.Effect.TheVariants as effect
 use Rattle.rambo_run.specs.declared.step.Step.{Step}
 use Rattle.rambo_run.specs.declared.step.Step.TheVariants as step
 use Rattle.rambo_run.specs.Worlds.{WorldState}
+use Rattle.rambo_run.specs.Runs.{run}
 use Rattle.rambo_run.specs.Steps.{refusal, turn}
 use Rattle.rambo_run.proofs.EveryRun.{is_atomic}
 use Rattle.rambo_run.proofs.NodeLists.{node_named}
@@ -23,8 +24,8 @@ use Rattle.rambo_local.proofs.RunSteps.{run-more}
 use Rattle.rambo_local.specs.declared.request.Request.{Request}
 use Rattle.rambo_local.specs.Maps.{no_values, answer_of}
 use Rattle.rambo_local.specs.Replies.{after_all}
-use Rattle.rambo_local.specs.Calls.{id_at, answered, history_of, IsHistory}
-use Rattle.rambo_local.proofs.Turns.{send_quiet, deliver_quiet, call_told, uncalled_told, advance_told}
+use Rattle.rambo_local.specs.Calls.{id_at, history_of, IsHistory, IsOfRun}
+use Rattle.rambo_local.proofs.Turns.{answered_by, send_quiet, deliver_quiet, call_told, uncalled_told, advance_told}
 use Rattle.rambo_local.proofs.WellFormed.{run_well_formed, no_history}
 use Rattle.rambo_local.proofs.Orders.{answer_right}
 
@@ -57,19 +58,12 @@ uncalled old new n o told accepted e is none =
 
 pub went_on : (old new : WorldOf NameSet) (id : CallId) (told : Effect NameSet) → refusal majorities (state majorities old) (step.Advance id) ≡ None
     → new ≡ record old { steps = old.steps ++ step.Advance id ∷ [] } → told ≡ (turn (state majorities old) (step.Advance id)).effect
-    → history_of new ≡ history_of old ++ answered id told
+    → history_of new ≡ history_of old ++ answered_by id told
 went_on old new id told accepted e is =
-    stepped old new (step.Advance id) accepted e ∙ advance_told (state majorities old) id ∙ ap (λ x. history_of old ++ answered id x) (sym is)
-
--- where it is done
-pub went_on_told : (first old new : WorldOf NameSet) (id : CallId) (r : Result (Effect NameSet) Refusal) → history_of old ≡ history_of first
-    → OnOk r (refusal majorities (state majorities old) (step.Advance id) ≡ None) → OnOk r (new ≡ record old { steps = old.steps ++ step.Advance id ∷ [] })
-    → IfOk r (λ e. e ≡ (turn (state majorities old) (step.Advance id)).effect) → IfOk r (λ e. history_of new ≡ history_of first ++ answered id e)
-went_on_told first old new id (Ok told) same accepted e is = went_on old new id told accepted e is ∙ ap (λ h. h ++ answered id told) same
-went_on_told first old new id (Err f) same accepted e is = tt
+    stepped old new (step.Advance id) accepted e ∙ advance_told (state majorities old) id ∙ ap (λ x. history_of old ++ answered_by id x) (sym is)
 
 -- no answer
-pub unanswered : (id : CallId) (e : Effect NameSet) → ((d : CallId) (a : Answer) → e ≡ effect.Answered d a → ⊥) → answered id e ≡ []
+pub unanswered : (id : CallId) (e : Effect NameSet) → ((d : CallId) (a : Answer) → e ≡ effect.Answered d a → ⊥) → answered_by id e ≡ []
 unanswered id (effect.Answered d a) none = absurd (none d a refl)
 unanswered id effect.Done none = refl
 unanswered id (effect.Called d) none = refl
@@ -82,9 +76,14 @@ unanswered id (effect.Decided n d) none = refl
 pub fresh_history : (w : WorldOf NameSet) → w.steps ≡ [] → history_of w ≡ []
 fresh_history w e = ap (λ ss. history_of (record { founders = w.founders; steps = ss })) e ∙ no_history majorities w.founders
 
+-- and it is that of a run
+pub of_run : (w : WorldOf NameSet) → IsOfRun (history_of w)
+of_run w = (w.founders, w.steps, refl)
+
 -- each answer is an ordinary map's
-pub right : (w : WorldOf NameSet) (name : ℕ) (qs : List Request) (h0 : List Event) (id : CallId) (o : Op) (a : Answer) → IsHistory name qs h0
-    → history_of w ≡ h0 ++ event.Call id o ∷ event.Answer id a ∷ [] → a ≡ answer_of (after_all no_values qs) o
-right w name qs h0 id o a calls is =
-    answer_right name qs h0 id o a (history_of w) calls is (run_well_formed majorities w.founders w.steps)
-    (λ key. (sequence_of (history_of w) (state majorities w).marks key, is_atomic majorities majorities_sound w.founders w.steps key))
+pub right : (h : List Event) (name : ℕ) (qs : List Request) (h0 : List Event) (id : CallId) (o : Op) (a : Answer) → IsOfRun h → IsHistory name qs h0
+    → h ≡ h0 ++ event.Call id o ∷ event.Answer id a ∷ [] → a ≡ answer_of (after_all no_values qs) o
+right h name qs h0 id o a ran calls is =
+    let w = run majorities ran.0 ran.1 in
+    answer_right name qs h0 id o a w.history calls (sym ran.2 ∙ is) (run_well_formed majorities ran.0 ran.1)
+    (λ key. (sequence_of w.history w.marks key, is_atomic majorities majorities_sound ran.0 ran.1 key))

@@ -4,5 +4,6 @@ pub mod Latest
 pub mod Orders
 pub mod Turns
 pub mod Histories
+pub mod Directs
 pub mod Gains
 pub mod Pieces

@@ -1,10 +1,12 @@
 -- What steps do to the history
-use Rattle.std.proofs.Common.{◌≡◌, ℕ, ◌+◌, [], ◌∷◌, ◌++◌, Option, None, Some, refl, sym, ap, ◌∙◌, append-nil}
+use Rattle.std.proofs.Common.{◌≡◌, ℕ, ◌+◌, List, [], ◌∷◌, ◌++◌, Option, None, Some, refl, sym, ap, ◌∙◌, append-nil}
 use Rattle.rambo_atomic.specs.declared.operation.Op.{Op}
 use Rattle.rambo_atomic.specs.declared.event.CallId.{CallId}
+use Rattle.rambo_atomic.specs.declared.event.Event.{Event}
 use Rattle.rambo_atomic.specs.declared.event.Event.TheVariants as event
 use Rattle.rambo_gossip.specs.declared.letter.Letter.{Letter}
 use Rattle.rambo_node.specs.declared.change.Change.TheVariants as change
+use Rattle.rambo_node.specs.declared.effect.Effect.{Effect}
 use Rattle.rambo_node.specs.declared.effect.Effect.TheVariants as effect
 use Rattle.rambo_calls.specs.declared.stage.Stage.{Stage}
 use Rattle.rambo_calls.specs.declared.stage.Stage.TheVariants.{Query, Propagation}
@@ -14,7 +16,17 @@ use Rattle.rambo_node.specs.Nodes.{NodeState, open_call}
 use Rattle.rambo_run.specs.declared.step.Step.TheVariants as step
 use Rattle.rambo_run.specs.Worlds.{WorldState, node_at, letter_at}
 use Rattle.rambo_run.specs.Steps.{delivery, turn_by, turn_at, turn_of, turn}
-use Rattle.rambo_local.specs.Calls.{id_at, answered}
+use Rattle.rambo_local.specs.Calls.{id_at}
+
+-- what a call that goes on adds to the history, by what it does
+abbrev pub answered_by : {Q : Type 0} → CallId → Effect Q → List Event
+answered_by id (effect.Answered d a) = event.Answer id a ∷ []
+answered_by id effect.Done = []
+answered_by id (effect.Called d) = []
+answered_by id (effect.Sent number) = []
+answered_by id effect.Moved = []
+answered_by id (effect.Collected n place) = []
+answered_by id (effect.Decided n d) = []
 
 module _ {Q : Type 0} (w : WorldState Q) where
   sent_by : (n to : ℕ) (x : Option (NodeState Q)) → (turn_at w n x (change.Send to)).world.history ≡ w.history
@@ -56,6 +68,19 @@ module _ {Q : Type 0} (w : WorldState Q) where
   unfolding turn
   call_told n o id named e = called_by n o id (node_at w n) refl named e
 
+  made_call : (n : ℕ) (o : Op) (id : CallId) (x : Option (NodeState Q)) → (turn_at w n x (change.Call o)).effect ≡ effect.Called id
+      → (turn_at w n x (change.Call o)).world.history ≡ w.history ++ event.Call id o ∷ []
+  unfolding made_by
+  made_call n o id None e = cc
+  made_call n o id (Some x) e =
+      let same : id_at x.name (x.made + 1) ≡ id = cc in
+      ap (λ i. w.history ++ event.Call i o ∷ []) same
+
+  -- what it puts into the history
+  pub call_made : (n : ℕ) (o : Op) (id : CallId) → (turn w (step.Call n o)).effect ≡ effect.Called id → (turn w (step.Call n o)).world.history ≡ w.history ++ event.Call id o ∷ []
+  unfolding turn
+  call_made n o id e = made_call n o id (node_at w n) e
+
   uncalled_by : (n : ℕ) (o : Op) (x : Option (NodeState Q)) → ((id : CallId) → (turn_at w n x (change.Call o)).effect ≡ effect.Called id → ⊥)
       → (turn_at w n x (change.Call o)).world.history ≡ w.history
   unfolding made_by
@@ -68,22 +93,22 @@ module _ {Q : Type 0} (w : WorldState Q) where
   uncalled_told n o none = uncalled_by n o (node_at w n) none
 
   stage_told : (n : ℕ) (x : NodeState Q) (id : CallId) (c : CallState Q) (g : Stage)
-      → (turn_by w n (stage_met x id c g)).world.history ≡ w.history ++ answered id (turn_by w n (stage_met x id c g)).effect
+      → (turn_by w n (stage_met x id c g)).world.history ≡ w.history ++ answered_by id (turn_by w n (stage_met x id c g)).effect
   stage_told n x id c Query = sym (append-nil w.history)
   stage_told n x id c (Propagation kept) = refl
 
   open_told : (n : ℕ) (x : NodeState Q) (id : CallId) (c : Option (CallState Q))
-      → (turn_by w n (advanced x id c)).world.history ≡ w.history ++ answered id (turn_by w n (advanced x id c)).effect
+      → (turn_by w n (advanced x id c)).world.history ≡ w.history ++ answered_by id (turn_by w n (advanced x id c)).effect
   open_told n x id None = sym (append-nil w.history)
   open_told n x id (Some c) = stage_told n x id c c.stage
 
   advanced_by : (id : CallId) (x : Option (NodeState Q))
-      → (turn_at w id.name x (change.Advance id)).world.history ≡ w.history ++ answered id (turn_at w id.name x (change.Advance id)).effect
+      → (turn_at w id.name x (change.Advance id)).world.history ≡ w.history ++ answered_by id (turn_at w id.name x (change.Advance id)).effect
   unfolding made_by
   advanced_by id None = sym (append-nil w.history)
   advanced_by id (Some x) = open_told id.name x id (open_call x id)
 
   -- a call that goes on: its answer, if it has one
-  pub advance_told : (id : CallId) → (turn w (step.Advance id)).world.history ≡ w.history ++ answered id (turn w (step.Advance id)).effect
+  pub advance_told : (id : CallId) → (turn w (step.Advance id)).world.history ≡ w.history ++ answered_by id (turn w (step.Advance id)).effect
   unfolding turn
   advance_told id = advanced_by id (node_at w id.name)

@@ -1,13 +1,14 @@
 -- The history of one client's requests
-use Rattle.std.specs.Prelude.{◌≡◌, ℕ, List, [], ◌∷◌, ◌++◌, slice_index}
+use Rattle.std.specs.Prelude.{◌≡◌, ℕ, List, [], ◌∷◌, ◌++◌, Option, None, Some, slice_index}
+use Rattle.rambo_atomic.specs.declared.operation.Answer.{Answer}
 use Rattle.rambo_atomic.specs.declared.event.CallId.{CallId}
 use Rattle.rambo_atomic.specs.declared.event.Event.{Event}
 use Rattle.rambo_atomic.specs.declared.event.Event.TheVariants as event
 use Rattle.rambo_names.specs.Names.{NameSet, names}
 use Rattle.rambo_names.specs.Quorums.{majorities}
-use Rattle.rambo_node.specs.declared.effect.Effect.{Effect}
-use Rattle.rambo_node.specs.declared.effect.Effect.TheVariants as effect
-use Rattle.rambo_world.specs.Worlds.{WorldOf, state}
+use Rattle.rambo_run.specs.declared.step.Step.{Step}
+use Rattle.rambo_run.specs.Runs.{run}
+use Rattle.rambo_world.specs.Worlds.{RunningOf, WorldOf, state}
 use Rattle.rambo_local.specs.declared.request.Request.{Request}
 use Rattle.rambo_local.specs.declared.request.Request.TheVariants.{Says, Does}
 use Rattle.rambo_local.specs.Maps.{Map, no_values, after, answer_of}
@@ -36,16 +37,19 @@ BeginsHistory name qs history = (more : List Event) × Calls name no_values qs (
 abbrev pub history_of : WorldOf NameSet → List Event
 history_of w = (state majorities w).history
 
+-- and of one that goes on with no letters
+abbrev pub direct_history : RunningOf NameSet → List Event
+direct_history d = d.state.history
+
+-- a history of some run over majorities
+abbrev pub IsOfRun : List Event → Type 0
+IsOfRun h = (founders : NameSet) × (steps : List (Step NameSet)) × (h ≡ (run majorities founders steps).history)
+
 -- the lowest name of a set
 abbrev pub lowest : NameSet → ℕ
 lowest s = slice_index (names s) 0
 
 -- what a call that goes on adds to the history
-abbrev pub answered : {Q : Type 0} → CallId → Effect Q → List Event
-answered id (effect.Answered d a) = event.Answer id a ∷ []
-answered id effect.Done = []
-answered id (effect.Called d) = []
-answered id (effect.Sent number) = []
-answered id effect.Moved = []
-answered id (effect.Collected n place) = []
-answered id (effect.Decided n d) = []
+abbrev pub answered : CallId → Option Answer → List Event
+answered id None = []
+answered id (Some a) = event.Answer id a ∷ []

@@ -7,10 +7,11 @@
 #![tactic(auto)]
 
 mod client;
+mod cluster;
 mod fault;
 mod request;
 mod serving;
 
-pub use client::Host;
+pub use cluster::Host;
 pub use fault::LocalFault;
 pub use serving::{local, local_on};

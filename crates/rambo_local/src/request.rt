@@ -1,7 +1,6 @@
 //! What a command asks for.
-ghost use Rattle.std.specs.Prelude.{◌≡◌, map, IfOk, IfErr};
+ghost use Rattle.std.specs.Prelude.{◌≡◌, IfOk, IfErr};
 ghost use Rattle.std.specs.Str.{str_eq_ignore_ascii_case};
-ghost use Rattle.rambo_resp.specs.Items.{bytes_of};
 ghost use Rattle.rambo_local.specs.Requests as spec;
 
 use rambo_atomic::Op;
@@ -37,8 +36,8 @@ impl Request {
 }
 
 // What a command of this name asks for.
-fn named(alloc: Global, name: &[u8], words: &[Vec<u8>]) -> Result<Request, Refusal>
-    ensures ok { IfOk result (λ q. q ≡ spec.named name.now (map bytes_of words.now)) }
+fn named(alloc: Global, name: &[u8], words: &[Bytes]) -> Result<Request, Refusal>
+    ensures ok { IfOk result (λ q. q ≡ spec.named name.now words.now) }
     ensures refused { IfErr result (λ r. r ≡ Refusal.OutOfMemory) }
 {
     if is_word(name, b"PING") {
@@ -60,38 +59,35 @@ fn is_word(name: &[u8], word: &[u8]) -> bool
 }
 
 // What `PING` asks for.
-fn ping(alloc: Global, words: &[Vec<u8>]) -> Result<Request, Refusal>
-    ensures ok { IfOk result (λ q. q ≡ spec.ping (map bytes_of words.now)) }
+fn ping(alloc: Global, words: &[Bytes]) -> Result<Request, Refusal>
+    ensures ok { IfOk result (λ q. q ≡ spec.ping words.now) }
     ensures refused { IfErr result (λ r. r ≡ Refusal.OutOfMemory) }
 {
     match words {
         [] => Ok(Request::Says(Reply::Pong)),
-        [word] => Ok(Request::Says(Reply::Bulk(bytes(alloc, word)?))),
+        [word] => Ok(Request::Says(Reply::Bulk(word.clone()?))),
         _ => wrong_count(alloc),
     }
 }
 
 // What `GET` asks for.
-fn get(alloc: Global, words: &[Vec<u8>]) -> Result<Request, Refusal>
-    ensures ok { IfOk result (λ q. q ≡ spec.get (map bytes_of words.now)) }
+fn get(alloc: Global, words: &[Bytes]) -> Result<Request, Refusal>
+    ensures ok { IfOk result (λ q. q ≡ spec.get words.now) }
     ensures refused { IfErr result (λ r. r ≡ Refusal.OutOfMemory) }
 {
     match words {
-        [key] => asks(alloc, Op::Get(bytes(alloc, key)?)),
+        [key] => asks(alloc, Op::Get(key.clone()?)),
         _ => wrong_count(alloc),
     }
 }
 
 // What `SET` asks for.
-fn set(alloc: Global, words: &[Vec<u8>]) -> Result<Request, Refusal>
-    ensures ok { IfOk result (λ q. q ≡ spec.set (map bytes_of words.now)) }
+fn set(alloc: Global, words: &[Bytes]) -> Result<Request, Refusal>
+    ensures ok { IfOk result (λ q. q ≡ spec.set words.now) }
     ensures refused { IfErr result (λ r. r ≡ Refusal.OutOfMemory) }
 {
     match words {
-        [key, value] => {
-            let key = bytes(alloc, key)?;
-            asks(alloc, Op::Set(key, bytes(alloc, value)?))
-        }
+        [key, value] => { asks(alloc, Op::Set(key.clone()?, value.clone()?)) }
         _ => wrong_count(alloc),
     }
 }
@@ -120,12 +116,4 @@ fn fails(alloc: Global, words: &[u8]) -> Result<Request, Refusal>
     ensures refused { IfErr result (λ r. r ≡ Refusal.OutOfMemory) }
 {
     Ok(Request::Says(Reply::Error(Bytes::from_slice(alloc, words)?)))
-}
-
-// A copy of an item.
-fn bytes(alloc: Global, item: &Vec<u8>) -> Result<Bytes, Refusal>
-    ensures ok { IfOk result (λ b. b ≡ bytes_of item.now) }
-    ensures refused { IfErr result (λ r. r ≡ Refusal.OutOfMemory) }
-{
-    Bytes::from_slice(alloc, item.as_slice())
 }

@@ -11,16 +11,16 @@ ghost use Rattle.rambo_local.specs.Replies.{telling, reply_to, after_all, replie
 ghost use Rattle.rambo_local.specs.Requests.{request_of};
 ghost use Rattle.rambo_local.specs.Talks.{Answers, BreaksOff, IsTalk, Served, Stopped, ServesAt, StopsAt, fault_in, is_faulty};
 
-use crate::client::{Client, Host, founders_of};
+use crate::client::{Client, founders_of};
+use crate::cluster::{Cluster, Host, Local};
 use crate::fault::LocalFault;
 use crate::request::Request;
 use bytes::BytesMut;
 use itoa::Buffer;
 use rambo_atomic::{Answer, Sink, Source, write_all};
-use rambo_names::{Bytes, Majority, Refusal};
+use rambo_names::{Bytes, Majority, Quorums, Refusal};
 use rambo_resp::{Command, Decoder, Fault, Reply, write_reply};
 use rambo_tag::Registers;
-use rambo_world::World;
 use std::alloc::Global;
 use std::hash::{BuildHasherDefault, FoldHasher};
 
@@ -50,8 +50,11 @@ pub fn local<R: Source, W: Sink>(
     ensures writes { IfErr result (λ f. W.failures writer.new ≡ writes_failed f (W.failures writer.old)) }
 {
     let registers = Registers::new(alloc, BuildHasherDefault::<FoldHasher>::new());
-    let mut world = World::new(alloc, founders, &registers)?;
-    local_on(alloc, &mut world, reader, writer)
+    let mut cluster = Local::new(alloc, founders, &registers)?;
+    let Some(client) = Client::new(founders.members()) else {
+        return Err(LocalFault::Memory);
+    };
+    serve(&client, alloc, &mut cluster, reader, writer)
 }
 
 /// The same on a world just made, whose history is then that of the calls: of each `GET` and `SET` that isn't refused
@@ -82,16 +85,16 @@ pub fn local_on<R: Source, W: Sink>(
 }
 
 // Serves a client until its input ends or has a fault.
-fn serve<R: Source, W: Sink>(
+fn serve<C: Cluster, R: Source, W: Sink>(
     client: &Client,
     alloc: Global,
-    world: &mut Host,
+    cluster: &mut C,
     reader: &mut R,
     writer: &mut W,
 ) -> Result<(), LocalFault>
-    requires { history_of world.old ≡ [] }
-    ensures ok { OnOk result (ServesAt client.now.name (R.left reader.old) (R.left reader.new) (W.taken writer.old) (W.taken writer.new) (history_of world.new)) }
-    ensures err { OnErr result (StopsAt client.now.name (R.left reader.old) (R.left reader.new) (W.taken writer.old) (W.taken writer.new) (history_of world.new)) }
+    requires { C.history cluster.old ≡ [] }
+    ensures ok { OnOk result (ServesAt client.now.name (R.left reader.old) (R.left reader.new) (W.taken writer.old) (W.taken writer.new) (C.history cluster.new)) }
+    ensures err { OnErr result (StopsAt client.now.name (R.left reader.old) (R.left reader.new) (W.taken writer.old) (W.taken writer.new) (C.history cluster.new)) }
     ensures fine_reader { OnOk result (R.failures reader.new ≡ R.failures reader.old) }
     ensures fine_writer { OnOk result (W.failures writer.new ≡ W.failures writer.old) }
     ensures reads { IfErr result (λ f. R.failures reader.new ≡ reads_failed f (R.failures reader.old)) }
@@ -111,7 +114,7 @@ fn serve<R: Source, W: Sink>(
         let over = take(
             client,
             alloc,
-            world,
+            cluster,
             &mut decoder,
             &piece[..count],
             &mut out,
@@ -125,26 +128,26 @@ fn serve<R: Source, W: Sink>(
 
 // Takes a piece of the input, carries out the commands that are whole with it, and puts the replies to them, and to a
 // fault behind them, into `out`. Tells whether there is a fault.
-fn take(
+fn take<C: Cluster>(
     client: &Client,
     alloc: Global,
-    world: &mut Host,
+    cluster: &mut C,
     decoder: &mut Decoder,
     piece: &[u8],
     out: &mut BytesMut,
 ) -> Result<bool, LocalFault>
     ensures ok { (stream : List ℕ) (commands : List (List (List ℕ)))
-        → IsTalk client.now.name decoder.old (history_of world.old) stream commands
-        → OnOk result (Answers client.now.name decoder.new (history_of world.new) (stream ++ piece.now) commands out.new.items) }
+        → IsTalk client.now.name decoder.old (C.history cluster.old) stream commands
+        → OnOk result (Answers client.now.name decoder.new (C.history cluster.new) (stream ++ piece.now) commands out.new.items) }
     ensures err { (stream : List ℕ) (commands : List (List (List ℕ)))
-        → IsTalk client.now.name decoder.old (history_of world.old) stream commands
-        → OnErr result (BreaksOff client.now.name (history_of world.new) (stream ++ piece.now) commands) }
+        → IsTalk client.now.name decoder.old (C.history cluster.old) stream commands
+        → OnErr result (BreaksOff client.now.name (C.history cluster.new) (stream ++ piece.now) commands) }
     ensures over { IfOk result (λ over. over ≡ is_faulty decoder.new.ending) }
     ensures refused { IfErr result (λ f. f ≡ LocalFault.Memory) }
 {
     feed(decoder, piece)?;
     out.clear();
-    match answer_all(client, alloc, world, decoder, out)? {
+    match answer_all(client, alloc, cluster, decoder, out)? {
         Some(fault) => {
             write_fault(alloc, fault, out)?;
             Ok(true)
@@ -168,26 +171,26 @@ fn feed(decoder: &mut Decoder, piece: &[u8]) -> Result<(), LocalFault>
 
 // Carries out the whole commands of a decoder, and appends the replies to them. Tells the fault behind them, if there
 // is one.
-fn answer_all(
+fn answer_all<C: Cluster>(
     client: &Client,
     alloc: Global,
-    world: &mut Host,
+    cluster: &mut C,
     decoder: &mut Decoder,
     out: &mut BytesMut,
 ) -> Result<Option<Fault>, LocalFault>
-    ensures ok { (qs : List AnyRequest) → IsHistory client.now.name qs (history_of world.old)
-        → OnOk result (IsHistory client.now.name (qs ++ requests decoder.old.waiting) (history_of world.new)) }
-    ensures written { (qs : List AnyRequest) → IsHistory client.now.name qs (history_of world.old)
+    ensures ok { (qs : List AnyRequest) → IsHistory client.now.name qs (C.history cluster.old)
+        → OnOk result (IsHistory client.now.name (qs ++ requests decoder.old.waiting) (C.history cluster.new)) }
+    ensures written { (qs : List AnyRequest) → IsHistory client.now.name qs (C.history cluster.old)
         → OnOk result (out.new.items ≡ out.old.items ++ replies (after_all no_values qs) (requests decoder.old.waiting)) }
-    ensures err { (qs : List AnyRequest) → IsHistory client.now.name qs (history_of world.old)
-        → OnErr result (BeginsHistory client.now.name (qs ++ requests decoder.old.waiting) (history_of world.new)) }
+    ensures err { (qs : List AnyRequest) → IsHistory client.now.name qs (C.history cluster.old)
+        → OnErr result (BeginsHistory client.now.name (qs ++ requests decoder.old.waiting) (C.history cluster.new)) }
     ensures given { OnOk result (decoder.new ≡ record decoder.old { waiting = [] }) }
     ensures fault { IfOk result (λ fault. fault ≡ fault_in decoder.old.ending) }
     ensures refused { IfErr result (λ f. f ≡ LocalFault.Memory) }
 {
     loop {
         match decoder.next() {
-            Ok(Some(command)) => answer(client, alloc, world, &command, out)?,
+            Ok(Some(command)) => answer(client, alloc, cluster, &command, out)?,
             Ok(None) => return Ok(None),
             Err(fault) => return Ok(Some(fault)),
         }
@@ -195,43 +198,43 @@ fn answer_all(
 }
 
 // Carries out a command, and appends the reply to it.
-fn answer(
+fn answer<C: Cluster>(
     client: &Client,
     alloc: Global,
-    world: &mut Host,
+    cluster: &mut C,
     command: &Command,
     out: &mut BytesMut,
 ) -> Result<(), LocalFault>
-    ensures ok { (qs : List AnyRequest) → IsHistory client.now.name qs (history_of world.old)
-        → OnOk result (IsHistory client.now.name (qs ++ request_of command.now ∷ []) (history_of world.new)) }
-    ensures written { (qs : List AnyRequest) → IsHistory client.now.name qs (history_of world.old)
+    ensures ok { (qs : List AnyRequest) → IsHistory client.now.name qs (C.history cluster.old)
+        → OnOk result (IsHistory client.now.name (qs ++ request_of command.now ∷ []) (C.history cluster.new)) }
+    ensures written { (qs : List AnyRequest) → IsHistory client.now.name qs (C.history cluster.old)
         → OnOk result (out.new.items ≡ out.old.items ++ reply_spelling (reply_to (after_all no_values qs) (request_of command.now))) }
-    ensures err { (qs : List AnyRequest) → IsHistory client.now.name qs (history_of world.old)
-        → OnErr result (BeginsHistory client.now.name (qs ++ request_of command.now ∷ []) (history_of world.new)) }
+    ensures err { (qs : List AnyRequest) → IsHistory client.now.name qs (C.history cluster.old)
+        → OnErr result (BeginsHistory client.now.name (qs ++ request_of command.now ∷ []) (C.history cluster.new)) }
     ensures refused { IfErr result (λ f. f ≡ LocalFault.Memory) }
 {
-    let reply = reply_of(client, alloc, world, command)?;
+    let reply = reply_of(client, alloc, cluster, command)?;
     write(&reply, out)
 }
 
 // Carries out a command, and gives the reply to it.
-fn reply_of(
+fn reply_of<C: Cluster>(
     client: &Client,
     alloc: Global,
-    world: &mut Host,
+    cluster: &mut C,
     command: &Command,
 ) -> Result<Reply, Refusal>
-    ensures reply { (qs : List AnyRequest) → IsHistory client.now.name qs (history_of world.old)
+    ensures reply { (qs : List AnyRequest) → IsHistory client.now.name qs (C.history cluster.old)
         → IfOk result (λ r. r ≡ reply_to (after_all no_values qs) (request_of command.now)) }
-    ensures ok { (qs : List AnyRequest) → IsHistory client.now.name qs (history_of world.old)
-        → OnOk result (IsHistory client.now.name (qs ++ request_of command.now ∷ []) (history_of world.new)) }
-    ensures err { (qs : List AnyRequest) → IsHistory client.now.name qs (history_of world.old)
-        → OnErr result (BeginsHistory client.now.name (qs ++ request_of command.now ∷ []) (history_of world.new)) }
+    ensures ok { (qs : List AnyRequest) → IsHistory client.now.name qs (C.history cluster.old)
+        → OnOk result (IsHistory client.now.name (qs ++ request_of command.now ∷ []) (C.history cluster.new)) }
+    ensures err { (qs : List AnyRequest) → IsHistory client.now.name qs (C.history cluster.old)
+        → OnErr result (BeginsHistory client.now.name (qs ++ request_of command.now ∷ []) (C.history cluster.new)) }
 {
     match Request::of(alloc, command)? {
         Request::Says(reply) => Ok(reply),
         Request::Does(op) => {
-            let answer = client.operate(world, op)?;
+            let answer = client.operate(cluster, op)?;
             Ok(told(answer))
         }
     }

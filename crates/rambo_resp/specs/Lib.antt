@@ -1,7 +1,6 @@
 pub mod Decoders
 pub mod Endings
 pub mod Faults
-pub mod Items
 pub mod Laws
 pub mod Progresses
 pub mod Replies

@@ -1,8 +1,8 @@
 //! Commands.
-ghost use Rattle.std.specs.Prelude.{◌≡◌, ◌++◌, ◌∷◌, [], map, length, nat_eq, IfOk, IfErr, OnOk, OnErr};
-ghost use Rattle.rambo_resp.specs.Items.{bytes_of};
+ghost use Rattle.std.specs.Prelude.{◌≡◌, ◌++◌, ◌∷◌, [], length, nat_eq, IfOk, IfErr, OnOk, OnErr};
 
 use crate::fault::Fault;
+use rambo_names::Bytes;
 use std::alloc::Global;
 use std::marker::Model;
 
@@ -11,17 +11,15 @@ use std::marker::Model;
 /// A decoder gives commands of 1 to 128 items of at most 4,096 bytes.
 #[derive(Drop, Debug)]
 pub struct Command {
-    items: Vec<Vec<u8>>,
+    items: Vec<Bytes>,
 }
 
 impl Model for Command {
-    ghost use Rattle.std.specs.Prelude.{List, ℕ, map};
+    ghost use Rattle.std.specs.Prelude.{List, ℕ};
 
     ghost Value = { List (List ℕ) };
 
-    ghost use Rattle.rambo_resp.specs.Items.{bytes_of};
-
-    ghost view = { λ c. map bytes_of c.items.items };
+    ghost view = { λ c. c.items.items };
 }
 
 impl Command {
@@ -49,8 +47,8 @@ impl Command {
     /// Adds an item.
     ///
     /// `OutOfMemory` where there is no room for it.
-    pub(crate) fn push(&mut self, item: Vec<u8>) -> Result<(), Fault>
-        ensures ok { OnOk result (self.new ≡ self.old ++ item.items ∷ []) }
+    pub(crate) fn push(&mut self, item: Bytes) -> Result<(), Fault>
+        ensures ok { OnOk result (self.new ≡ self.old ++ item ∷ []) }
         ensures err { OnErr result (self.new ≡ self.old) }
         ensures refused { IfErr result (λ f. f ≡ Fault.OutOfMemory) }
     {
@@ -73,15 +71,15 @@ impl Command {
     }
 
     /// The items.
-    pub fn items(&self) -> &[Vec<u8>]
-        ensures { map bytes_of result.now ≡ self.now }
+    pub fn items(&self) -> &[Bytes]
+        ensures { result.now ≡ self.now }
     {
         self.items.as_slice()
     }
 
     /// The items, taken out.
-    pub fn into_items(self) -> Vec<Vec<u8>>
-        ensures { map bytes_of result.items ≡ self }
+    pub fn into_items(self) -> Vec<Bytes>
+        ensures { result.items ≡ self }
     {
         self.items
     }

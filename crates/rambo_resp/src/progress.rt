@@ -6,6 +6,7 @@ ghost use Rattle.rambo_resp.specs.Progresses.{ProgressState, running, run, step,
 use crate::awaited::{Awaited, after, fault_of};
 use crate::command::Command;
 use crate::fault::Fault;
+use rambo_names::Bytes;
 use std::alloc::Global;
 use std::collections::VecDeque;
 use std::marker::Model;
@@ -133,7 +134,8 @@ impl Progress {
         match self.awaited {
             Awaited::CountFeed(n) => self.items = Command::with_capacity(self.alloc, n)?,
             Awaited::LengthFeed(_, n) => {
-                self.item = Vec::with_capacity(self.alloc, usize::from(n))?;
+                self.item.reserve(usize::from(n))?;
+                self.item.clear();
             }
             Awaited::ItemFeed(left) => self.end_item(left)?,
             _ => {}
@@ -149,12 +151,27 @@ impl Progress {
         ensures err { OnErr result (self.new.waiting ≡ self.old.waiting) }
         ensures refused { IfErr result (λ f. f ≡ Fault.OutOfMemory) }
     {
-        let item = mem::replace(&mut self.item, Vec::new(self.alloc));
-        self.items.push(item)?;
+        self.items.push(taken(&mut self.item)?)?;
         if left <= 1 {
             let command = mem::replace(&mut self.items, Command::new(self.alloc));
             self.waiting.push_back(command)?;
         }
         Ok(())
     }
+}
+
+// The bytes of an item, which are taken out. The room of few bytes stays for the next item.
+fn taken(item: &mut Vec<u8>) -> Result<Bytes, Fault>
+    ensures bytes { IfOk result (λ b. b ≡ item.old.items) }
+    ensures none { OnOk result (item.new.items ≡ []) }
+    ensures refused { IfErr result (λ f. f ≡ Fault.OutOfMemory) }
+{
+    let alloc = *item.allocator();
+    if item.len() > Bytes::SHORT {
+        let all = mem::replace(item, Vec::new(alloc));
+        return Bytes::from_vec(all).map_err(|_| Fault::OutOfMemory);
+    }
+    let bytes = Bytes::from_slice(alloc, item.as_slice()).map_err(|_| Fault::OutOfMemory)?;
+    item.clear();
+    Ok(bytes)
 }

@@ -34,7 +34,7 @@ module _ {Q : Type 0} (x : NodeState Q) where
   again_quiet (Some c) = refl
 
   -- only a change that sends gives a letter
-  quiet_made : (c : Change Q) → sends c ≡ false → (made_by x c).letter ≡ None
+  pub quiet_made : (c : Change Q) → sends c ≡ false → (made_by x c).letter ≡ None
   unfolding made_by
   quiet_made (change.Join contacts) e = refl
   quiet_made (change.Call o) e = refl

@@ -13,3 +13,7 @@ pub mod Longer
 mod Starting
 mod Reached
 mod Single
+mod Cutting
+mod Meeting
+mod Letterless
+mod Passing

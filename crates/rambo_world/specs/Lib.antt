@@ -3,3 +3,4 @@ pub mod Logging
 pub mod Worlds
 pub mod Deliveries
 pub mod Told
+pub mod Direct

@@ -1,5 +1,5 @@
 //! Letters are sent and delivered.
-ghost use Rattle.std.specs.Prelude.{◌≡◌, None, Some, OnOk, OnErr, IfOk, IfErr};
+ghost use Rattle.std.specs.Prelude.{◌≡◌, ◌≢◌, [], None, Some, OnOk, OnErr, IfOk, IfErr};
 ghost use Rattle.rambo_names.specs.Refusals.{least};
 ghost use Rattle.rambo_node.specs.declared.effect.Effect.TheVariants as effect;
 ghost use Rattle.rambo_run.specs.Worlds.{letter_at};
@@ -7,6 +7,7 @@ ghost use Rattle.rambo_run.specs.Steps.{causes_of, delivery, refusal, turn};
 ghost use Rattle.rambo_run.specs.declared.step.Step.TheVariants as step;
 ghost use Rattle.rambo_world.specs.Kept.{IsKept};
 ghost use Rattle.rambo_world.specs.Deliveries.{MayHear, IsDelivered};
+ghost use Rattle.rambo_world.specs.Direct.{pass_refusal, passed, MayPass, IsPassed};
 
 use crate::nodes::Nodes;
 use crate::state::State;
@@ -51,6 +52,50 @@ impl<Q: Quorums, S: Replica> State<Q, S> {
         hear(&mut self.nodes, &self.letters, &mut self.merged, number)?;
         Ok(())
     }
+
+    // Whether a letter may pass from one node to another, where there is none.
+    pub(crate) fn may_pass(&self, from: Name, to: Name) -> Result<(), Refusal>
+        requires { self.now.letters ≡ [] }
+        ensures ok { OnOk result (pass_refusal Q.system self.now from to ≡ None) }
+        ensures refused { IfErr result (λ r. pass_refusal Q.system self.now from to ≡ Some r) }
+    {
+        let sender = self.nodes.node(from);
+        sender.may_send(to)?;
+        self.nodes
+            .node(to)
+            .may_hear_outlined(&sender.outline_for(to))
+    }
+
+    // A letter passes from one node to another, and isn't kept.
+    pub(crate) fn pass(&mut self, from: Name, to: Name) -> Result<(), Refusal>
+        requires none { self.old.letters ≡ [] }
+        requires accepted { pass_refusal Q.system self.old from to ≡ None }
+        ensures ok { OnOk result (self.new ≡ passed Q.system self.old from to) }
+        ensures err { OnErr result (self.new ≡ self.old) }
+        ensures refused { IfErr result (λ r. r ≡ Refusal.OutOfMemory) }
+    {
+        pass(&mut self.nodes, &mut self.merged, from, to)
+    }
+}
+
+// A node hears the letter that another has for it: of that node's log what it hasn't merged before.
+fn pass<Q: Quorums, S: Replica>(
+    nodes: &mut Nodes<Q, S>,
+    merged: &mut MergedCounts,
+    from: Name,
+    to: Name,
+) -> Result<(), Refusal>
+    requires apart { from ≢ to }
+    requires accepted { MayPass Q.system nodes.old from to }
+    requires kept { IsKept nodes.old [] merged.old }
+    ensures kept { IsKept nodes.new [] merged.new }
+    ensures ok { OnOk result (IsPassed nodes.old nodes.new from to) }
+    ensures err { OnErr result (nodes.new ≡ nodes.old) }
+    ensures refused { IfErr result (λ r. r ≡ Refusal.OutOfMemory) }
+{
+    let told = nodes.pass(from, to, merged.of(to, from))?;
+    merged.raise(to, from, told);
+    Ok(())
 }
 
 // The addressee of the letter of a number, if it was sent, hears it: of its sender's log what it hasn't merged before.

@@ -1,6 +1,7 @@
 //! The world: 64 nodes, the letters between them, and whole runs.
 #![tactic(auto)]
 
+mod direct;
 mod letter_steps;
 mod node_steps;
 mod nodes;
@@ -9,6 +10,7 @@ mod runs;
 mod state;
 mod world;
 
+pub use direct::Direct;
 pub use rambo_run::{NodeMap, Outcome, Step};
 pub use rambo_sequence::KeySequence;
 pub use running::Running;

@@ -1,5 +1,5 @@
 //! The nodes of a world, and the logs of their copies.
-ghost use Rattle.std.specs.Prelude.{◌≡◌, ◌+◌, ◌-◌, ◌<◌, ◌≤◌, List, ℕ, None, Some, length, true, OnOk, OnErr, IfOk, IfErr};
+ghost use Rattle.std.specs.Prelude.{◌≡◌, ◌≢◌, ◌+◌, ◌-◌, ◌<◌, ◌≤◌, max, List, ℕ, None, Some, length, true, slice_get, slice_set, OnOk, OnErr, IfOk, IfErr};
 ghost use Rattle.std.specs.Vec.{vec_len, vec_capacity};
 ghost use Rattle.rambo_names.specs.Names.{IsName, rising};
 ghost use Rattle.rambo_names.specs.Refusals.{least};
@@ -10,7 +10,7 @@ ghost use Rattle.rambo_atomic.specs.declared.operation.Op.TheVariants as asked;
 ghost use Rattle.rambo_calls.specs.Calls.{query_in};
 ghost use Rattle.rambo_gossip.specs.Letters.{letter_with};
 ghost use Rattle.rambo_logs.specs.NodeLogs.{part, extended};
-ghost use Rattle.rambo_node.specs.Changes.{made_by};
+ghost use Rattle.rambo_node.specs.Changes.{refusal_of, made_by};
 ghost use Rattle.rambo_node.specs.Nodes.{NodeState, first_node, open_call};
 ghost use Rattle.rambo_node.specs.Notes.{noted, MayStand};
 ghost use Rattle.rambo_run.specs.Runs.{maps_of};
@@ -18,6 +18,7 @@ ghost use Rattle.rambo_run.specs.Steps.{causes_at};
 ghost use Rattle.rambo_run.specs.Worlds.{first_nodes};
 ghost use Rattle.rambo_world.specs.Kept.{KeptNode, states_of, state_at, kept_at, log_at, moved, outline, AllGrow, fresh_nodes, brought};
 ghost use Rattle.rambo_world.specs.Logging.{listed, keeps_copies};
+ghost use Rattle.rambo_world.specs.Direct.{outlined_for, brought_from};
 
 use rambo_atomic::{CallId, History, Op};
 use rambo_config_map::Places;
@@ -28,7 +29,7 @@ use rambo_names::{Name, Quorums, Refusal};
 use rambo_node::{Change, Deed, Node};
 use rambo_run::NodeMap;
 use rambo_sequence::Mark;
-use rambo_tag::{KeyedVersion, Replica};
+use rambo_tag::{KeyedVersion, Pack, Replica};
 use std::alloc::Global;
 use std::marker::Model;
 
@@ -161,6 +162,27 @@ impl<Q: Quorums, S: Replica> Nodes<Q, S> {
         Ok(())
     }
 
+    // A node hears the letter that another has for it, which isn't refused: of the copies that it tells of, those from
+    // a place on that the node lacks. Tells how many the letter tells of.
+    pub(crate) fn pass(&mut self, from: Name, to: Name, start: usize) -> Result<usize, Refusal>
+        requires apart { from ≢ to }
+        requires accepted { (k : KeptNode Q) → kept_at self.old from ≡ Some k → least (causes_at Q.system (state_at self.old to) (Change.Deliver (outline k to).letter)) ≡ None }
+        ensures told { IfOk result (λ told. (k : KeptNode Q) → kept_at self.old from ≡ Some k → told ≡ (outline k to).told) }
+        ensures nodes { OnOk result ((k : KeptNode Q) → kept_at self.old from ≡ Some k
+            → states_of self.new ≡ moved self.old to (λ x. (made_by x (Change.Deliver (letter_with (outline k to).letter (brought_from self.old to from start (max start (outline k to).told))))).node)) }
+        ensures enough { OnOk result ((k : KeptNode Q) → kept_at self.old from ≡ Some k
+            → joined (greatest_of (log_at self.old to)) (brought_from self.old to from start (max start (outline k to).told)) ≡ joined (greatest_of (log_at self.old to)) (greatest_of (part (log_at self.old from) start (max start (outline k to).told)))) }
+        ensures refused { IfErr result (λ r. r ≡ Refusal.OutOfMemory) }
+        ensures err { OnErr result (self.new ≡ self.old) }
+        ensures grow { AllGrow self.old self.new }
+    {
+        let told = self.outline(from, to).told;
+        self.logs.bring(to, from, start, start.max(told))?;
+        hear_of(self.list.as_mut_slice(), from, to, self.logs.brought())?;
+        self.logs.take_on(to);
+        Ok(told)
+    }
+
     // The letter of a node to another, as it is kept: a joining node tells of no copy.
     pub(crate) fn outline(&self, from: Name, to: Name) -> Outline<'_, Q>
         ensures sent { (k : KeptNode Q) → kept_at self.now from ≡ Some k → result ≡ outline k to }
@@ -177,6 +199,47 @@ impl<Q: Quorums, S: Replica> Nodes<Q, S> {
             told,
         }
     }
+}
+
+// The node of a name hears the letter that another has for it, which isn't refused, with these copies.
+fn hear_of<Q: Quorums, S: Replica>(
+    nodes: &mut [Node<Q, S>],
+    from: Name,
+    to: Name,
+    copies: &Pack,
+) -> Result<(), Refusal>
+    requires count { length nodes.old ≡ 64 }
+    requires apart { from ≢ to }
+    requires accepted { (x y : NodeState Q) → slice_get nodes.old (from - 1) ≡ Some x → slice_get nodes.old (to - 1) ≡ Some y
+        → refusal_of Q.system y (Change.Deliver (outlined_for x to)) ≡ None }
+    ensures ok { (x y : NodeState Q) → slice_get nodes.old (from - 1) ≡ Some x → slice_get nodes.old (to - 1) ≡ Some y
+        → OnOk result (nodes.new ≡ slice_set nodes.old (to - 1) (made_by y (Change.Deliver (letter_with (outlined_for x to) copies.now))).node) }
+    ensures refused { IfErr result (λ r. r ≡ Refusal.OutOfMemory) }
+    ensures err { OnErr result (nodes.new ≡ nodes.old) }
+{
+    let (sender, addressee) = (place_of(from), place_of(to));
+    if sender < addressee {
+        let (front, back) = nodes.split_at_mut(addressee);
+        hear(&mut back[0], &front[sender], to, copies)
+    } else {
+        let (front, back) = nodes.split_at_mut(sender);
+        hear(&mut front[addressee], &back[0], to, copies)
+    }
+}
+
+// A node hears the letter that another has for it, which isn't refused, with these copies.
+fn hear<Q: Quorums, S: Replica>(
+    node: &mut Node<Q, S>,
+    sender: &Node<Q, S>,
+    to: Name,
+    copies: &Pack,
+) -> Result<(), Refusal>
+    requires { refusal_of Q.system node.old (Change.Deliver (outlined_for sender.now to)) ≡ None }
+    ensures node { OnOk result (node.new ≡ (made_by node.old (Change.Deliver (letter_with (outlined_for sender.now to) copies.now))).node) }
+    ensures refused { IfErr result (λ r. r ≡ Refusal.OutOfMemory) }
+    ensures err { OnErr result (node.new ≡ node.old) }
+{
+    node.hear_outlined(&sender.outline_for(to), copies)
 }
 
 // The node of a number before any step.

@@ -192,7 +192,7 @@ impl<Q: Quorums, S: Replica> Running<Q, S> {
 }
 
 // The answer that a call got as it went on, if it did.
-fn answer_got<Q: Quorums>(effect: Effect<Q>) -> Option<Answer>
+pub(crate) fn answer_got<Q: Quorums>(effect: Effect<Q>) -> Option<Answer>
     ensures { result ≡ answer_in effect }
 {
     match effect {

@@ -1,7 +1,7 @@
 use Rattle.std.proofs.Common.{ap, ◌∙◌}
 use Rattle.rambo_local.specs.Calls.{history_of}
 use Rattle.rambo_local.proofs.Histories.{sent, delivered}
-use Rattle.rambo_local.proofs.client.send.Goals as goal
+use Rattle.rambo_local.proofs.cluster.send.Goals as goal
 
 pub returns-in_err-step : goal.returns-in_err-step
 returns-in_err-step c =

@@ -1,0 +1,142 @@
+use Rattle.std.proofs.Common.{◌≡◌, ℕ, ◌-◌, ◌++◌, max, length, take, drop, List, [], Some, slice_get, slice_set, sym, ap, ◌∙◌, subst}
+use Rattle.std.specs.Prelude.{slice_index_or}
+use Rattle.std.proofs.lemmas.List.{length-set}
+use Rattle.rambo_tag.specs.declared.keyed_version.KeyedVersion.{KeyedVersion}
+use Rattle.rambo_tag.specs.Copies.{joined}
+use Rattle.rambo_tag.specs.Logs.{greatest_of}
+use Rattle.rambo_gossip.specs.Letters.{letter_with}
+use Rattle.rambo_logs.specs.NodeLogs.{part, lacked, extended}
+use Rattle.rambo_node.specs.Changes.{made_by}
+use Rattle.rambo_node.specs.declared.change.Change.TheVariants as change
+use Rattle.rambo_node.specs.Nodes.{NodeState}
+use Rattle.rambo_letters.proofs.Lists.{on_err_all}
+use Rattle.rambo_letters.proofs.Sizes.{up_fits, back_fits}
+use Rattle.rambo_world.specs.Direct.{outlined_for}
+use Rattle.rambo_world.specs.Kept.{KeptNode, kept_of, kept_at, outline}
+use Rattle.rambo_world.proofs.Cutting.{written_over}
+use Rattle.rambo_world.proofs.Meeting.{judged, enough_now, met_nodes, met_grow}
+use Rattle.rambo_world.proofs.Zipping.{all_same}
+use Rattle.rambo_world.proofs.nodes.Nodes.pass.Goals as goal
+
+pub returns-in_err-bring-clause-grow : goal.returns-in_err-bring-clause-grow
+returns-in_err-bring-clause-grow g c =
+    all_same c.args.self.now (kept_of c.self.inside.list.items c.bring.new.self.logs) (ap (λ s. kept_of c.self.inside.list.items s.logs) c.in_err-bring.ensures.err ∙ c.self.view_is)
+
+pub hear_of-requires : goal.hear_of-requires
+hear_of-requires g c =
+    let xs = c.self.inside.list.items in
+    let ls = c.self.inside.logs.logs in
+    let same = c.as_mut_slice.ensures.value in (
+      back_fits _ _ _ (up_fits _ _ _ c.requires-raw.1.1.0),
+      (
+        ap length same ∙ c.self.invariant.0,
+        (
+          c.requires.apart,
+          λ x y at_x at_y. judged g.Q.Quorums.system xs ls c.args.self.now c.self.view_is c.self.invariant.0 c.self.invariant.1 c.args.from c.args.to c.outline.ensures.named c.requires.accepted x y
+              (ap (λ l. slice_get l (c.args.from - 1)) (sym same) ∙ at_x) (ap (λ l. slice_get l (c.args.to - 1)) (sym same) ∙ at_y),
+        ),
+      ),
+    )
+
+pub invariant_of-self-in_err-hear_of : goal.invariant_of-self-in_err-hear_of
+invariant_of-self-in_err-hear_of g c =
+    let xs = c.self.inside.list.items in
+    let ls = c.self.inside.logs.logs in
+    let ys = c.hear_of.new.nodes in
+    let same = c.as_mut_slice.ensures.value in
+    let back : take c.self.inside.list.len (ys ++ drop (length ys) xs) ≡ ys = written_over xs ys c.self.inside.list.len c.self.inside.list.ok.0 (c.hear_of.auto.nodes ∙ ap length same) in
+    (ap length back ∙ c.hear_of.auto.nodes ∙ ap length same ∙ c.self.invariant.0, ap (λ s. length s.logs) c.in_ok-bring.ensures.ok ∙ c.self.invariant.1)
+
+pub returns-in_err-hear_of-clause-err : goal.returns-in_err-hear_of-clause-err
+returns-in_err-hear_of-clause-err g c =
+    let xs = c.self.inside.list.items in
+    let ls = c.self.inside.logs.logs in
+    let ys = c.hear_of.new.nodes in
+    let same = c.as_mut_slice.ensures.value in
+    let back : take c.self.inside.list.len (ys ++ drop (length ys) xs) ≡ ys = written_over xs ys c.self.inside.list.len c.self.inside.list.ok.0 (c.hear_of.auto.nodes ∙ ap length same) in
+    on_err_all c.from_residual-in_err-hear_of.result ((λ i. kept_of ((back ∙ c.in_err-hear_of.ensures.err ∙ same) i) (ap (λ s. s.logs) c.in_ok-bring.ensures.ok i)) ∙ c.self.view_is)
+
+pub returns-in_err-hear_of-clause-grow : goal.returns-in_err-hear_of-clause-grow
+returns-in_err-hear_of-clause-grow g c =
+    let xs = c.self.inside.list.items in
+    let ls = c.self.inside.logs.logs in
+    let ys = c.hear_of.new.nodes in
+    let same = c.as_mut_slice.ensures.value in
+    let back : take c.self.inside.list.len (ys ++ drop (length ys) xs) ≡ ys = written_over xs ys c.self.inside.list.len c.self.inside.list.ok.0 (c.hear_of.auto.nodes ∙ ap length same) in
+    all_same c.args.self.now _ ((λ i. kept_of ((back ∙ c.in_err-hear_of.ensures.err ∙ same) i) (ap (λ s. s.logs) c.in_ok-bring.ensures.ok i)) ∙ c.self.view_is)
+
+pub returns-clause-told : goal.returns-clause-told
+returns-clause-told g c = λ k found. ap (λ o. o.told) (c.told.view_is ∙ c.outline.ensures.sent k found)
+
+pub invariant_of-self-2 : goal.invariant_of-self-2
+invariant_of-self-2 g c =
+    let xs = c.self.inside.list.items in
+    let ls = c.self.inside.logs.logs in
+    let ys = c.hear_of.new.nodes in
+    let same = c.as_mut_slice.ensures.value in
+    let back : take c.self.inside.list.len (ys ++ drop (length ys) xs) ≡ ys = written_over xs ys c.self.inside.list.len c.self.inside.list.ok.0 (c.hear_of.auto.nodes ∙ ap length same) in
+    let own : List KeyedVersion = slice_index_or ls (c.args.to - 1) [] in
+    let theirs : List KeyedVersion = slice_index_or ls (c.args.from - 1) [] in
+    let told = c.told.inside.told in
+    let lacks : ℕ → List KeyedVersion = λ end. lacked (greatest_of own) (part theirs c.args.start end) in
+    let put : c.take_on.new.self.logs ≡ slice_set ls (c.args.to - 1) (own ++ lacks (max c.args.start told)) =
+    ap (λ s. s.logs) (c.take_on.ensures (record { to = c.args.to; copies = lacks c.max.result }) (ap (λ s. s.brought) c.in_ok-bring.ensures.ok)) ∙ ap (λ s. extended s.logs c.args.to (lacks c.max.result)) c.in_ok-bring.ensures.ok
+    ∙ ap (λ end. slice_set ls (c.args.to - 1) (own ++ lacks end)) c.max.ensures in
+    (ap length back ∙ c.hear_of.auto.nodes ∙ ap length same ∙ c.self.invariant.0, ap length put ∙ length-set ls _ _ ∙ c.self.invariant.1)
+
+pub returns-clause-nodes : goal.returns-clause-nodes
+returns-clause-nodes g c =
+    let xs = c.self.inside.list.items in
+    let ls = c.self.inside.logs.logs in
+    let ys = c.hear_of.new.nodes in
+    let same = c.as_mut_slice.ensures.value in
+    let back : take c.self.inside.list.len (ys ++ drop (length ys) xs) ≡ ys = written_over xs ys c.self.inside.list.len c.self.inside.list.ok.0 (c.hear_of.auto.nodes ∙ ap length same) in
+    let own : List KeyedVersion = slice_index_or ls (c.args.to - 1) [] in
+    let theirs : List KeyedVersion = slice_index_or ls (c.args.from - 1) [] in
+    let told = c.told.inside.told in
+    let lacks : ℕ → List KeyedVersion = λ end. lacked (greatest_of own) (part theirs c.args.start end) in
+    let put : c.take_on.new.self.logs ≡ slice_set ls (c.args.to - 1) (own ++ lacks (max c.args.start told)) =
+    ap (λ s. s.logs) (c.take_on.ensures (record { to = c.args.to; copies = lacks c.max.result }) (ap (λ s. s.brought) c.in_ok-bring.ensures.ok)) ∙ ap (λ s. extended s.logs c.args.to (lacks c.max.result)) c.in_ok-bring.ensures.ok
+    ∙ ap (λ end. slice_set ls (c.args.to - 1) (own ++ lacks end)) c.max.ensures in
+    let tells : (k : KeptNode _) → kept_at c.args.self.now c.args.from ≡ Some k → told ≡ (outline k c.args.to).told = λ k found. ap (λ o. o.told) (c.told.view_is ∙ c.outline.ensures.sent k found) in
+    let pack = c.brought.ensures (record { to = c.args.to; copies = lacks c.max.result }) (ap (λ s. s.brought) c.in_ok-bring.ensures.ok) ∙ ap (λ end. greatest_of (lacks end)) c.max.ensures in
+    let heard : (x y : NodeState _) → slice_get xs (c.args.from - 1) ≡ Some x → slice_get xs (c.args.to - 1) ≡ Some y
+    → take c.self.inside.list.len (ys ++ drop (length ys) xs) ≡ slice_set xs (c.args.to - 1) (made_by y (change.Deliver (letter_with (outlined_for x c.args.to) (greatest_of (lacks (max c.args.start told)))))).node
+    = λ x y at_x at_y. back
+    ∙ c.in_ok-hear_of.ensures.ok x y (ap (λ l. slice_get l (c.args.from - 1)) same ∙ at_x) (ap (λ l. slice_get l (c.args.to - 1)) same ∙ at_y)
+    ∙ (λ i. slice_set (same i) (c.args.to - 1) (made_by y (change.Deliver (letter_with (outlined_for x c.args.to) (pack i)))).node) in
+    met_nodes g.Q.Quorums.system xs ls c.args.self.now c.self.view_is c.self.invariant.0 c.self.invariant.1 c.args.from c.args.to c.outline.ensures.named c.requires.accepted c.args.start told tells (take c.self.inside.list.len (ys ++ drop (length ys) xs)) c.take_on.new.self.logs heard put
+
+pub returns-clause-grow : goal.returns-clause-grow
+returns-clause-grow g c =
+    let xs = c.self.inside.list.items in
+    let ls = c.self.inside.logs.logs in
+    let ys = c.hear_of.new.nodes in
+    let same = c.as_mut_slice.ensures.value in
+    let back : take c.self.inside.list.len (ys ++ drop (length ys) xs) ≡ ys = written_over xs ys c.self.inside.list.len c.self.inside.list.ok.0 (c.hear_of.auto.nodes ∙ ap length same) in
+    let own : List KeyedVersion = slice_index_or ls (c.args.to - 1) [] in
+    let theirs : List KeyedVersion = slice_index_or ls (c.args.from - 1) [] in
+    let told = c.told.inside.told in
+    let lacks : ℕ → List KeyedVersion = λ end. lacked (greatest_of own) (part theirs c.args.start end) in
+    let put : c.take_on.new.self.logs ≡ slice_set ls (c.args.to - 1) (own ++ lacks (max c.args.start told)) =
+    ap (λ s. s.logs) (c.take_on.ensures (record { to = c.args.to; copies = lacks c.max.result }) (ap (λ s. s.brought) c.in_ok-bring.ensures.ok)) ∙ ap (λ s. extended s.logs c.args.to (lacks c.max.result)) c.in_ok-bring.ensures.ok
+    ∙ ap (λ end. slice_set ls (c.args.to - 1) (own ++ lacks end)) c.max.ensures in
+    let tells : (k : KeptNode _) → kept_at c.args.self.now c.args.from ≡ Some k → told ≡ (outline k c.args.to).told = λ k found. ap (λ o. o.told) (c.told.view_is ∙ c.outline.ensures.sent k found) in
+    let pack = c.brought.ensures (record { to = c.args.to; copies = lacks c.max.result }) (ap (λ s. s.brought) c.in_ok-bring.ensures.ok) ∙ ap (λ end. greatest_of (lacks end)) c.max.ensures in
+    let heard : (x y : NodeState _) → slice_get xs (c.args.from - 1) ≡ Some x → slice_get xs (c.args.to - 1) ≡ Some y
+    → take c.self.inside.list.len (ys ++ drop (length ys) xs) ≡ slice_set xs (c.args.to - 1) (made_by y (change.Deliver (letter_with (outlined_for x c.args.to) (greatest_of (lacks (max c.args.start told)))))).node
+    = λ x y at_x at_y. back
+    ∙ c.in_ok-hear_of.ensures.ok x y (ap (λ l. slice_get l (c.args.from - 1)) same ∙ at_x) (ap (λ l. slice_get l (c.args.to - 1)) same ∙ at_y)
+    ∙ (λ i. slice_set (same i) (c.args.to - 1) (made_by y (change.Deliver (letter_with (outlined_for x c.args.to) (pack i)))).node) in
+    met_grow g.Q.Quorums.system xs ls c.args.self.now c.self.view_is c.self.invariant.0 c.self.invariant.1 c.args.from c.args.to c.outline.ensures.named c.requires.accepted c.args.start told tells (take c.self.inside.list.len (ys ++ drop (length ys) xs)) c.take_on.new.self.logs heard put
+
+pub returns-clause-enough : goal.returns-clause-enough
+returns-clause-enough g c =
+    let xs = c.self.inside.list.items in
+    let ls = c.self.inside.logs.logs in
+    let own : List KeyedVersion = slice_index_or ls (c.args.to - 1) [] in
+    let theirs : List KeyedVersion = slice_index_or ls (c.args.from - 1) [] in
+    let told = c.told.inside.told in
+    let tells : (k : KeptNode _) → kept_at c.args.self.now c.args.from ≡ Some k → told ≡ (outline k c.args.to).told = λ k found. ap (λ o. o.told) (c.told.view_is ∙ c.outline.ensures.sent k found) in
+    enough_now g.Q.Quorums.system xs ls c.args.self.now c.self.view_is c.self.invariant.0 c.self.invariant.1 c.args.from c.args.to c.outline.ensures.named c.requires.accepted c.args.start told tells
+    (subst (λ end. joined (greatest_of own) (greatest_of (lacked (greatest_of own) (part theirs c.args.start end))) ≡ joined (greatest_of own) (greatest_of (part theirs c.args.start end))) c.max.ensures c.bring.ensures.enough)

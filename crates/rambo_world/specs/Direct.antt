@@ -1,0 +1,65 @@
+-- Runs whose letters come as they are sent, and of which no letter is kept
+use Rattle.std.specs.Prelude.{◌≡◌, ℕ, List, [], ◌∷◌, Option, None, Some, Result, Ok, Err}
+use Rattle.std.specs.FinMap as copies
+use Rattle.rambo_names.specs.declared.refusal.Refusal.{Refusal}
+use Rattle.rambo_names.specs.Quorums.{QuorumSystem}
+use Rattle.rambo_tag.specs.Copies.{Copies}
+use Rattle.rambo_tag.specs.Logs.{greatest_of}
+use Rattle.rambo_gossip.specs.declared.letter.Letter.{Letter}
+use Rattle.rambo_gossip.specs.Letters.{letter_with}
+use Rattle.rambo_node.specs.Letters.{letter_for}
+use Rattle.rambo_node.specs.Nodes.{NodeState}
+use Rattle.rambo_logs.specs.NodeLogs.{part, lacked}
+use Rattle.rambo_run.specs.declared.step.Step.{Step}
+use Rattle.rambo_run.specs.declared.step.Step.TheVariants as step
+use Rattle.rambo_run.specs.Worlds.{WorldState}
+use Rattle.rambo_run.specs.Steps.{refusal}
+use Rattle.rambo_run.specs.Runs.{after, run, run_from}
+use Rattle.rambo_world.specs.Deliveries.{MayHear, IsDelivered}
+use Rattle.rambo_world.specs.Kept.{KeptNode, kept_at, log_at, outline}
+
+-- a world without its letters
+abbrev pub without_letters : {Q : Type 0} → WorldState Q → WorldState Q
+without_letters w = record w { letters = [] }
+
+-- some steps lead from the world of the founders to one that is this one but for its letters
+abbrev pub IsReachedBarLetters : {Q : Type 0} → QuorumSystem Q → Q → WorldState Q → Type 0
+IsReachedBarLetters {Q} s founders w = (steps : List (Step Q)) × (w ≡ without_letters (run s founders steps))
+
+-- where there are no letters, one is sent, and comes
+abbrev pub passing : {Q : Type 0} → ℕ → ℕ → List (Step Q)
+passing from to = step.Send from to ∷ step.Deliver 1 ∷ []
+
+-- the world when it has come, without it
+abbrev pub passed : {Q : Type 0} → QuorumSystem Q → WorldState Q → ℕ → ℕ → WorldState Q
+passed s w from to = without_letters (run_from s w (passing from to))
+
+-- the first of two refusals
+abbrev pub first_of : Option Refusal → Option Refusal → Option Refusal
+first_of None o = o
+first_of (Some r) o = Some r
+
+-- why a letter doesn't pass from one node to another: it isn't sent, or it isn't heard
+abbrev pub pass_refusal : {Q : Type 0} → QuorumSystem Q → WorldState Q → ℕ → ℕ → Option Refusal
+pass_refusal s w from to = first_of (refusal s w (step.Send from to)) (refusal s (after s w (step.Send from to)) (step.Deliver 1))
+
+-- the refusal that was told, if one was
+abbrev pub told_refusal : {A : Type 0} → Result A Refusal → Option Refusal
+told_refusal (Ok x) = None
+told_refusal (Err r) = Some r
+
+-- what a node tells another, without copies
+abbrev pub outlined_for : {Q : Type 0} → NodeState Q → ℕ → Letter Q
+outlined_for x to = letter_with (letter_for x to) copies.empty
+
+-- of a part of one node's log, the copies that another lacks
+abbrev pub brought_from : {Q : Type 0} → List (KeptNode Q) → ℕ → ℕ → ℕ → ℕ → Copies
+brought_from ks to from start end = greatest_of (lacked (greatest_of (log_at ks to)) (part (log_at ks from) start end))
+
+-- the letter of a node to another, were it the only one, isn't refused
+abbrev pub MayPass : {Q : Type 0} → QuorumSystem Q → List (KeptNode Q) → ℕ → ℕ → Type 0
+MayPass {Q} s ks from to = (k : KeptNode Q) → kept_at ks from ≡ Some k → MayHear s ks (outline k to ∷ []) 1
+
+-- and the nodes are those after it came
+abbrev pub IsPassed : {Q : Type 0} → List (KeptNode Q) → List (KeptNode Q) → ℕ → ℕ → Type 0
+IsPassed {Q} ks new from to = (k : KeptNode Q) → kept_at ks from ≡ Some k → IsDelivered ks new (outline k to ∷ []) 1

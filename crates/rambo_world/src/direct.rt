@@ -1,0 +1,123 @@
+//! Runs whose letters come as they are sent.
+ghost use Rattle.std.specs.Prelude.{◌≡◌, None, IfOk, IfErr, OnOk, OnErr};
+ghost use Rattle.rambo_names.specs.Refusals.{least, IsRefusal};
+ghost use Rattle.rambo_run.specs.Runs.{after, result_of};
+ghost use Rattle.rambo_run.specs.Steps.{refusal};
+ghost use Rattle.rambo_run.specs.Worlds.{first_world};
+ghost use Rattle.rambo_run.specs.declared.step.Step.TheVariants as step;
+ghost use Rattle.rambo_world.specs.Told.{called, advanced};
+ghost use Rattle.rambo_world.specs.Worlds.{founding_causes};
+ghost use Rattle.rambo_world.specs.Direct.{passed, pass_refusal, told_refusal, IsReachedBarLetters};
+
+use crate::running::answer_got;
+use crate::state::State;
+use crate::world::may_found;
+use rambo_atomic::{Answer, CallId, History, Op};
+use rambo_names::{Name, Quorums, Refusal};
+use rambo_tag::Replica;
+use std::alloc::Global;
+use std::marker::Model;
+
+/// A run that goes on step by step, and in which a letter comes as it is sent. No step is kept, and no letter: what the
+/// steps made of the world of its founders is, but for its letters.
+#[derive(Drop)]
+pub struct Direct<Q: Quorums, S: Replica> {
+    founders: Q,
+    // It has no letter.
+    state: State<Q, S>,
+}
+
+impl<Q: Quorums, S: Replica> Model for Direct<Q, S> {
+    ghost use Rattle.std.specs.Coded.{codes};
+    ghost use Rattle.rambo_names.specs.Names.{names_code};
+    ghost use Rattle.rambo_tag.specs.Copies.{copies_code};
+    ghost use Rattle.rambo_world.specs.Worlds.{RunningOf};
+    ghost use Rattle.rambo_world.specs.Direct.{IsReachedBarLetters};
+
+    ghost Value = { RunningOf Q };
+
+    ghost coded = { Prim.hlevel (codes, names_code, copies_code, Q.code) };
+
+    ghost view = { λ d. record { founders = d.founders; state = d.state } };
+
+    ghost invariant = { λ d. IsReachedBarLetters Q.system d.founders d.state };
+}
+
+impl<Q: Quorums, S: Replica> Direct<Q, S> {
+    /// The run of these founders, before any step. The copies of each node are made by `fresh` of a replica.
+    ///
+    /// Refused are 18 where there is no founder, 22 where there is no room for it.
+    pub fn new(alloc: Global, founders: Q, replica: &S) -> Result<Direct<Q, S>, Refusal>
+        ensures founded { OnOk result (least (founding_causes Q.system founders) ≡ None) }
+        ensures made { IfOk result (λ d. d ≡ record { founders = founders; state = first_world Q.system founders }) }
+        ensures refused { IfErr result (IsRefusal (least (founding_causes Q.system founders))) }
+    {
+        may_found(founders)?;
+        Ok(Direct {
+            founders,
+            state: State::new(alloc, founders, replica)?,
+        })
+    }
+
+    /// A client asks a node for an operation: the call, or why that was refused, after which the run goes on.
+    ///
+    /// `OutOfMemory` where there is no room for the call; then nothing changes. A refusal needs no room.
+    pub fn call(&mut self, name: Name, op: Op) -> Result<Result<CallId, Refusal>, Refusal>
+        ensures told { IfOk result (λ r. called r ≡ result_of (refusal Q.system self.old.state (step.Call name op)) self.old.state (step.Call name op)) }
+        ensures named { IfOk result (λ r. IfOk r (λ id. id.name ≡ name)) }
+        ensures after { OnOk result (self.new ≡ record self.old { state = after Q.system self.old.state (step.Call name op) }) }
+        ensures accepted { OnErr result (refusal Q.system self.old.state (step.Call name op) ≡ None) }
+        ensures err { OnErr result (self.new ≡ self.old) }
+        ensures refused { IfErr result (λ r. r ≡ Refusal.OutOfMemory) }
+    {
+        if let Err(refusal) = self.state.nodes.node(name).may_call(&op) {
+            return Ok(Err(refusal));
+        }
+        let id = self.state.call(name, op)?;
+        Ok(Ok(id))
+    }
+
+    /// A node sends a letter to another, to which it comes at once; or why it isn't sent, or isn't heard. The run then
+    /// goes on without the letter.
+    ///
+    /// `OutOfMemory` where there is no room for what the letter tells; then nothing changes. A refusal needs no room.
+    pub fn pass(&mut self, from: Name, to: Name) -> Result<Result<(), Refusal>, Refusal>
+        ensures told { IfOk result (λ r. told_refusal r ≡ pass_refusal Q.system self.old.state from to) }
+        ensures after { OnOk result (self.new ≡ record self.old { state = passed Q.system self.old.state from to }) }
+        ensures accepted { OnErr result (pass_refusal Q.system self.old.state from to ≡ None) }
+        ensures err { OnErr result (self.new ≡ self.old) }
+        ensures refused { IfErr result (λ r. r ≡ Refusal.OutOfMemory) }
+    {
+        if let Err(refusal) = self.state.may_pass(from, to) {
+            return Ok(Err(refusal));
+        }
+        self.state.pass(from, to)?;
+        Ok(Ok(()))
+    }
+
+    /// A call goes on: its answer, if it got one, or why that was refused, after which the run goes on.
+    ///
+    /// `OutOfMemory` where there is no room for what it does; then nothing changes. A refusal needs no room.
+    pub fn advance(&mut self, id: CallId) -> Result<Result<Option<Answer>, Refusal>, Refusal>
+        ensures told { IfOk result (λ r. advanced id r ≡ result_of (refusal Q.system self.old.state (step.Advance id)) self.old.state (step.Advance id)) }
+        ensures after { OnOk result (self.new ≡ record self.old { state = after Q.system self.old.state (step.Advance id) }) }
+        ensures reached { IsReachedBarLetters Q.system self.new.founders self.new.state }
+        ensures accepted { OnErr result (refusal Q.system self.old.state (step.Advance id) ≡ None) }
+        ensures err { OnErr result (self.new ≡ self.old) }
+        ensures refused { IfErr result (λ r. r ≡ Refusal.OutOfMemory) }
+    {
+        if let Err(refusal) = self.state.nodes.node(id.name).may_advance(&id) {
+            return Ok(Err(refusal));
+        }
+        let effect = self.state.advance(id)?;
+        Ok(Ok(answer_got(effect)))
+    }
+
+    /// The calls and answers, in order: those of a run.
+    pub fn history(&self) -> &History
+        ensures history { result.now.events ≡ self.now.state.history }
+        ensures reached { IsReachedBarLetters Q.system self.now.founders self.now.state }
+    {
+        &self.state.history
+    }
+}
