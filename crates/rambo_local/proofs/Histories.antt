@@ -1,6 +1,5 @@
 -- The history of a world, after its steps
-use Rattle.std.proofs.Common.{◌≡◌, ℕ, List, [], ◌∷◌, ◌++◌, None, Result, Ok, Err, IfOk, OnOk, refl, sym, ap, ◌∙◌}
-use Rattle.rambo_names.specs.declared.refusal.Refusal.{Refusal}
+use Rattle.std.proofs.Common.{◌≡◌, ℕ, List, [], ◌∷◌, ◌++◌, None, refl, sym, ap, ◌∙◌}
 use Rattle.rambo_names.specs.Names.{NameSet}
 use Rattle.rambo_names.specs.Quorums.{majorities}
 use Rattle.rambo_names.specs.Majorities.{majorities_sound}

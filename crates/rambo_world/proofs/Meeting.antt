@@ -51,6 +51,13 @@ part_none xs zero = refl
 part_none [] (suc n) = refl
 part_none (x ∷ xs) (suc n) = part_none xs n
 
+-- nothing is new in a part that was merged before
+pub part_empty : {X : Type 0} (xs : List X) (start told : ℕ) → told ≤ start → part xs start (max start told) ≡ []
+part_empty xs start told past = ap (part xs start) (max-eq_left past) ∙ part_none xs start
+
+pub nothing_new : (own theirs : List KeyedVersion) (start told : ℕ) → told ≤ start → lacked (greatest_of own) (part theirs start (max start told)) ≡ []
+nothing_new own theirs start told past = ap (lacked (greatest_of own)) (part_empty theirs start told past)
+
 -- a letter brings the copies that it is given, where one that wants to join is given none
 given : {Q : Type 0} (active : Bool) (g : Gossip Q) (more : List KeyedVersion) → (active ≡ false → more ≡ [])
     → copies_in (kind_with (kind_with (if active then kind.Gossip g else kind.Join) copies.empty) (greatest_of more)) ≡ greatest_of more

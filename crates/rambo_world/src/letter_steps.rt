@@ -93,8 +93,8 @@ fn pass<Q: Quorums, S: Replica>(
     ensures err { OnErr result (nodes.new ≡ nodes.old) }
     ensures refused { IfErr result (λ r. r ≡ Refusal.OutOfMemory) }
 {
-    let told = nodes.pass(from, to, merged.of(to, from))?;
-    merged.raise(to, from, told);
+    let heard = nodes.pass(from, to, merged.of(to, from))?;
+    merged.raise(to, from, heard);
     Ok(())
 }
 

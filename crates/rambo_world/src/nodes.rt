@@ -177,6 +177,11 @@ impl<Q: Quorums, S: Replica> Nodes<Q, S> {
         ensures grow { AllGrow self.old self.new }
     {
         let told = self.outline(from, to).told;
+        if told <= start {
+            let none = Pack::new(Vec::new(*self.list.allocator()));
+            hear_of(self.list.as_mut_slice(), from, to, &none)?;
+            return Ok(told);
+        }
         self.logs.bring(to, from, start, start.max(told))?;
         hear_of(self.list.as_mut_slice(), from, to, self.logs.brought())?;
         self.logs.take_on(to);

@@ -15,11 +15,11 @@ returns-clause-kept g c =
     let low : 1 ≤ c.args.from = from.0 in
     let high : c.args.from ≤ 64 = from.1 in
     let k = item c.args.nodes.now (c.args.from - 1) (omega (arith, low, high, kept.nodes)) in
-    subst (IsKept c.pass.new.self []) (sym (c.raise.ensures ∙ ap (merged_raised c.args.merged.now c.args.to c.args.from) (c.in_ok-told.ensures.told k.0 k.1)))
+    subst (IsKept c.pass.new.self []) (sym (c.raise.ensures ∙ ap (merged_raised c.args.merged.now c.args.to c.args.from) (c.in_ok-heard.ensures.told k.0 k.1)))
     (kept_passed g.Q.Quorums.system c.args.nodes.now c.pass.new.self c.args.merged.now kept c.pass.ensures.grow c.args.from c.args.to c.of.result c.of.ensures.to from c.of.ensures.count
-    k.0 k.1 (c.requires.accepted k.0 k.1 (outline k.0 c.args.to) refl) (c.in_ok-told.ensures.enough k.0 k.1) (c.in_ok-told.ensures.nodes k.0 k.1))
+    k.0 k.1 (c.requires.accepted k.0 k.1 (outline k.0 c.args.to) refl) (c.in_ok-heard.ensures.enough k.0 k.1) (c.in_ok-heard.ensures.nodes k.0 k.1))
 
 pub returns-clause-ok : goal.returns-clause-ok
 returns-clause-ok g c = λ k found.
     is_passed g.Q.Quorums.system c.args.nodes.now c.pass.new.self c.args.merged.now c.requires.kept c.pass.ensures.grow c.args.from c.args.to c.of.result c.of.ensures.to c.of.ensures.from c.of.ensures.count
-    k found (c.requires.accepted k found (outline k c.args.to) refl) (c.in_ok-told.ensures.enough k found) (c.in_ok-told.ensures.nodes k found)
+    k found (c.requires.accepted k found (outline k c.args.to) refl) (c.in_ok-heard.ensures.enough k found) (c.in_ok-heard.ensures.nodes k found)

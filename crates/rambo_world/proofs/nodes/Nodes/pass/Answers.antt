@@ -1,6 +1,6 @@
-use Rattle.std.proofs.Common.{◌≡◌, ℕ, ◌-◌, ◌++◌, max, length, take, drop, List, [], Some, slice_get, slice_set, sym, ap, ◌∙◌, subst}
+use Rattle.std.proofs.Common.{◌≡◌, ℕ, ◌-◌, ◌++◌, max, length, take, drop, List, [], Some, slice_get, slice_set, sym, ap, ◌∙◌, subst, append-nil}
 use Rattle.std.specs.Prelude.{slice_index_or}
-use Rattle.std.proofs.lemmas.List.{length-set}
+use Rattle.std.proofs.lemmas.List.{length-set, set-get_or}
 use Rattle.rambo_tag.specs.declared.keyed_version.KeyedVersion.{KeyedVersion}
 use Rattle.rambo_tag.specs.Copies.{joined}
 use Rattle.rambo_tag.specs.Logs.{greatest_of}
@@ -14,13 +14,9 @@ use Rattle.rambo_letters.proofs.Sizes.{up_fits, back_fits}
 use Rattle.rambo_world.specs.Direct.{outlined_for}
 use Rattle.rambo_world.specs.Kept.{KeptNode, kept_of, kept_at, outline}
 use Rattle.rambo_world.proofs.Cutting.{written_over}
-use Rattle.rambo_world.proofs.Meeting.{judged, enough_now, met_nodes, met_grow}
+use Rattle.rambo_world.proofs.Meeting.{judged, nothing_new, part_empty, enough_now, met_nodes, met_grow}
 use Rattle.rambo_world.proofs.Zipping.{all_same}
 use Rattle.rambo_world.proofs.nodes.Nodes.pass.Goals as goal
-
-pub returns-in_err-bring-clause-grow : goal.returns-in_err-bring-clause-grow
-returns-in_err-bring-clause-grow g c =
-    all_same c.args.self.now (kept_of c.self.inside.list.items c.bring.new.self.logs) (ap (λ s. kept_of c.self.inside.list.items s.logs) c.in_err-bring.ensures.err ∙ c.self.view_is)
 
 pub hear_of-requires : goal.hear_of-requires
 hear_of-requires g c =
@@ -38,14 +34,14 @@ hear_of-requires g c =
       ),
     )
 
-pub invariant_of-self-in_err-hear_of : goal.invariant_of-self-in_err-hear_of
-invariant_of-self-in_err-hear_of g c =
+pub invariant_of-self : goal.invariant_of-self
+invariant_of-self g c =
     let xs = c.self.inside.list.items in
     let ls = c.self.inside.logs.logs in
     let ys = c.hear_of.new.nodes in
     let same = c.as_mut_slice.ensures.value in
     let back : take c.self.inside.list.len (ys ++ drop (length ys) xs) ≡ ys = written_over xs ys c.self.inside.list.len c.self.inside.list.ok.0 (c.hear_of.auto.nodes ∙ ap length same) in
-    (ap length back ∙ c.hear_of.auto.nodes ∙ ap length same ∙ c.self.invariant.0, ap (λ s. length s.logs) c.in_ok-bring.ensures.ok ∙ c.self.invariant.1)
+    (ap length back ∙ c.hear_of.auto.nodes ∙ ap length same ∙ c.self.invariant.0, c.self.invariant.1)
 
 pub returns-in_err-hear_of-clause-err : goal.returns-in_err-hear_of-clause-err
 returns-in_err-hear_of-clause-err g c =
@@ -54,7 +50,7 @@ returns-in_err-hear_of-clause-err g c =
     let ys = c.hear_of.new.nodes in
     let same = c.as_mut_slice.ensures.value in
     let back : take c.self.inside.list.len (ys ++ drop (length ys) xs) ≡ ys = written_over xs ys c.self.inside.list.len c.self.inside.list.ok.0 (c.hear_of.auto.nodes ∙ ap length same) in
-    on_err_all c.from_residual-in_err-hear_of.result ((λ i. kept_of ((back ∙ c.in_err-hear_of.ensures.err ∙ same) i) (ap (λ s. s.logs) c.in_ok-bring.ensures.ok i)) ∙ c.self.view_is)
+    on_err_all c.from_residual.result (ap (λ l. kept_of l ls) (back ∙ c.in_err-hear_of.ensures.err ∙ same) ∙ c.self.view_is)
 
 pub returns-in_err-hear_of-clause-grow : goal.returns-in_err-hear_of-clause-grow
 returns-in_err-hear_of-clause-grow g c =
@@ -63,7 +59,123 @@ returns-in_err-hear_of-clause-grow g c =
     let ys = c.hear_of.new.nodes in
     let same = c.as_mut_slice.ensures.value in
     let back : take c.self.inside.list.len (ys ++ drop (length ys) xs) ≡ ys = written_over xs ys c.self.inside.list.len c.self.inside.list.ok.0 (c.hear_of.auto.nodes ∙ ap length same) in
-    all_same c.args.self.now _ ((λ i. kept_of ((back ∙ c.in_err-hear_of.ensures.err ∙ same) i) (ap (λ s. s.logs) c.in_ok-bring.ensures.ok i)) ∙ c.self.view_is)
+    all_same c.args.self.now _ (ap (λ l. kept_of l ls) (back ∙ c.in_err-hear_of.ensures.err ∙ same) ∙ c.self.view_is)
+
+pub invariant_of-self-then-told-start : goal.invariant_of-self-then-told-start
+invariant_of-self-then-told-start g c =
+    let xs = c.self.inside.list.items in
+    let ls = c.self.inside.logs.logs in
+    let ys = c.hear_of.new.nodes in
+    let same = c.as_mut_slice.ensures.value in
+    let back : take c.self.inside.list.len (ys ++ drop (length ys) xs) ≡ ys = written_over xs ys c.self.inside.list.len c.self.inside.list.ok.0 (c.hear_of.auto.nodes ∙ ap length same) in
+    (ap length back ∙ c.hear_of.auto.nodes ∙ ap length same ∙ c.self.invariant.0, c.self.invariant.1)
+
+pub returns-then-told-start-clause-told : goal.returns-then-told-start-clause-told
+returns-then-told-start-clause-told g c = λ k found. ap (λ o. o.told) (c.told.view_is ∙ c.outline.ensures.sent k found)
+
+pub returns-then-told-start-clause-nodes : goal.returns-then-told-start-clause-nodes
+returns-then-told-start-clause-nodes g c =
+    let xs = c.self.inside.list.items in
+    let ls = c.self.inside.logs.logs in
+    let ys = c.hear_of.new.nodes in
+    let same = c.as_mut_slice.ensures.value in
+    let back : take c.self.inside.list.len (ys ++ drop (length ys) xs) ≡ ys = written_over xs ys c.self.inside.list.len c.self.inside.list.ok.0 (c.hear_of.auto.nodes ∙ ap length same) in
+    let own : List KeyedVersion = slice_index_or ls (c.args.to - 1) [] in
+    let theirs : List KeyedVersion = slice_index_or ls (c.args.from - 1) [] in
+    let told = c.told.inside.told in
+    let more : List KeyedVersion = lacked (greatest_of own) (part theirs c.args.start (max c.args.start told)) in
+    let none : more ≡ [] = nothing_new own theirs c.args.start told c.if-told-start.true in
+    let tells : (k : KeptNode _) → kept_at c.args.self.now c.args.from ≡ Some k → told ≡ (outline k c.args.to).told = λ k found. ap (λ o. o.told) (c.told.view_is ∙ c.outline.ensures.sent k found) in
+    let pack = c.new-none.ensures ∙ ap greatest_of (c.new.ensures.items ∙ sym none) in
+    let put : ls ≡ slice_set ls (c.args.to - 1) (own ++ more) = sym (ap (slice_set ls (c.args.to - 1)) (ap (λ l. own ++ l) none ∙ append-nil own) ∙ set-get_or ls (c.args.to - 1) []) in
+    let heard : (x y : NodeState _) → slice_get xs (c.args.from - 1) ≡ Some x → slice_get xs (c.args.to - 1) ≡ Some y
+    → take c.self.inside.list.len (ys ++ drop (length ys) xs) ≡ slice_set xs (c.args.to - 1) (made_by y (change.Deliver (letter_with (outlined_for x c.args.to) (greatest_of more)))).node
+    = λ x y at_x at_y. back
+    ∙ c.in_ok-hear_of.ensures.ok x y (ap (λ l. slice_get l (c.args.from - 1)) same ∙ at_x) (ap (λ l. slice_get l (c.args.to - 1)) same ∙ at_y)
+    ∙ (λ i. slice_set (same i) (c.args.to - 1) (made_by y (change.Deliver (letter_with (outlined_for x c.args.to) (pack i)))).node) in
+    met_nodes g.Q.Quorums.system xs ls c.args.self.now c.self.view_is c.self.invariant.0 c.self.invariant.1 c.args.from c.args.to c.outline.ensures.named c.requires.accepted c.args.start told tells (take c.self.inside.list.len (ys ++ drop (length ys) xs)) ls heard put
+
+pub returns-then-told-start-clause-grow : goal.returns-then-told-start-clause-grow
+returns-then-told-start-clause-grow g c =
+    let xs = c.self.inside.list.items in
+    let ls = c.self.inside.logs.logs in
+    let ys = c.hear_of.new.nodes in
+    let same = c.as_mut_slice.ensures.value in
+    let back : take c.self.inside.list.len (ys ++ drop (length ys) xs) ≡ ys = written_over xs ys c.self.inside.list.len c.self.inside.list.ok.0 (c.hear_of.auto.nodes ∙ ap length same) in
+    let own : List KeyedVersion = slice_index_or ls (c.args.to - 1) [] in
+    let theirs : List KeyedVersion = slice_index_or ls (c.args.from - 1) [] in
+    let told = c.told.inside.told in
+    let more : List KeyedVersion = lacked (greatest_of own) (part theirs c.args.start (max c.args.start told)) in
+    let none : more ≡ [] = nothing_new own theirs c.args.start told c.if-told-start.true in
+    let tells : (k : KeptNode _) → kept_at c.args.self.now c.args.from ≡ Some k → told ≡ (outline k c.args.to).told = λ k found. ap (λ o. o.told) (c.told.view_is ∙ c.outline.ensures.sent k found) in
+    let pack = c.new-none.ensures ∙ ap greatest_of (c.new.ensures.items ∙ sym none) in
+    let put : ls ≡ slice_set ls (c.args.to - 1) (own ++ more) = sym (ap (slice_set ls (c.args.to - 1)) (ap (λ l. own ++ l) none ∙ append-nil own) ∙ set-get_or ls (c.args.to - 1) []) in
+    let heard : (x y : NodeState _) → slice_get xs (c.args.from - 1) ≡ Some x → slice_get xs (c.args.to - 1) ≡ Some y
+    → take c.self.inside.list.len (ys ++ drop (length ys) xs) ≡ slice_set xs (c.args.to - 1) (made_by y (change.Deliver (letter_with (outlined_for x c.args.to) (greatest_of more)))).node
+    = λ x y at_x at_y. back
+    ∙ c.in_ok-hear_of.ensures.ok x y (ap (λ l. slice_get l (c.args.from - 1)) same ∙ at_x) (ap (λ l. slice_get l (c.args.to - 1)) same ∙ at_y)
+    ∙ (λ i. slice_set (same i) (c.args.to - 1) (made_by y (change.Deliver (letter_with (outlined_for x c.args.to) (pack i)))).node) in
+    met_grow g.Q.Quorums.system xs ls c.args.self.now c.self.view_is c.self.invariant.0 c.self.invariant.1 c.args.from c.args.to c.outline.ensures.named c.requires.accepted c.args.start told tells (take c.self.inside.list.len (ys ++ drop (length ys) xs)) ls heard put
+
+pub returns-then-told-start-clause-enough : goal.returns-then-told-start-clause-enough
+returns-then-told-start-clause-enough g c =
+    let xs = c.self.inside.list.items in
+    let ls = c.self.inside.logs.logs in
+    let own : List KeyedVersion = slice_index_or ls (c.args.to - 1) [] in
+    let theirs : List KeyedVersion = slice_index_or ls (c.args.from - 1) [] in
+    let told = c.told.inside.told in
+    let more : List KeyedVersion = lacked (greatest_of own) (part theirs c.args.start (max c.args.start told)) in
+    let none : more ≡ [] = nothing_new own theirs c.args.start told c.if-told-start.true in
+    let tells : (k : KeptNode _) → kept_at c.args.self.now c.args.from ≡ Some k → told ≡ (outline k c.args.to).told = λ k found. ap (λ o. o.told) (c.told.view_is ∙ c.outline.ensures.sent k found) in
+    enough_now g.Q.Quorums.system xs ls c.args.self.now c.self.view_is c.self.invariant.0 c.self.invariant.1 c.args.from c.args.to c.outline.ensures.named c.requires.accepted c.args.start told tells
+    (ap (λ l. joined (greatest_of own) (greatest_of l)) (none ∙ sym (part_empty theirs c.args.start told c.if-told-start.true)))
+
+pub returns-in_err-bring-clause-grow : goal.returns-in_err-bring-clause-grow
+returns-in_err-bring-clause-grow g c =
+    all_same c.args.self.now (kept_of c.self.inside.list.items c.bring.new.self.logs) (ap (λ s. kept_of c.self.inside.list.items s.logs) c.in_err-bring.ensures.err ∙ c.self.view_is)
+
+pub hear_of-requires-2 : goal.hear_of-requires-2
+hear_of-requires-2 g c =
+    let xs = c.self.inside.list.items in
+    let ls = c.self.inside.logs.logs in
+    let same = c.as_mut_slice-2.ensures.value in (
+      back_fits _ _ _ (up_fits _ _ _ c.requires-raw.1.1.0),
+      (
+        ap length same ∙ c.self.invariant.0,
+        (
+          c.requires.apart,
+          λ x y at_x at_y. judged g.Q.Quorums.system xs ls c.args.self.now c.self.view_is c.self.invariant.0 c.self.invariant.1 c.args.from c.args.to c.outline.ensures.named c.requires.accepted x y
+              (ap (λ l. slice_get l (c.args.from - 1)) (sym same) ∙ at_x) (ap (λ l. slice_get l (c.args.to - 1)) (sym same) ∙ at_y),
+        ),
+      ),
+    )
+
+pub invariant_of-self-in_err-hear_of-2 : goal.invariant_of-self-in_err-hear_of-2
+invariant_of-self-in_err-hear_of-2 g c =
+    let xs = c.self.inside.list.items in
+    let ls = c.self.inside.logs.logs in
+    let ys = c.hear_of-2.new.nodes in
+    let same = c.as_mut_slice-2.ensures.value in
+    let back : take c.self.inside.list.len (ys ++ drop (length ys) xs) ≡ ys = written_over xs ys c.self.inside.list.len c.self.inside.list.ok.0 (c.hear_of-2.auto.nodes ∙ ap length same) in
+    (ap length back ∙ c.hear_of-2.auto.nodes ∙ ap length same ∙ c.self.invariant.0, ap (λ s. length s.logs) c.in_ok-bring.ensures.ok ∙ c.self.invariant.1)
+
+pub returns-in_err-hear_of-2-clause-err : goal.returns-in_err-hear_of-2-clause-err
+returns-in_err-hear_of-2-clause-err g c =
+    let xs = c.self.inside.list.items in
+    let ls = c.self.inside.logs.logs in
+    let ys = c.hear_of-2.new.nodes in
+    let same = c.as_mut_slice-2.ensures.value in
+    let back : take c.self.inside.list.len (ys ++ drop (length ys) xs) ≡ ys = written_over xs ys c.self.inside.list.len c.self.inside.list.ok.0 (c.hear_of-2.auto.nodes ∙ ap length same) in
+    on_err_all c.from_residual-in_err-hear_of-2.result ((λ i. kept_of ((back ∙ c.in_err-hear_of-2.ensures.err ∙ same) i) (ap (λ s. s.logs) c.in_ok-bring.ensures.ok i)) ∙ c.self.view_is)
+
+pub returns-in_err-hear_of-2-clause-grow : goal.returns-in_err-hear_of-2-clause-grow
+returns-in_err-hear_of-2-clause-grow g c =
+    let xs = c.self.inside.list.items in
+    let ls = c.self.inside.logs.logs in
+    let ys = c.hear_of-2.new.nodes in
+    let same = c.as_mut_slice-2.ensures.value in
+    let back : take c.self.inside.list.len (ys ++ drop (length ys) xs) ≡ ys = written_over xs ys c.self.inside.list.len c.self.inside.list.ok.0 (c.hear_of-2.auto.nodes ∙ ap length same) in
+    all_same c.args.self.now _ ((λ i. kept_of ((back ∙ c.in_err-hear_of-2.ensures.err ∙ same) i) (ap (λ s. s.logs) c.in_ok-bring.ensures.ok i)) ∙ c.self.view_is)
 
 pub returns-clause-told : goal.returns-clause-told
 returns-clause-told g c = λ k found. ap (λ o. o.told) (c.told.view_is ∙ c.outline.ensures.sent k found)
@@ -72,9 +184,9 @@ pub invariant_of-self-2 : goal.invariant_of-self-2
 invariant_of-self-2 g c =
     let xs = c.self.inside.list.items in
     let ls = c.self.inside.logs.logs in
-    let ys = c.hear_of.new.nodes in
-    let same = c.as_mut_slice.ensures.value in
-    let back : take c.self.inside.list.len (ys ++ drop (length ys) xs) ≡ ys = written_over xs ys c.self.inside.list.len c.self.inside.list.ok.0 (c.hear_of.auto.nodes ∙ ap length same) in
+    let ys = c.hear_of-2.new.nodes in
+    let same = c.as_mut_slice-2.ensures.value in
+    let back : take c.self.inside.list.len (ys ++ drop (length ys) xs) ≡ ys = written_over xs ys c.self.inside.list.len c.self.inside.list.ok.0 (c.hear_of-2.auto.nodes ∙ ap length same) in
     let own : List KeyedVersion = slice_index_or ls (c.args.to - 1) [] in
     let theirs : List KeyedVersion = slice_index_or ls (c.args.from - 1) [] in
     let told = c.told.inside.told in
@@ -82,15 +194,15 @@ invariant_of-self-2 g c =
     let put : c.take_on.new.self.logs ≡ slice_set ls (c.args.to - 1) (own ++ lacks (max c.args.start told)) =
     ap (λ s. s.logs) (c.take_on.ensures (record { to = c.args.to; copies = lacks c.max.result }) (ap (λ s. s.brought) c.in_ok-bring.ensures.ok)) ∙ ap (λ s. extended s.logs c.args.to (lacks c.max.result)) c.in_ok-bring.ensures.ok
     ∙ ap (λ end. slice_set ls (c.args.to - 1) (own ++ lacks end)) c.max.ensures in
-    (ap length back ∙ c.hear_of.auto.nodes ∙ ap length same ∙ c.self.invariant.0, ap length put ∙ length-set ls _ _ ∙ c.self.invariant.1)
+    (ap length back ∙ c.hear_of-2.auto.nodes ∙ ap length same ∙ c.self.invariant.0, ap length put ∙ length-set ls _ _ ∙ c.self.invariant.1)
 
 pub returns-clause-nodes : goal.returns-clause-nodes
 returns-clause-nodes g c =
     let xs = c.self.inside.list.items in
     let ls = c.self.inside.logs.logs in
-    let ys = c.hear_of.new.nodes in
-    let same = c.as_mut_slice.ensures.value in
-    let back : take c.self.inside.list.len (ys ++ drop (length ys) xs) ≡ ys = written_over xs ys c.self.inside.list.len c.self.inside.list.ok.0 (c.hear_of.auto.nodes ∙ ap length same) in
+    let ys = c.hear_of-2.new.nodes in
+    let same = c.as_mut_slice-2.ensures.value in
+    let back : take c.self.inside.list.len (ys ++ drop (length ys) xs) ≡ ys = written_over xs ys c.self.inside.list.len c.self.inside.list.ok.0 (c.hear_of-2.auto.nodes ∙ ap length same) in
     let own : List KeyedVersion = slice_index_or ls (c.args.to - 1) [] in
     let theirs : List KeyedVersion = slice_index_or ls (c.args.from - 1) [] in
     let told = c.told.inside.told in
@@ -103,7 +215,7 @@ returns-clause-nodes g c =
     let heard : (x y : NodeState _) → slice_get xs (c.args.from - 1) ≡ Some x → slice_get xs (c.args.to - 1) ≡ Some y
     → take c.self.inside.list.len (ys ++ drop (length ys) xs) ≡ slice_set xs (c.args.to - 1) (made_by y (change.Deliver (letter_with (outlined_for x c.args.to) (greatest_of (lacks (max c.args.start told)))))).node
     = λ x y at_x at_y. back
-    ∙ c.in_ok-hear_of.ensures.ok x y (ap (λ l. slice_get l (c.args.from - 1)) same ∙ at_x) (ap (λ l. slice_get l (c.args.to - 1)) same ∙ at_y)
+    ∙ c.in_ok-hear_of-2.ensures.ok x y (ap (λ l. slice_get l (c.args.from - 1)) same ∙ at_x) (ap (λ l. slice_get l (c.args.to - 1)) same ∙ at_y)
     ∙ (λ i. slice_set (same i) (c.args.to - 1) (made_by y (change.Deliver (letter_with (outlined_for x c.args.to) (pack i)))).node) in
     met_nodes g.Q.Quorums.system xs ls c.args.self.now c.self.view_is c.self.invariant.0 c.self.invariant.1 c.args.from c.args.to c.outline.ensures.named c.requires.accepted c.args.start told tells (take c.self.inside.list.len (ys ++ drop (length ys) xs)) c.take_on.new.self.logs heard put
 
@@ -111,9 +223,9 @@ pub returns-clause-grow : goal.returns-clause-grow
 returns-clause-grow g c =
     let xs = c.self.inside.list.items in
     let ls = c.self.inside.logs.logs in
-    let ys = c.hear_of.new.nodes in
-    let same = c.as_mut_slice.ensures.value in
-    let back : take c.self.inside.list.len (ys ++ drop (length ys) xs) ≡ ys = written_over xs ys c.self.inside.list.len c.self.inside.list.ok.0 (c.hear_of.auto.nodes ∙ ap length same) in
+    let ys = c.hear_of-2.new.nodes in
+    let same = c.as_mut_slice-2.ensures.value in
+    let back : take c.self.inside.list.len (ys ++ drop (length ys) xs) ≡ ys = written_over xs ys c.self.inside.list.len c.self.inside.list.ok.0 (c.hear_of-2.auto.nodes ∙ ap length same) in
     let own : List KeyedVersion = slice_index_or ls (c.args.to - 1) [] in
     let theirs : List KeyedVersion = slice_index_or ls (c.args.from - 1) [] in
     let told = c.told.inside.told in
@@ -126,7 +238,7 @@ returns-clause-grow g c =
     let heard : (x y : NodeState _) → slice_get xs (c.args.from - 1) ≡ Some x → slice_get xs (c.args.to - 1) ≡ Some y
     → take c.self.inside.list.len (ys ++ drop (length ys) xs) ≡ slice_set xs (c.args.to - 1) (made_by y (change.Deliver (letter_with (outlined_for x c.args.to) (greatest_of (lacks (max c.args.start told)))))).node
     = λ x y at_x at_y. back
-    ∙ c.in_ok-hear_of.ensures.ok x y (ap (λ l. slice_get l (c.args.from - 1)) same ∙ at_x) (ap (λ l. slice_get l (c.args.to - 1)) same ∙ at_y)
+    ∙ c.in_ok-hear_of-2.ensures.ok x y (ap (λ l. slice_get l (c.args.from - 1)) same ∙ at_x) (ap (λ l. slice_get l (c.args.to - 1)) same ∙ at_y)
     ∙ (λ i. slice_set (same i) (c.args.to - 1) (made_by y (change.Deliver (letter_with (outlined_for x c.args.to) (pack i)))).node) in
     met_grow g.Q.Quorums.system xs ls c.args.self.now c.self.view_is c.self.invariant.0 c.self.invariant.1 c.args.from c.args.to c.outline.ensures.named c.requires.accepted c.args.start told tells (take c.self.inside.list.len (ys ++ drop (length ys) xs)) c.take_on.new.self.logs heard put
 
