@@ -17,7 +17,8 @@ use Rattle.rambo_run.specs.Runs.{after, unless_refused, result_of, run_from}
 use Rattle.rambo_world.specs.Direct.{passed, IsReachedBarLetters}
 use Rattle.rambo_world.specs.Told.{called, advanced, went_on}
 use Rattle.rambo_world.specs.Worlds.{RunningOf}
-use Rattle.rambo_local.specs.Calls.{id_at, answered, direct_history, IsOfRun}
+use Rattle.rambo_client.specs.Calls.{id_at, answered, IsOfRun}
+use Rattle.rambo_local.specs.Clusters.{direct_history}
 use Rattle.rambo_local.proofs.Turns.{answered_by, send_quiet, deliver_quiet, call_made, advance_told}
 
 -- what a result of a step says

@@ -2,7 +2,6 @@
 use Rattle.std.proofs.Common.{◌≡◌, ℕ, List, [], ◌∷◌, ◌++◌, None, refl, sym, ap, ◌∙◌}
 use Rattle.rambo_names.specs.Names.{NameSet}
 use Rattle.rambo_names.specs.Quorums.{majorities}
-use Rattle.rambo_names.specs.Majorities.{majorities_sound}
 use Rattle.rambo_atomic.specs.declared.operation.Op.{Op}
 use Rattle.rambo_atomic.specs.declared.operation.Answer.{Answer}
 use Rattle.rambo_atomic.specs.declared.event.CallId.{CallId}
@@ -13,20 +12,14 @@ use Rattle.rambo_node.specs.declared.effect.Effect.TheVariants as effect
 use Rattle.rambo_run.specs.declared.step.Step.{Step}
 use Rattle.rambo_run.specs.declared.step.Step.TheVariants as step
 use Rattle.rambo_run.specs.Worlds.{WorldState}
-use Rattle.rambo_run.specs.Runs.{run}
 use Rattle.rambo_run.specs.Steps.{refusal, turn}
-use Rattle.rambo_run.proofs.EveryRun.{is_atomic}
 use Rattle.rambo_run.proofs.NodeLists.{node_named}
-use Rattle.rambo_sequence.specs.Sequences.{sequence_of}
 use Rattle.rambo_world.specs.Worlds.{WorldOf, state}
-use Rattle.rambo_local.proofs.RunSteps.{run-more}
-use Rattle.rambo_local.specs.declared.request.Request.{Request}
-use Rattle.rambo_local.specs.Maps.{no_values, answer_of}
-use Rattle.rambo_local.specs.Replies.{after_all}
-use Rattle.rambo_local.specs.Calls.{id_at, history_of, IsHistory, IsOfRun}
+use Rattle.rambo_client.proofs.RunSteps.{run-more}
+use Rattle.rambo_client.specs.Calls.{id_at, IsOfRun}
+use Rattle.rambo_local.specs.Clusters.{history_of}
 use Rattle.rambo_local.proofs.Turns.{answered_by, send_quiet, deliver_quiet, call_told, uncalled_told, advance_told}
-use Rattle.rambo_local.proofs.WellFormed.{run_well_formed, no_history}
-use Rattle.rambo_local.proofs.Orders.{answer_right}
+use Rattle.rambo_client.proofs.WellFormed.{no_history}
 
 -- a step that wasn't refused
 pub stepped : (old new : WorldOf NameSet) (st : Step NameSet) → refusal majorities (state majorities old) st ≡ None → new ≡ record old { steps = old.steps ++ st ∷ [] }
@@ -78,11 +71,3 @@ fresh_history w e = ap (λ ss. history_of (record { founders = w.founders; steps
 -- and it is that of a run
 pub of_run : (w : WorldOf NameSet) → IsOfRun (history_of w)
 of_run w = (w.founders, w.steps, refl)
-
--- each answer is an ordinary map's
-pub right : (h : List Event) (name : ℕ) (qs : List Request) (h0 : List Event) (id : CallId) (o : Op) (a : Answer) → IsOfRun h → IsHistory name qs h0
-    → h ≡ h0 ++ event.Call id o ∷ event.Answer id a ∷ [] → a ≡ answer_of (after_all no_values qs) o
-right h name qs h0 id o a ran calls is =
-    let w = run majorities ran.0 ran.1 in
-    answer_right name qs h0 id o a w.history calls (sym ran.2 ∙ is) (run_well_formed majorities ran.0 ran.1)
-    (λ key. (sequence_of w.history w.marks key, is_atomic majorities majorities_sound ran.0 ran.1 key))

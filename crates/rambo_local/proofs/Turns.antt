@@ -16,7 +16,7 @@ use Rattle.rambo_node.specs.Nodes.{NodeState, open_call}
 use Rattle.rambo_run.specs.declared.step.Step.TheVariants as step
 use Rattle.rambo_run.specs.Worlds.{WorldState, node_at, letter_at}
 use Rattle.rambo_run.specs.Steps.{delivery, turn_by, turn_at, turn_of, turn}
-use Rattle.rambo_local.specs.Calls.{id_at}
+use Rattle.rambo_client.specs.Calls.{id_at}
 
 -- what a call that goes on adds to the history, by what it does
 abbrev pub answered_by : {Q : Type 0} → CallId → Effect Q → List Event

@@ -1,6 +1,1 @@
-pub mod Maps
-pub mod Requests
-pub mod Replies
-pub mod Calls
-pub mod Talks
-pub mod Faults
+pub mod Clusters

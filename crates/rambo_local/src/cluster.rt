@@ -1,10 +1,9 @@
-//! Nodes that a client asks.
-ghost use Rattle.std.specs.Prelude.{◌≡◌, ◌++◌, ◌∷◌, [], List, IfOk, OnOk, OnErr};
-ghost use Rattle.rambo_atomic.specs.declared.event.Event.{Event};
-ghost use Rattle.rambo_atomic.specs.declared.event.Event.TheVariants as event;
-ghost use Rattle.rambo_local.specs.Calls.{answered, direct_history, history_of, id_at, IsOfRun};
+//! The nodes that a client asks: those of a world, and some of its own.
+ghost use Rattle.std.specs.Prelude.{◌≡◌};
+ghost use Rattle.rambo_local.specs.Clusters.{direct_history, history_of};
 
 use rambo_atomic::{Answer, CallId, Op};
+use rambo_client::Cluster;
 use rambo_names::{Majority, Name, Refusal};
 use rambo_node::Effect;
 use rambo_tag::Registers;
@@ -17,29 +16,10 @@ pub type Host = World<Majority, Registers<BuildHasherDefault<FoldHasher>>>;
 /// Such nodes whose letters come as they are sent, and aren't kept.
 pub(crate) type Local = Direct<Majority, Registers<BuildHasherDefault<FoldHasher>>>;
 
-// Nodes that a client asks, and whose letters go where it says.
-pub(crate) trait Cluster {
-    // The calls and answers.
-    ghost history: { Self → List Event };
+/// That nodes of a run are asked, which hear of each other by letters.
+pub(crate) struct ByLetters;
 
-    // A node is asked for an operation: the call.
-    fn ask(&mut self, name: Name, op: Op) -> Result<CallId, Refusal>
-        ensures ok { IfOk result (λ id. history self.new ≡ history self.old ++ event.Call id op ∷ []) }
-        ensures named { IfOk result (λ id. id ≡ id_at name id.number) }
-        ensures err { OnErr result (history self.new ≡ history self.old) };
-
-    // A letter goes to a node, and one comes back.
-    fn exchange(&mut self, name: Name, peer: Name) -> Result<(), Refusal>
-        ensures { history self.new ≡ history self.old };
-
-    // A call goes on: its answer, if it got one. The calls and answers are then those of a run.
-    fn go_on(&mut self, id: &CallId) -> Result<Option<Answer>, Refusal>
-        ensures ok { IfOk result (λ a. history self.new ≡ history self.old ++ answered id.now a) }
-        ensures run { OnOk result (IsOfRun (history self.new)) }
-        ensures err { OnErr result (history self.new ≡ history self.old) };
-}
-
-impl Cluster for Host {
+impl Cluster<ByLetters> for Host {
     ghost history = { history_of };
 
     fn ask(&mut self, name: Name, op: Op) -> Result<CallId, Refusal> {
@@ -62,7 +42,7 @@ impl Cluster for Host {
     }
 }
 
-impl Cluster for Local {
+impl Cluster<ByLetters> for Local {
     ghost history = { direct_history };
 
     fn ask(&mut self, name: Name, op: Op) -> Result<CallId, Refusal> {

@@ -6,12 +6,10 @@
 //! - `LocalFault`: why a client wasn't served to the end.
 #![tactic(auto)]
 
-mod client;
 mod cluster;
-mod fault;
-mod request;
+mod founding;
 mod serving;
 
 pub use cluster::Host;
-pub use fault::LocalFault;
+pub use rambo_client::LocalFault;
 pub use serving::{local, local_on};

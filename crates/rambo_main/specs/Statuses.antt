@@ -13,9 +13,9 @@ use Rattle.rambo_check.specs.Checks.{IsLeft, IsChecked}
 use Rattle.rambo_check.specs.Texts.{IsTextFault}
 use Rattle.rambo_script.specs.Replays.{Replays, Leaves, reads_failed, writes_failed}
 use Rattle.rambo_names.specs.Names.{NameSet}
-use Rattle.rambo_local.specs.declared.fault.LocalFault.{LocalFault}
-use Rattle.rambo_local.specs.declared.fault.LocalFault.TheVariants as local
-use Rattle.rambo_local.specs.Talks.{Served, Stopped}
+use Rattle.rambo_client.specs.declared.fault.LocalFault.{LocalFault}
+use Rattle.rambo_client.specs.declared.fault.LocalFault.TheVariants as local
+use Rattle.rambo_client.specs.Talks.{Served, Stopped}
 use Rattle.rambo_command_line.specs.Lines.{rambo, founders_word, IsFounders}
 
 -- a stream before and after: the bytes that it has left or has taken, where these are known, and how many of its

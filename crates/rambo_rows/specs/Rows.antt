@@ -2,7 +2,7 @@
 use Rattle.std.specs.Prelude.{◌≡◌, ◌⊎◌, ◌++◌, true, false, ℕ, List, [], Option, Some, codes}
 use Rattle.rambo_names.specs.Names.{NameSet}
 use Rattle.rambo_names.specs.Signs.{set_text}
-use Rattle.rambo_local.specs.Talks.{Served}
+use Rattle.rambo_client.specs.Talks.{Served}
 use Rattle.rambo_check.specs.Checks.{IsChecked}
 use Rattle.rambo_script.specs.Replays.{IsReplay}
 

@@ -2,7 +2,7 @@
 ghost use Rattle.std.specs.Prelude.{◌≡◌, ◌≤◌, ◌++◌, None, true, false, codes, IfOk, IfSome, IsTrue, OnOk, Ok as AnOk, List, ℕ};
 ghost use Rattle.rambo_names.specs.Names.{count_of};
 ghost use Rattle.rambo_names.specs.Signs.{set_text};
-ghost use Rattle.rambo_local.specs.Talks.{Served};
+ghost use Rattle.rambo_client.specs.Talks.{Served};
 ghost use Rattle.rambo_check.specs.Checks.{IsChecked};
 ghost use Rattle.rambo_rows.specs.Rows.{IsServed, Shows};
 ghost use Rattle.rambo_script.specs.Replays.{IsReplay, Replays};

@@ -1,6 +1,6 @@
 use Rattle.std.proofs.Common.{ap, ◌∙◌}
 use Rattle.rambo_names.specs.Quorums.{majorities}
-use Rattle.rambo_local.specs.Calls.{direct_history}
+use Rattle.rambo_local.specs.Clusters.{direct_history}
 use Rattle.rambo_local.proofs.Directs.{passed_quiet}
 use Rattle.rambo_local.proofs.cluster.pass.Goals as goal
 

@@ -1,5 +1,5 @@
 use Rattle.std.proofs.Common.{ap, ◌∙◌}
-use Rattle.rambo_local.specs.Calls.{history_of}
+use Rattle.rambo_local.specs.Clusters.{history_of}
 use Rattle.rambo_local.proofs.Histories.{sent, delivered}
 use Rattle.rambo_local.proofs.cluster.send.Goals as goal
 

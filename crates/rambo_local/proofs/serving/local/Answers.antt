@@ -1,8 +1,7 @@
-use Rattle.std.proofs.Common.{[], refl, ap, ◌∙◌}
-use Rattle.rambo_local.specs.Calls.{direct_history}
-use Rattle.rambo_local.proofs.Directs.{first_direct}
-use Rattle.rambo_local.proofs.Gains.{on_err, on_ok-weaker, on_err-weaker}
-use Rattle.rambo_local.proofs.Pieces.{nothing, served_alone, stopped_alone}
+use Rattle.std.proofs.Common.{[], refl}
+use Rattle.rambo_local.specs.Clusters.{direct_history}
+use Rattle.rambo_client.proofs.Gains.{on_err, on_ok-weaker, on_err-weaker}
+use Rattle.rambo_client.proofs.Pieces.{nothing, served_alone, stopped_alone}
 use Rattle.rambo_local.proofs.serving.local.Goals as goal
 
 pub returns-in_err-cluster-clause-err : goal.returns-in_err-cluster-clause-err
@@ -18,7 +17,7 @@ returns-in_default-clause-err g c =
     stopped_alone 0 left left taken taken [] (nothing 0 left taken [] refl)
 
 pub serve-requires : goal.serve-requires
-serve-requires g c = ap direct_history c.in_ok-cluster.ensures.made ∙ first_direct c.args.founders
+serve-requires g c = c.in_ok-cluster.ensures
 
 pub returns-clause-ok : goal.returns-clause-ok
 returns-clause-ok g c =

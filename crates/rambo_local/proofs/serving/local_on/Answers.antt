@@ -1,7 +1,8 @@
-use Rattle.rambo_local.specs.Calls.{history_of, lowest}
-use Rattle.rambo_local.proofs.Gains.{on_err}
+use Rattle.rambo_client.specs.Calls.{lowest}
+use Rattle.rambo_local.specs.Clusters.{history_of}
+use Rattle.rambo_client.proofs.Gains.{on_err}
 use Rattle.rambo_local.proofs.Histories.{fresh_history}
-use Rattle.rambo_local.proofs.Pieces.{nothing}
+use Rattle.rambo_client.proofs.Pieces.{nothing}
 use Rattle.rambo_local.proofs.serving.local_on.Goals as goal
 
 pub returns-in_err-founders-clause-err : goal.returns-in_err-founders-clause-err

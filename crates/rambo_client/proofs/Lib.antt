@@ -1,0 +1,7 @@
+pub mod RunSteps
+pub mod WellFormed
+pub mod Latest
+pub mod Orders
+pub mod Right
+pub mod Gains
+pub mod Pieces

@@ -1,0 +1,6 @@
+pub mod Maps
+pub mod Requests
+pub mod Replies
+pub mod Calls
+pub mod Talks
+pub mod Faults

@@ -1,0 +1,82 @@
+-- What a client is served
+use Rattle.std.specs.Prelude.{◌≡◌, ℕ, Bool, true, false, List, [], ◌++◌, Option, None, Some}
+use Rattle.std.specs.Io.KnownBytes.{Appends, Consumes, IsAtEnd}
+use Rattle.rambo_atomic.specs.Streams.{Begins}
+use Rattle.rambo_atomic.specs.declared.event.Event.{Event}
+use Rattle.rambo_resp.specs.declared.fault.Fault.{Fault}
+use Rattle.rambo_resp.specs.Decoders.{DecoderState}
+use Rattle.rambo_resp.specs.Streams.{Ending, open_at, faulty, Reads}
+use Rattle.rambo_client.specs.Maps.{no_values}
+use Rattle.rambo_client.specs.Replies.{requests, replies, text_of}
+use Rattle.rambo_client.specs.Calls.{IsHistory, BeginsHistory}
+
+-- the input is at its end, or what was read has a fault
+abbrev pub IsOver : Ending → Option (List ℕ) → Type 0
+IsOver (open_at bytes place) left = IsAtEnd left
+IsOver (faulty fault) left = Unit {0}
+
+-- these are the commands of what was read, which is over, and to each of them was written what an ordinary map replies,
+-- and then the reply to the fault, if there is one
+pub record Serves (commands : List (List (List ℕ))) (left left_now taken taken_now : Option (List ℕ)) : Type 0 where
+  pub stream : List ℕ
+  pub ending : Ending
+  pub read : Consumes left left_now stream
+  pub reads : Reads stream commands ending
+  pub over : IsOver ending left_now
+  pub written : Appends taken taken_now (text_of commands ending)
+
+-- these are the commands of what was read, and a beginning of the replies to them was written
+pub record Stops (commands : List (List (List ℕ))) (left left_now taken taken_now : Option (List ℕ)) : Type 0 where
+  pub stream : List ℕ
+  pub ending : Ending
+  pub read : Consumes left left_now stream
+  pub reads : Reads stream commands ending
+  pub written : Begins taken taken_now (text_of commands ending)
+
+abbrev pub Served : Option (List ℕ) → Option (List ℕ) → Option (List ℕ) → Option (List ℕ) → Type 0
+Served left left_now taken taken_now = (commands : List (List (List ℕ))) × Serves commands left left_now taken taken_now
+
+abbrev pub Stopped : Option (List ℕ) → Option (List ℕ) → Option (List ℕ) → Option (List ℕ) → Type 0
+Stopped left left_now taken taken_now = (commands : List (List (List ℕ))) × Stops commands left left_now taken taken_now
+
+-- a client of the node of a name was served, and the history has its calls
+pub record ServesAt (name : ℕ) (left left_now taken taken_now : Option (List ℕ)) (history : List Event) : Type 0 where
+  pub commands : List (List (List ℕ))
+  pub serves : Serves commands left left_now taken taken_now
+  pub calls : IsHistory name (requests commands) history
+
+-- or a beginning of this
+pub record StopsAt (name : ℕ) (left left_now taken taken_now : Option (List ℕ)) (history : List Event) : Type 0 where
+  pub commands : List (List (List ℕ))
+  pub stops : Stops commands left left_now taken taken_now
+  pub calls : BeginsHistory name (requests commands) history
+
+-- the fault of a stream, if it has one
+abbrev pub fault_in : Ending → Option Fault
+fault_in (open_at bytes place) = None
+fault_in (faulty fault) = Some fault
+
+abbrev pub is_faulty : Ending → Bool
+is_faulty (open_at bytes place) = false
+is_faulty (faulty fault) = true
+
+-- the decoder has read this stream, and all its commands were given and carried out
+pub record IsTalk (name : ℕ) (d : DecoderState) (history : List Event) (stream : List ℕ) (commands : List (List (List ℕ))) : Type 0 where
+  pub reads : Reads stream commands d.ending
+  pub given : d.waiting ≡ []
+  pub calls : IsHistory name (requests commands) history
+
+-- the same after a piece more, where these are the replies to what is new
+pub record Answers (name : ℕ) (d : DecoderState) (history : List Event) (stream : List ℕ) (commands : List (List (List ℕ))) (new : List ℕ) : Type 0 where
+  pub commands_now : List (List (List ℕ))
+  pub talk : IsTalk name d history stream commands_now
+  pub text : text_of commands_now d.ending ≡ replies no_values (requests commands) ++ new
+
+-- a piece more was carried out in part
+pub record BreaksOff (name : ℕ) (history : List Event) (stream : List ℕ) (commands : List (List (List ℕ))) : Type 0 where
+  pub commands_now : List (List (List ℕ))
+  pub ending : Ending
+  pub reads : Reads stream commands_now ending
+  pub calls : BeginsHistory name (requests commands_now) history
+  pub new : List ℕ
+  pub text : text_of commands_now ending ≡ replies no_values (requests commands) ++ new

@@ -1,0 +1,92 @@
+//! A client, and what it asks of nodes.
+ghost use Rattle.std.specs.Prelude.{◌≡◌, ◌++◌, ◌∷◌, [], ℕ, List, IfOk, OnOk, OnErr, IfNone, IfSome};
+ghost use Rattle.rambo_names.specs.Names.{names};
+ghost use Rattle.rambo_atomic.specs.declared.event.Event.TheVariants as event;
+ghost use Rattle.rambo_client.specs.declared.request.Request.{Request as AnyRequest};
+ghost use Rattle.rambo_client.specs.declared.request.Request.TheVariants.{Does};
+ghost use Rattle.rambo_client.specs.Calls.{lowest, answered, IsHistory, BeginsHistory, IsOfRun};
+ghost use Rattle.rambo_client.specs.Maps.{no_values, answer_of};
+ghost use Rattle.rambo_client.specs.Replies.{after_all};
+
+use crate::cluster::Cluster;
+use rambo_atomic::{Answer, CallId, Op};
+use rambo_names::{Members, Name, Refusal};
+
+/// A client of the lowest founder, which asks all founders.
+#[derive(Clone, Copy)]
+pub struct Client {
+    /// The node that it asks.
+    pub name: Name,
+    founders: Members,
+}
+
+impl Client {
+    /// The client of these founders, or none where there is no founder.
+    pub fn new(founders: Members) -> Option<Client>
+        ensures lowest { IfSome result (λ c. c.name ≡ lowest founders) }
+        ensures none { IfNone result (names founders ≡ []) }
+    {
+        let name = founders.iter().next()?;
+        Some(Client { name, founders })
+    }
+
+    /// Asks for an operation, and goes on until it is answered: once all founders answered its query, and once all
+    /// answered its propagation.
+    ///
+    /// Where it is refused the call may have been made.
+    pub(crate) fn operate<By, C: Cluster<By>>(&self, cluster: &mut C, op: Op) -> Result<Answer, Refusal>
+        ensures answer { (qs : List AnyRequest) → IsHistory self.now.name qs (C.history cluster.old)
+            → IfOk result (λ a. a ≡ answer_of (after_all no_values qs) op) }
+        ensures ok { (qs : List AnyRequest) → IsHistory self.now.name qs (C.history cluster.old)
+            → OnOk result (IsHistory self.now.name (qs ++ Does op ∷ []) (C.history cluster.new)) }
+        ensures err { (qs : List AnyRequest) → IsHistory self.now.name qs (C.history cluster.old)
+            → OnErr result (BeginsHistory self.now.name (qs ++ Does op ∷ []) (C.history cluster.new)) }
+    {
+        let id = cluster.ask(self.name, op)?;
+        self.finish(cluster, &id)
+    }
+
+    // Has a call go on until it is answered.
+    fn finish<By, C: Cluster<By>>(&self, cluster: &mut C, id: &CallId) -> Result<Answer, Refusal>
+        ensures ok { IfOk result (λ a. C.history cluster.new ≡ C.history cluster.old ++ event.Answer id.now a ∷ []) }
+        ensures run { OnOk result (IsOfRun (C.history cluster.new)) }
+        ensures err { OnErr result (C.history cluster.new ≡ C.history cluster.old) }
+    {
+        for _ in 0..2 {
+            if let Some(answer) = self.advance(cluster, id)? {
+                return Ok(answer);
+            }
+        }
+        Err(Refusal::NotYet)
+    }
+
+    // Exchanges letters with each other founder, and then has a call go on.
+    fn advance<By, C: Cluster<By>>(&self, cluster: &mut C, id: &CallId) -> Result<Option<Answer>, Refusal>
+        ensures ok { IfOk result (λ a. C.history cluster.new ≡ C.history cluster.old ++ answered id.now a) }
+        ensures run { OnOk result (IsOfRun (C.history cluster.new)) }
+        ensures err { OnErr result (C.history cluster.new ≡ C.history cluster.old) }
+    {
+        self.ask_all(cluster)?;
+        cluster.go_on(id)
+    }
+
+    // Exchanges letters with each other founder.
+    fn ask_all<By, C: Cluster<By>>(&self, cluster: &mut C) -> Result<(), Refusal>
+        ensures { C.history cluster.new ≡ C.history cluster.old }
+    {
+        for peer in self.founders.iter() {
+            self.ask(cluster, peer)?;
+        }
+        Ok(())
+    }
+
+    // Exchanges letters with a founder, unless it is the node that is asked.
+    fn ask<By, C: Cluster<By>>(&self, cluster: &mut C, peer: Name) -> Result<(), Refusal>
+        ensures { C.history cluster.new ≡ C.history cluster.old }
+    {
+        if peer != self.name {
+            cluster.exchange(self.name, peer)?;
+        }
+        Ok(())
+    }
+}
