@@ -8,10 +8,10 @@ use Rattle.rambo_resp.specs.declared.awaited.Awaited.TheVariants.{Star, Count, C
 use Rattle.rambo_resp.specs.Streams.{place_of}
 use Rattle.rambo_resp.specs.Spellings.{number_line, item_spelling, IsShort}
 use Rattle.rambo_resp.specs.Rests.{Rest}
-use Rattle.rambo_resp.specs.Progresses.{is_last, after, rest_after, whole_as, whole, ProgressState, running, stepped, run, item_read}
+use Rattle.rambo_resp.specs.Progresses.{is_last, after, rest_after, whole_as, whole, ProgressState, running, stepped, run, item_read, line_read}
 use Rattle.rambo_resp.specs.Endings.{is_star, at, done, stuck, drive}
 use Rattle.rambo_resp.proofs.ByteTests.{if_some}
-use Rattle.rambo_resp.proofs.Drives.{rest_at, drive_on, drive_end, drive_stuck, drive_none, item_feed_drive, item_split}
+use Rattle.rambo_resp.proofs.Drives.{rest_at, drive_on, drive_end, drive_stuck, drive_none, array_drive, item_feed_drive, item_split}
 use Rattle.rambo_resp.proofs.Readings.{run_cons}
 
 not_last : (t : Bool) (x a : Awaited) (w : List (List (List ℕ))) → cond t Star x ≡ a → is_star a ≡ false → cond t w [] ≡ []
@@ -83,17 +83,17 @@ item_run p left item rest a h =
     ∙ run_cons (come p.waiting (place_of (p.place + length front)) q) 10 rest
     ∙ ap (λ n. run (running (come (p.waiting ++ whole_as (ItemFeed left) p.rest.items item) n (rest_after q 10 (cond (is_last left) Star (Dollar (left - 1)))))) rest) total
 
--- a line that tells a length with one digit
-pub line_of_one : (bs : List ℕ) (n : ℕ) → 4 ≤ length bs → get_or bs 0 0 ≡ 36 → n ≡ get_or bs 1 0 - 48 → 48 ≤ get_or bs 1 0 → get_or bs 1 0 < 58
-    → get_or bs 2 0 ≡ 13 → get_or bs 3 0 ≡ 10 → bs ≡ number_line 36 n ++ drop 4 bs
-line_of_one [] n long sign one low high cr lf = absurd (omega (arith, long))
-line_of_one (a ∷ []) n long sign one low high cr lf = absurd (omega (arith, long))
-line_of_one (a ∷ b ∷ []) n long sign one low high cr lf = absurd (omega (arith, long))
-line_of_one (a ∷ b ∷ c ∷ []) n long sign one low high cr lf = absurd (omega (arith, long))
-line_of_one (a ∷ b ∷ c ∷ d ∷ bs) n long sign one low high cr lf =
+-- a line that tells a number with one digit
+pub line_of_one : (sign : ℕ) (bs : List ℕ) (n : ℕ) → 4 ≤ length bs → get_or bs 0 0 ≡ sign → n ≡ get_or bs 1 0 - 48 → 48 ≤ get_or bs 1 0 → get_or bs 1 0 < 58
+    → get_or bs 2 0 ≡ 13 → get_or bs 3 0 ≡ 10 → bs ≡ number_line sign n ++ drop 4 bs
+line_of_one sign [] n long is one low high cr lf = absurd (omega (arith, long))
+line_of_one sign (a ∷ []) n long is one low high cr lf = absurd (omega (arith, long))
+line_of_one sign (a ∷ b ∷ []) n long is one low high cr lf = absurd (omega (arith, long))
+line_of_one sign (a ∷ b ∷ c ∷ []) n long is one low high cr lf = absurd (omega (arith, long))
+line_of_one sign (a ∷ b ∷ c ∷ d ∷ bs) n long is one low high cr lf =
     let digit : 48 + n ≡ b = omega (arith, one, low) in
     let digits : decimal n ≡ b ∷ [] = decimal_digit n (omega (arith, one, high)) ∙ ap (λ x. x ∷ []) digit in
-    ap (λ x. x ∷ b ∷ c ∷ d ∷ bs) sign ∙ ap (λ x. 36 ∷ b ∷ x ∷ d ∷ bs) cr ∙ ap (λ x. 36 ∷ b ∷ 13 ∷ x ∷ bs) lf ∙ ap (λ ds. ((36 ∷ ds) ++ 13 ∷ 10 ∷ []) ++ bs) (sym digits)
+    ap (λ x. x ∷ b ∷ c ∷ d ∷ bs) is ∙ ap (λ x. sign ∷ b ∷ x ∷ d ∷ bs) cr ∙ ap (λ x. sign ∷ b ∷ 13 ∷ x ∷ bs) lf ∙ ap (λ ds. ((sign ∷ ds) ++ 13 ∷ 10 ∷ []) ++ bs) (sym digits)
 
 -- a line that tells a length with two digits
 pub line_of_two : (bs : List ℕ) (n : ℕ) → 5 ≤ length bs → get_or bs 0 0 ≡ 36 → n ≡ 10 * (get_or bs 1 0 - 48) + (get_or bs 2 0 - 48) → 49 ≤ get_or bs 1 0 → get_or bs 1 0 < 58
@@ -118,4 +118,24 @@ item_on v w left n bs item rest a h split count e =
     let whole_length : n ≡ length (item_spelling item) = omega (arith, count, ap length split, length-append (item_spelling item) rest) in
     let behind : rest ≡ drop n bs = sym (ap (drop n) split ∙ drop_at (item_spelling item) rest n (sym whole_length)) in
     ap (run (running v)) split ∙ item_run v left item rest a h ∙ ap (λ m. run (running (item_read v left item m)) rest) (sym whole_length)
+    ∙ ap (λ x. run (running x) rest) (sym e) ∙ ap (run (running w)) behind
+
+-- the line of an array is read
+pub line_run : (p : ProgressState) (n : ℕ) (rest : List ℕ) → p.rest.awaited ≡ Star → 1 ≤ n → n ≤ 128
+    → run (running p) (number_line 42 n ++ rest) ≡ run (running (line_read p n (length (number_line 42 n)))) rest
+line_run p n rest a some h =
+    let line : List ℕ = number_line 42 n in
+    let q : Rest = rest_at (Dollar n) [] p.rest.item in
+    let d : drive p.rest line ≡ at q =
+    ap (λ w. drive (rest_at w p.rest.items p.rest.item) line) a ∙ ap (drive (rest_at Star p.rest.items p.rest.item)) (sym (append-nil line))
+    ∙ array_drive p.rest.items p.rest.item n [] some h ∙ drive_none q in
+    driven_run line p q rest (λ z. absurd (omega (arith, z))) d
+
+-- the line of an array at the front of others is read
+pub line_on : (v w : ProgressState) (items n : ℕ) (bs rest : List ℕ) → v.rest.awaited ≡ Star → 1 ≤ items → items ≤ 128 → bs ≡ number_line 42 items ++ rest
+    → n ≡ length bs - length rest → w ≡ line_read v items n → run (running v) bs ≡ run (running w) (drop n bs)
+line_on v w items n bs rest a some h split count e =
+    let whole_length : n ≡ length (number_line 42 items) = omega (arith, count, ap length split, length-append (number_line 42 items) rest) in
+    let behind : rest ≡ drop n bs = sym (ap (drop n) split ∙ drop_at (number_line 42 items) rest n (sym whole_length)) in
+    ap (run (running v)) split ∙ line_run v items rest a some h ∙ ap (λ m. run (running (line_read v items m)) rest) (sym whole_length)
     ∙ ap (λ x. run (running x) rest) (sym e) ∙ ap (run (running w)) behind

@@ -102,6 +102,10 @@ item_read p left item n = record {
   rest = rest_as (ItemFeed left) p.rest.items item 10 (if is_last left then Star else Dollar (left - 1));
 }
 
+-- a progress when the line of an array of some items was read at once, a line of so many bytes
+abbrev pub line_read : ProgressState → ℕ → ℕ → ProgressState
+line_read p items n = record { waiting = p.waiting; place = place_of (p.place + n); rest = record { awaited = Dollar items; items = []; item = p.rest.item } }
+
 -- whether the next byte is one of an item
 abbrev pub are_bytes : Awaited → Bool
 are_bytes (Bytes left more) = not (more == 0)

@@ -18,6 +18,22 @@ pub fn whole_item(bytes: &[u8]) -> Option<(&[u8], &[u8])>
     }
 }
 
+/// The number of items that the line of an array tells with one digit, and what is behind the line.
+///
+/// None also where it tells 0, or a number of more digits.
+pub fn count_line(bytes: &[u8]) -> Option<(u16, &[u8])>
+    ensures spelled { IfSome result (λ r. bytes.now ≡ number_line 42 r.0 ++ r.1.now) }
+    ensures few { IfSome result (λ r. (1 ≤ r.0) × (r.0 ≤ 9)) }
+    ensures shorter { IfSome result (λ r. length r.1.now < length bytes.now) }
+{
+    match bytes {
+        [b'*', one @ b'1'..=b'9', b'\r', b'\n', rest @ ..] => {
+            Some((u16::from(*one - b'0'), rest))
+        }
+        _ => None,
+    }
+}
+
 // The length that a line tells with one digit or two, and what is behind the line.
 fn length_line(bytes: &[u8]) -> Option<(usize, &[u8])>
     ensures spelled { IfSome result (λ r. bytes.now ≡ number_line 36 r.0 ++ r.1.now) }

@@ -1,12 +1,12 @@
 //! How far a stream was read.
 ghost use Rattle.std.specs.Prelude.{◌≡◌, ◌≤◌, ◌++◌, false, OnErr, ◌∷◌, [], ℕ, List, length, take, drop, OnOk, IfOk, IfErr};
 ghost use Rattle.std.specs.Option.{option_to_list};
-ghost use Rattle.rambo_resp.specs.Progresses.{ProgressState, running, run, step, fresh, are_bytes, with_item, item_read, Extends, Stops};
+ghost use Rattle.rambo_resp.specs.Progresses.{ProgressState, running, run, step, fresh, are_bytes, with_item, item_read, line_read, Extends, Stops};
 
 use crate::awaited::{Awaited, after, fault_of};
 use crate::command::Command;
 use crate::fault::Fault;
-use crate::front::whole_item;
+use crate::front::{count_line, whole_item};
 use rambo_names::Bytes;
 use std::alloc::Global;
 use std::collections::VecDeque;
@@ -88,7 +88,8 @@ impl Progress {
         Ok(())
     }
 
-    // Reads the first of some bytes, or as many as belong to one item, and tells how many these were.
+    // Reads the first of some bytes, or as many as belong to one item, or what stands whole at their front, and tells how
+    // many these were.
     fn read_some(&mut self, bytes: &[u8]) -> Result<usize, Fault>
         requires { 1 ≤ length bytes.now }
         ensures some { IfOk result (λ n. (1 ≤ n) × (n ≤ length bytes.now)) }
@@ -106,8 +107,33 @@ impl Progress {
                 }
                 None => self.read_first(bytes),
             },
+            Awaited::Star => match count_line(bytes) {
+                Some((items, rest)) => {
+                    let count = bytes.len() - rest.len();
+                    self.read_line(items, count)?;
+                    Ok(count)
+                }
+                None => self.read_first(bytes),
+            },
             _ => self.read_first(bytes),
         }
+    }
+
+    // Reads as many of some bytes as belong to an item, of which so many are still to come.
+    fn read_bytes(&mut self, left: u16, more: u16, bytes: &[u8]) -> Result<usize, Fault>
+        requires awaited { self.old.rest.awaited ≡ Awaited.Bytes left more }
+        requires more { 1 ≤ more }
+        requires some { 1 ≤ length bytes.now }
+        ensures some { IfOk result (λ n. (1 ≤ n) × (n ≤ length bytes.now)) }
+        ensures ok { IfOk result (λ n. run (running self.old) bytes.now ≡ run (running self.new) (drop n bytes.now)) }
+        ensures kept { self.new.waiting ≡ self.old.waiting }
+        ensures refused { IfErr result (λ f. f ≡ Fault.OutOfMemory) }
+    {
+        let count = bytes.len().min(usize::from(more));
+        self.item.extend_from_slice(&bytes[..count])?;
+        self.awaited = Awaited::Bytes(left, more - count as u16);
+        self.place = self.place.saturating_add(count as u64);
+        Ok(count)
     }
 
     // Reads an item that has come whole, by a spelling of so many bytes.
@@ -127,21 +153,16 @@ impl Progress {
         Ok(())
     }
 
-    // Reads as many of some bytes as belong to an item, of which so many are still to come.
-    fn read_bytes(&mut self, left: u16, more: u16, bytes: &[u8]) -> Result<usize, Fault>
-        requires awaited { self.old.rest.awaited ≡ Awaited.Bytes left more }
-        requires more { 1 ≤ more }
-        requires some { 1 ≤ length bytes.now }
-        ensures some { IfOk result (λ n. (1 ≤ n) × (n ≤ length bytes.now)) }
-        ensures ok { IfOk result (λ n. run (running self.old) bytes.now ≡ run (running self.new) (drop n bytes.now)) }
+    // Reads the line of an array of some items, a line of so many bytes.
+    fn read_line(&mut self, items: u16, count: usize) -> Result<(), Fault>
+        ensures ok { OnOk result (self.new ≡ line_read self.old items count) }
         ensures kept { self.new.waiting ≡ self.old.waiting }
         ensures refused { IfErr result (λ f. f ≡ Fault.OutOfMemory) }
     {
-        let count = bytes.len().min(usize::from(more));
-        self.item.extend_from_slice(&bytes[..count])?;
-        self.awaited = Awaited::Bytes(left, more - count as u16);
+        self.items = Command::with_capacity(self.alloc, items)?;
+        self.awaited = Awaited::Dollar(items);
         self.place = self.place.saturating_add(count as u64);
-        Ok(count)
+        Ok(())
     }
 
     // Reads the first of some bytes, which belongs to no item.
