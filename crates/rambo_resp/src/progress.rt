@@ -137,8 +137,8 @@ impl Progress {
     }
 
     // Reads an item that has come whole, by a spelling of so many bytes.
-    fn read_item(&mut self, left: u16, item: &[u8], count: usize) -> Result<(), Fault>
-        ensures ok { OnOk result (self.new ≡ item_read self.old left item.now count) }
+    fn read_item(&mut self, left: u16, item: &[u8], size: usize) -> Result<(), Fault>
+        ensures ok { OnOk result (self.new ≡ item_read self.old left item.now size) }
         ensures kept { Extends self.old.waiting self.new.waiting }
         ensures refused { IfErr result (λ f. f ≡ Fault.OutOfMemory) }
     {
@@ -149,19 +149,19 @@ impl Progress {
         } else {
             Awaited::Dollar(left - 1)
         };
-        self.place = self.place.saturating_add(count as u64);
+        self.place = self.place.saturating_add(size as u64);
         Ok(())
     }
 
     // Reads the line of an array of some items, a line of so many bytes.
-    fn read_line(&mut self, items: u16, count: usize) -> Result<(), Fault>
-        ensures ok { OnOk result (self.new ≡ line_read self.old items count) }
+    fn read_line(&mut self, items: u16, size: usize) -> Result<(), Fault>
+        ensures ok { OnOk result (self.new ≡ line_read self.old items size) }
         ensures kept { self.new.waiting ≡ self.old.waiting }
         ensures refused { IfErr result (λ f. f ≡ Fault.OutOfMemory) }
     {
         self.items = Command::with_capacity(self.alloc, items)?;
         self.awaited = Awaited::Dollar(items);
-        self.place = self.place.saturating_add(count as u64);
+        self.place = self.place.saturating_add(size as u64);
         Ok(())
     }
 
