@@ -73,65 +73,65 @@ grows n most big h =
 back : (n : ℕ) → (48 + n) - 48 ≡ n
 back n = omega arith
 
-count_one : (n : ℕ) (bs : List ℕ) → n < 10 → drive (rest_at Count [] []) ((48 + n) ∷ bs) ≡ drive (rest_at (CountDigits n) [] []) bs
-count_one n bs h =
+count_one : (items : List (List ℕ)) (old : List ℕ) (n : ℕ) (bs : List ℕ) → n < 10 → drive (rest_at Count items old) ((48 + n) ∷ bs) ≡ drive (rest_at (CountDigits n) items old) bs
+count_one items old n bs h =
     let e : after Count (48 + n) ≡ Some (CountDigits n) =
     if_false ((48 + n) == 45) (Some CountMinus) _ (not_this n 45 (lit< tt)) ∙ if_true _ (Some (CountDigits ((48 + n) - 48))) None (digit_test n h) ∙ ap (λ m. Some (CountDigits m)) (back n) in
-    drive_on (rest_at Count [] []) (48 + n) bs (CountDigits n) e refl
+    drive_on (rest_at Count items old) (48 + n) bs (CountDigits n) e refl
 
-count_more : (n : ℕ) (bs : List ℕ) → 10 ≤ n → n ≤ 128 → drive (rest_at (CountDigits (n / 10)) [] []) ((48 + n % 10) ∷ bs) ≡ drive (rest_at (CountDigits n) [] []) bs
-count_more n bs big h =
+count_more : (items : List (List ℕ)) (old : List ℕ) (n : ℕ) (bs : List ℕ) → 10 ≤ n → n ≤ 128 → drive (rest_at (CountDigits (n / 10)) items old) ((48 + n % 10) ∷ bs) ≡ drive (rest_at (CountDigits n) items old) bs
+count_more items old n bs big h =
     let e : after (CountDigits (n / 10)) (48 + n % 10) ≡ Some (CountDigits n) =
     if_false ((48 + n % 10) == 13) (Some (CountFeed (n / 10))) _ (not_this (n % 10) 13 (lit< tt)) ∙ ap as_count (grows n 128 big h) in
-    drive_on (rest_at (CountDigits (n / 10)) [] []) (48 + n % 10) bs (CountDigits n) e refl
+    drive_on (rest_at (CountDigits (n / 10)) items old) (48 + n % 10) bs (CountDigits n) e refl
 
 -- the number of items
-count_drive : (n : ℕ) (rest : List ℕ) → n ≤ 128 → drive fresh (42 ∷ (decimal n ++ rest)) ≡ drive (rest_at (CountDigits n) [] []) rest
-count_drive n rest h =
-    drive_on fresh 42 (decimal n ++ rest) Count refl refl
-    ∙ digits_drive (rest_at Count [] []) (λ m. rest_at (CountDigits m) [] []) 128 (lit< tt) count_one count_more n rest h
+count_drive : (items : List (List ℕ)) (old : List ℕ) (n : ℕ) (rest : List ℕ) → n ≤ 128 → drive (rest_at Star items old) (42 ∷ (decimal n ++ rest)) ≡ drive (rest_at (CountDigits n) items old) rest
+count_drive items old n rest h =
+    drive_on (rest_at Star items old) 42 (decimal n ++ rest) Count refl refl
+    ∙ digits_drive (rest_at Count items old) (λ m. rest_at (CountDigits m) items old) 128 (lit< tt) (count_one items old) (count_more items old) n rest h
 
-feed_drive : (n : ℕ) (rest : List ℕ) → n ≤ 128 → drive fresh (((42 ∷ decimal n) ++ 13 ∷ []) ++ rest) ≡ drive (rest_at (CountFeed n) [] []) rest
-feed_drive n rest h =
-    ap (drive fresh) (append_assoc (42 ∷ decimal n) (13 ∷ []) rest) ∙ count_drive n (13 ∷ rest) h
-    ∙ drive_on (rest_at (CountDigits n) [] []) 13 rest (CountFeed n) refl refl
+feed_drive : (items : List (List ℕ)) (old : List ℕ) (n : ℕ) (rest : List ℕ) → n ≤ 128 → drive (rest_at Star items old) (((42 ∷ decimal n) ++ 13 ∷ []) ++ rest) ≡ drive (rest_at (CountFeed n) items old) rest
+feed_drive items old n rest h =
+    ap (drive (rest_at Star items old)) (append_assoc (42 ∷ decimal n) (13 ∷ []) rest) ∙ count_drive items old n (13 ∷ rest) h
+    ∙ drive_on (rest_at (CountDigits n) items old) 13 rest (CountFeed n) refl refl
 
 line_split : (sign n : ℕ) (rest : List ℕ) → number_line sign n ++ rest ≡ ((sign ∷ decimal n) ++ 13 ∷ []) ++ 10 ∷ rest
 line_split sign n rest = append_assoc (sign ∷ decimal n) (13 ∷ 10 ∷ []) rest ∙ sym (append_assoc (sign ∷ decimal n) (13 ∷ []) (10 ∷ rest))
 
 -- the line of an array
-array_drive : (n : ℕ) (rest : List ℕ) → 1 ≤ n → n ≤ 128 → drive fresh (number_line 42 n ++ rest) ≡ drive (rest_at (Dollar n) [] []) rest
-array_drive n rest some h =
+pub array_drive : (items : List (List ℕ)) (old : List ℕ) (n : ℕ) (rest : List ℕ) → 1 ≤ n → n ≤ 128 → drive (rest_at Star items old) (number_line 42 n ++ rest) ≡ drive (rest_at (Dollar n) [] old) rest
+array_drive items old n rest some h =
     let nz : (n == 0) ≡ false = grind (arith, nat_tests) in
-    ap (drive fresh) (line_split 42 n rest) ∙ feed_drive n (10 ∷ rest) h
-    ∙ drive_on (rest_at (CountFeed n) [] []) 10 rest (Dollar n) (ap (λ t. Some (cond t Star (Dollar n))) nz) refl
+    ap (drive (rest_at Star items old)) (line_split 42 n rest) ∙ feed_drive items old n (10 ∷ rest) h
+    ∙ drive_on (rest_at (CountFeed n) items old) 10 rest (Dollar n) (ap (λ t. Some (cond t Star (Dollar n))) nz) refl
 
-length_one : (left : ℕ) (items : List (List ℕ)) (n : ℕ) (bs : List ℕ) → n < 10
-    → drive (rest_at (Length left) items []) ((48 + n) ∷ bs) ≡ drive (rest_at (LengthDigits left n) items []) bs
-length_one left items n bs h =
+length_one : (left : ℕ) (items : List (List ℕ)) (old : List ℕ) (n : ℕ) (bs : List ℕ) → n < 10
+    → drive (rest_at (Length left) items old) ((48 + n) ∷ bs) ≡ drive (rest_at (LengthDigits left n) items old) bs
+length_one left items old n bs h =
     let e : after (Length left) (48 + n) ≡ Some (LengthDigits left n) =
     if_true _ (Some (LengthDigits left ((48 + n) - 48))) None (digit_test n h) ∙ ap (λ m. Some (LengthDigits left m)) (back n) in
-    drive_on (rest_at (Length left) items []) (48 + n) bs (LengthDigits left n) e refl
+    drive_on (rest_at (Length left) items old) (48 + n) bs (LengthDigits left n) e refl
 
-length_more : (left : ℕ) (items : List (List ℕ)) (n : ℕ) (bs : List ℕ) → 10 ≤ n → n ≤ 4096
-    → drive (rest_at (LengthDigits left (n / 10)) items []) ((48 + n % 10) ∷ bs) ≡ drive (rest_at (LengthDigits left n) items []) bs
-length_more left items n bs big h =
+length_more : (left : ℕ) (items : List (List ℕ)) (old : List ℕ) (n : ℕ) (bs : List ℕ) → 10 ≤ n → n ≤ 4096
+    → drive (rest_at (LengthDigits left (n / 10)) items old) ((48 + n % 10) ∷ bs) ≡ drive (rest_at (LengthDigits left n) items old) bs
+length_more left items old n bs big h =
     let e : after (LengthDigits left (n / 10)) (48 + n % 10) ≡ Some (LengthDigits left n) =
     if_false ((48 + n % 10) == 13) (Some (LengthFeed left (n / 10))) _ (not_this (n % 10) 13 (lit< tt)) ∙ ap (as_length left) (grows n 4096 big h) in
-    drive_on (rest_at (LengthDigits left (n / 10)) items []) (48 + n % 10) bs (LengthDigits left n) e refl
+    drive_on (rest_at (LengthDigits left (n / 10)) items old) (48 + n % 10) bs (LengthDigits left n) e refl
 
 -- the length of an item
-length_drive : (left : ℕ) (items : List (List ℕ)) (n : ℕ) (rest : List ℕ) → n ≤ 4096
-    → drive (rest_at (Dollar left) items []) ((36 ∷ decimal n) ++ rest) ≡ drive (rest_at (LengthDigits left n) items []) rest
-length_drive left items n rest h =
-    drive_on (rest_at (Dollar left) items []) 36 (decimal n ++ rest) (Length left) refl refl
-    ∙ digits_drive (rest_at (Length left) items []) (λ m. rest_at (LengthDigits left m) items []) 4096 (lit< tt) (length_one left items) (length_more left items) n rest h
+length_drive : (left : ℕ) (items : List (List ℕ)) (old : List ℕ) (n : ℕ) (rest : List ℕ) → n ≤ 4096
+    → drive (rest_at (Dollar left) items old) ((36 ∷ decimal n) ++ rest) ≡ drive (rest_at (LengthDigits left n) items old) rest
+length_drive left items old n rest h =
+    drive_on (rest_at (Dollar left) items old) 36 (decimal n ++ rest) (Length left) refl refl
+    ∙ digits_drive (rest_at (Length left) items old) (λ m. rest_at (LengthDigits left m) items old) 4096 (lit< tt) (length_one left items old) (length_more left items old) n rest h
 
-length_feed_drive : (left : ℕ) (items : List (List ℕ)) (n : ℕ) (rest : List ℕ) → n ≤ 4096
-    → drive (rest_at (Dollar left) items []) (((36 ∷ decimal n) ++ 13 ∷ []) ++ rest) ≡ drive (rest_at (LengthFeed left n) items []) rest
-length_feed_drive left items n rest h =
-    ap (drive (rest_at (Dollar left) items [])) (append_assoc (36 ∷ decimal n) (13 ∷ []) rest) ∙ length_drive left items n (13 ∷ rest) h
-    ∙ drive_on (rest_at (LengthDigits left n) items []) 13 rest (LengthFeed left n) refl refl
+length_feed_drive : (left : ℕ) (items : List (List ℕ)) (old : List ℕ) (n : ℕ) (rest : List ℕ) → n ≤ 4096
+    → drive (rest_at (Dollar left) items old) (((36 ∷ decimal n) ++ 13 ∷ []) ++ rest) ≡ drive (rest_at (LengthFeed left n) items old) rest
+length_feed_drive left items old n rest h =
+    ap (drive (rest_at (Dollar left) items old)) (append_assoc (36 ∷ decimal n) (13 ∷ []) rest) ∙ length_drive left items old n (13 ∷ rest) h
+    ∙ drive_on (rest_at (LengthDigits left n) items old) 13 rest (LengthFeed left n) refl refl
 
 -- the bytes of an item, of which more may be to come
 bytes_drive : (bs : List ℕ) (left more : ℕ) (items : List (List ℕ)) (past rest : List ℕ)
@@ -151,27 +151,27 @@ bytes_drive (b ∷ bs) left more items past rest =
     ∙ ap (λ t. drive (rest_at (Bytes left more) items t) rest) (append_assoc past (b ∷ []) bs)
 
 -- a length and then bytes
-item_bytes_drive : (left more : ℕ) (items : List (List ℕ)) (item rest : List ℕ) → length item + more ≤ 4096
-    → drive (rest_at (Dollar left) items []) ((number_line 36 (length item + more) ++ item) ++ rest) ≡ drive (rest_at (Bytes left more) items item) rest
-item_bytes_drive left more items item rest h =
+item_bytes_drive : (left more : ℕ) (items : List (List ℕ)) (old item rest : List ℕ) → length item + more ≤ 4096
+    → drive (rest_at (Dollar left) items old) ((number_line 36 (length item + more) ++ item) ++ rest) ≡ drive (rest_at (Bytes left more) items item) rest
+item_bytes_drive left more items old item rest h =
     let n : ℕ = length item + more in
-    ap (drive (rest_at (Dollar left) items [])) (append_assoc (number_line 36 n) item rest ∙ line_split 36 n (item ++ rest))
-    ∙ length_feed_drive left items n (10 ∷ (item ++ rest)) h
-    ∙ drive_on (rest_at (LengthFeed left n) items []) 10 (item ++ rest) (Bytes left n) refl refl
+    ap (drive (rest_at (Dollar left) items old)) (append_assoc (number_line 36 n) item rest ∙ line_split 36 n (item ++ rest))
+    ∙ length_feed_drive left items old n (10 ∷ (item ++ rest)) h
+    ∙ drive_on (rest_at (LengthFeed left n) items old) 10 (item ++ rest) (Bytes left n) refl refl
     ∙ bytes_drive item left more items [] rest
 
-item_feed_drive : (left : ℕ) (items : List (List ℕ)) (item rest : List ℕ) → IsShort item
-    → drive (rest_at (Dollar left) items []) ((number_line 36 (length item) ++ (item ++ 13 ∷ [])) ++ rest) ≡ drive (rest_at (ItemFeed left) items item) rest
-item_feed_drive left items item rest h =
+pub item_feed_drive : (left : ℕ) (items : List (List ℕ)) (old item rest : List ℕ) → IsShort item
+    → drive (rest_at (Dollar left) items old) ((number_line 36 (length item) ++ (item ++ 13 ∷ [])) ++ rest) ≡ drive (rest_at (ItemFeed left) items item) rest
+item_feed_drive left items old item rest h =
     let line = number_line 36 (length item) in
     let same_line : line ≡ number_line 36 (length item + 0) = ap (number_line 36) (omega arith) in
     let text : (line ++ (item ++ 13 ∷ [])) ++ rest ≡ (line ++ item) ++ 13 ∷ rest =
     ap (λ t. t ++ rest) (sym (append_assoc line item (13 ∷ []))) ∙ append_assoc (line ++ item) (13 ∷ []) rest in
-    ap (drive (rest_at (Dollar left) items [])) (text ∙ ap (λ l. (l ++ item) ++ 13 ∷ rest) same_line)
-    ∙ item_bytes_drive left 0 items item (13 ∷ rest) (omega (arith, h))
+    ap (drive (rest_at (Dollar left) items old)) (text ∙ ap (λ l. (l ++ item) ++ 13 ∷ rest) same_line)
+    ∙ item_bytes_drive left 0 items old item (13 ∷ rest) (omega (arith, h))
     ∙ drive_on (rest_at (Bytes left 0) items item) 13 rest (ItemFeed left) refl refl
 
-item_split : (item rest : List ℕ) → item_spelling item ++ rest ≡ (number_line 36 (length item) ++ (item ++ 13 ∷ [])) ++ 10 ∷ rest
+pub item_split : (item rest : List ℕ) → item_spelling item ++ rest ≡ (number_line 36 (length item) ++ (item ++ 13 ∷ [])) ++ 10 ∷ rest
 item_split item rest =
     let line = number_line 36 (length item) in
     ap (λ t. (line ++ t) ++ rest) (sym (append_assoc item (13 ∷ []) (10 ∷ [])))
@@ -184,7 +184,7 @@ item_drive left items item rest some h =
     let more : is_last (suc left) ≡ false = grind (arith, nat_tests) in
     let down : suc left - 1 ≡ left = omega arith in
     let step : after (ItemFeed (suc left)) 10 ≡ Some (Dollar left) = ap (λ t. Some (cond t Star (Dollar (suc left - 1)))) more ∙ ap (λ n. Some (Dollar n)) down in
-    ap (drive (rest_at (Dollar (suc left)) items [])) (item_split item rest) ∙ item_feed_drive (suc left) items item (10 ∷ rest) h
+    ap (drive (rest_at (Dollar (suc left)) items [])) (item_split item rest) ∙ item_feed_drive (suc left) items [] item (10 ∷ rest) h
     ∙ drive_on (rest_at (ItemFeed (suc left)) items item) 10 rest (Dollar left) step refl
     ∙ ap (λ t. drive (rest_at (Dollar left) (cond t [] (items ++ item ∷ [])) []) rest) more
 
@@ -192,7 +192,7 @@ item_drive left items item rest some h =
 last_drive : (items : List (List ℕ)) (item rest : List ℕ) → IsShort item
     → drive (rest_at (Dollar 1) items []) (item_spelling item ++ rest) ≡ done ((items ++ item ∷ []) ∷ []) rest
 last_drive items item rest h =
-    ap (drive (rest_at (Dollar 1) items [])) (item_split item rest) ∙ item_feed_drive 1 items item (10 ∷ rest) h
+    ap (drive (rest_at (Dollar 1) items [])) (item_split item rest) ∙ item_feed_drive 1 items [] item (10 ∷ rest) h
     ∙ drive_end (rest_at (ItemFeed 1) items item) 10 rest Star refl refl
 
 -- items that others follow
@@ -223,7 +223,7 @@ command_drive : (items : List (List ℕ)) (rest : List ℕ) → IsCommand items 
 command_drive [] rest h = absurd (omega (arith, h.some))
 command_drive (i ∷ is) rest h =
     ap (drive fresh) (append_assoc (number_line 42 (suc (length is))) (flat_map item_spelling (i ∷ is)) rest)
-    ∙ array_drive (suc (length is)) (flat_map item_spelling (i ∷ is) ++ rest) h.some h.few ∙ items_drive i is [] rest h.short.0 h.short.1
+    ∙ array_drive [] [] (suc (length is)) (flat_map item_spelling (i ∷ is) ++ rest) h.some h.few ∙ items_drive i is [] rest h.short.0 h.short.1
 
 -- a spelling is read to its end
 pub spelling_drive : (text : List ℕ) (c : Option (List (List ℕ))) (rest : List ℕ) → Spells text c → drive fresh (text ++ rest) ≡ done (option_to_list c) rest
@@ -236,7 +236,7 @@ spelling_drive text None rest (inr e) = ap (λ t. drive fresh (t ++ rest)) e
 front_drive : (items : List (List ℕ)) (left : ℕ) (rest : List ℕ) → IsWithin items left → drive fresh (array_front items left ++ rest) ≡ drive (rest_at (Dollar left) items []) rest
 front_drive items left rest h =
     ap (drive fresh) (append_assoc (number_line 42 (length items + left)) (flat_map item_spelling items) rest)
-    ∙ array_drive (length items + left) (flat_map item_spelling items ++ rest) (omega (arith, h.0)) h.1 ∙ past_drive items [] left rest h.0 h.2
+    ∙ array_drive [] [] (length items + left) (flat_map item_spelling items ++ rest) (omega (arith, h.0)) h.1 ∙ past_drive items [] left rest h.0 h.2
 
 behind : (items : List (List ℕ)) (left : ℕ) (text rest : List ℕ) → IsWithin items left
     → drive fresh ((array_front items left ++ text) ++ rest) ≡ drive (rest_at (Dollar left) items []) (text ++ rest)
@@ -256,8 +256,8 @@ rest_as_drive CountMinus items item more h =
 rest_as_drive CountMinusOne items item more h =
     drive_on fresh 42 (45 ∷ 49 ∷ more) Count refl refl ∙ drive_on (rest_at Count [] []) 45 (49 ∷ more) CountMinus refl refl
     ∙ drive_on (rest_at CountMinus [] []) 49 more CountMinusOne refl refl ∙ with_both CountMinusOne items item more h
-rest_as_drive (CountDigits n) items item more h = count_drive n more h.0 ∙ with_both (CountDigits n) items item more h.1
-rest_as_drive (CountFeed n) items item more h = feed_drive n more h.0 ∙ with_both (CountFeed n) items item more h.1
+rest_as_drive (CountDigits n) items item more h = count_drive [] [] n more h.0 ∙ with_both (CountDigits n) items item more h.1
+rest_as_drive (CountFeed n) items item more h = feed_drive [] [] n more h.0 ∙ with_both (CountFeed n) items item more h.1
 rest_as_drive NoCountFeed items item more h =
     drive_on fresh 42 (45 ∷ 49 ∷ 13 ∷ more) Count refl refl ∙ drive_on (rest_at Count [] []) 45 (49 ∷ 13 ∷ more) CountMinus refl refl
     ∙ drive_on (rest_at CountMinus [] []) 49 (13 ∷ more) CountMinusOne refl refl ∙ drive_on (rest_at CountMinusOne [] []) 13 more NoCountFeed refl refl
@@ -266,13 +266,13 @@ rest_as_drive (Dollar left) items item more h = front_drive items left more h.0 
 rest_as_drive (Length left) items item more h =
     behind items left (36 ∷ []) more h.0 ∙ drive_on (rest_at (Dollar left) items []) 36 more (Length left) refl refl ∙ with_item (Length left) items item more h.1
 rest_as_drive (LengthDigits left n) items item more h =
-    behind items left (36 ∷ decimal n) more h.0 ∙ length_drive left items n more h.2 ∙ with_item (LengthDigits left n) items item more h.1
+    behind items left (36 ∷ decimal n) more h.0 ∙ length_drive left items [] n more h.2 ∙ with_item (LengthDigits left n) items item more h.1
 rest_as_drive (LengthFeed left n) items item more h =
-    behind items left ((36 ∷ decimal n) ++ 13 ∷ []) more h.0 ∙ length_feed_drive left items n more h.2 ∙ with_item (LengthFeed left n) items item more h.1
+    behind items left ((36 ∷ decimal n) ++ 13 ∷ []) more h.0 ∙ length_feed_drive left items [] n more h.2 ∙ with_item (LengthFeed left n) items item more h.1
 rest_as_drive (Bytes left n) items item more h =
-    behind items left (number_line 36 (length item + n) ++ item) more h.0 ∙ item_bytes_drive left n items item more h.1
+    behind items left (number_line 36 (length item + n) ++ item) more h.0 ∙ item_bytes_drive left n items [] item more h.1
 rest_as_drive (ItemFeed left) items item more h =
-    behind items left (number_line 36 (length item) ++ (item ++ 13 ∷ [])) more h.0 ∙ item_feed_drive left items item more h.1
+    behind items left (number_line 36 (length item) ++ (item ++ 13 ∷ [])) more h.0 ∙ item_feed_drive left items [] item more h.1
 
 -- the bytes of a command that has begun lead to it
 pub rest_drive : (r : Rest) (more : List ℕ) → IsRest r → drive fresh (spelled r ++ more) ≡ drive r more

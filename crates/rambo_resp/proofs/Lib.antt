@@ -5,5 +5,6 @@ pub mod Drives
 pub mod Readings
 pub mod Unique
 pub mod Runs
+pub mod Items
 pub mod Giving
 pub mod Feeding

@@ -90,9 +90,21 @@ unfoldable pub run : Run → List ℕ → Run
 run r [] = r
 run r (b ∷ bs) = run (onward r b) bs
 
--- a progress in which the item is whole
-abbrev pub with_item : ProgressState → ℕ → ProgressState
-with_item p left = record p { waiting = p.waiting ++ whole_as (ItemFeed left) p.rest.items p.rest.item; rest = rest_as (ItemFeed left) p.rest.items p.rest.item 0 p.rest.awaited }
+-- a progress to which this item has come
+abbrev pub with_item : ProgressState → ℕ → List ℕ → ProgressState
+with_item p left item = record p { waiting = p.waiting ++ whole_as (ItemFeed left) p.rest.items item; rest = rest_as (ItemFeed left) p.rest.items item 0 p.rest.awaited }
+
+-- a progress when this item was read at once, by a spelling of so many bytes
+abbrev pub item_read : ProgressState → ℕ → List ℕ → ℕ → ProgressState
+item_read p left item n = record {
+  waiting = p.waiting ++ whole_as (ItemFeed left) p.rest.items item;
+  place = place_of (p.place + n);
+  rest = rest_as (ItemFeed left) p.rest.items item 10 (if is_last left then Star else Dollar (left - 1));
+}
+
+-- a progress when the line of an array of some items was read at once, a line of so many bytes
+abbrev pub line_read : ProgressState → ℕ → ℕ → ProgressState
+line_read p items n = record { waiting = p.waiting; place = place_of (p.place + n); rest = record { awaited = Dollar items; items = []; item = p.rest.item } }
 
 -- whether the next byte is one of an item
 abbrev pub are_bytes : Awaited → Bool

@@ -13,6 +13,7 @@ mod awaited;
 mod command;
 mod decoder;
 mod fault;
+mod front;
 mod laws;
 mod progress;
 mod reply;

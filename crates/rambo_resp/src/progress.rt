@@ -1,11 +1,12 @@
 //! How far a stream was read.
 ghost use Rattle.std.specs.Prelude.{◌≡◌, ◌≤◌, ◌++◌, false, OnErr, ◌∷◌, [], ℕ, List, length, take, drop, OnOk, IfOk, IfErr};
 ghost use Rattle.std.specs.Option.{option_to_list};
-ghost use Rattle.rambo_resp.specs.Progresses.{ProgressState, running, run, step, fresh, are_bytes, with_item, Extends, Stops};
+ghost use Rattle.rambo_resp.specs.Progresses.{ProgressState, running, run, step, fresh, are_bytes, with_item, item_read, line_read, Extends, Stops};
 
 use crate::awaited::{Awaited, after, fault_of};
 use crate::command::Command;
 use crate::fault::Fault;
+use crate::front::{count_line, whole_item};
 use rambo_names::Bytes;
 use std::alloc::Global;
 use std::collections::VecDeque;
@@ -87,7 +88,8 @@ impl Progress {
         Ok(())
     }
 
-    // Reads the first of some bytes, or as many as belong to one item, and tells how many these were.
+    // Reads the first of some bytes, or as many as belong to one item, or what stands whole at their front, and tells how
+    // many these were.
     fn read_some(&mut self, bytes: &[u8]) -> Result<usize, Fault>
         requires { 1 ≤ length bytes.now }
         ensures some { IfOk result (λ n. (1 ≤ n) × (n ≤ length bytes.now)) }
@@ -97,10 +99,23 @@ impl Progress {
     {
         match self.awaited {
             Awaited::Bytes(left, more) if more > 0 => self.read_bytes(left, more, bytes),
-            _ => {
-                self.read_sign(bytes[0])?;
-                Ok(1)
-            }
+            Awaited::Dollar(left) => match whole_item(bytes) {
+                Some((item, rest)) => {
+                    let count = bytes.len() - rest.len();
+                    self.read_item(left, item, count)?;
+                    Ok(count)
+                }
+                None => self.read_first(bytes),
+            },
+            Awaited::Star => match count_line(bytes) {
+                Some((items, rest)) => {
+                    let count = bytes.len() - rest.len();
+                    self.read_line(items, count)?;
+                    Ok(count)
+                }
+                None => self.read_first(bytes),
+            },
+            _ => self.read_first(bytes),
         }
     }
 
@@ -119,6 +134,48 @@ impl Progress {
         self.awaited = Awaited::Bytes(left, more - count as u16);
         self.place = self.place.saturating_add(count as u64);
         Ok(count)
+    }
+
+    // Reads an item that has come whole, by a spelling of so many bytes.
+    fn read_item(&mut self, left: u16, item: &[u8], size: usize) -> Result<(), Fault>
+        ensures ok { OnOk result (self.new ≡ item_read self.old left item.now size) }
+        ensures kept { Extends self.old.waiting self.new.waiting }
+        ensures refused { IfErr result (λ f. f ≡ Fault.OutOfMemory) }
+    {
+        let bytes = Bytes::from_slice(self.alloc, item).map_err(|_| Fault::OutOfMemory)?;
+        self.put_item(left, bytes)?;
+        self.awaited = if left <= 1 {
+            Awaited::Star
+        } else {
+            Awaited::Dollar(left - 1)
+        };
+        self.place = self.place.saturating_add(size as u64);
+        Ok(())
+    }
+
+    // Reads the line of an array of some items, a line of so many bytes.
+    fn read_line(&mut self, items: u16, size: usize) -> Result<(), Fault>
+        ensures ok { OnOk result (self.new ≡ line_read self.old items size) }
+        ensures kept { self.new.waiting ≡ self.old.waiting }
+        ensures refused { IfErr result (λ f. f ≡ Fault.OutOfMemory) }
+    {
+        self.items = Command::with_capacity(self.alloc, items)?;
+        self.awaited = Awaited::Dollar(items);
+        self.place = self.place.saturating_add(size as u64);
+        Ok(())
+    }
+
+    // Reads the first of some bytes, which belongs to no item.
+    fn read_first(&mut self, bytes: &[u8]) -> Result<usize, Fault>
+        requires some { 1 ≤ length bytes.now }
+        requires sign { are_bytes self.old.rest.awaited ≡ false }
+        ensures one { IfOk result (λ n. n ≡ 1) }
+        ensures ok { OnOk result (run (running self.old) bytes.now ≡ run (running self.new) (drop 1 bytes.now)) }
+        ensures kept { Extends self.old.waiting self.new.waiting }
+        ensures stopped { IfErr result (Stops self.old bytes.now self.new) }
+    {
+        self.read_sign(bytes[0])?;
+        Ok(1)
     }
 
     // Reads one byte that belongs to no item.
@@ -145,13 +202,24 @@ impl Progress {
         Ok(())
     }
 
-    // Puts the item that has come to the others, and where none is left, the command to those that are whole.
+    // Ends the item that has come.
     fn end_item(&mut self, left: u16) -> Result<(), Fault>
-        ensures ok { OnOk result (self.new ≡ with_item self.old left) }
+        ensures ok { OnOk result (self.new ≡ with_item self.old left self.old.rest.item) }
         ensures err { OnErr result (self.new.waiting ≡ self.old.waiting) }
         ensures refused { IfErr result (λ f. f ≡ Fault.OutOfMemory) }
     {
-        self.items.push(taken(&mut self.item)?)?;
+        let item = taken(&mut self.item)?;
+        self.put_item(left, item)
+    }
+
+    // Puts an item to the others, and where none is left, the command to those that are whole.
+    fn put_item(&mut self, left: u16, item: Bytes) -> Result<(), Fault>
+        ensures ok { OnOk result (self.new ≡ with_item self.old left item) }
+        ensures err { OnErr result (self.new.waiting ≡ self.old.waiting) }
+        ensures refused { IfErr result (λ f. f ≡ Fault.OutOfMemory) }
+    {
+        self.items.push(item)?;
+        self.item.clear();
         if left <= 1 {
             let command = mem::replace(&mut self.items, Command::new(self.alloc));
             self.waiting.push_back(command)?;
@@ -160,10 +228,9 @@ impl Progress {
     }
 }
 
-// The bytes of an item, which are taken out. The room of few bytes stays for the next item.
+// The bytes of an item. The room of few bytes stays for the next item, and that of many goes with them.
 fn taken(item: &mut Vec<u8>) -> Result<Bytes, Fault>
     ensures bytes { IfOk result (λ b. b ≡ item.old.items) }
-    ensures none { OnOk result (item.new.items ≡ []) }
     ensures refused { IfErr result (λ f. f ≡ Fault.OutOfMemory) }
 {
     let alloc = *item.allocator();
@@ -171,7 +238,5 @@ fn taken(item: &mut Vec<u8>) -> Result<Bytes, Fault>
         let all = mem::replace(item, Vec::new(alloc));
         return Bytes::from_vec(all).map_err(|_| Fault::OutOfMemory);
     }
-    let bytes = Bytes::from_slice(alloc, item.as_slice()).map_err(|_| Fault::OutOfMemory)?;
-    item.clear();
-    Ok(bytes)
+    Bytes::from_slice(alloc, item.as_slice()).map_err(|_| Fault::OutOfMemory)
 }

@@ -1,0 +1,71 @@
+//! What stands whole at the front of some bytes.
+ghost use Rattle.std.specs.Prelude.{◌≡◌, ◌≤◌, ◌<◌, ◌++◌, IfSome, length};
+ghost use Rattle.rambo_resp.specs.Spellings.{number_line, item_spelling};
+
+/// An item of at most 99 bytes, and what is behind its spelling.
+///
+/// None also where an item stands there that is longer.
+pub fn whole_item(bytes: &[u8]) -> Option<(&[u8], &[u8])>
+    ensures spelled { IfSome result (λ r. bytes.now ≡ item_spelling r.0.now ++ r.1.now) }
+    ensures few { IfSome result (λ r. length r.0.now ≤ 99) }
+    ensures shorter { IfSome result (λ r. length r.1.now < length bytes.now) }
+{
+    let (count, behind) = length_line(bytes)?;
+    let (item, end) = behind.split_at_checked(count)?;
+    match end {
+        [b'\r', b'\n', rest @ ..] => Some((item, rest)),
+        _ => None,
+    }
+}
+
+/// The number of items that the line of an array tells with one digit, and what is behind the line.
+///
+/// None also where it tells 0, or a number of more digits.
+pub fn count_line(bytes: &[u8]) -> Option<(u16, &[u8])>
+    ensures spelled { IfSome result (λ r. bytes.now ≡ number_line 42 r.0 ++ r.1.now) }
+    ensures few { IfSome result (λ r. (1 ≤ r.0) × (r.0 ≤ 9)) }
+    ensures shorter { IfSome result (λ r. length r.1.now < length bytes.now) }
+{
+    match bytes {
+        [b'*', one @ b'1'..=b'9', b'\r', b'\n', rest @ ..] => {
+            Some((u16::from(*one - b'0'), rest))
+        }
+        _ => None,
+    }
+}
+
+// The length that a line tells with one digit or two, and what is behind the line.
+fn length_line(bytes: &[u8]) -> Option<(usize, &[u8])>
+    ensures spelled { IfSome result (λ r. bytes.now ≡ number_line 36 r.0 ++ r.1.now) }
+    ensures few { IfSome result (λ r. r.0 ≤ 99) }
+    ensures shorter { IfSome result (λ r. length r.1.now < length bytes.now) }
+{
+    match bytes {
+        [b'$', one @ b'0'..=b'9', b'\r', b'\n', rest @ ..] => {
+            Some((usize::from(*one - b'0'), rest))
+        }
+        _ => two_digit_line(bytes),
+    }
+}
+
+// The length that a line tells with two digits, and what is behind the line.
+fn two_digit_line(bytes: &[u8]) -> Option<(usize, &[u8])>
+    ensures spelled { IfSome result (λ r. bytes.now ≡ number_line 36 r.0 ++ r.1.now) }
+    ensures few { IfSome result (λ r. r.0 ≤ 99) }
+    ensures shorter { IfSome result (λ r. length r.1.now < length bytes.now) }
+{
+    match bytes {
+        [
+            b'$',
+            ten @ b'1'..=b'9',
+            one @ b'0'..=b'9',
+            b'\r',
+            b'\n',
+            rest @ ..,
+        ] => {
+            let tens = usize::from(*ten - b'0');
+            Some((10 * tens + usize::from(*one - b'0'), rest))
+        }
+        _ => None,
+    }
+}
