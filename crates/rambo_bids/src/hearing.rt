@@ -1,7 +1,6 @@
 //! What an attempt offers, and what a vote and an attempt make of another node's.
 ghost use Rattle.std.specs.Prelude.{◌≡◌, ◌≤◌, nat_lt, length};
 ghost use Rattle.rambo_config_map.specs.Maps.{end_of, merged_map};
-ghost use Rattle.rambo_paxos.specs.Votes.{taken_if};
 ghost use Rattle.rambo_bids.specs.Fitting.{AttemptFits};
 ghost use Rattle.rambo_bids.specs.Hearing.{offer_for, is_level, vote_kept, vote_after, heard_for, attempt_after};
 
@@ -32,6 +31,9 @@ pub fn hear_vote<Q: Quorums>(
     ensures after { attempt.new ≡ attempt_after map.now attempt.old from told.now vote.now }
     ensures fits { AttemptFits map.now attempt.old → AttemptFits (merged_map map.now told.now) attempt.new }
 {
+    if attempt.is_none() {
+        return;
+    }
     if is_level(map, told) {
         hear_vote_for(attempt, told, from, vote);
     }
@@ -48,8 +50,10 @@ pub fn hear_offer<Q: Quorums>(
     ensures { vote.new ≡ vote_after map.now vote.old told.now offer.now }
 {
     keep_if_next(vote, map, told);
-    if is_level(map, told) {
-        take_if(vote, offer);
+    if let Some(offer) = offer {
+        if is_level(map, told) {
+            vote.take(offer);
+        }
     }
 }
 
@@ -59,15 +63,6 @@ fn keep_if_next<Q: Quorums>(vote: &mut Vote<Q>, map: &ConfigMap<Q>, told: &Confi
 {
     if is_longer(told, map) {
         *vote = Vote::new();
-    }
-}
-
-// Takes an offer, if there is one.
-fn take_if<Q: Quorums>(vote: &mut Vote<Q>, offer: &Option<Offer<Q>>)
-    ensures { vote.new ≡ taken_if vote.old offer.now }
-{
-    if let Some(offer) = offer {
-        vote.take(offer);
     }
 }
 

@@ -107,6 +107,10 @@ impl<Q: Quorums> ConfigMap<Q> {
     pub fn merge(&mut self, other: &ConfigMap<Q>)
         ensures { self.new ≡ merged_map self.old other.now }
     {
+        // (most maps that are heard of tell nothing new)
+        if other.floor <= self.floor && other.top() <= self.top() {
+            return;
+        }
         let floor = self.floor.max(other.floor);
         self.places.forget((floor - self.floor) as usize);
         self.floor = floor;

@@ -10,9 +10,9 @@ use Rattle.rambo_tag.specs.Copies.{Copies, with_newer, joined}
 use Rattle.rambo_tag.specs.Logs.{greatest_after, greatest_of}
 use Rattle.rambo_tag.specs.Tables.{Table, kept_in, copies_in}
 use Rattle.rambo_tag.proofs.CopyOrder.{is_below, is_newer-is_below, greater-left, greater-right, not_below-trans}
-use Rattle.rambo_tag.proofs.Joins.{get-with_newer_same, same_copies, get-put}
+use Rattle.rambo_tag.proofs.Joins.{get-with_newer_same, same_copies, get-put, joined-empty}
 use Rattle.rambo_tag.proofs.Keys.{same_key, same_key-true}
-use Rattle.rambo_tag.proofs.Logged.{greatest_after-append, get-greatest_after, joined-greatest_of}
+use Rattle.rambo_tag.proofs.Logged.{greatest_after-append, get-greatest_after, greatest_of-nil, joined-greatest_of}
 use Rattle.rambo_tag.proofs.Tables.{get-copies_in}
 
 greatest_after-take_more : (a : Copies) (cs : List KeyedVersion) (i : ℕ) (c : KeyedVersion) → i < length cs → c ≡ get_or cs i c
@@ -158,3 +158,8 @@ at_err (Err e) p = p
 pub ok_but_for : {T E P : Type 0} (r : Result T E) → IfErr r (λ _. P) → (P → ⊥) → IsOk r
 ok_but_for (Ok x) h never = refl
 ok_but_for (Err e) h never = absurd (never h)
+
+-- a letter with no copy
+pub joined-none : (a p : Copies) (cs : List KeyedVersion) → length cs ≡ 0 → greatest_of cs ≡ p → a ≡ joined a p
+joined-none a p [] none e = sym (joined-empty a) ∙ ap (joined a) (sym greatest_of-nil ∙ e)
+joined-none a p (c ∷ cs) none e = absurd (omega (arith, none))

@@ -116,6 +116,7 @@ impl<H: BuildHasher + Clone + Drop> Replica for Registers<H> {
 
     fn merge(&mut self, pack: &Pack) -> Result<(), Refusal> {
         match pack.copies() {
+            [] => Ok(()),
             [copy] => self.merge_one(copy),
             _ => self.merge_all(pack),
         }

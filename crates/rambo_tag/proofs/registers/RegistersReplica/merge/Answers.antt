@@ -1,6 +1,9 @@
 use Rattle.std.proofs.Common.{sym, ◌∙◌, arith}
-use Rattle.rambo_tag.proofs.MergeSteps.{joined-one, not_idle, OnOk-map, ok_but_for}
+use Rattle.rambo_tag.proofs.MergeSteps.{joined-none, joined-one, not_idle, OnOk-map, ok_but_for}
 use Rattle.rambo_tag.proofs.registers.RegistersReplica.merge.Goals as goal
+
+pub returns-in-empty-clause-ok : goal.returns-in-empty-clause-ok
+returns-in-empty-clause-ok g c = joined-none c.args.self.now c.args.pack.now c.copies.result.now (omega (arith, c.in-empty.len_below)) c.copies.ensures
 
 pub returns-in-len1-clause-ok : goal.returns-in-len1-clause-ok
 returns-in-len1-clause-ok g c =
