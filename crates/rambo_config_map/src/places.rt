@@ -125,9 +125,6 @@ impl<Q: Quorums> Places<Q> {
         ensures had_room { length self.old.configs + additional ≤ self.old.capacity → self.new ≡ self.old }
         ensures capacity { self.old.capacity ≤ self.new.capacity }
     {
-        if additional == 0 {
-            return Ok(());
-        }
         self.slots.reserve(additional)?;
         Ok(())
     }

@@ -9,6 +9,7 @@ mod Turns
 mod Changing
 mod Sendings
 mod Deliveries
+mod Errors
 pub mod Longer
 mod Starting
 mod Reached

@@ -65,8 +65,8 @@ impl<Q: Quorums, S: Replica> Nodes<Q, S> {
         ensures refused { IfErr result (λ r. r ≡ Refusal.OutOfMemory) }
     {
         let logs = Logs::new(alloc)?;
-        let spare = first_node(alloc, 1, founders, replica)?;
         let list = first_nodes(alloc, founders, replica)?;
+        let spare = first_node(alloc, 1, founders, replica)?;
         Ok(Nodes { list, logs, spare })
     }
 

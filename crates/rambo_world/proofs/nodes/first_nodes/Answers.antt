@@ -2,6 +2,7 @@ use Rattle.std.proofs.Common.{◌≡◌, ◌∙◌, ap, arith}
 use Rattle.rambo_names.specs.Names.{rising}
 use Rattle.rambo_run.specs.Worlds.{first_nodes}
 use Rattle.rambo_world.proofs.Starting.{first_none, first_next}
+use Rattle.rambo_world.proofs.Errors.{err_kept}
 use Rattle.rambo_world.proofs.nodes.first_nodes.Goals as goal
 
 pub loop-place-init : goal.loop-place-init
@@ -16,3 +17,6 @@ pub returns-clause-first : goal.returns-clause-first
 returns-clause-first g c =
     c.loop-place.invariant
     ∙ ap (λ n. first_nodes g.Q.Quorums.system c.args.founders (rising n 1)) (let e : c.loop-place.place ≡ 64 = omega (arith, c.loop-place-test.false, c.loop-place.auto.place-end) in e)
+
+pub returns-in_err-first_node-clause-refused : goal.returns-in_err-first_node-clause-refused
+returns-in_err-first_node-clause-refused g c = err_kept c.from_residual-in_err-first_node.result _ _ c.from_residual-in_err-first_node.ensures.1 c.in_err-first_node.ensures.refused

@@ -75,3 +75,9 @@ pub returns-else-sender-addressee-clause-err : goal.returns-else-sender-addresse
 returns-else-sender-addressee-clause-err g c =
     let cut = c.split_at_mut-front-else-sender-addressee in
     on_err_weaker c.hear-else-sender-addressee.result (λ e. kept_front c.args.nodes.now cut.result.0.now cut.result.1.now c.place_of-addressee.result cut.ensures.value c.index-front-addressee.result c.hear-else-sender-addressee.new.node c.index-front-addressee.is (e ∙ sym c.index-front-addressee.is)) c.hear-else-sender-addressee.ensures.err
+
+pub returns-then-sender-addressee-clause-refused : goal.returns-then-sender-addressee-clause-refused
+returns-then-sender-addressee-clause-refused g c = c.hear.ensures.refused
+
+pub returns-else-sender-addressee-clause-refused : goal.returns-else-sender-addressee-clause-refused
+returns-else-sender-addressee-clause-refused g c = c.hear-else-sender-addressee.ensures.refused

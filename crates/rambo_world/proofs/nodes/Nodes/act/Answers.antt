@@ -7,6 +7,7 @@ use Rattle.rambo_letters.proofs.Sizes.{up_fits, back_fits}
 use Rattle.rambo_letters.proofs.Lists.{some_is, on_err_all}
 use Rattle.rambo_world.proofs.Zipping.{node_here, put_node, node_unchanged, node_grows}
 use Rattle.rambo_world.proofs.Logging.{made_name, kept_copies}
+use Rattle.rambo_world.proofs.Errors.{err_kept}
 use Rattle.rambo_world.proofs.nodes.Nodes.act.Goals as goal
 
 pub act-requires : goal.act-requires
@@ -66,3 +67,6 @@ returns-in_err-deed-clause-grow g c =
     let y = c.act.new.self in
     subst (λ now. AllGrow now (kept_of (slice_set xs c.place_of.result y) ls)) c.self.view_is
     (node_grows xs ls c.place_of.result c.args.name x y c.place_of.ensures.place c.place_of.ensures.named.0 below c.index_mut.ensures.value (ap (λ y. y.name) c.in_err-deed.ensures.err) (ap (λ y. y.registers) c.in_err-deed.ensures.err))
+
+pub returns-in_err-deed-clause-refused : goal.returns-in_err-deed-clause-refused
+returns-in_err-deed-clause-refused g c = err_kept c.from_residual.result _ _ c.from_residual.ensures.1 c.in_err-deed.ensures.refused

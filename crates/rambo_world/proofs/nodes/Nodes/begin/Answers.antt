@@ -9,6 +9,7 @@ use Rattle.rambo_world.proofs.Zipping.{node_here, put_node, node_unchanged, node
 use Rattle.rambo_node.specs.Operations.{called}
 use Rattle.rambo_node.specs.declared.change.Change.TheVariants as change
 use Rattle.rambo_world.proofs.Logging.{made_name}
+use Rattle.rambo_world.proofs.Errors.{err_kept}
 use Rattle.rambo_world.proofs.nodes.Nodes.begin.Goals as goal
 
 pub begin-requires : goal.begin-requires
@@ -69,3 +70,6 @@ returns-in_err-id-clause-grow g c =
     let y = c.begin.new.self in
     subst (λ now. AllGrow now (kept_of (slice_set xs c.place_of.result y) ls)) c.self.view_is
     (node_grows xs ls c.place_of.result c.args.name x y c.place_of.ensures.place c.place_of.ensures.named.0 below c.index_mut.ensures.value (ap (λ y. y.name) c.in_err-id.ensures.err) (ap (λ y. y.registers) c.in_err-id.ensures.err))
+
+pub returns-in_err-id-clause-refused : goal.returns-in_err-id-clause-refused
+returns-in_err-id-clause-refused g c = err_kept c.from_residual.result _ _ c.from_residual.ensures.1 c.in_err-id.ensures.refused

@@ -3,7 +3,7 @@ use Rattle.std.proofs.lemmas.List.{length-replicate}
 use Rattle.rambo_names.specs.Names.{rising}
 use Rattle.rambo_tag.specs.declared.keyed_version.KeyedVersion.{KeyedVersion}
 use Rattle.rambo_world.specs.Kept.{kept_of}
-use Rattle.rambo_letters.proofs.Sizes.{up_fits, back_fits, next, variant_fits}
+use Rattle.rambo_letters.proofs.Sizes.{up_fits, back_fits}
 use Rattle.rambo_world.proofs.Starting.{first_length, first_kept_nodes}
 use Rattle.rambo_world.proofs.nodes.Nodes.new.Goals as goal
 
@@ -20,9 +20,3 @@ first_node-requires g c = (back_fits _ _ _ (up_fits _ _ _ c.requires-raw.1.1), (
 
 pub first_nodes-requires : goal.first_nodes-requires
 first_nodes-requires g c = back_fits _ _ _ (up_fits _ _ _ c.requires-raw.1.1)
-
-pub drop-spare-inside-requires-in_err-list-room-T-Destruct : goal.drop-spare-inside-requires-in_err-list-room-T-Destruct
-drop-spare-inside-requires-in_err-list-room-T-Destruct g c lives held =
-    let node = back_fits _ _ _ (up_fits _ _ _ c.requires-raw.1.1) in
-    let calls = back_fits _ _ _ (next _ _ _ _ (up_fits _ _ _ node)) in
-    variant_fits _ _ _ _ (back_fits _ _ _ (up_fits _ _ _ calls))
