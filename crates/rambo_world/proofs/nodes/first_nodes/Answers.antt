@@ -19,4 +19,4 @@ returns-clause-first g c =
     ∙ ap (λ n. first_nodes g.Q.Quorums.system c.args.founders (rising n 1)) (let e : c.loop-place.place ≡ 64 = omega (arith, c.loop-place-test.false, c.loop-place.auto.place-end) in e)
 
 pub returns-in_err-first_node-clause-refused : goal.returns-in_err-first_node-clause-refused
-returns-in_err-first_node-clause-refused g c = err_kept c.from_residual-in_err-first_node.result _ _ c.from_residual-in_err-first_node.ensures.1 c.in_err-first_node.ensures.refused
+returns-in_err-first_node-clause-refused g c = err_kept c.from_residual.result _ _ c.from_residual.ensures.1 c.in_err-first_node.ensures.refused

@@ -10,34 +10,34 @@ use Rattle.rambo_node.proofs.Sizes.{deliver_fits}
 use Rattle.rambo_node.proofs.node.Node.act.Goals as goal
 
 pub do_hear-requires : goal.do_hear-requires
-do_hear-requires g c = (search rules, deliver_fits _ _ _ _ _ _ _ _ c.requires-raw.1.1.1.0)
+do_hear-requires g c = (c.requires-raw.1.1.0, deliver_fits _ _ _ _ _ _ _ _ c.requires-raw.1.1.1.0)
 
 pub do_call-requires : goal.do_call-requires
 do_call-requires g c = (
-  search rules,
+  c.requires-raw.1.1.0,
   subst (λ ch. refusal_of g.Q.Quorums.system c.args.self.now ch ≡ None) (c.in-Call.is ∙ ap change.Call (sym c.in_ok-clone-in-Call.ensures.same)) c.requires,
 )
 
 pub do_advance-requires : goal.do_advance-requires
-do_advance-requires g c = (search rules, subst (λ ch. refusal_of g.Q.Quorums.system c.args.self.now ch ≡ None) c.in-Advance.is c.requires)
+do_advance-requires g c = (c.requires-raw.1.1.0, subst (λ ch. refusal_of g.Q.Quorums.system c.args.self.now ch ≡ None) c.in-Advance.is c.requires)
 
 pub do_again-requires : goal.do_again-requires
-do_again-requires g c = (search rules, subst (λ ch. refusal_of g.Q.Quorums.system c.args.self.now ch ≡ None) c.in-Again.is c.requires)
+do_again-requires g c = (c.requires-raw.1.1.0, subst (λ ch. refusal_of g.Q.Quorums.system c.args.self.now ch ≡ None) c.in-Again.is c.requires)
 
 pub do_collect-requires : goal.do_collect-requires
-do_collect-requires g c = (search rules, subst (λ ch. refusal_of g.Q.Quorums.system c.args.self.now ch ≡ None) c.in-Collect.is c.requires)
+do_collect-requires g c = (c.requires-raw.1.1.0, subst (λ ch. refusal_of g.Q.Quorums.system c.args.self.now ch ≡ None) c.in-Collect.is c.requires)
 
 pub do_advance_collect-requires : goal.do_advance_collect-requires
-do_advance_collect-requires g c = (search rules, subst (λ ch. refusal_of g.Q.Quorums.system c.args.self.now ch ≡ None) c.in-AdvanceCollect.is c.requires)
+do_advance_collect-requires g c = (c.requires-raw.1.1.0, subst (λ ch. refusal_of g.Q.Quorums.system c.args.self.now ch ≡ None) c.in-AdvanceCollect.is c.requires)
 
 pub do_recon-requires : goal.do_recon-requires
-do_recon-requires g c = (search rules, subst (λ ch. refusal_of g.Q.Quorums.system c.args.self.now ch ≡ None) c.in-Recon.is c.requires)
+do_recon-requires g c = (c.requires-raw.1.1.0, subst (λ ch. refusal_of g.Q.Quorums.system c.args.self.now ch ≡ None) c.in-Recon.is c.requires)
 
 pub do_rebid-requires : goal.do_rebid-requires
-do_rebid-requires g c = (search rules, subst (λ ch. refusal_of g.Q.Quorums.system c.args.self.now ch ≡ None) c.in-Rebid.is c.requires)
+do_rebid-requires g c = (c.requires-raw.1.1.0, subst (λ ch. refusal_of g.Q.Quorums.system c.args.self.now ch ≡ None) c.in-Rebid.is c.requires)
 
 pub do_advance_recon-requires : goal.do_advance_recon-requires
-do_advance_recon-requires g c = (search rules, subst (λ ch. refusal_of g.Q.Quorums.system c.args.self.now ch ≡ None) c.in-AdvanceRecon.is c.requires)
+do_advance_recon-requires g c = (c.requires-raw.1.1.0, subst (λ ch. refusal_of g.Q.Quorums.system c.args.self.now ch ≡ None) c.in-AdvanceRecon.is c.requires)
 
 pub returns-in_ok-clone-in-Call-clause-deed : goal.returns-in_ok-clone-in-Call-clause-deed
 returns-in_ok-clone-in-Call-clause-deed g c =

@@ -6,7 +6,7 @@ use Rattle.rambo_node.proofs.Sizes.{up_fits, back_fits, next}
 use Rattle.rambo_node.proofs.node.Node.begin.Goals as goal
 
 pub next_id-id-requires : goal.next_id-id-requires
-next_id-id-requires g c = (search rules, (call_next c.args.self.now c.args.op c.requires).1)
+next_id-id-requires g c = (c.requires-raw.1.1.0, (call_next c.args.self.now c.args.op c.requires).1)
 
 pub overflow_add-self-inside : goal.overflow_add-self-inside
 overflow_add-self-inside g c = has_next c.self.inside.number (search rules) (ap (λ x. is_last x.number) c.self.view_is ∙ (call_next c.args.self.now c.args.op c.requires).0)

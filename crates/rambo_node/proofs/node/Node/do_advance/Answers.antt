@@ -9,10 +9,10 @@ use Rattle.rambo_node.proofs.node.Node.do_advance.Goals as goal
 pub close-requires : goal.close-requires
 close-requires g c =
     let x = c.args.self.now in
-    (search rules, ((advance_next x g.Q.Quorums.system c.args.id c.requires).0, sym c.query.ensures ∙ ap option_copied c.in-None.is))
+    (c.requires-raw.1.1.0, ((advance_next x g.Q.Quorums.system c.args.id c.requires).0, sym c.query.ensures ∙ ap option_copied c.in-None.is))
 
 pub answer_query-requires : goal.answer_query-requires
 answer_query-requires g c =
     let x = c.args.self.now in
     let asked : query_in (open_call x c.args.id) ≡ Some c.in_ok-asked-in-Some.asked = sym c.query.ensures ∙ ap option_copied c.in-Some.is ∙ ap Some (sym c.in_ok-asked-in-Some.ensures.same) in
-    (search rules, (asked, sym (ap (query_spent x) asked) ∙ (advance_next x g.Q.Quorums.system c.args.id c.requires).1))
+    (c.requires-raw.1.1.0, (asked, sym (ap (query_spent x) asked) ∙ (advance_next x g.Q.Quorums.system c.args.id c.requires).1))

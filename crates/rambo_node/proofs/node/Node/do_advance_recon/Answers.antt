@@ -4,7 +4,7 @@ use Rattle.rambo_node.proofs.Judged.{bid_next}
 use Rattle.rambo_node.proofs.node.Node.do_advance_recon.Goals as goal
 
 pub turn_attempt-requires : goal.turn_attempt-requires
-turn_attempt-requires g c = (search rules, (sym (ap (λ n. n.attempt) c.self.view_is) ∙ c.in-Some.is, c.requires))
+turn_attempt-requires g c = (c.requires-raw.1.1.0, (sym (ap (λ n. n.attempt) c.self.view_is) ∙ c.in-Some.is, c.requires))
 
 pub unreachable-requires : goal.unreachable-requires
 unreachable-requires g c =

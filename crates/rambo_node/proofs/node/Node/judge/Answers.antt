@@ -40,4 +40,4 @@ pub returns-in-AdvanceRecon-clause-refused : goal.returns-in-AdvanceRecon-clause
 returns-in-AdvanceRecon-clause-refused g c = subst (λ ch. IfErr c.may_advance_recon.result (λ r. refusal_of g.Q.Quorums.system c.args.self.now ch ≡ Some r)) (sym c.in-AdvanceRecon.is) c.may_advance_recon.ensures.refused
 
 pub may_hear-requires : goal.may_hear-requires
-may_hear-requires g c = (search rules, deliver_fits _ _ _ _ _ _ _ _ c.requires-raw.1.1.1)
+may_hear-requires g c = (c.requires-raw.1.1.0, deliver_fits _ _ _ _ _ _ _ _ c.requires-raw.1.1.1)

@@ -1,0 +1,5 @@
+use Rattle.rambo_node.proofs.Sizes.{up_fits, back_fits, next}
+use Rattle.rambo_node.proofs.node.Node.is_full.Goals as goal
+
+pub len-requires : goal.len-requires
+len-requires g c = back_fits _ _ _ (next _ _ _ _ (up_fits _ _ _ c.requires-raw.1.1))
