@@ -1,5 +1,5 @@
 -- What follows where a judge found no cause of refusal
-use Rattle.std.proofs.Common.{◌≡◌, ℕ, zero, suc, ◌^◌, ◌-◌, ◌+◌, ◌≢◌, ◌≤◌, min, Bool, true, false, not, ◌&&◌, ◌||◌, nat_le, nat_lt, length, is_none, if◌then◌else◌, List, [], ◌∷◌, Option, None, Some, Fits, w64, All, refl, sym, ap, ◌∙◌, subst, arith}
+use Rattle.std.proofs.Common.{◌≡◌, ℕ, zero, suc, ◌^◌, ◌-◌, ◌+◌, ◌≢◌, ◌<◌, ◌≤◌, min, Bool, true, false, not, ◌&&◌, ◌||◌, nat_le, nat_lt, length, is_none, if◌then◌else◌, List, [], ◌∷◌, Option, None, Some, Fits, w64, All, refl, sym, ap, ◌∙◌, subst, arith}
 use Rattle.std.proofs.lemmas.Bool.{eq-eqb, true≢false}
 use Rattle.std.proofs.lemmas.Option.{none-some, same_Some}
 use Rattle.std.proofs.lemmas.List.Elements.{All-nil, All-cons}
@@ -43,6 +43,10 @@ pub has_next : (n : ℕ) → Fits w64 n → is_last n ≡ false → Fits w64 (n 
 has_next n fits e =
     let other : n ≢ 2 ^ 64 - 1 = λ last. true≢false (sym (eq-eqb n (2 ^ 64 - 1) last) ∙ e) in
     omega (arith, fits, other)
+
+-- as its range tells
+pub next_small : (n : ℕ) → n < 2 ^ 64 → is_last n ≡ false → Fits w64 (n + 1)
+next_small n small e = has_next n (omega (arith, small)) e
 
 -- and no greatest number stops it
 pub next_of : (n r : ℕ) → is_last n ≡ false → Fits w64 n → r ≡ min (n + 1) (2 ^ 64 - 1) → r ≡ n + 1

@@ -5,13 +5,13 @@ use Rattle.rambo_calls.specs.Hearing.{restarted}
 use Rattle.rambo_calls.specs.Kept.{calls_of, with_call}
 use Rattle.rambo_node.specs.Refusals.{is_last}
 use Rattle.rambo_node.proofs.Advances.{begins_again, next_calls}
-use Rattle.rambo_node.proofs.Judged.{again_next, has_next}
+use Rattle.rambo_node.proofs.Judged.{again_next, next_small}
 use Rattle.rambo_node.proofs.Sizes.{up_fits, back_fits, next}
 use Rattle.rambo_node.proofs.node.Node.do_again.Goals as goal
 
 pub overflow_add-self : goal.overflow_add-self
 overflow_add-self g c =
-    has_next c.self.inside.number (search rules) (ap (λ n. is_last n.number) c.self.view_is ∙ (again_next c.args.self.now c.args.id c.requires).1)
+    next_small c.self.inside.number c.self.ranges.1.1.1.0.1 (ap (λ n. is_last n.number) c.self.view_is ∙ (again_next c.args.self.now c.args.id c.requires).1)
 
 pub returns : goal.returns
 unfolding made_by

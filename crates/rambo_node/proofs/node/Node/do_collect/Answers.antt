@@ -3,7 +3,7 @@ use Rattle.rambo_gc.specs.Collections.{CollectionState, opened}
 use Rattle.rambo_node.specs.Nodes.{NodeState}
 use Rattle.rambo_node.specs.Reconfigurations.{collection_opened}
 use Rattle.rambo_node.specs.Refusals.{is_last}
-use Rattle.rambo_node.proofs.Judged.{collect_next, has_next}
+use Rattle.rambo_node.proofs.Judged.{collect_next, next_small}
 use Rattle.rambo_node.proofs.node.Node.do_collect.Goals as goal
 
 abbrev numbered : {Q : Type 0} → CollectionState → NodeState Q → NodeState Q
@@ -11,7 +11,7 @@ numbered g x = record x { number = x.number + 1; collection = Some g }
 
 pub overflow_add-self : goal.overflow_add-self
 overflow_add-self g c =
-    has_next c.self.inside.number (search rules) (ap (λ n. is_last n.number) c.self.view_is ∙ (collect_next c.args.self.now c.requires).1)
+    next_small c.self.inside.number c.self.ranges.1.1.1.0.1 (ap (λ n. is_last n.number) c.self.view_is ∙ (collect_next c.args.self.now c.requires).1)
 
 pub collection_of-requires : goal.collection_of-requires
 collection_of-requires g c = (search rules, ap (λ n. nat_le (length n.map.configs) 1) c.self.view_is ∙ (collect_next c.args.self.now c.requires).0)

@@ -73,6 +73,3 @@ returns-in_err-id-clause-grow g c =
 
 pub returns-in_err-id-clause-refused : goal.returns-in_err-id-clause-refused
 returns-in_err-id-clause-refused g c = err_kept c.from_residual.result _ _ c.from_residual.ensures.1 c.in_err-id.ensures.refused
-
-pub index_mut-requires : goal.index_mut-requires
-index_mut-requires g c = subst (λ n. c.place_of.result < n) (sym c.self.invariant.0) c.place_of.ensures.within
