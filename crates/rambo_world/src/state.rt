@@ -22,7 +22,6 @@ use std::marker::Model;
 use std::mem;
 
 /// The nodes, all letters that were sent, the history, and the marks from which the sequences come.
-#[derive(Drop)]
 pub(crate) struct State<Q: Quorums, S: Replica> {
     pub(crate) nodes: Nodes<Q, S>,
     pub(crate) letters: Letters<Q>,
@@ -31,6 +30,20 @@ pub(crate) struct State<Q: Quorums, S: Replica> {
     pub(crate) marks: Vec<Mark>,
     // Never filled: it tells the prover that a change has a size.
     spare: Option<Change<Q>>,
+}
+
+// By hand, so that those who drop a run needn't follow all that is in it.
+impl<Q: Quorums, S: Replica> Drop for State<Q, S> {
+    fn drop(self) {
+        let State {
+            nodes: _nodes,
+            letters: _letters,
+            merged: _merged,
+            history: _history,
+            marks: _marks,
+            spare: _spare,
+        } = self;
+    }
 }
 
 impl<Q: Quorums, S: Replica> Model for State<Q, S> {

@@ -20,3 +20,6 @@ first_node-requires g c = (back_fits _ _ _ (up_fits _ _ _ c.requires-raw.1.1), (
 
 pub first_nodes-requires : goal.first_nodes-requires
 first_nodes-requires g c = back_fits _ _ _ (up_fits _ _ _ c.requires-raw.1.1)
+
+pub drop-list-requires-room-T-Destruct : goal.drop-list-requires-room-T-Destruct
+drop-list-requires-room-T-Destruct g c lives held = back_fits _ _ _ (up_fits _ _ _ c.requires-raw.1.1)

@@ -1,33 +1,15 @@
 use Rattle.std.proofs.Common.{◌≡◌, IfOk, subst}
 use Rattle.rambo_run.specs.Runs.{results_from, run_from, outcome_at}
 use Rattle.rambo_world.specs.Worlds.{RunningOf, AgreesSoFar}
-use Rattle.rambo_letters.proofs.Sizes.{up_fits, back_fits, next, variant_fits}
+use Rattle.rambo_letters.proofs.Sizes.{up_fits, back_fits}
 use Rattle.rambo_world.proofs.Reached.{reached_fits_from, reached_agrees_from, reached_told}
 use Rattle.rambo_world.proofs.running.Running.finish.Goals as goal
 
 pub outcome-requires : goal.outcome-requires
 outcome-requires g c = (back_fits _ _ _ (up_fits _ _ _ c.requires-raw.1.1), reached_fits_from g.Q.Quorums.system c.self.inside.founders c.self.inside.state c.self.invariant)
 
--- a run holds its state, the state its nodes and letters, and a node its open calls
-pub drop-state-inside-requires-room-T-Destruct : goal.drop-state-inside-requires-room-T-Destruct
-drop-state-inside-requires-room-T-Destruct g c κs within =
-    let state = back_fits _ _ _ (up_fits _ _ _ c.requires-raw.1.1) in
-    let nodes = back_fits _ _ _ (next _ _ _ _ (next _ _ _ _ (next _ _ _ _ (next _ _ _ _ (next _ _ _ _ (up_fits _ _ _ state)))))) in
-    back_fits _ _ _ (up_fits _ _ _ nodes)
-
-pub drop-state-inside-requires-12-room-T-Destruct : goal.drop-state-inside-requires-12-room-T-Destruct
-drop-state-inside-requires-12-room-T-Destruct g c κs within =
-    let state = back_fits _ _ _ (up_fits _ _ _ c.requires-raw.1.1) in
-    let nodes = back_fits _ _ _ (next _ _ _ _ (next _ _ _ _ (next _ _ _ _ (next _ _ _ _ (next _ _ _ _ (up_fits _ _ _ state)))))) in
-    let node = back_fits _ _ _ (up_fits _ _ _ nodes) in
-    let calls = back_fits _ _ _ (next _ _ _ _ (up_fits _ _ _ node)) in
-    variant_fits _ _ _ _ (back_fits _ _ _ (up_fits _ _ _ calls))
-
-pub drop-state-inside-requires-16-room-T-Destruct : goal.drop-state-inside-requires-16-room-T-Destruct
-drop-state-inside-requires-16-room-T-Destruct g c κs within =
-    let state = back_fits _ _ _ (up_fits _ _ _ c.requires-raw.1.1) in
-    let letters = back_fits _ _ _ (next _ _ _ _ (next _ _ _ _ (next _ _ _ _ (next _ _ _ _ (up_fits _ _ _ state))))) in
-    variant_fits _ _ _ _ (back_fits _ _ _ (up_fits _ _ _ letters))
+pub drop-state-requires : goal.drop-state-requires
+drop-state-requires g c = back_fits _ _ _ (up_fits _ _ _ c.requires-raw.1.1)
 
 pub returns-clause-outcome : goal.returns-clause-outcome
 returns-clause-outcome g c =
