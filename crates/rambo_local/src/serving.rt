@@ -48,7 +48,7 @@ pub fn local<R: Source, W: Sink>(
 // (a function of its own: where a run is made and dropped in one, the prover follows each piece of it on each way)
 fn nodes_of(alloc: Global, founders: Majority) -> Result<Local, Refusal>
     requires { 1 ≤ count_of founders }
-    ensures made { IfOk result (λ nodes. direct_history nodes ≡ []) }
+    ensures { IfOk result (λ nodes. direct_history nodes ≡ []) }
 {
     let registers = Registers::new(alloc, BuildHasherDefault::<FoldHasher>::new());
     Local::new(alloc, founders, &registers)
