@@ -34,7 +34,11 @@ impl Client {
     /// answered its propagation.
     ///
     /// Where it is refused the call may have been made.
-    pub(crate) fn operate<By, C: Cluster<By>>(&self, cluster: &mut C, op: Op) -> Result<Answer, Refusal>
+    pub(crate) fn operate<By, C: Cluster<By>>(
+        &self,
+        cluster: &mut C,
+        op: Op,
+    ) -> Result<Answer, Refusal>
         ensures answer { (qs : List AnyRequest) → IsHistory self.now.name qs (C.history cluster.old)
             → IfOk result (λ a. a ≡ answer_of (after_all no_values qs) op) }
         ensures ok { (qs : List AnyRequest) → IsHistory self.now.name qs (C.history cluster.old)
@@ -61,7 +65,11 @@ impl Client {
     }
 
     // Exchanges letters with each other founder, and then has a call go on.
-    fn advance<By, C: Cluster<By>>(&self, cluster: &mut C, id: &CallId) -> Result<Option<Answer>, Refusal>
+    fn advance<By, C: Cluster<By>>(
+        &self,
+        cluster: &mut C,
+        id: &CallId,
+    ) -> Result<Option<Answer>, Refusal>
         ensures ok { IfOk result (λ a. C.history cluster.new ≡ C.history cluster.old ++ answered id.now a) }
         ensures run { OnOk result (IsOfRun (C.history cluster.new)) }
         ensures err { OnErr result (C.history cluster.new ≡ C.history cluster.old) }

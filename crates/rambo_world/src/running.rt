@@ -153,7 +153,10 @@ impl<Q: Quorums, S: Replica> Running<Q, S> {
         ensures agreed { AgreesSoFar Q.system self.founders (run_from Q.system self.state steps.now) }
         ensures refused { IfErr result (λ r. r ≡ Refusal.OutOfMemory) }
     {
-        let Running { founders: _, mut state } = self;
+        let Running {
+            founders: _,
+            mut state,
+        } = self;
         outcome(alloc, &mut state, steps)
     }
 
