@@ -61,10 +61,20 @@ impl<Q: Quorums> OpenCall<Q> {
             → call_of self.new ≡ heard_call heard from map.now number merged.now me (call_of self.old) }
     {
         match self.phase.hear(from, heard, map) {
-            Ok(Heard::Restart) => self.phase = Phase::start(number, merged, me),
+            Ok(Heard::Restart) => self.phase = begun_anew(number, merged, me),
             Ok(Heard::Counted) => {}
             Ok(Heard::Old) => {}
             Err(_) => {}
         }
     }
+}
+
+// A phase that begins anew.
+// (a call of its own, since that seldom happens)
+#[inline(never)]
+fn begun_anew<Q: Quorums>(number: u64, map: &ConfigMap<Q>, me: Name) -> Phase<Q>
+    ensures state { result.state ≡ started number map.now me }
+    ensures inline { result.capacity ≡ 8 }
+{
+    Phase::start(number, map, me)
 }

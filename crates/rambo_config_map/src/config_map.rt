@@ -107,15 +107,10 @@ impl<Q: Quorums> ConfigMap<Q> {
     pub fn merge(&mut self, other: &ConfigMap<Q>)
         ensures { self.new ≡ merged_map self.old other.now }
     {
-        // (most maps that are heard of tell nothing new)
         if other.floor <= self.floor && other.top() <= self.top() {
             return;
         }
-        let floor = self.floor.max(other.floor);
-        self.places.forget((floor - self.floor) as usize);
-        self.floor = floor;
-        let held = ((floor - other.floor) as usize).saturating_add(self.places.len());
-        self.places.append(&other.places, held);
+        self.take_new(other);
     }
 
     /// Puts a configuration at the place above the top, and answers that place.
@@ -150,5 +145,20 @@ impl<Q: Quorums> ConfigMap<Q> {
         self.places.forget(1);
         self.floor = place + 1;
         Ok(place)
+    }
+}
+
+impl<Q: Quorums> ConfigMap<Q> {
+    // Takes from another map what it knows beyond this one.
+    // (a function of its own: most maps that are heard of tell nothing new, and then little is done)
+    #[inline(never)]
+    fn take_new(&mut self, other: &ConfigMap<Q>)
+        ensures { self.new ≡ merged_map self.old other.now }
+    {
+        let floor = self.floor.max(other.floor);
+        self.places.forget((floor - self.floor) as usize);
+        self.floor = floor;
+        let held = ((floor - other.floor) as usize).saturating_add(self.places.len());
+        self.places.append(&other.places, held);
     }
 }

@@ -177,6 +177,8 @@ impl<Q: Quorums> Places<Q> {
 }
 
 // Appends slots for which there is room.
+// (a call of its own, since a row seldom grows)
+#[inline(never)]
 fn append_slots<Q: Quorums>(slots: &mut SmallVec<Option<Q>, 8>, more: &[Option<Q>])
     requires { HasRoomFor slots.old (length more.now) }
     ensures items { slots.new.items ≡ slots.old.items ++ more.now }

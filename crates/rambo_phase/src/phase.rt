@@ -35,6 +35,9 @@ impl<Q: Quorums> Model for Phase<Q> {
     ghost invariant = { λ p. (p.lo + length p.places.configs ≤ 2 ^ 64) × (8 ≤ p.places.capacity) };
 }
 
+// So many configurations lie in the value itself.
+const INSIDE: usize = 8;
+
 impl<Q: Quorums> Phase<Q> {
     /// A phase of node `me` begins with the configurations of its map, and the node replies to itself.
     pub fn start(number: u64, map: &ConfigMap<Q>, me: Name) -> Self
@@ -82,7 +85,11 @@ impl<Q: Quorums> Phase<Q> {
         ensures had_room { needed self.old.state map.now ≤ self.old.capacity → self.new ≡ self.old }
         ensures capacity { self.old.capacity ≤ self.new.capacity }
     {
-        let more = map.places().len().saturating_sub(self.known(map));
+        let row = map.places();
+        if self.places.len().saturating_add(row.len()) <= INSIDE {
+            return Ok(());
+        }
+        let more = row.len().saturating_sub(self.known(map));
         self.places.reserve(more)
     }
 

@@ -2,8 +2,8 @@ use Rattle.std.proofs.lemmas.Grind.{common_steps}
 use Rattle.std.proofs.Common.{arith}
 use Rattle.rambo_phase.proofs.phase.Phase.reserve.Goals as goal
 
-pub places-requires : goal.places-requires
-places-requires g c = grind (arith, common_steps)
+pub places-row-requires : goal.places-row-requires
+places-row-requires g c = grind (arith, common_steps)
 
 pub len-requires : goal.len-requires
 len-requires g c = grind (arith, common_steps)

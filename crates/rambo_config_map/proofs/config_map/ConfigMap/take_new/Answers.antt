@@ -1,6 +1,6 @@
 use Rattle.std.proofs.lemmas.Grind.{common_steps}
 use Rattle.std.proofs.Common.{arith}
-use Rattle.rambo_config_map.proofs.config_map.ConfigMap.merge.Goals as goal
+use Rattle.rambo_config_map.proofs.config_map.ConfigMap.take_new.Goals as goal
 
 pub overflow_sub-floor : goal.overflow_sub-floor
 overflow_sub-floor g c = grind (arith, common_steps)
