@@ -1,7 +1,8 @@
 //! What an attempt offers, and what a vote and an attempt make of another node's.
-ghost use Rattle.std.specs.Prelude.{◌≡◌, ◌≤◌, nat_lt, length};
+ghost use Rattle.std.specs.Prelude.{◌≡◌, ◌≤◌, nat_lt, length, Some, if◌then◌else◌};
 ghost use Rattle.rambo_config_map.specs.Maps.{end_of, merged_map};
 ghost use Rattle.rambo_bids.specs.Fitting.{AttemptFits};
+ghost use Rattle.rambo_paxos.specs.Votes.{taken_if};
 ghost use Rattle.rambo_bids.specs.Hearing.{offer_for, is_level, vote_kept, vote_after, heard_for, attempt_after};
 
 use crate::places::{is_next, top_of};
@@ -21,6 +22,7 @@ pub fn offer_of<Q: Quorums>(attempt: &Option<Attempt<Q>>, map: &ConfigMap<Q>) ->
 
 /// The attempt of a node with this map, if there is one, hears the vote that another node tells with its map: it
 /// counts where both are for the first place that the two maps, merged, don't know.
+#[inline(always)]
 pub fn hear_vote<Q: Quorums>(
     attempt: &mut Option<Attempt<Q>>,
     map: &ConfigMap<Q>,
@@ -31,6 +33,7 @@ pub fn hear_vote<Q: Quorums>(
     ensures after { attempt.new ≡ attempt_after map.now attempt.old from told.now vote.now }
     ensures fits { AttemptFits map.now attempt.old → AttemptFits (merged_map map.now told.now) attempt.new }
 {
+    // (few nodes have an attempt open)
     if attempt.is_none() {
         return;
     }
@@ -41,6 +44,7 @@ pub fn hear_vote<Q: Quorums>(
 
 /// The vote of a node with this map hears what another one tells with its map: it is emptied where its place has
 /// come to be known, and takes an offer that is for the same place.
+#[inline(always)]
 pub fn hear_offer<Q: Quorums>(
     vote: &mut Vote<Q>,
     map: &ConfigMap<Q>,
@@ -51,9 +55,23 @@ pub fn hear_offer<Q: Quorums>(
 {
     keep_if_next(vote, map, told);
     if let Some(offer) = offer {
-        if is_level(map, told) {
-            vote.take(offer);
-        }
+        take_offer(vote, map, told, offer);
+    }
+}
+
+// Takes an offer that is told with a map, if it is for the first place that the two maps, merged, don't know.
+// (few letters have an offer)
+#[inline(never)]
+fn take_offer<Q: Quorums>(
+    vote: &mut Vote<Q>,
+    map: &ConfigMap<Q>,
+    told: &ConfigMap<Q>,
+    offer: &Offer<Q>,
+)
+    ensures { vote.new ≡ (if is_level map.now told.now then taken_if vote.old (Some offer.now) else vote.old) }
+{
+    if is_level(map, told) {
+        vote.take(offer);
     }
 }
 
@@ -67,6 +85,7 @@ fn keep_if_next<Q: Quorums>(vote: &mut Vote<Q>, map: &ConfigMap<Q>, told: &Confi
 }
 
 // An attempt, if there is one, hears a vote of a node for the first place that a map doesn't know.
+#[inline(never)]
 fn hear_vote_for<Q: Quorums>(
     attempt: &mut Option<Attempt<Q>>,
     map: &ConfigMap<Q>,

@@ -4,7 +4,7 @@ ghost use Rattle.rambo_logs.specs.Stored.{AreDistinct};
 ghost use Rattle.rambo_logs.specs.Numbers.{Extends};
 
 use indexmap::IndexSet;
-use rambo_names::Refusal;
+use rambo_names::{Bytes, Refusal};
 use std::alloc::Global;
 use std::hash::{BuildHasherDefault, FoldHasher};
 use std::marker::Model;
@@ -12,15 +12,15 @@ use std::marker::Model;
 // Keys, numbered from 0 on as they came. Seen as the list of them.
 #[derive(Drop)]
 pub(crate) struct KeyNumbers {
-    keys: IndexSet<Vec<u8>, BuildHasherDefault<FoldHasher>>,
+    keys: IndexSet<Bytes, BuildHasherDefault<FoldHasher>>,
 }
 
 impl Model for KeyNumbers {
-    ghost use Rattle.std.specs.Prelude.{List, ℕ, map, length, ◌<◌, ◌^◌};
+    ghost use Rattle.std.specs.Prelude.{List, ℕ, length, ◌<◌, ◌^◌};
 
     ghost Value = { List (List ℕ) };
 
-    ghost view = { λ k. map (λ v. v.items) k.keys.keys };
+    ghost view = { λ k. k.keys.keys };
 
     ghost invariant = { λ k. length k.keys.keys < 2 ^ 32 };
 }
@@ -37,7 +37,7 @@ impl KeyNumbers {
     // The number of a key, which gets the next one if it has none yet.
     //
     // `OutOfMemory` where there is no room for it, or all numbers are given.
-    pub(crate) fn number_of(&mut self, key: &[u8]) -> Result<u32, Refusal>
+    pub(crate) fn number_of(&mut self, key: &Bytes) -> Result<u32, Refusal>
         ensures known { IfOk result (λ n. n < length self.new) }
         ensures number { IfOk result (λ n. slice_index_or self.new n [] ≡ key.now) }
         ensures grows { Extends self.old self.new }
@@ -51,8 +51,7 @@ impl KeyNumbers {
         if count >= u32::MAX as usize {
             return Err(Refusal::OutOfMemory);
         }
-        let bytes = Vec::from_slice(*self.keys.allocator(), key)?;
-        let (number, _) = self.keys.insert_full(bytes)?;
+        let (number, _) = self.keys.insert_full(key.clone()?)?;
         Ok(number as u32)
     }
 }

@@ -11,7 +11,7 @@ use crate::hints::{NODES, make_rows, place_of};
 use crate::key_numbers::KeyNumbers;
 use crate::lacked::{list_lacked, log_entries, log_entry, repack};
 use crate::pending::Pending;
-use rambo_names::{Name, Refusal};
+use rambo_names::{Bytes, Name, Refusal};
 use rambo_tag::{KeyedVersion, Pack};
 use std::alloc::Global;
 use std::marker::Model;
@@ -81,7 +81,7 @@ impl Logs {
     /// Makes room for one copy of a key in the log of a name, of any bytes.
     ///
     /// `OutOfMemory` where there is none. The logs stay, and there is then room for nothing.
-    pub fn reserve(&mut self, name: Name, key: &[u8]) -> Result<(), Refusal>
+    pub fn reserve(&mut self, name: Name, key: &Bytes) -> Result<(), Refusal>
         ensures ok { OnOk result (self.new ≡ with_room self.old.logs name key.now) }
         ensures err { OnErr result (self.new ≡ settled self.old.logs) }
         ensures refused { IfErr result (λ r. r ≡ Refusal.OutOfMemory) }

@@ -1,11 +1,9 @@
 //! Keys and values.
-ghost use Rattle.std.specs.Prelude.{◌≡◌, ◌<◌, ◌≤◌, length, take, IfOk, IfErr, Some, nat_eq, refl};
+ghost use Rattle.std.specs.Prelude.{◌≡◌, ◌<◌, ◌≤◌, ◌∷◌, [], length, take, IfOk, IfErr, Some, nat_eq, refl};
 ghost use Rattle.std.specs.Ordering.{nat_cmp};
-ghost use Rattle.std.specs.Hash as fed;
-ghost use Rattle.std.specs.Cmp.Lexicographic.{pointwise, slice_cmp, nat_list_eq_equiv, nat_list_cmp_total, texts_ties, texts_po};
+ghost use Rattle.std.proofs.Common.{ap};
+ghost use Rattle.std.specs.Cmp.Lexicographic.{bytes_decides, pointwise, slice_cmp, nat_list_eq_equiv, nat_list_cmp_total, texts_ties, texts_po};
 ghost use Rattle.std.specs.Cmp.{partial_equiv_from_equiv};
-ghost use Rattle.std.specs.Cmp.Rules.{hashing};
-ghost use Rattle.std.proofs.Common.{rules};
 
 use crate::refusal::Refusal;
 use crate::short_bytes::{MOST, ShortBytes};
@@ -58,7 +56,7 @@ impl Bytes {
     pub fn from_slice(alloc: Global, items: &[u8]) -> Result<Bytes, Refusal>
         ensures bytes { IfOk result (λ b. b ≡ items.now) }
         ensures refused { IfErr result (λ r. r ≡ Refusal.OutOfMemory) }
-        ensures short { IfErr result (λ _. 14 < length items.now) }
+        ensures short { IfErr result (λ _. 15 < length items.now) }
     {
         if items.len() <= Bytes::SHORT {
             return Ok(Bytes {
@@ -76,7 +74,7 @@ impl Bytes {
     pub fn from_vec(items: Vec<u8>) -> Result<Bytes, Refusal>
         ensures bytes { IfOk result (λ b. b ≡ items.items) }
         ensures refused { IfErr result (λ r. r ≡ Refusal.OutOfMemory) }
-        ensures short { IfErr result (λ _. 14 < length items.items) }
+        ensures short { IfErr result (λ _. 15 < length items.items) }
     {
         if items.len() <= Bytes::SHORT {
             return Ok(Bytes {
@@ -90,7 +88,7 @@ impl Bytes {
 
     /// The first bytes of an array. They take no memory.
     pub fn short(bytes: [u8; Bytes::SHORT], length: usize) -> Bytes
-        requires { length ≤ 14 }
+        requires { length ≤ 15 }
         ensures { result ≡ take length bytes }
     {
         Bytes {
@@ -128,7 +126,7 @@ impl Clone for Bytes {
 
     fn clone(&self) -> Result<Bytes, AllocError> {
         let form = match &self.form {
-            Form::Short(bytes) => Form::Short(bytes.copy()),
+            Form::Short(bytes) => Form::Short(*bytes),
             Form::Shared(items) => Form::Shared(items.clone()?),
         };
         Ok(Bytes { form })
@@ -174,12 +172,13 @@ impl Ord for Bytes {
     }
 }
 
+// All bytes in one write: a hasher takes many at a time then.
 impl Hash for Bytes {
-    ghost hash_input = { fed.slice fed.u8 };
+    ghost hash_input = { λ b. b ∷ [] };
 
-    ghost respects_eq = { Prim.search (hashing, rules) };
+    ghost respects_eq = { λ x y h. ap (λ b. b ∷ []) ((bytes_decides x y).0 h) };
 
     fn hash<H: Hasher>(&self, state: &mut H) {
-        self.as_slice().hash(state);
+        state.write(self.as_slice());
     }
 }

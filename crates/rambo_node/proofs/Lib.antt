@@ -1,5 +1,6 @@
 pub mod Advances
 pub mod Judged
+pub mod LastNumbers
 pub mod Memory
 pub mod Fitting
 pub mod Sizes

@@ -130,7 +130,7 @@ impl<Q: Quorums, S: Replica> Node<Q, S> {
     {
         match gossip {
             None => false,
-            Some(gossip) => self.calls.any_gap(gossip.heard, gossip.map) && is_last(self.number),
+            Some(gossip) => is_last(self.number) && self.calls.any_gap(gossip.heard, gossip.map),
         }
     }
 

@@ -12,7 +12,7 @@ use std::marker::Model;
 /// Reads the commands of a stream of bytes that comes in pieces. What it gives depends on the stream alone, and not on
 /// how it was cut.
 ///
-/// Each byte is looked at a few times at most. The bytes of an item are copied once, or twice where they are at most 14
+/// Each byte is looked at a few times at most. The bytes of an item are copied once, or twice where they are at most 15
 /// and the item doesn't lie in one piece.
 #[derive(Drop)]
 pub struct Decoder {

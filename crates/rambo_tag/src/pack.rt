@@ -1,9 +1,11 @@
 //! The copies in a letter.
 ghost use Rattle.std.specs.Prelude.{◌≡◌, IfOk, IfErr};
+ghost use Rattle.std.specs.FinMap.{empty};
 ghost use Rattle.rambo_tag.specs.Logs.{greatest_of};
 
 use crate::keyed_version::KeyedVersion;
 use rambo_names::Refusal;
+use std::alloc::Global;
 use std::marker::Model;
 
 /// The copies that a letter carries, seen as the greatest copy of each key.
@@ -55,5 +57,28 @@ impl Pack {
         Ok(Pack {
             copies: self.copies.clone()?,
         })
+    }
+}
+
+/// The copies of a letter that has none. It takes no memory.
+#[derive(Drop, Debug)]
+pub struct NoCopies {
+    pack: Pack,
+    ghost none: { pack ≡ empty },
+}
+
+impl NoCopies {
+    /// No copies. Memory for them would come from this allocator.
+    pub fn new(alloc: Global) -> NoCopies {
+        NoCopies {
+            pack: Pack::new(Vec::new(alloc)),
+        }
+    }
+
+    /// As a pack.
+    pub fn pack(&self) -> &Pack
+        ensures { result.now ≡ empty }
+    {
+        &self.pack
     }
 }

@@ -71,9 +71,9 @@ pub fn read_hex(alloc: Global, word: &[u8]) -> Result<Bytes, Fault>
     shared(read_pairs(alloc, word)?)
 }
 
-// At most 14 bytes that pairs of digits spell. They take no memory.
+// At most 15 bytes that pairs of digits spell. They take no memory.
 fn read_short(word: &[u8]) -> Result<Bytes, Fault>
-    requires { length word.now ≤ 28 }
+    requires { length word.now ≤ 30 }
     ensures found { IfOk result (λ bs. AreBytes bs × (word.now ≡ pairs_text bs)) }
     ensures fault { IfErr result (λ f. (f ≡ Fault.BadHex) × ((bs : List ℕ) → AreBytes bs → word.now ≢ pairs_text bs)) }
 {

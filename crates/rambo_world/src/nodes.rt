@@ -29,7 +29,7 @@ use rambo_names::{Name, Quorums, Refusal};
 use rambo_node::{Change, Deed, Node};
 use rambo_run::NodeMap;
 use rambo_sequence::Mark;
-use rambo_tag::{KeyedVersion, Pack, Replica};
+use rambo_tag::{KeyedVersion, NoCopies, Pack, Replica};
 use std::alloc::Global;
 use std::marker::Model;
 
@@ -38,6 +38,7 @@ use std::marker::Model;
 pub(crate) struct Nodes<Q: Quorums, S: Replica> {
     list: Vec<Node<Q, S>>,
     logs: Logs,
+    none: NoCopies,
     // Never used: it tells the prover that a node has a size, which it doesn't see behind a `Vec`.
     spare: Node<Q, S>,
 }
@@ -67,7 +68,12 @@ impl<Q: Quorums, S: Replica> Nodes<Q, S> {
         let logs = Logs::new(alloc)?;
         let list = first_nodes(alloc, founders, replica)?;
         let spare = first_node(alloc, 1, founders, replica)?;
-        Ok(Nodes { list, logs, spare })
+        Ok(Nodes {
+            list,
+            logs,
+            none: NoCopies::new(alloc),
+            spare,
+        })
     }
 
     // The node of a name.
@@ -178,8 +184,7 @@ impl<Q: Quorums, S: Replica> Nodes<Q, S> {
     {
         let told = self.outline(from, to).told;
         if told <= start {
-            let none = Pack::new(Vec::new(*self.list.allocator()));
-            hear_of(self.list.as_mut_slice(), from, to, &none)?;
+            hear_of(self.list.as_mut_slice(), from, to, self.none.pack())?;
             return Ok(told);
         }
         self.logs.bring(to, from, start, start.max(told))?;
@@ -290,7 +295,7 @@ fn make_room<Q: Quorums, S: Replica>(
 {
     match node.query(id) {
         Some(Op::Set(key, _)) => {
-            logs.reserve(id.name, key.as_slice())?;
+            logs.reserve(id.name, key)?;
             Ok(())
         }
         Some(Op::Get(_)) => Ok(()),

@@ -8,8 +8,8 @@ invariant-loop-high l = record {
   whole : l.word ≡ pairs_text (take l.length l.bytes) ++ l.rest;
   bytes : AreBytes (take l.length l.bytes);
   left : IsLeft l.word l.rest;
-  full : length l.bytes ≡ 14;
-  room : 2 * l.length + length l.rest ≤ 28;
+  full : length l.bytes ≡ 15;
+  room : 2 * l.length + length l.rest ≤ 30;
 }
 
 abbrev pub decreases-loop-high : goal.decreases-loop-high
