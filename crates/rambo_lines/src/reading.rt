@@ -133,7 +133,8 @@ pub fn set_asked(alloc: Global, more: Option<&[u8]>) -> Result<(Name, Op), Fault
     let (name, key, value) = three(more)?;
     let name = name_of(name)?;
     let key = read_hex(alloc, key)?;
-    Ok((name, Op::Set(key, read_hex(alloc, value)?)))
+    let value = read_hex(alloc, value)?;
+    Ok((name, Op::Set(key, value)))
 }
 
 fn read_send(more: Option<&[u8]>) -> Result<Step<Majority>, Fault>

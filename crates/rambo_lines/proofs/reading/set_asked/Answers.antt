@@ -1,3 +1,4 @@
+use Rattle.std.below.core.proofs.iter.Serving.{as_err}
 use Rattle.std.proofs.lemmas.Grind.{common_steps}
 use Rattle.std.proofs.Common.{inl, inr, refl, rules, arith}
 use Rattle.rambo_lines.specs.declared.kind.StepKind.TheVariants.{Set}
@@ -12,11 +13,13 @@ returns-in_err-key-clause-fault c =
     let name = c.in_ok-name-2.ensures.found in
     search (rules, hex_fault Set _ _ _ _ c.in_ok-name.ensures.found refl (λ none is. inr ((_, name.0, name.1), inl (none, is))) c.in_err-key.ensures.fault)
 
-pub returns-in_err-read_hex-clause-fault : goal.returns-in_err-read_hex-clause-fault
-returns-in_err-read_hex-clause-fault c =
+pub returns-in_err-value-clause-fault : goal.returns-in_err-value-clause-fault
+returns-in_err-value-clause-fault c =
     let name = c.in_ok-name-2.ensures.found in
     let key = c.in_ok-key.ensures.found in
-    search (rules, hex_fault Set _ _ _ _ c.in_ok-name.ensures.found refl (λ none is. inr ((_, name.0, name.1), inr ((_, key.0, key.1), inl (none, is)))) c.in_err-read_hex.ensures.fault)
+    let told = hex_fault Set _ _ _ _ c.in_ok-name.ensures.found refl (λ none is. inr ((_, name.0, name.1), inr ((_, key.0, key.1), inl (none, is)))) c.in_err-value.ensures.fault in
+    let is = (as_err c.from_residual-in_err-value.ensures.0).1 in
+    grind (arith, is, told)
 
 pub returns-in_err-name-clause-found : goal.returns-in_err-name-clause-found
 returns-in_err-name-clause-found c = grind (arith, common_steps)
@@ -36,11 +39,11 @@ returns-in_err-key-clause-found c = grind (arith, common_steps)
 pub returns-in_err-key-clause-memory : goal.returns-in_err-key-clause-memory
 returns-in_err-key-clause-memory c = grind (arith, common_steps)
 
-pub returns-in_err-read_hex-clause-found : goal.returns-in_err-read_hex-clause-found
-returns-in_err-read_hex-clause-found c = grind (arith, common_steps)
+pub returns-in_err-value-clause-found : goal.returns-in_err-value-clause-found
+returns-in_err-value-clause-found c = grind (arith, common_steps)
 
-pub returns-in_err-read_hex-clause-memory : goal.returns-in_err-read_hex-clause-memory
-returns-in_err-read_hex-clause-memory c = grind (arith, common_steps)
+pub returns-in_err-value-clause-memory : goal.returns-in_err-value-clause-memory
+returns-in_err-value-clause-memory c = grind (arith, common_steps)
 
 pub returns-clause-found : goal.returns-clause-found
 returns-clause-found c = grind (arith, common_steps)

@@ -1,6 +1,7 @@
 use Rattle.std.proofs.Common.{◌≡◌, ℕ, ◌-◌, ◌++◌, max, length, take, drop, List, [], Some, slice_get, slice_set, sym, ap, ◌∙◌, subst, append-nil}
 use Rattle.std.specs.Prelude.{slice_index_or}
 use Rattle.std.proofs.lemmas.List.{length-set, set-get_or}
+use Rattle.rambo_tag.proofs.Logged.{greatest_of-nil}
 use Rattle.rambo_tag.specs.declared.keyed_version.KeyedVersion.{KeyedVersion}
 use Rattle.rambo_tag.specs.Copies.{joined}
 use Rattle.rambo_tag.specs.Logs.{greatest_of}
@@ -86,7 +87,7 @@ returns-then-told-start-clause-nodes g c =
     let more : List KeyedVersion = lacked (greatest_of own) (part theirs c.args.start (max c.args.start told)) in
     let none : more ≡ [] = nothing_new own theirs c.args.start told c.if-told-start.true in
     let tells : (k : KeptNode _) → kept_at c.args.self.now c.args.from ≡ Some k → told ≡ (outline k c.args.to).told = λ k found. ap (λ o. o.told) (c.told.view_is ∙ c.outline.ensures.sent k found) in
-    let pack = c.new-none.ensures ∙ ap greatest_of (c.new.ensures.items ∙ sym none) in
+    let pack = c.pack.ensures ∙ sym greatest_of-nil ∙ ap greatest_of (sym none) in
     let put : ls ≡ slice_set ls (c.args.to - 1) (own ++ more) = sym (ap (slice_set ls (c.args.to - 1)) (ap (λ l. own ++ l) none ∙ append-nil own) ∙ set-get_or ls (c.args.to - 1) []) in
     let heard : (x y : NodeState _) → slice_get xs (c.args.from - 1) ≡ Some x → slice_get xs (c.args.to - 1) ≡ Some y
     → take c.self.inside.list.len (ys ++ drop (length ys) xs) ≡ slice_set xs (c.args.to - 1) (made_by y (change.Deliver (letter_with (outlined_for x c.args.to) (greatest_of more)))).node
@@ -108,7 +109,7 @@ returns-then-told-start-clause-grow g c =
     let more : List KeyedVersion = lacked (greatest_of own) (part theirs c.args.start (max c.args.start told)) in
     let none : more ≡ [] = nothing_new own theirs c.args.start told c.if-told-start.true in
     let tells : (k : KeptNode _) → kept_at c.args.self.now c.args.from ≡ Some k → told ≡ (outline k c.args.to).told = λ k found. ap (λ o. o.told) (c.told.view_is ∙ c.outline.ensures.sent k found) in
-    let pack = c.new-none.ensures ∙ ap greatest_of (c.new.ensures.items ∙ sym none) in
+    let pack = c.pack.ensures ∙ sym greatest_of-nil ∙ ap greatest_of (sym none) in
     let put : ls ≡ slice_set ls (c.args.to - 1) (own ++ more) = sym (ap (slice_set ls (c.args.to - 1)) (ap (λ l. own ++ l) none ∙ append-nil own) ∙ set-get_or ls (c.args.to - 1) []) in
     let heard : (x y : NodeState _) → slice_get xs (c.args.from - 1) ≡ Some x → slice_get xs (c.args.to - 1) ≡ Some y
     → take c.self.inside.list.len (ys ++ drop (length ys) xs) ≡ slice_set xs (c.args.to - 1) (made_by y (change.Deliver (letter_with (outlined_for x c.args.to) (greatest_of more)))).node

@@ -7,8 +7,8 @@ drop-nodes-inside-requires-room-T-Destruct g c κs within =
     let nodes = back_fits _ _ _ (next _ _ _ _ (next _ _ _ _ (next _ _ _ _ (next _ _ _ _ (next _ _ _ _ (up_fits _ _ _ c.requires-raw.1.1)))))) in
     back_fits _ _ _ (up_fits _ _ _ nodes)
 
-pub drop-nodes-inside-requires-12-room-T-Destruct : goal.drop-nodes-inside-requires-12-room-T-Destruct
-drop-nodes-inside-requires-12-room-T-Destruct g c κs within =
+pub drop-nodes-inside-requires-13-room-T-Destruct : goal.drop-nodes-inside-requires-13-room-T-Destruct
+drop-nodes-inside-requires-13-room-T-Destruct g c κs within =
     let nodes = back_fits _ _ _ (next _ _ _ _ (next _ _ _ _ (next _ _ _ _ (next _ _ _ _ (next _ _ _ _ (up_fits _ _ _ c.requires-raw.1.1)))))) in
     let node = back_fits _ _ _ (up_fits _ _ _ nodes) in
     let calls = back_fits _ _ _ (next _ _ _ _ (up_fits _ _ _ node)) in
