@@ -70,3 +70,15 @@ pub returns-in_err-do_hear-in-Deliver-clause-no_memory : goal.returns-in_err-do_
 returns-in_err-do_hear-in-Deliver-clause-no_memory g c = λ none.
     let wish = join_from_no_gossip c.in-Deliver.letter.kind (subst (λ ch. needs_memory ch ≡ false) c.in-Deliver.is none) in
     absurd (true≢false (sym (c.in_err-do_hear-in-Deliver.ensures.join wish)))
+
+pub clone-requires : goal.clone-requires
+clone-requires g c = assumption
+
+pub do_join-requires : goal.do_join-requires
+do_join-requires g c = assumption
+
+pub do_stop-requires : goal.do_stop-requires
+do_stop-requires g c = assumption
+
+pub quiet-requires : goal.quiet-requires
+quiet-requires g c = assumption

@@ -31,3 +31,6 @@ returns-in-None-clause-effect g c =
     IfOk-weaker c.answered_effect.result _ _
     (λ e is. is ∙ ap (λ f. (answered_from id f).effect) (c.find.ensures ∙ ap (λ y. find_call id.number y.calls) c.self.view_is) ∙ ap (λ d. d.effect) closes.1)
     c.answered_effect.ensures.told
+
+pub query-requires : goal.query-requires
+query-requires g c = assumption

@@ -25,3 +25,18 @@ returns-clause-deed g c =
     let x = c.args.self.now in
     let same = c.in_ok-kept.ensures.ok (asked_next x c.args.asked c.requires.next).1 in
     c.in_ok-deed.ensures.ok ∙ ap (move_deed c.args.id c.args.asked) same ∙ (query_moves x c.args.id c.args.asked c.requires.asked).1
+
+pub drop-kept-requires : goal.drop-kept-requires
+drop-kept-requires g c = assumption
+
+pub drop-requires : goal.drop-requires
+drop-requires g c = assumption
+
+pub moved-requires : goal.moved-requires
+moved-requires g c = assumption
+
+pub put-requires : goal.put-requires
+put-requires g c = assumption
+
+pub taken-requires : goal.taken-requires
+taken-requires g c = assumption

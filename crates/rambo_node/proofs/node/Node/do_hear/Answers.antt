@@ -23,3 +23,6 @@ merge-requires g c = c.requires-raw.1.1.0
 
 pub outline-requires : goal.outline-requires
 outline-requires g c = variant_fits _ _ _ _ (back_fits _ _ _ (up_fits _ _ _ c.requires-raw.1.1.1))
+
+pub meet-requires : goal.meet-requires
+meet-requires g c = assumption

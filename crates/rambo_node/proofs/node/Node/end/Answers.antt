@@ -56,3 +56,6 @@ same-self g c = grind arith
 
 pub returns-in_err-put_mark-clause-err : goal.returns-in_err-put_mark-clause-err
 returns-in_err-put_mark-clause-err g c = grind arith
+
+pub close-requires : goal.close-requires
+close-requires g c = back_fits _ _ _ (next _ _ _ _ (up_fits _ _ _ c.requires-raw.1.1.0))

@@ -157,3 +157,18 @@ returns-in-Set-clause-copy g c =
     let asked : query_in (open_call x id) ≡ Some o = sym c.query.ensures ∙ ap option_copied c.in-Some.is ∙ ap Some (sym c.in_ok-asked-in-Some.ensures.same ∙ c.in-Set.is) in
     let moves = query_moves x id o asked in
     IfOk-weaker c.set.result _ _ (λ copy e. e ∙ ap (λ d. d.copy) moves.1) c.set.ensures.copy
+
+pub as_slice-requires : goal.as_slice-requires
+as_slice-requires g c = assumption
+
+pub clone-requires : goal.clone-requires
+clone-requires g c = assumption
+
+pub clone_of-requires : goal.clone_of-requires
+clone_of-requires g c = assumption
+
+pub copy-requires : goal.copy-requires
+copy-requires g c = assumption
+
+pub query-requires : goal.query-requires
+query-requires g c = assumption

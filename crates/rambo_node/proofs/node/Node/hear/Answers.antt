@@ -17,3 +17,9 @@ returns-clause-refused g c = IfErr-weaker c.do_hear.result _ _ (λ r e. subst (�
 
 pub returns-clause-join : goal.returns-clause-join
 returns-clause-join g c = λ wish. IfErr-from_ok c.do_hear.result _ (c.do_hear.ensures.join wish)
+
+pub do_hear-requires : goal.do_hear-requires
+do_hear-requires g c = assumption
+
+pub may_hear-requires : goal.may_hear-requires
+may_hear-requires g c = assumption

@@ -38,3 +38,9 @@ returns-in-Some-clause-join g c = grind (arith, common_steps)
 
 pub returns-in-Some-clause-err : goal.returns-in-Some-clause-err
 returns-in-Some-clause-err g c = grind (arith, common_steps)
+
+pub meet-requires : goal.meet-requires
+meet-requires g c = assumption
+
+pub merge-requires : goal.merge-requires
+merge-requires g c = assumption

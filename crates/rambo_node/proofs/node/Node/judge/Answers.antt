@@ -41,3 +41,36 @@ returns-in-AdvanceRecon-clause-refused g c = subst (λ ch. IfErr c.may_advance_r
 
 pub may_hear-requires : goal.may_hear-requires
 may_hear-requires g c = (c.requires-raw.1.1.0, deliver_fits _ _ _ _ _ _ _ _ c.requires-raw.1.1.1)
+
+pub may_advance-requires : goal.may_advance-requires
+may_advance-requires g c = assumption
+
+pub may_advance_collect-requires : goal.may_advance_collect-requires
+may_advance_collect-requires g c = assumption
+
+pub may_advance_recon-requires : goal.may_advance_recon-requires
+may_advance_recon-requires g c = assumption
+
+pub may_call-requires : goal.may_call-requires
+may_call-requires g c = assumption
+
+pub may_collect-requires : goal.may_collect-requires
+may_collect-requires g c = assumption
+
+pub may_join-requires : goal.may_join-requires
+may_join-requires g c = assumption
+
+pub may_rebid-requires : goal.may_rebid-requires
+may_rebid-requires g c = assumption
+
+pub may_recon-requires : goal.may_recon-requires
+may_recon-requires g c = assumption
+
+pub may_restart-requires : goal.may_restart-requires
+may_restart-requires g c = assumption
+
+pub may_send-requires : goal.may_send-requires
+may_send-requires g c = assumption
+
+pub may_stop-requires : goal.may_stop-requires
+may_stop-requires g c = assumption

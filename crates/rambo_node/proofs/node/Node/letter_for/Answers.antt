@@ -15,3 +15,15 @@ returns-clause-letter g c =
     ∙ ap (λ kind. record l { kind = kind }) (kind_twice l.kind map.empty c.in_ok-copies.copies)
     ∙ ap (letter_with l) (c.in_ok-copies.ensures.all ∙ ap (λ n. n.registers) c.self.view_is)
     ∙ with_own c.args.self.now c.args.to))
+
+pub may_send-requires : goal.may_send-requires
+may_send-requires g c = assumption
+
+pub outline_for-requires : goal.outline_for-requires
+outline_for-requires g c = assumption
+
+pub pack-requires : goal.pack-requires
+pack-requires g c = assumption
+
+pub with_copies-requires : goal.with_copies-requires
+with_copies-requires g c = assumption

@@ -21,3 +21,12 @@ returns-clause-refused g c =
     let runs = sym (c.is_stopped.ensures ∙ ap (λ n. is_stopped n.status) c.self.view_is) ∙ c.if-is_stopped.false in
     IfErr-weaker c.may_wish.result _ _
     (λ r e. least_behind _ _ NotActive Stopped (wish_causes g.Q.Quorums.system x.name x.known x.map x.vote x.attempt c.args.wish.now) late runs ∙ e) c.may_wish.ensures.refused
+
+pub is_early-requires : goal.is_early-requires
+is_early-requires g c = assumption
+
+pub is_stopped-requires : goal.is_stopped-requires
+is_stopped-requires g c = assumption
+
+pub may_wish-requires : goal.may_wish-requires
+may_wish-requires g c = assumption

@@ -48,3 +48,11 @@ hear-requires g c = (back_fits _ _ _ (next _ _ _ _ (up_fits _ _ _ c.requires-raw
 
 pub invariant_of-self-2 : goal.invariant_of-self-2
 invariant_of-self-2 g c = subst (λ m. AttemptFits m c.hear_vote.new.attempt) (sym c.merge-2.ensures) (c.hear_vote.ensures.fits c.self.invariant)
+
+pub merge-requires-2 : goal.merge-requires-2
+merge-requires-2 g c = back_fits _ _ _ (up_fits _ _ _ c.requires-raw.1.1)
+
+pub hear_vote-requires : goal.hear_vote-requires
+hear_vote-requires g c =
+    let fits = up_fits _ _ _ c.requires-raw.1.1 in
+    back_fits _ _ _ fits

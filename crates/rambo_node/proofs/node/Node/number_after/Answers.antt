@@ -1,3 +1,4 @@
+use Rattle.rambo_node.proofs.Sizes.{up_fits, back_fits, next}
 use Rattle.std.proofs.Common.{Fits, w64, ap, ◌∙◌, subst, rules, ◌-◌, ◌^◌, min}
 use Rattle.rambo_calls.specs.Hearing.{any_gap, number_after}
 use Rattle.rambo_node.proofs.Judged.{next_number}
@@ -9,3 +10,6 @@ returns g c next =
     let fits : Fits w64 c.self.inside.number = search rules in
     next_number (any_gap c.args.heard c.args.map.now x.calls) x.number c.number_after.result next (subst (λ m. Fits w64 m) (ap (λ n. n.number) c.self.view_is) fits)
     (c.number_after.ensures ∙ ap (λ n. min (number_after n.number c.args.heard c.args.map.now n.calls) (2 ^ 64 - 1)) c.self.view_is)
+
+pub number_after-requires : goal.number_after-requires
+number_after-requires g c = (back_fits _ _ _ (next _ _ _ _ (up_fits _ _ _ c.requires-raw.1.1.0)), c.requires-raw.1.1.1)

@@ -12,3 +12,9 @@ returns-clause-refused g c = IfErr-weaker c.act.result _ _ (λ r e. subst (λ o.
 
 pub returns-clause-no_memory : goal.returns-clause-no_memory
 returns-clause-no_memory g c = λ none. IfErr-from_ok c.act.result _ (c.act.ensures.no_memory none)
+
+pub drop-requires : goal.drop-requires
+drop-requires g c = assumption
+
+pub judge-requires : goal.judge-requires
+judge-requires g c = assumption

@@ -1,0 +1,10 @@
+use Rattle.rambo_node.proofs.node.Node.may_hear_outlined.Goals as goal
+
+pub is_idle-requires : goal.is_idle-requires
+is_idle-requires g c = assumption
+
+pub is_out_of_numbers_for-requires : goal.is_out_of_numbers_for-requires
+is_out_of_numbers_for-requires g c = assumption
+
+pub is_stopped-requires : goal.is_stopped-requires
+is_stopped-requires g c = assumption

@@ -1,0 +1,4 @@
+use Rattle.rambo_node.proofs.turns.learn.Goals as goal
+
+pub learn-requires : goal.learn-requires
+learn-requires g c = assumption
