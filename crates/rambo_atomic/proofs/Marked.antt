@@ -1,8 +1,7 @@
 -- Orders whose calls are marked one by one
-use Rattle.std.proofs.Common.{◌≡◌, ◌⊎◌, inl, inr, ℕ, suc, ◌+◌, ◌<◌, ◌≤◌, max, Bool, true, false, cond, not, ◌&&◌, ◌||◌, nat_eq, List, [], ◌∷◌, ◌++◌, length, get_or, set, take, drop, Option, None, Some, is_some, refl, sym, ap, subst, ◌∙◌, true≢false, arith}
+use Rattle.std.proofs.Common.{◌≡◌, ◌⊎◌, inl, inr, ℕ, suc, ◌+◌, ◌<◌, ◌≤◌, max, Bool, true, false, cond, not, ◌&&◌, ◌||◌, List, [], ◌∷◌, ◌++◌, length, get_or, set, take, drop, Option, None, Some, is_some, refl, sym, ap, subst, ◌∙◌, true≢false, arith}
 use Rattle.std.specs.List.{list_all, slice_get}
 use Rattle.std.specs.Option.{option_map}
-use Rattle.std.specs.Str.{bytes_eq}
 use Rattle.std.proofs.lemmas.Bool.{cases_eq, cases_Bool, or_cases}
 use Rattle.std.proofs.lemmas.List.{take_more, drop_more, take-append-drop, take_all, drop_all, get_or-set_same, get_or-set_other, length-set}
 use Rattle.std.proofs.lemmas.Slice.Eq.{bytes_eq-Decides}
@@ -11,11 +10,11 @@ use Rattle.rambo_atomic.specs.declared.operation.Answer.{Answer}
 use Rattle.rambo_atomic.specs.declared.event.CallId.{CallId}
 use Rattle.rambo_atomic.specs.declared.event.Event.{Event}
 use Rattle.rambo_atomic.specs.declared.event.Event.TheVariants as event
-use Rattle.rambo_atomic.specs.Calls.{key_of, is_get, same_call}
+use Rattle.rambo_atomic.specs.Calls.{key_of, same_call}
 use Rattle.rambo_atomic.specs.Histories.{call_in, answer_in, is_call, called_at, answered_at}
 use Rattle.rambo_atomic.specs.Forms.{IsWellFormed}
-use Rattle.rambo_atomic.specs.Marks.{is_marked, IsEntryAt, Marks, verdict_of}
-use Rattle.rambo_atomic.specs.Proper.{Stands, IsComplete}
+use Rattle.rambo_atomic.specs.Marks.{is_marked, Marks, verdict_of}
+use Rattle.rambo_atomic.specs.Proper.{IsComplete}
 use Rattle.rambo_atomic.specs.Verdicts.{IsVerdict}
 use Rattle.rambo_atomic.specs.Tests.{stands_in, is_distinct, is_own, is_own_op, has_no_stranger, is_right, holding, answers_latest, is_before, later, keeps_real_time}
 use Rattle.rambo_atomic.proofs.Decided.{distinct-to, stranger-to, latest-to, latest-from}

@@ -10,7 +10,7 @@ use std::marker::Model;
 
 /// Where the calls of one name and their answers stand, of those calls that came with the numbers 1, 2, 3
 /// and so on.
-#[derive(Drop, Debug)]
+#[derive(Drop)]
 pub(crate) struct CallList {
     spots: Vec<Spot>,
 }

@@ -21,7 +21,7 @@ use std::marker::Model;
 /// The calls of a name that come with the numbers 1, 2, 3 and so on, as a run makes them, stand in a list of
 /// that name, and any other in a map. So a call is found in constant time, and the memory that is taken
 /// grows with the number of calls, whatever their numbers are.
-#[derive(Drop, Debug)]
+#[derive(Drop)]
 pub(crate) struct CallPlaces {
     // By the number of the name.
     lists: Vec<CallList>,

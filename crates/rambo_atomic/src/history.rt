@@ -22,7 +22,7 @@ use std::marker::Model;
 /// its call and of its kind.
 ///
 /// A call and its answer are found by the call's name and number in constant time.
-#[derive(Drop, Debug)]
+#[derive(Drop)]
 pub struct History {
     events: Vec<Event>,
     places: CallPlaces,

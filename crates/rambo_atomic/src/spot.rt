@@ -5,7 +5,7 @@ ghost use Rattle.rambo_atomic.specs.Tests.{is_before};
 
 /// The place of a call in the list of events, and that of its answer: 0 where it has none, since no answer
 /// stands first.
-#[derive(Clone, Copy, Debug)]
+#[derive(Clone, Copy)]
 pub(crate) struct Spot {
     pub(crate) called: usize,
     pub(crate) answered: usize,

@@ -9,7 +9,7 @@ use std::marker::Model;
 ///
 /// Each call takes as many bytes as there are and as there is room for, up to the longest piece. One call
 /// can be set to fail, for tests of what comes of it.
-#[derive(Drop, Debug)]
+#[derive(Drop)]
 pub struct Tape {
     bytes: Vec<u8>,
     place: usize,

@@ -7,7 +7,7 @@ ghost use Rattle.rambo_atomic.specs.Unreads.{KnowsEnd, TakesIn, HasFeed, HoldsLi
 ghost use Rattle.rambo_atomic.specs.declared.whole.StreamFault.TheVariants as fault;
 
 use crate::stream::Source;
-use crate::whole::{PIECE, StreamFault};
+use crate::whole::{StreamFault, append_piece};
 use std::alloc::Global;
 use std::marker::Model;
 
@@ -166,32 +166,6 @@ fn forget_front(bytes: &mut Vec<u8>, count: usize)
     let rest = bytes.len() - count;
     bytes.copy_within(count.., 0);
     bytes.truncate(rest);
-}
-
-// Reads once, and appends what that gives: none only at the end. A refusal leaves the bytes as they were, and
-// loses none.
-fn append_piece<R: Source>(
-    piece: &mut Vec<u8>,
-    bytes: &mut Vec<u8>,
-    reader: &mut R,
-) -> Result<usize, StreamFault>
-    ensures bytes { IfOk result (λ n. (given : List ℕ) × Consumes (R.left reader.old) (R.left reader.new) given × (bytes.new.items ≡ bytes.old.items ++ given) × (n ≡ length given)) }
-    ensures end { IfOk result (λ n. n ≡ 0 → IsAtEnd (R.left reader.new)) }
-    ensures kept { OnErr result ((bytes.new.items ≡ bytes.old.items) × Consumes (R.left reader.old) (R.left reader.new) []) }
-    ensures reads { OnOk result (R.reads_left reader.new < R.reads_left reader.old) }
-    ensures fine { OnOk result (R.failures reader.new ≡ R.failures reader.old) }
-    ensures fault { IfErr result (λ f. ((f ≡ fault.Read) × (R.failures reader.new ≡ counted (R.failures reader.old)))
-        ⊎ ((f ≡ fault.Memory) × (R.failures reader.new ≡ R.failures reader.old))) }
-{
-    piece.resize(PIECE, 0u8)?;
-    bytes.reserve(PIECE)?;
-    match reader.read(piece.as_mut_slice()) {
-        Ok(count) => {
-            bytes.extend_from_slice(&piece[..count])?;
-            Ok(count)
-        }
-        Err(_) => Err(StreamFault::Read),
-    }
 }
 
 // Where the last line ends that has its line feed, or 0 where none has.

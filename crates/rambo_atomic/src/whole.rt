@@ -1,6 +1,6 @@
 //! Whole inputs and whole outputs.
-ghost use Rattle.std.specs.Prelude.{◌≡◌, ◌⊎◌, IfOk, IfErr, IfSome, OnOk, OnErr};
-ghost use Rattle.std.specs.Io.KnownBytes.{Appends, IsAtEnd};
+ghost use Rattle.std.specs.Prelude.{◌≡◌, ◌⊎◌, ◌<◌, ◌++◌, ℕ, List, [], length, IfOk, IfErr, IfSome, OnOk, OnErr};
+ghost use Rattle.std.specs.Io.KnownBytes.{Appends, Consumes, IsAtEnd};
 ghost use Rattle.rambo_atomic.specs.Streams.{counted, Begins};
 ghost use Rattle.rambo_atomic.specs.declared.whole.StreamFault.TheVariants as fault;
 
@@ -29,7 +29,7 @@ impl From<AllocError> for StreamFault {
 }
 
 /// How many bytes are asked for at once.
-pub(crate) const PIECE: usize = 64 * 1024;
+const PIECE: usize = 64 * 1024;
 
 /// All that a source has left.
 ///
@@ -42,14 +42,37 @@ pub fn read_all<R: Source>(alloc: Global, reader: &mut R) -> Result<Vec<u8>, Str
         ⊎ ((f ≡ fault.Memory) × (R.failures reader.new ≡ R.failures reader.old))) }
 {
     let mut piece = Vec::new(alloc);
-    piece.resize(PIECE, 0u8)?;
     let mut all = Vec::new(alloc);
     loop {
-        match reader.read(piece.as_mut_slice()) {
-            Ok(0) => return Ok(all),
-            Ok(count) => all.extend_from_slice(&piece[..count])?,
-            Err(_) => return Err(StreamFault::Read),
+        if append_piece(&mut piece, &mut all, reader)? == 0 {
+            return Ok(all);
         }
+    }
+}
+
+// Reads once, and appends what that gives: none only at the end. A refusal leaves the bytes as they were, and
+// loses none.
+pub(crate) fn append_piece<R: Source>(
+    piece: &mut Vec<u8>,
+    bytes: &mut Vec<u8>,
+    reader: &mut R,
+) -> Result<usize, StreamFault>
+    ensures bytes { IfOk result (λ n. (given : List ℕ) × Consumes (R.left reader.old) (R.left reader.new) given × (bytes.new.items ≡ bytes.old.items ++ given) × (n ≡ length given)) }
+    ensures end { IfOk result (λ n. n ≡ 0 → IsAtEnd (R.left reader.new)) }
+    ensures kept { OnErr result ((bytes.new.items ≡ bytes.old.items) × Consumes (R.left reader.old) (R.left reader.new) []) }
+    ensures reads { OnOk result (R.reads_left reader.new < R.reads_left reader.old) }
+    ensures fine { OnOk result (R.failures reader.new ≡ R.failures reader.old) }
+    ensures fault { IfErr result (λ f. ((f ≡ fault.Read) × (R.failures reader.new ≡ counted (R.failures reader.old)))
+        ⊎ ((f ≡ fault.Memory) × (R.failures reader.new ≡ R.failures reader.old))) }
+{
+    piece.resize(PIECE, 0u8)?;
+    bytes.reserve(PIECE)?;
+    match reader.read(piece.as_mut_slice()) {
+        Ok(count) => {
+            bytes.extend_from_slice(&piece[..count])?;
+            Ok(count)
+        }
+        Err(_) => Err(StreamFault::Read),
     }
 }
 

@@ -4,7 +4,7 @@ ghost use Rattle.std.specs.Io.KnownBytes.{Appends, Consumes, IsAtEnd, Keeps};
 ghost use Rattle.rambo_atomic.specs.Streams.{wrapped_after_read, wrapped_after_write};
 
 use crate::stream::{Failed, READ_LIMIT, Sink, Source};
-use std::io::{ErrorKind, Read, Write};
+use std::io::{Error, ErrorKind, Read, Write};
 use std::marker::Model;
 
 /// A reader or writer of std. It tells the bytes that the inner one tells.
@@ -126,8 +126,11 @@ fn read<T: Read>(inner: &mut T, into: &mut [u8]) -> Result<usize, Failed>
     for _ in 0..u64::MAX {
         match inner.read(into) {
             Ok(count) => return Ok(count),
-            Err(error) if error.kind() == ErrorKind::Interrupted => {}
-            Err(_) => return Err(Failed),
+            Err(error) => {
+                if !is_interrupted(error) {
+                    return Err(Failed);
+                }
+            }
         }
     }
     Err(Failed)
@@ -143,9 +146,17 @@ fn write<T: Write>(inner: &mut T, bytes: &[u8]) -> Result<usize, Failed>
         match inner.write(bytes) {
             Ok(0) => return Err(Failed),
             Ok(count) => return Ok(count),
-            Err(error) if error.kind() == ErrorKind::Interrupted => {}
-            Err(_) => return Err(Failed),
+            Err(error) => {
+                if !is_interrupted(error) {
+                    return Err(Failed);
+                }
+            }
         }
     }
     Err(Failed)
+}
+
+// Whether a call was interrupted by a signal.
+fn is_interrupted(error: Error) -> bool {
+    error.kind() == ErrorKind::Interrupted
 }

@@ -1,4 +1,4 @@
-use Rattle.std.proofs.Common.{◌≡◌, ◌≢◌, ◌≤◌, ◌<◌, ℕ, length, slice_index}
+use Rattle.std.proofs.Common.{◌≢◌, ◌≤◌, ◌<◌, ℕ, length, slice_index}
 use Rattle.rambo_atomic.proofs.unread.lines_end.Given as goal
 
 abbrev pub invariant-loop-end : goal.invariant-loop-end

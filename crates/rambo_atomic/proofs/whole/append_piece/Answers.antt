@@ -1,6 +1,6 @@
 use Rattle.std.proofs.lemmas.Grind.{common_steps}
 use Rattle.std.proofs.Common.{arith}
-use Rattle.rambo_atomic.proofs.unread.append_piece.Goals as goal
+use Rattle.rambo_atomic.proofs.whole.append_piece.Goals as goal
 
 pub returns-in_err-resize-clause-bytes : goal.returns-in_err-resize-clause-bytes
 returns-in_err-resize-clause-bytes g c = grind (arith, common_steps)
