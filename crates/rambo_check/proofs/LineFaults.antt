@@ -3,6 +3,7 @@ use Rattle.std.proofs.Common.{◌≡◌, ◌≢◌, ◌⊎◌, inl, inr, ℕ, su
 use Rattle.std.specs.Borrow.{Bor}
 use Rattle.std.specs.Option.{option_copied, is_some}
 use Rattle.std.specs.Str.{bytes_eq}
+use Rattle.std.proofs.lemmas.Slice.Eq.{bytes_eq-Decides}
 use Rattle.rambo_names.specs.Names.{NameSet}
 use Rattle.rambo_names.specs.Signs.{set_text}
 use Rattle.rambo_text.specs.declared.fault.Fault.{Fault}
@@ -14,11 +15,7 @@ use Rattle.rambo_check.specs.Plans.{Plan, Forms, each, call_plan, answer_plan, c
 use Rattle.rambo_check.proofs.LineWords.{more_has_words}
 use Rattle.rambo_check.proofs.Rows.{length-each}
 
-pub then_so : {X : Type 0} (b : Bool) (x y : X) → true ≡ b → cond b x y ≡ x
-then_so true x y e = refl
-then_so false x y e = cc
-
-pub else_so : {X : Type 0} (b : Bool) (x y : X) → false ≡ b → cond b x y ≡ y
+else_so : {X : Type 0} (b : Bool) (x y : X) → false ≡ b → cond b x y ≡ y
 else_so true x y e = cc
 else_so false x y e = refl
 
@@ -29,52 +26,20 @@ line_fault line first more p f is same (inl memory) = inl memory
 line_fault line first more p f is same (inr bad) =
     inr (first ∷ bad.0, words_joined line first more bad.0 is bad.1, subst (λ q. IsPlanFault q f) (sym (same bad.0)) bad.2)
 
-abbrev IsWord : List ℕ → List ℕ → Bool → Type 0
-IsWord w text b = b ≡ bytes_eq w text
+-- what a line may have is said by its first word
+pub plan_word : (w text : List ℕ) → true ≡ bytes_eq w text → (ws : List (List ℕ)) → plan (w ∷ ws) ≡ plan (text ∷ ws)
+plan_word w text is ws = ap (λ v. plan (v ∷ ws)) ((bytes_eq-Decides w text).0 (sym is))
 
-pub plan_call : (w : List ℕ) → true ≡ bytes_eq w (codes "call")
-    → (ws : List (List ℕ)) → plan (w ∷ ws) ≡ call_plan ws
-plan_call w is ws = then_so _ _ _ is
-
-pub plan_answer : (w : List ℕ) → false ≡ bytes_eq w (codes "call") → true ≡ bytes_eq w (codes "answer")
-    → (ws : List (List ℕ)) → plan (w ∷ ws) ≡ answer_plan ws
-plan_answer w a is ws = else_so _ _ _ a ∙ then_so _ _ _ is
-
-pub plan_collected : (w : List ℕ) → false ≡ bytes_eq w (codes "call") → false ≡ bytes_eq w (codes "answer") → true ≡ bytes_eq w (codes "collected")
-    → (ws : List (List ℕ)) → plan (w ∷ ws) ≡ collected_plan ws
-plan_collected w a b is ws = else_so _ _ _ a ∙ else_so _ _ _ b ∙ then_so _ _ _ is
-
-pub plan_decided : (w : List ℕ) → false ≡ bytes_eq w (codes "call") → false ≡ bytes_eq w (codes "answer") → false ≡ bytes_eq w (codes "collected")
-    → true ≡ bytes_eq w (codes "decided")
-    → (ws : List (List ℕ)) → plan (w ∷ ws) ≡ decided_plan ws
-plan_decided w a b c is ws = else_so _ _ _ a ∙ else_so _ _ _ b ∙ else_so _ _ _ c ∙ then_so _ _ _ is
-
-pub plan_refused : (w : List ℕ) → false ≡ bytes_eq w (codes "call") → false ≡ bytes_eq w (codes "answer") → false ≡ bytes_eq w (codes "collected")
-    → false ≡ bytes_eq w (codes "decided") → true ≡ bytes_eq w (codes "refused")
-    → (ws : List (List ℕ)) → plan (w ∷ ws) ≡ refused_plan ws
-plan_refused w a b c d is ws = else_so _ _ _ a ∙ else_so _ _ _ b ∙ else_so _ _ _ c ∙ else_so _ _ _ d ∙ then_so _ _ _ is
-
-pub plan_sequence : (w : List ℕ) → false ≡ bytes_eq w (codes "call") → false ≡ bytes_eq w (codes "answer") → false ≡ bytes_eq w (codes "collected")
-    → false ≡ bytes_eq w (codes "decided") → false ≡ bytes_eq w (codes "refused") → true ≡ bytes_eq w (codes "sequence")
-    → (ws : List (List ℕ)) → plan (w ∷ ws) ≡ sequence_plan ws
-plan_sequence w a b c d e is ws = else_so _ _ _ a ∙ else_so _ _ _ b ∙ else_so _ _ _ c ∙ else_so _ _ _ d ∙ else_so _ _ _ e ∙ then_so _ _ _ is
-
-pub plan_map : (w : List ℕ) → false ≡ bytes_eq w (codes "call") → false ≡ bytes_eq w (codes "answer") → false ≡ bytes_eq w (codes "collected")
-    → false ≡ bytes_eq w (codes "decided") → false ≡ bytes_eq w (codes "refused") → false ≡ bytes_eq w (codes "sequence")
-    → true ≡ bytes_eq w (codes "map")
-    → (ws : List (List ℕ)) → plan (w ∷ ws) ≡ map_plan ws
-plan_map w a b c d e f is ws = else_so _ _ _ a ∙ else_so _ _ _ b ∙ else_so _ _ _ c ∙ else_so _ _ _ d ∙ else_so _ _ _ e ∙ else_so _ _ _ f ∙ then_so _ _ _ is
-
-pub plan_unknown : (line w : List ℕ) (more : Option (List ℕ)) → IsFirstWord line w more
-    → false ≡ bytes_eq w (codes "call") → false ≡ bytes_eq w (codes "answer") → false ≡ bytes_eq w (codes "collected")
-    → false ≡ bytes_eq w (codes "decided") → false ≡ bytes_eq w (codes "refused") → false ≡ bytes_eq w (codes "sequence")
-    → false ≡ bytes_eq w (codes "map") → IsLineFault line UnknownWord
-plan_unknown line w more is a b c d e f g =
-    let all = more_has_words more in (
-      w ∷ all.0,
-      words_joined line w more all.0 is all.1,
+pub plan_unknown : (w : List ℕ) (more : Option (List ℕ)) → bytes_eq w (codes "call") ≡ false → bytes_eq w (codes "answer") ≡ false
+    → bytes_eq w (codes "sequence") ≡ false → false ≡ bytes_eq w (codes "collected") → false ≡ bytes_eq w (codes "decided")
+    → false ≡ bytes_eq w (codes "refused") → false ≡ bytes_eq w (codes "map") → IsFaulty (λ ws. plan (w ∷ ws)) more UnknownWord
+plan_unknown w more a b f c d e g =
+    let all = more_has_words more in
+    inr (
+      all.0,
+      all.1,
       subst (λ q. IsPlanFault q UnknownWord)
-          (sym (else_so _ _ _ a ∙ else_so _ _ _ b ∙ else_so _ _ _ c ∙ else_so _ _ _ d ∙ else_so _ _ _ e ∙ else_so _ _ _ f ∙ else_so _ _ _ g)) refl,
+          (sym (else_so _ _ _ (sym a) ∙ else_so _ _ _ (sym b) ∙ else_so _ _ _ c ∙ else_so _ _ _ d ∙ else_so _ _ _ e ∙ else_so _ _ _ (sym f) ∙ else_so _ _ _ g)) refl,
     )
 
 -- what follows the first two words behind `call` or `answer`

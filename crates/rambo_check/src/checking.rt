@@ -11,6 +11,7 @@ use crate::evidence::Evidence;
 use crate::judging::judge_all;
 use crate::text::read_outcome;
 use crate::verdict_text::{all_yes, verdict_text};
+use indexmap::IndexMap;
 use rambo_atomic::{Sink, Source, write_all};
 use rambo_names::Refusal;
 use rambo_text::ReplayFault;
@@ -41,19 +42,36 @@ pub fn check_text<R: Source, W: Sink>(
         × IsChecked text written all × Begins (W.taken writer.old) (W.taken writer.new) written)) }
     ensures unwritten { IfErr result (λ f. f ≢ fault.Write → writer.new ≡ writer.old) }
 {
-    let evidence = read_outcome(alloc, reader)?;
-    let Ok((lines, all)) = judged_lines(alloc, &evidence) else {
-        return Err(ReplayFault::Memory);
-    };
+    let (lines, all) = judged_text(alloc, reader)?;
     write_all(writer, lines.as_slice())?;
     Ok(all)
+}
+
+// The lines for what the text that a source has left tells, and whether each is yes. The text is read to its end.
+fn judged_text<R: Source>(alloc: Global, reader: &mut R) -> Result<(Vec<u8>, bool), ReplayFault>
+    ensures judged { IfOk result (λ r. (text : List ℕ) × IsLeft (R.left reader.old) text × IsChecked text r.0.items r.1) }
+    ensures end { OnOk result (IsAtEnd (R.left reader.new)) }
+    ensures fine { OnOk result (R.failures reader.new ≡ R.failures reader.old) }
+    ensures script { IfErr result (λ f. (g : ScriptFault) → f ≡ fault.Script g
+        → (text : List ℕ) × IsLeft (R.left reader.old) text × IsTextFault text g × IsAtEnd (R.left reader.new)) }
+    ensures read { IfErr result (λ f. f ≡ fault.Read → R.failures reader.new ≡ counted (R.failures reader.old)) }
+    ensures other { IfErr result (λ f. f ≢ fault.Read → R.failures reader.new ≡ R.failures reader.old) }
+    ensures unwritten { IfErr result (λ f. f ≢ fault.Write) }
+{
+    let mut evidence = Evidence::new(alloc);
+    read_outcome(alloc, reader, &mut evidence)?;
+    match judged_lines(alloc, &evidence) {
+        Ok(judged) => Ok(judged),
+        Err(_) => Err(ReplayFault::Memory),
+    }
 }
 
 // The lines for what was told, and whether each is yes.
 fn judged_lines(alloc: Global, evidence: &Evidence) -> Result<(Vec<u8>, bool), Refusal>
     ensures judged { IfOk result (λ r. IsJudged evidence.now r.0.items r.1) }
 {
-    let verdicts = judge_all(alloc, evidence)?;
+    let mut verdicts = IndexMap::new(alloc);
+    judge_all(evidence, &mut verdicts)?;
     let lines = verdict_text(alloc, &verdicts)?;
     Ok((lines, all_yes(&verdicts)))
 }

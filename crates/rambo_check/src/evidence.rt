@@ -15,10 +15,19 @@ use std::alloc::Global;
 use std::marker::Model;
 
 /// The history that a text tells, and the order of each key that has one.
-#[derive(Drop)]
 pub(crate) struct Evidence {
     history: History,
     orders: IndexMap<Bytes, Order>,
+}
+
+// By hand, so that those who drop it needn't follow all that is in it.
+impl Drop for Evidence {
+    fn drop(self) {
+        let Evidence {
+            history: _history,
+            orders: _orders,
+        } = self;
+    }
 }
 
 impl Model for Evidence {

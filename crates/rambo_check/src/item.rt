@@ -1,10 +1,11 @@
 //! Reading a line.
-ghost use Rattle.std.specs.Prelude.{◌≡◌, codes, IfOk, IfErr, OnOk, ◌⊎◌};
+ghost use Rattle.std.specs.Prelude.{◌≡◌, false, ◌∷◌, codes, IfOk, IfErr, OnOk, ◌⊎◌};
 ghost use Rattle.std.specs.Option.{option_copied};
+ghost use Rattle.std.specs.Str.{bytes_eq};
 ghost use Rattle.rambo_text.specs.declared.fault.Fault.TheVariants as fault;
 ghost use Rattle.rambo_check.specs.Lines.{Item, Happened, Ordered};
 ghost use Rattle.rambo_check.specs.Items.{IsSpelling, IsPassed};
-ghost use Rattle.rambo_check.specs.Plans.{call_plan, answer_plan, collected_plan, decided_plan, refused_plan, sequence_plan, map_plan, IsFaulty, IsLineFault};
+ghost use Rattle.rambo_check.specs.Plans.{call_plan, answer_plan, collected_plan, decided_plan, refused_plan, sequence_plan, map_plan, plan, IsFaulty, IsLineFault};
 ghost use Rattle.rambo_check.specs.Readings.{IsLineOf};
 
 use crate::kept::Kept;
@@ -32,25 +33,33 @@ pub(crate) fn read_line(alloc: Global, line: &[u8]) -> Result<Kept, Fault>
     if first == b"answer".as_slice() {
         return Ok(Kept::Happened(read_answered(alloc, more)?));
     }
-    if first == b"collected".as_slice() {
-        read_collected(more)?;
-        return Ok(Kept::Nothing);
-    }
-    if first == b"decided".as_slice() {
-        read_decided(more)?;
-        return Ok(Kept::Nothing);
-    }
-    if first == b"refused".as_slice() {
-        read_refused(more)?;
-        return Ok(Kept::Nothing);
-    }
     if first == b"sequence".as_slice() {
         let (key, order) = read_sequence(alloc, more)?;
         return Ok(Kept::Ordered(key, order));
     }
+    read_passed(first, more)?;
+    Ok(Kept::Nothing)
+}
+
+// Reads a line of which nothing is kept.
+fn read_passed(first: &[u8], more: Option<&[u8]>) -> Result<(), Fault>
+    requires call { bytes_eq first.now (codes "call") ≡ false }
+    requires answer { bytes_eq first.now (codes "answer") ≡ false }
+    requires sequence { bytes_eq first.now (codes "sequence") ≡ false }
+    ensures spelt { OnOk result ((i : Item) × IsPassed i × IsSpelling first.now (option_copied more.entry) i) }
+    ensures fault { IfErr result (IsFaulty (λ words. plan (first.now ∷ words)) (option_copied more.entry)) }
+{
+    if first == b"collected".as_slice() {
+        return read_collected(more);
+    }
+    if first == b"decided".as_slice() {
+        return read_decided(more);
+    }
+    if first == b"refused".as_slice() {
+        return read_refused(more);
+    }
     if first == b"map".as_slice() {
-        read_map(more)?;
-        return Ok(Kept::Nothing);
+        return read_map(more);
     }
     Err(Fault::UnknownWord)
 }

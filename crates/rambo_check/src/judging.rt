@@ -1,5 +1,5 @@
 //! The verdict on each key.
-ghost use Rattle.std.specs.Prelude.{◌≡◌, ◌||◌, List, [], ℕ, IfOk, IfErr, OnOk};
+ghost use Rattle.std.specs.Prelude.{◌≡◌, ◌||◌, List, [], ℕ, IfErr, OnOk};
 ghost use Rattle.std.specs.Str.{bytes_eq};
 ghost use Rattle.rambo_check.specs.Judgings.{AreRight, is_judged, is_call_of};
 ghost use Rattle.rambo_check.specs.Verdicts.{order_of, AreVerdicts};
@@ -8,22 +8,20 @@ use crate::evidence::Evidence;
 use indexmap::IndexMap;
 use rambo_atomic::{Checker, Event, Verdict};
 use rambo_names::{Bytes, Refusal};
-use std::alloc::Global;
 
-/// The verdict on each key that has a call or an order, keys in byte order.
+/// Puts the verdict on each key that has a call or an order where there was none, keys in byte order.
 ///
 /// `OutOfMemory` where there is no room for them, or for what judging takes.
 pub(crate) fn judge_all(
-    alloc: Global,
     evidence: &Evidence,
-) -> Result<IndexMap<Bytes, Verdict>, Refusal>
-    ensures verdicts { IfOk result (λ vs. AreVerdicts evidence.now vs.entries) }
+    verdicts: &mut IndexMap<Bytes, Verdict>,
+) -> Result<(), Refusal>
+    requires { verdicts.old.entries ≡ [] }
+    ensures verdicts { OnOk result (AreVerdicts evidence.now verdicts.new.entries) }
     ensures refused { IfErr result (λ r. r ≡ Refusal.OutOfMemory) }
 {
     let checker = Checker::new(evidence.history())?;
-    let mut verdicts = IndexMap::new(alloc);
-    judge_each(&checker, evidence, &mut verdicts)?;
-    Ok(verdicts)
+    judge_each(&checker, evidence, verdicts)
 }
 
 // Puts the verdict on each key that has a call or an order where there was none.

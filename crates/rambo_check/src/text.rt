@@ -19,38 +19,16 @@ use rambo_atomic::{Source, Unread};
 use rambo_text::{Fault, ReplayFault, ScriptFault, next_line};
 use std::alloc::Global;
 
-/// What the text that a source has left tells, or its first faulty line and the first fault there. The text is read to
-/// its end, and never held as a whole.
+/// Takes up what the text that a source has left tells, or tells its first faulty line and the first fault there. The text
+/// is read to its end, and never held as a whole.
 ///
 /// `Script` with `OutOfMemory` where there is no room for what the line tells, `Read` where the source fails, and `Memory`
 /// where there is no room for the line itself.
 pub(crate) fn read_outcome<R: Source>(
     alloc: Global,
     reader: &mut R,
-) -> Result<Evidence, ReplayFault>
-    ensures told { IfOk result (λ e. (text : List ℕ) × IsLeft (R.left reader.old) text × IsTold text e) }
-    ensures end { OnOk result (IsAtEnd (R.left reader.new)) }
-    ensures fine { OnOk result (R.failures reader.new ≡ R.failures reader.old) }
-    ensures script { IfErr result (λ f. (g : ScriptFault) → f ≡ fault.Script g
-        → (text : List ℕ) × IsLeft (R.left reader.old) text × IsTextFault text g × IsAtEnd (R.left reader.new)) }
-    ensures read { IfErr result (λ f. f ≡ fault.Read → R.failures reader.new ≡ counted (R.failures reader.old)) }
-    ensures other { IfErr result (λ f. f ≢ fault.Read → R.failures reader.new ≡ R.failures reader.old) }
-    ensures unwritten { IfErr result (λ f. f ≢ fault.Write) }
-{
-    let mut unread = Unread::new(alloc);
-    let mut evidence = Evidence::new(alloc);
-    read_lines(alloc, reader, &mut unread, &mut evidence)?;
-    Ok(evidence)
-}
-
-// Takes up what all lines of a source tell, where none was read before.
-fn read_lines<R: Source>(
-    alloc: Global,
-    reader: &mut R,
-    unread: &mut Unread,
     evidence: &mut Evidence,
 ) -> Result<(), ReplayFault>
-    requires unread { unread.old ≡ record { held = []; ended = false } }
     requires events { evidence.old.events ≡ [] }
     requires orders { evidence.old.orders ≡ [] }
     ensures told { OnOk result ((text : List ℕ) × IsLeft (R.left reader.old) text × IsTold text evidence.new) }
@@ -62,13 +40,14 @@ fn read_lines<R: Source>(
     ensures other { IfErr result (λ f. f ≢ fault.Read → R.failures reader.new ≡ R.failures reader.old) }
     ensures unwritten { IfErr result (λ f. f ≢ fault.Write) }
 {
+    let mut unread = Unread::new(alloc);
     let mut line = 0;
     while unread.find_line(reader)? {
         if line == u64::MAX {
             return Err(ReplayFault::Memory);
         }
         line += 1;
-        if let Err(fault) = take_first(alloc, unread, evidence) {
+        if let Err(fault) = take_first(alloc, &mut unread, evidence) {
             unread.read_rest(reader)?;
             return Err(ReplayFault::Script(ScriptFault { fault, line }));
         }
