@@ -1,6 +1,7 @@
 pub mod Alike
 pub mod Decimals
 pub mod Dots
+pub mod FirstBytes
 pub mod Fronts
 pub mod Lacking
 pub mod DigitNumbers

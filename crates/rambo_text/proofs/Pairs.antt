@@ -9,6 +9,13 @@ pub pairs-append : (xs ys : List ℕ) → pairs_text (xs ++ ys) ≡ pairs_text x
 pairs-append [] ys = refl
 pairs-append (x ∷ xs) ys = ap (λ t. digit_of (x / 16) ∷ digit_of (x % 16) ∷ t) (pairs-append xs ys)
 
+-- the digits of more bytes, of those that were to come
+pub pairs_on : (old new front rest behind whole : List ℕ) → new ≡ old ++ pairs_text front → rest ≡ front ++ behind
+    → old ++ pairs_text rest ≡ whole → new ++ pairs_text behind ≡ whole
+pairs_on old new front rest behind whole put is so =
+    ap (λ t. t ++ pairs_text behind) put ∙ append_assoc old (pairs_text front) (pairs_text behind)
+    ∙ ap (λ t. old ++ t) (sym (pairs-append front behind) ∙ ap pairs_text (sym is)) ∙ so
+
 -- eight bytes are each of them
 pub eight_bytes : (xs : List ℕ) → length xs ≡ 8
     → xs ≡ get_or xs 0 0 ∷ get_or xs 1 0 ∷ get_or xs 2 0 ∷ get_or xs 3 0 ∷ get_or xs 4 0 ∷ get_or xs 5 0 ∷ get_or xs 6 0 ∷ get_or xs 7 0 ∷ []

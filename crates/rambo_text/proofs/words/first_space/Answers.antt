@@ -1,12 +1,9 @@
 use Rattle.std.proofs.Common.{◌≡◌, true, ℕ, ◌+◌, ◌-◌, List, length, take, drop, subst, sym, ap, ◌∙◌, length-drop, arith, inl, inr}
 use Rattle.std.proofs.lemmas.Bool.{cases_lt}
-use Rattle.std.proofs.lemmas.List.{get_or-drop, take_all}
+use Rattle.std.proofs.lemmas.List.{get_or-drop}
 use Rattle.memchr.specs.Find.{Nowhere, Passes, IsFirstByte, is_byte}
+use Rattle.rambo_text.proofs.FirstBytes.{is_rest}
 use Rattle.rambo_text.proofs.words.first_space.Goals as goal
-
--- what stands behind the first n bytes
-is_rest : (line : List ℕ) (n : ℕ) → take (length line - n) (drop n line) ≡ drop n line
-is_rest line n = let l = length-drop n line in take_all (length line - n) (drop n line) (omega (arith, l))
 
 -- a place in it
 moved : (line rest : List ℕ) (n k : ℕ) → rest ≡ drop n line → Passes (is_byte 32) rest k ≡ Passes (is_byte 32) line (n + k)

@@ -1,0 +1,24 @@
+use Rattle.std.proofs.Common.{◌≡◌, ◌+◌, [], ◌∷◌, ◌++◌, length, get_or, drop, sym, ap, ◌∙◌, arith}
+use Rattle.std.proofs.lemmas.List.{take-append-drop, drop_more}
+use Rattle.rambo_text.proofs.Pairs.{pairs_on}
+use Rattle.rambo_text.proofs.digits.push_pairs.Goals as goal
+
+pub loop-eight-preserved : goal.loop-eight-preserved
+loop-eight-preserved c =
+    let rest = c.loop-eight.rest.now in
+    let parts = c.in-Some.ensures.cases in
+    let whole : rest ≡ c.in-Some.eight.now ++ c.in-Some.others.now = sym (take-append-drop 8 rest) ∙ (λ i. sym parts.0 i ++ sym parts.1 i) in
+    record {
+      items = pairs_on _ _ c.in-Some.eight.now rest c.in-Some.others.now _ c.push_eight.ensures.items whole c.loop-eight.invariant.items;
+      room = omega (arith, parts.2, c.push_eight.ensures.len, c.push_eight.ensures.capacity, c.loop-eight.invariant.room);
+    }
+
+pub loop-byte-preserved : goal.loop-byte-preserved
+loop-byte-preserved c =
+    let rest = c.loop-eight.rest.now in
+    let n = c.loop-byte.byte-index in
+    let next = drop_more rest n 0 c.loop-byte-test.true in
+    record {
+      items = pairs_on _ _ (get_or rest n 0 ∷ []) (drop n rest) (drop (n + 1) rest) _ c.push_byte.ensures.items next c.loop-byte.invariant.items;
+      room = (let long = ap length next in omega (arith, long, c.push_byte.ensures.len, c.push_byte.ensures.capacity, c.loop-byte.invariant.room));
+    }
