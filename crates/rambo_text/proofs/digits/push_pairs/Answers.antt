@@ -1,5 +1,6 @@
-use Rattle.std.proofs.Common.{◌≡◌, ◌+◌, [], ◌∷◌, ◌++◌, length, get_or, drop, sym, ap, ◌∙◌, arith}
-use Rattle.std.proofs.lemmas.List.{take-append-drop, drop_more}
+use Rattle.std.proofs.Common.{◌≡◌, ◌+◌, [], ◌∷◌, ◌++◌, length, get_or, drop, append-nil, sym, ap, ◌∙◌, arith}
+use Rattle.std.proofs.lemmas.List.{take-append-drop, drop_more, drop_all}
+use Rattle.rambo_text.specs.Signs.{pairs_text}
 use Rattle.rambo_text.proofs.Pairs.{pairs_on}
 use Rattle.rambo_text.proofs.digits.push_pairs.Goals as goal
 
@@ -22,3 +23,21 @@ loop-byte-preserved c =
       items = pairs_on _ _ (get_or rest n 0 ∷ []) (drop n rest) (drop (n + 1) rest) _ c.push_byte.ensures.items next c.loop-byte.invariant.items;
       room = (let long = ap length next in omega (arith, long, c.push_byte.ensures.len, c.push_byte.ensures.capacity, c.loop-byte.invariant.room));
     }
+
+pub push_eight-requires : goal.push_eight-requires
+push_eight-requires c = let parts = c.in-Some.ensures.cases in omega (arith, parts.2, c.loop-eight.invariant.room)
+
+pub loop-byte-init : goal.loop-byte-init
+loop-byte-init c = c.loop-eight.invariant
+
+pub push_byte-requires : goal.push_byte-requires
+push_byte-requires c =
+    let long = ap length (drop_more c.loop-eight.rest.now c.loop-byte.byte-index 0 c.loop-byte-test.true) in
+    omega (arith, long, c.loop-byte.invariant.room)
+
+pub returns : goal.returns
+returns c =
+    let out = c.loop-byte.out.items in
+    sym (append-nil out)
+    ∙ ap (λ l. out ++ pairs_text l) (sym (drop_all c.loop-byte.byte-index c.loop-eight.rest.now c.loop-byte-test.false))
+    ∙ c.loop-byte.invariant.items
