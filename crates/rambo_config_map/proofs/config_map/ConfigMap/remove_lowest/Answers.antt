@@ -1,5 +1,5 @@
 use Rattle.std.proofs.lemmas.Grind.{common_steps}
-use Rattle.std.proofs.Common.{arith}
+use Rattle.std.proofs.Common.{◌≡◌, ◌-◌, length, ap, ◌∙◌, arith, length-drop}
 use Rattle.rambo_config_map.proofs.config_map.ConfigMap.remove_lowest.Goals as goal
 
 pub len-requires : goal.len-requires
@@ -15,13 +15,16 @@ pub returns-then-len-eq1-clause-err : goal.returns-then-len-eq1-clause-err
 returns-then-len-eq1-clause-err g c = grind (arith, common_steps)
 
 pub forget-requires : goal.forget-requires
-forget-requires g c = grind (arith, common_steps)
+forget-requires g c = omega arith
 
 pub overflow_add-self : goal.overflow_add-self
 overflow_add-self g c = grind (arith, common_steps)
 
 pub invariant_of-self : goal.invariant_of-self
-invariant_of-self g c = grind (arith, common_steps)
+invariant_of-self g c =
+    let n : length c.forget.new.self.configs ≡ length c.self.inside.places.configs - 1 =
+    ap length c.forget.ensures.configs ∙ length-drop 1 c.self.inside.places.configs in
+    (omega arith, omega arith, omega arith, c.forget.ensures.capacity ∙ c.self.invariant.3)
 
 pub returns-clause-answer : goal.returns-clause-answer
 returns-clause-answer g c = grind (arith, common_steps)

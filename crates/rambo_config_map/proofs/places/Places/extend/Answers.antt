@@ -59,13 +59,13 @@ pub invariant_of-self : goal.invariant_of-self
 invariant_of-self g c = grind (arith, common_steps)
 
 pub returns-in_err-reserve-clause-ok : goal.returns-in_err-reserve-clause-ok
-returns-in_err-reserve-clause-ok g c = grind (arith, common_steps)
+returns-in_err-reserve-clause-ok g c = grind arith
 
 pub returns-in_err-reserve-clause-err : goal.returns-in_err-reserve-clause-err
-returns-in_err-reserve-clause-err g c = grind (arith, common_steps)
+returns-in_err-reserve-clause-err g c = grind arith
 
 pub returns-in_err-reserve-clause-refused : goal.returns-in_err-reserve-clause-refused
-returns-in_err-reserve-clause-refused g c = grind (arith, common_steps)
+returns-in_err-reserve-clause-refused g c = grind arith
 
 pub returns-in_err-reserve-clause-succeeds : goal.returns-in_err-reserve-clause-succeeds
 returns-in_err-reserve-clause-succeeds g c = grind (arith, common_steps)
