@@ -1,10 +1,12 @@
-use Rattle.std.proofs.Common.{◌≤◌, ◌<◌, length, get_or, sym, ap, ◌∙◌, subst, arith}
+use Rattle.std.proofs.Common.{◌≤◌, ◌<◌, length, get_or, sym, ap, ◌∙◌, subst, arith, refl, rules}
 use Rattle.std.proofs.Math.Seq.{map-set_same}
 use Rattle.rambo_phase.specs.Phases.{PhaseState, needed}
 use Rattle.rambo_calls.specs.declared.open_call.OpenCall.{OpenCall}
 use Rattle.rambo_calls.specs.Calls.{CallState}
-use Rattle.rambo_calls.specs.Kept.{call_of}
+use Rattle.rambo_calls.specs.Kept.{call_of, IsRoomy}
 use Rattle.rambo_calls.proofs.CallLists.{roomy_more}
+use Rattle.std.proofs.lemmas.Grind.{common_steps}
+use Rattle.std.proofs.lemmas.List.{take_all}
 use Rattle.rambo_calls.proofs.open_calls.make_room.Goals as goal
 
 abbrev in_phase : {Q : Type 0} → OpenCall Q → PhaseState Q → CallState Q
@@ -21,3 +23,22 @@ loop-call-preserved g c =
       roomy_more c.args.map.now c.loop-call.calls c.loop-call.call-index _ below
           (subst (λ p. needed p c.args.map.now ≤ c.reserve.new.self.capacity) (sym c.reserve.ensures.state) c.in_ok-reserve.ensures.ok) c.loop-call.invariant.1,
     )
+
+pub reserve-requires : goal.reserve-requires
+reserve-requires g c = grind (arith, common_steps)
+
+pub returns : goal.returns
+returns g c = record {
+  same = c.loop-call.invariant.0;
+  ok = subst (IsRoomy c.args.map.now) (take_all c.loop-call.call-index c.loop-call.calls (omega (arith, c.loop-call-test.false, c.loop-call.auto.calls))) c.loop-call.invariant.1;
+  refused = _;
+}
+
+pub loop-call-init : goal.loop-call-init
+loop-call-init g c = (refl, _)
+
+pub loop-call-smaller : goal.loop-call-smaller
+loop-call-smaller g c = omega arith
+
+pub offset_bounds-calls-call-index : goal.offset_bounds-calls-call-index
+offset_bounds-calls-call-index g c = search rules

@@ -1,9 +1,12 @@
 use Rattle.std.proofs.lemmas.Grind.{common_steps}
-use Rattle.std.proofs.Common.{arith}
+use Rattle.std.proofs.Common.{arith, ap, ◌∙◌}
+use Rattle.rambo_calls.specs.Hearing.{any_gap}
+use Rattle.rambo_calls.specs.Kept.{calls_of}
 use Rattle.rambo_calls.proofs.open_calls.OpenCalls.any_gap.Goals as goal
 
 pub any_gap-requires : goal.any_gap-requires
 any_gap-requires g c = grind (arith, common_steps)
 
 pub returns : goal.returns
-returns g c = grind (arith, common_steps)
+returns g c =
+    c.any_gap.ensures ∙ ap (λ cs. any_gap c.args.heard c.args.map.now (calls_of cs)) (c.as_slice.ensures.value ∙ c.self.view_is)

@@ -11,10 +11,10 @@ returns g c =
     ∙ closed_at c.args.self.now c.args.number c.place_of-place.result c.place_of-place.ensures
 
 pub place_of-place-requires : goal.place_of-place-requires
-place_of-place-requires g c = grind (arith, common_steps)
+place_of-place-requires g c = assumption
 
 pub returns-then-place-len : goal.returns-then-place-len
 returns-then-place-len g c = grind (arith, common_steps)
 
 pub remove-requires : goal.remove-requires
-remove-requires g c = grind (arith, common_steps)
+remove-requires g c = omega arith

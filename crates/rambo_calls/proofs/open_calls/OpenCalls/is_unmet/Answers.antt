@@ -1,5 +1,7 @@
 use Rattle.std.proofs.lemmas.Grind.{common_steps}
-use Rattle.std.proofs.Common.{arith}
+use Rattle.std.proofs.Common.{arith, ap, ◌∙◌, not}
+use Rattle.rambo_calls.specs.Calls.{is_unmet, find_call}
+use Rattle.rambo_calls.specs.Kept.{calls_of}
 use Rattle.rambo_calls.proofs.open_calls.OpenCalls.is_unmet.Goals as goal
 
 pub find-requires : goal.find-requires
@@ -9,7 +11,9 @@ pub met-requires : goal.met-requires
 met-requires g c = grind (arith, common_steps)
 
 pub returns-in-Some : goal.returns-in-Some
-returns-in-Some g c = grind (arith, common_steps)
+returns-in-Some g c =
+    ap not c.met.ensures ∙ ap (is_unmet g.Q.Quorums.system) c.in-Some.ensures
+    ∙ ap (λ cs. is_unmet g.Q.Quorums.system (find_call c.args.number (calls_of cs))) (c.as_slice.ensures.value ∙ c.self.view_is)
 
 pub returns-in-None : goal.returns-in-None
-returns-in-None g c = grind (arith, common_steps)
+returns-in-None g c = ap (is_unmet g.Q.Quorums.system) c.in-None.ensures ∙ ap (λ cs. is_unmet g.Q.Quorums.system (find_call c.args.number (calls_of cs))) (c.as_slice.ensures.value ∙ c.self.view_is)

@@ -21,10 +21,10 @@ returns g c =
     (c.propagate.ensures ∙ ap (λ x. f (call_of x)) (c.index_mut.ensures.value ∙ ap (λ cs. get_or cs c.place_of-place.result c.index_mut.result.now) c.self.view_is)))
 
 pub place_of-place-requires : goal.place_of-place-requires
-place_of-place-requires g c = grind (arith, common_steps)
+place_of-place-requires g c = assumption
 
 pub index_mut-requires : goal.index_mut-requires
-index_mut-requires g c = grind (arith, common_steps)
+index_mut-requires g c = omega arith
 
 pub propagate-requires : goal.propagate-requires
 propagate-requires g c = grind (arith, common_steps)

@@ -3,7 +3,7 @@ use Rattle.std.proofs.Common.{◌≡◌, sym, ap, ◌∙◌, subst, length, slic
 use Rattle.rambo_calls.specs.Hearing.{restarted}
 use Rattle.rambo_calls.specs.Calls.{place_of, find_call}
 use Rattle.rambo_calls.specs.Kept.{call_of, calls_of, with_call}
-use Rattle.rambo_calls.proofs.CallLists.{put_at}
+use Rattle.rambo_calls.proofs.CallLists.{put_at, put_past}
 use Rattle.rambo_calls.proofs.open_calls.OpenCalls.restart.Goals as goal
 
 pub returns : goal.returns
@@ -15,13 +15,16 @@ returns g c =
     (c.restart.ensures ∙ ap (λ x. f (call_of x)) (c.index_mut.ensures.value ∙ ap (λ cs. get_or cs c.place_of-place.result c.index_mut.result.now) c.self.view_is)))
 
 pub place_of-place-requires : goal.place_of-place-requires
-place_of-place-requires g c = grind (arith, common_steps)
+place_of-place-requires g c = assumption
 
 pub returns-then-place-len : goal.returns-then-place-len
-returns-then-place-len g c = grind (arith, common_steps)
+returns-then-place-len g c =
+    let f = restarted c.args.phase_number c.args.map.now c.args.me in
+    let count : c.len.result ≡ length c.args.self.now = c.len.ensures ∙ c.self.inside.list.ok.0 ∙ ap length c.self.view_is in
+    put_past c.args.self.now c.args.number f c.place_of-place.result c.place_of-place.ensures (omega (arith, c.if-place-len.true, count))
 
 pub index_mut-requires : goal.index_mut-requires
-index_mut-requires g c = grind (arith, common_steps)
+index_mut-requires g c = omega arith
 
 pub restart-requires : goal.restart-requires
 restart-requires g c = grind (arith, common_steps)
