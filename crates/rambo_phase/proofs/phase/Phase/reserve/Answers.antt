@@ -9,7 +9,7 @@ pub len-requires : goal.len-requires
 len-requires g c = grind (arith, common_steps)
 
 pub known-requires : goal.known-requires
-known-requires g c = grind (arith, common_steps)
+known-requires g c = assumption
 
 pub reserve-requires : goal.reserve-requires
 reserve-requires g c = grind (arith, common_steps)

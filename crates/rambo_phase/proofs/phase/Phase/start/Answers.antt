@@ -3,7 +3,7 @@ use Rattle.std.proofs.Common.{arith}
 use Rattle.rambo_phase.proofs.phase.Phase.start.Goals as goal
 
 pub floor-requires : goal.floor-requires
-floor-requires g c = grind (arith, common_steps)
+floor-requires g c = assumption
 
 pub places-requires : goal.places-requires
 places-requires g c = grind (arith, common_steps)

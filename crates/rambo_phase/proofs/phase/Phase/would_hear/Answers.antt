@@ -6,7 +6,7 @@ pub returns-then-heard-self : goal.returns-then-heard-self
 returns-then-heard-self g c = grind (arith, common_steps)
 
 pub floor-requires : goal.floor-requires
-floor-requires g c = grind (arith, common_steps)
+floor-requires g c = assumption
 
 pub len-requires : goal.len-requires
 len-requires g c = grind (arith, common_steps)
