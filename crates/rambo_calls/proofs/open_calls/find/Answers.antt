@@ -1,4 +1,4 @@
-use Rattle.std.proofs.lemmas.Grind.{common_steps, elements}
+use Rattle.std.proofs.lemmas.Grind.{elements}
 use Rattle.std.proofs.Common.{arith}
 use Rattle.rambo_calls.proofs.open_calls.find.Goals as goal
 

@@ -2,7 +2,6 @@ use Rattle.std.proofs.lemmas.Grind.{common_steps}
 use Rattle.std.proofs.Common.{arith, ◌≡◌, List, ℕ, take, drop, length, ◌++◌, ap, ◌∙◌, subst, sym}
 use Rattle.rambo_calls.specs.Kept.{calls_of, IsRoomy}
 use Rattle.std.proofs.Math.Seq.{take-append_seam}
-use Rattle.rambo_calls.specs.declared.open_call.OpenCall.{OpenCall}
 use Rattle.std.specs.Result.{OnOk}
 use Rattle.rambo_calls.proofs.open_calls.OpenCalls.make_room.Goals as goal
 
