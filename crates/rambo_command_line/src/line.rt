@@ -1,7 +1,23 @@
 //! The command line.
-ghost use Rattle.std.specs.Prelude.{◌≡◌, map, IfOk, IfErr};
-ghost use Rattle.clap.specs.Words.{HasKind, app_of, fault_of};
-ghost use Rattle.rambo_command_line.specs.Lines.{Asks, IsFounders, IsLocal, rambo};
+ghost use Rattle.std.specs.Prelude.{◌≡◌, map, IfOk, IfErr, false};
+ghost use Rattle.clap.specs.declared.builder.command.Command.TheViews.{out-Command as fields_of};
+ghost use Rattle.clap.specs.Words.{
+  HasKind,
+  app_of,
+  fault_of,
+  new_app,
+  rule_of,
+  with_subcommand,
+};
+ghost use Rattle.rambo_command_line.specs.Lines.{
+  Asks,
+  IsFounders,
+  IsLocal,
+  founders_rule,
+  program as program_app,
+  rambo,
+  with_founders,
+};
 
 use clap::{Arg, ArgAction, Command, Error};
 use rambo_names::{Members, read_set};
@@ -165,39 +181,73 @@ fn founders_of(word: &str) -> Option<Members>
 fn rambo_command<'a>(alloc: Global) -> Result<Command<'a>, AllocError>
     ensures { IfOk result (λ c. app_of c ≡ rambo) }
 {
-    let replay = Command::new(alloc, "replay")
-        .about("Runs the script on standard input and writes what its run gives")
-        .after_help(SCRIPTS);
-    let check = Command::new(alloc, "check")
-        .about("Reads the outcome text on standard input and writes yes or no for each of its keys")
-        .after_help(OUTCOMES);
-    let local = local_command(alloc)?;
-    let program = Command::new(alloc, "rambo")
-        .bin_name("rambo")?
-        .version("0.1.0")
-        .about(
-            "Runs scripts of a replicated key-value store, checks what they give, and serves one client",
-        )
-        .after_help(STATUSES)
-        .no_binary_name(true)
-        .subcommand_required(true);
-    program
-        .subcommand(replay)?
-        .subcommand(check)?
-        .subcommand(local)
+    text_commands(alloc)?.subcommand(local_command(alloc)?)
+}
+
+// The program and those of its commands that read a text.
+fn text_commands<'a>(alloc: Global) -> Result<Command<'a>, AllocError>
+    ensures { IfOk result (λ c. with_subcommand (app_of c) with_founders ≡ rambo) }
+{
+    program(alloc)?
+        .subcommand(bare_command(
+            alloc,
+            "replay",
+            "Runs the script on standard input and writes what its run gives",
+            SCRIPTS,
+        ))?
+        .subcommand(bare_command(
+            alloc,
+            "check",
+            "Reads the outcome text on standard input and writes yes or no for each of its keys",
+            OUTCOMES,
+        ))
+}
+
+// The program, still without its commands.
+fn program<'a>(alloc: Global) -> Result<Command<'a>, AllocError>
+    ensures { IfOk result (λ c. app_of c ≡ program_app) }
+{
+    bare_command(
+        alloc,
+        "rambo",
+        "Runs scripts of a replicated key-value store, checks what they give, and serves one client",
+        STATUSES,
+    )
+    .version("0.1.0")
+    .no_binary_name(true)
+    .subcommand_required(true)
+    .bin_name("rambo")
 }
 
 // The command that serves a client.
 fn local_command<'a>(alloc: Global) -> Result<Command<'a>, AllocError>
     ensures { IfOk result IsLocal }
 {
-    let founders = Arg::new(alloc, "founders")
+    bare_command(
+        alloc,
+        "local",
+        "Serves one client in RESP2: commands on standard input, replies on standard output",
+        COMMANDS,
+    )
+    .arg(founders_option(alloc))
+}
+
+// The option that tells the founders.
+fn founders_option<'a>(alloc: Global) -> Arg<'a>
+    ensures rule { rule_of result ≡ founders_rule }
+    ensures own { result.global ≡ false }
+{
+    Arg::new(alloc, "founders")
         .long("founders")
         .action(ArgAction::Set)
         .value_name("SET")
-        .help("The nodes of the store, names in rising order with commas between [default: 1]");
-    Command::new(alloc, "local")
-        .about("Serves one client in RESP2: commands on standard input, replies on standard output")
-        .after_help(COMMANDS)
-        .arg(founders)
+        .help("The nodes of the store, names in rising order with commas between [default: 1]")
+}
+
+// A command that has neither arguments nor commands, of a name, with what its help says of it before and after its words.
+fn bare_command<'a>(alloc: Global, name: &'a str, about: &'a str, help: &'a str) -> Command<'a>
+    ensures app { app_of result ≡ new_app name.now }
+    ensures local { (fields_of result).has_globals ≡ false }
+{
+    Command::new(alloc, name).about(about).after_help(help)
 }
