@@ -300,12 +300,13 @@ rambo_is_simple : is_simple rambo ≡ true
 unfolding clap_on_literals
 rambo_is_simple = refl
 
-module _ (a : App) (words : List Text) (m : ArgMatches) (is : a ≡ rambo) (kinds : is_simple_and_free a ≡ true → fault_of a words ≡ []) (matches : HasMatchesOf a words m) where
-  faultless : fault_of rambo words ≡ []
-  faultless = subst (λ (b : App). fault_of b words ≡ []) is (kinds (ap is_simple_and_free is ∙ rambo_is_free))
+-- where clap reads words by the command of `rambo`, and finds no fault
+pub faultless_as : (a : App) (words : List Text) → a ≡ rambo → (is_simple_and_free a ≡ true → fault_of a words ≡ []) → fault_of rambo words ≡ []
+faultless_as a words is kinds = subst (λ (b : App). fault_of b words ≡ []) is (kinds (ap is_simple_and_free is ∙ rambo_is_free))
 
+module _ (words : List Text) (m : ArgMatches) (faultless : fault_of rambo words ≡ []) (matches : HasMatchesOf rambo words m) where
   rows_are : subcommand_rows_of m ≡ subcommand_of rambo words
-  rows_are = (matches (ap is_simple is ∙ rambo_is_simple)).1 ∙ ap (λ (b : App). subcommand_of b words) is
+  rows_are = (matches rambo_is_simple).1
 
   -- what stands behind `--founders`
   pub word_is : (local : ArgMatches) → option_map (λ p. p.1) (subcommand_rows_of m) ≡ Some (rows_of (found_of local))
@@ -316,9 +317,7 @@ module _ (a : App) (words : List Text) (m : ArgMatches) (is : a ≡ rambo) (kind
       (rows_read (first_of (codes "founders")) (subcommand_rows_of m) ∙ ap (option_and_then (first_of (codes "founders"))) e ∙ sym (first_value-rows (found_of local) (codes "founders")))
 
   named : option_map (λ p. p.0) (subcommand_of rambo words) ≡ subcommand_name_of m
-  named =
-      let rows : subcommand_rows_of m ≡ subcommand_of rambo words = (matches (ap is_simple is ∙ rambo_is_simple)).1 ∙ ap (λ (b : App). subcommand_of b words) is in
-      ap (option_map (λ p. p.0)) (sym rows) ∙ name_read (λ p. p.0) _ (out-ArgMatches m).subcommand
+  named = ap (option_map (λ p. p.0)) (sym rows_are) ∙ name_read (λ p. p.0) _ (out-ArgMatches m).subcommand
 
   pub met_replay : subcommand_name_of m ≡ Some (codes "replay") → AsksByName words (codes "replay")
   met_replay met = elim (faultless_asks words faultless) [

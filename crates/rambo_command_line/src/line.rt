@@ -1,8 +1,9 @@
 //! The command line.
-ghost use Rattle.std.specs.Prelude.{◌≡◌, map, IfOk, IfErr, false};
+ghost use Rattle.std.specs.Prelude.{◌≡◌, ℕ, List, [], map, IfOk, IfErr, false};
 ghost use Rattle.clap.specs.declared.builder.command.Command.TheViews.{out-Command as fields_of};
 ghost use Rattle.clap.specs.Words.{
   HasKind,
+  HasMatchesOf,
   app_of,
   fault_of,
   new_app,
@@ -19,7 +20,7 @@ ghost use Rattle.rambo_command_line.specs.Lines.{
   with_founders,
 };
 
-use clap::{Arg, ArgAction, Command, Error};
+use clap::{Arg, ArgAction, ArgMatches, Command, Error};
 use rambo_names::{Members, read_set};
 use std::alloc::{AllocError, Global};
 use std::convert::AsStr;
@@ -155,14 +156,22 @@ pub fn task_of<S: AsStr>(alloc: Global, words: &[S]) -> Result<Task, Error>
 {
     let command = rambo_command(alloc)?;
     let matches = command.try_get_matches_from(words)?;
+    Ok(task_in(&matches))
+}
+
+// The task of which a parse without a fault met the command.
+fn task_in(matches: &ArgMatches<'_>) -> Task
+    ensures { (words : List (List ℕ)) → (fault_of rambo words ≡ [])
+        → HasMatchesOf rambo words matches.now → Asks words result }
+{
     if let Some(local) = matches.subcommand_matches("local") {
         let word = local.get_str("founders").unwrap_or(FOUNDERS);
-        return Ok(Task::Local(founders_of(word)));
+        return Task::Local(founders_of(word));
     }
     if matches.subcommand_matches("replay").is_some() {
-        Ok(Task::Replay)
+        Task::Replay
     } else {
-        Ok(Task::Check)
+        Task::Check
     }
 }
 

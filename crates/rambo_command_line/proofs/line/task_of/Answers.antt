@@ -1,30 +1,10 @@
-use Rattle.std.proofs.Common.{◌≡◌, ◌∙◌, ℕ, List, Bor, codes, map, refl, sym, ap, subst, true, true≢false}
-use Rattle.std.specs.Prelude.{Option, Some, None, is_some, option_map}
-use Rattle.std.specs.Option.{unwrap_or}
-use Rattle.rambo_command_line.specs.Lines.{IsFounders, founders_word}
-use Rattle.rambo_command_line.proofs.Asked.{met_check, met_local, met_replay, word_is}
+use Rattle.std.proofs.Common.{map, subst}
+use Rattle.clap.specs.Simple.{App, HasMatchesOf}
+use Rattle.rambo_command_line.proofs.Asked.{faultless_as}
 use Rattle.rambo_command_line.proofs.line.task_of.Goals as goal
-
-unwrap_now : (o : Option (Bor (List ℕ))) (d : Bor (List ℕ)) → (unwrap_or o d).now ≡ unwrap_or (option_map (λ s. s.now) o) d.now
-unwrap_now None d = refl
-unwrap_now (Some x) d = refl
-
-pub returns-in-Some-clause-task : goal.returns-in-Some-clause-task
-returns-in-Some-clause-task g c =
-    let word : c.unwrap_or-word.result.now ≡ founders_word (map g.S.AsStr.text c.args.words.now) =
-    ap (λ (s : Bor (List ℕ)). s.now) c.unwrap_or-word.ensures ∙ unwrap_now c.get_str.result _ ∙ ap (λ (o : Option (List ℕ)). unwrap_or o (codes "1")) c.get_str.ensures
-    ∙ sym (word_is _ _ _ c.in_ok-command.ensures c.in_ok-matches.ensures.kinds c.in_ok-matches.ensures.matches c.in-Some.local.now c.in-Some.ensures.rows) in (
-      met_local _ _ _ c.in_ok-command.ensures c.in_ok-matches.ensures.kinds c.in_ok-matches.ensures.matches (c.in-Some.ensures.found.0 refl),
-      subst (λ w. IsFounders w c.founders_of.result) word c.founders_of.ensures,
-    )
-
-pub returns-then-is_some-clause-task : goal.returns-then-is_some-clause-task
-returns-then-is_some-clause-task g c =
-    let is : is_some c.subcommand_matches-2.result ≡ true = sym c.is_some.ensures ∙ c.if-is_some.true in
-    met_replay _ _ _ c.in_ok-command.ensures c.in_ok-matches.ensures.kinds c.in_ok-matches.ensures.matches (c.subcommand_matches-2.ensures.found.0 is)
 
 pub returns-clause-task : goal.returns-clause-task
 returns-clause-task g c =
-    met_check _ _ _ c.in_ok-command.ensures c.in_ok-matches.ensures.kinds c.in_ok-matches.ensures.matches
-    (λ met. true≢false (sym (c.subcommand_matches-2.ensures.found.1 met) ∙ sym c.is_some.ensures ∙ c.if-is_some.false))
-    (λ met. true≢false (sym (c.in_default.ensures.found.1 met)))
+    let words = map g.S.AsStr.text c.args.words.now in
+    c.task_in.ensures words (faultless_as _ words c.in_ok-command.ensures c.in_ok-matches.ensures.kinds)
+    (subst (λ (a : App). HasMatchesOf a words c.in_ok-matches.matches) c.in_ok-command.ensures c.in_ok-matches.ensures.matches)
