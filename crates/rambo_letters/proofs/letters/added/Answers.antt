@@ -11,3 +11,9 @@ returns-clause-at g c =
     let old = c.args.standings.now.items in
     ap (λ ms. slice_get ms c.len-count.result) (c.in_ok-push.ensures.items ∙ ap (λ m. old ++ m ∷ []) c.of.ensures)
     ∙ ap (slice_get (old ++ standing_of c.args.gossip.now ∷ [])) (c.len-count.ensures ∙ c.args.standings.now.ok.0) ∙ get_last old (standing_of c.args.gossip.now)
+
+pub of-requires : goal.of-requires
+of-requires g c = assumption
+
+pub returns-clause-grows : goal.returns-clause-grows
+returns-clause-grows g c = (_ ∷ [], c.in_ok-push.ensures.items)

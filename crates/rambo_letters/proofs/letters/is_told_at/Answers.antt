@@ -10,10 +10,10 @@ returns-in-Some g c told =
     slice_get_read standings (length standings) c.args.place c.in-Some.standing.now refl found.3.0 found.1 ∙ ap Some (c.is_told_by.ensures told)
 
 pub get-requires : goal.get-requires
-get-requires g c = grind (arith, common_steps)
+get-requires g c κs = assumption
 
 pub is_told_by-requires : goal.is_told_by-requires
-is_told_by-requires g c = grind (arith, common_steps)
+is_told_by-requires g c = assumption
 
 pub returns-in-None : goal.returns-in-None
 returns-in-None g c = grind (arith, common_steps)

@@ -4,6 +4,7 @@ use Rattle.std.specs.Option.{option_map}
 use Rattle.std.proofs.lemmas.Option.{slice_get_past, slice_get_read, slice_get-map}
 use Rattle.rambo_letters.specs.Shared.{sent_in}
 use Rattle.rambo_letters.proofs.Sharing.{sent_here}
+use Rattle.rambo_letters.proofs.Sizes.{up_fits, back_fits, variant_fits}
 use Rattle.rambo_letters.proofs.letters.Letters.get.Goals as goal
 
 pub returns-then-place-len : goal.returns-then-place-len
@@ -31,7 +32,7 @@ pub overflow_sub-place : goal.overflow_sub-place
 overflow_sub-place g c = grind (arith, common_steps)
 
 pub index-requires : goal.index-requires
-index-requires g c = grind (arith, common_steps)
+index-requires g c = omega (arith, c.if-place-len.false, c.len.ensures)
 
 pub read-requires : goal.read-requires
-read-requires g c = grind (arith, common_steps)
+read-requires g c = variant_fits _ _ _ _ (back_fits _ _ _ (up_fits _ _ _ c.requires-raw.1))
