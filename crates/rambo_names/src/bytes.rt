@@ -9,6 +9,7 @@ use crate::refusal::Refusal;
 use crate::short_bytes::{MOST, ShortBytes};
 use std::alloc::{AllocError, Global};
 use std::cmp::Ordering;
+use std::fmt;
 use std::hash::{Hash, Hasher};
 use std::marker::Model;
 use std::sync::ArcSlice;
@@ -17,7 +18,6 @@ use std::sync::ArcSlice;
 ///
 /// Up to `Bytes::SHORT` bytes lie in the value itself, so that they take no memory and a clone of them is a copy.
 /// Of more bytes clones share one piece of memory.
-#[derive(Debug)]
 pub struct Bytes {
     form: Form,
 }
@@ -30,7 +30,7 @@ impl Drop for Bytes {
 }
 
 // Where the bytes lie.
-#[derive(Drop, Debug)]
+#[derive(Drop)]
 enum Form {
     Short(ShortBytes),
     Shared(ArcSlice<u8>),
@@ -118,6 +118,12 @@ impl Bytes {
         ensures { result ≡ nat_eq (length self.now) 0 }
     {
         self.len() == 0
+    }
+}
+
+impl fmt::Debug for Bytes {
+    fn fmt<W: fmt::Write>(&self, f: &mut fmt::Formatter<W>) -> fmt::Result {
+        self.as_slice().fmt(f)
     }
 }
 

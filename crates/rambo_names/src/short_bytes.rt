@@ -5,7 +5,7 @@ ghost use Rattle.std.specs.Prelude.{◌≡◌, ◌≤◌, length, take};
 pub(crate) const MOST: usize = 15;
 
 // At most 15 bytes, which lie in the value itself.
-#[derive(Clone, Copy, Debug)]
+#[derive(Clone, Copy)]
 pub(crate) struct ShortBytes {
     // It holds nothing: it has the value lie, and move, in two whole words.
     words: [u64; 0],
