@@ -34,6 +34,7 @@ impl Op {
     /// The same operation, which shares its bytes.
     ///
     /// `OutOfMemory` where a count of owners is full.
+    #[inline(always)]
     pub fn clone(&self) -> Result<Op, Refusal>
         ensures same { IfOk result (λ op. op ≡ self.now) }
         ensures refused { IfErr result (λ r. r ≡ Refusal.OutOfMemory) }

@@ -142,6 +142,7 @@ impl<Q: Quorums> OpenCalls<Q> {
     /// Hears a letter that has this heard number and map, for which room was made: a call whose phase it replies to
     /// counts the sender, with the configurations that the map has above its own. Where these leave a gap, the phase
     /// begins anew, under this number with this merged map (Lynch and Shvartsman, "RAMBO", DISC 2002).
+    #[inline(always)]
     pub fn hear(
         &mut self,
         from: Name,
@@ -272,6 +273,8 @@ fn make_room<Q: Quorums>(calls: &mut [OpenCall<Q>], map: &ConfigMap<Q>) -> Resul
     Ok(())
 }
 
+// (for each command of a client of three founders eight letters are heard)
+#[inline(always)]
 fn hear<Q: Quorums>(
     calls: &mut [OpenCall<Q>],
     from: Name,

@@ -16,6 +16,7 @@ pub struct KeyedVersion {
 impl Clone for KeyedVersion {
     ghost is_clone = { λ keyed copy. copy ≡ keyed };
 
+    #[inline(always)]
     fn clone(&self) -> Result<KeyedVersion, AllocError> {
         Ok(KeyedVersion {
             key: self.key.clone()?,

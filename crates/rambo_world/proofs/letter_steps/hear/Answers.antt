@@ -87,3 +87,6 @@ returns-clause-ok g c h ms =
     c.in_ok-hear.ensures.nodes ∙ ap (λ l. moved ks l.addressee (λ y. (made_by y (change.Deliver (letter_with l (brought ks l c.of-before.result c.max.result)))).node)) (sym same) ∙ delivered_moved ks l.addressee (letter_with l pack) (letter_with l pack) refl in
     deliver_world ks c.hear.new.self ss counts kept c.hear.ensures.grow sent sent_is k.0 pack c.of-before.ensures.to c.of-before.ensures.from k.1 packed
     h ms c.args.number found state heard (letters_stay ks c.hear.new.self c.hear.ensures.grow ss kept.sent)
+
+pub get-requires : goal.get-requires
+get-requires g c = assumption

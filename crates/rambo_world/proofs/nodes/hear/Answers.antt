@@ -10,3 +10,6 @@ hear_outlined-requires g c = (c.requires-raw.1.1.0, subst (λ l. refusal_of g.Q.
 pub returns-clause-node : goal.returns-clause-node
 returns-clause-node g c =
     subst (λ l. OnOk c.hear_outlined.result (c.hear_outlined.new.self ≡ (made_by c.args.node.now (change.Deliver (letter_with l c.args.copies.now))).node)) c.outline_for.ensures c.hear_outlined.ensures.node
+
+pub outline_for-requires : goal.outline_for-requires
+outline_for-requires g c = assumption

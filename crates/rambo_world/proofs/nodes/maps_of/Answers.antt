@@ -38,3 +38,9 @@ places-requires g c = (back_fits _ _ _ (up_fits _ _ _ c.requires-raw.1.1), back_
 
 pub configs_of-requires : goal.configs_of-requires
 configs_of-requires g c = back_fits _ _ _ (up_fits _ _ _ (back_fits _ _ _ (up_fits _ _ _ c.requires-raw.1.1)))
+
+pub name-requires : goal.name-requires
+name-requires g c = assumption
+
+pub status-requires : goal.status-requires
+status-requires g c = assumption

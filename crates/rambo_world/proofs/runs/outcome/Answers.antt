@@ -10,3 +10,12 @@ pub returns-clause-outcome : goal.returns-clause-outcome
 returns-clause-outcome g c =
     outcome_made c.in_ok-effects.effects.items c.take_all.new.self _ c.in_ok-sequences.sequences.items c.in_ok-maps.maps.items c.take_history.ensures c.in_ok-sequences.ensures.given c.in_ok-maps.ensures.maps
     ∙ (λ i. outcome_at (c.in_ok-effects.ensures.told i) (c.in_ok-effects.ensures.after i))
+
+pub maps-requires : goal.maps-requires
+maps-requires g c = assumption
+
+pub sequences-requires : goal.sequences-requires
+sequences-requires g c = assumption
+
+pub take_history-requires : goal.take_history-requires
+take_history-requires g c = assumption

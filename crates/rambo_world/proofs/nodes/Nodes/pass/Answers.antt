@@ -253,3 +253,6 @@ returns-clause-enough g c =
     let tells : (k : KeptNode _) → kept_at c.args.self.now c.args.from ≡ Some k → told ≡ (outline k c.args.to).told = λ k found. ap (λ o. o.told) (c.told.view_is ∙ c.outline.ensures.sent k found) in
     enough_now g.Q.Quorums.system xs ls c.args.self.now c.self.view_is c.self.invariant.0 c.self.invariant.1 c.args.from c.args.to c.outline.ensures.named c.requires.accepted c.args.start told tells
     (subst (λ end. joined (greatest_of own) (greatest_of (lacked (greatest_of own) (part theirs c.args.start end))) ≡ joined (greatest_of own) (greatest_of (part theirs c.args.start end))) c.max.ensures c.bring.ensures.enough)
+
+pub outline-requires : goal.outline-requires
+outline-requires g c = assumption

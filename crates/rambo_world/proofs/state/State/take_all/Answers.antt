@@ -25,3 +25,6 @@ returns-clause-told g c = c.loop-step.invariant.0 ∙ ap (results_from g.Q.Quoru
 
 pub returns-clause-after : goal.returns-clause-after
 returns-clause-after g c = c.loop-step.invariant.1 ∙ ap (run_from g.Q.Quorums.system c.args.self.now) (take_all c.loop-step.step-index c.args.steps.now c.loop-step-test.false)
+
+pub reserve-requires-2 : goal.reserve-requires-2
+reserve-requires-2 g c = assumption
