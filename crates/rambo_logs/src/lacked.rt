@@ -52,10 +52,27 @@ pub(crate) fn repack(
     let before = mem::replace(pack, Pack::new(Vec::new(*puts.allocator())));
     let mut copies = before.into_copies();
     copies.clear();
+    list_copies(&mut copies, puts, entries)?;
+    *pack = Pack::new(copies);
+    Ok(())
+}
+
+// Lists the copies of entries.
+#[inline]
+fn list_copies(
+    copies: &mut Vec<KeyedVersion>,
+    puts: &Vec<KeyedVersion>,
+    entries: &[Entry],
+) -> Result<(), Refusal>
+    requires empty { copies.old.items ≡ [] }
+    requires within { All (λ e. e.place < length puts.now.items) entries.now }
+    ensures ok { OnOk result (copies.new.items ≡ copies_of puts.now.items entries.now) }
+    ensures idle { entries.now ≡ [] → IsOk result }
+    ensures refused { IfErr result (λ r. r ≡ Refusal.OutOfMemory) }
+{
     for entry in entries {
         copies.push(puts[entry.place as usize].clone()?)?;
     }
-    *pack = Pack::new(copies);
     Ok(())
 }
 

@@ -1,10 +1,7 @@
-use Rattle.std.proofs.lemmas.Grind.{common_steps}
-use Rattle.std.proofs.Common.{◌∙◌, sym, ap, subst, refl, [], rules, arith}
+use Rattle.std.proofs.Common.{◌∙◌, sym, ap, subst, []}
 use Rattle.std.specs.Prelude.{slice_index_or}
-use Rattle.std.specs.List.{list_any}
-use Rattle.std.specs.Str.{bytes_eq}
 use Rattle.rambo_logs.specs.Stored.{AreDistinct}
-use Rattle.rambo_logs.proofs.Numbering.{one_number, found_key, grown}
+use Rattle.rambo_logs.proofs.Numbering.{one_number, found_key}
 use Rattle.rambo_logs.proofs.key_numbers.KeyNumbers.number_of.Goals as goal
 
 pub returns-in-Some-clause-number : goal.returns-in-Some-clause-number
