@@ -1,5 +1,5 @@
 //! Kinds of steps.
-ghost use Rattle.std.specs.Prelude.{◌≡◌, ◌≢◌, IfSome, IfNone};
+ghost use Rattle.std.specs.Prelude.{◌≡◌, ◌≢◌, Some, IfSome, IfNone};
 
 /// What a line of a script tells, by its first word.
 #[derive(Clone, Copy, PartialEq, Eq, Debug)]
@@ -31,9 +31,6 @@ pub enum StepKind {
     /// A node stops.
     Stop,
 }
-
-// The words of all kinds but one have at most so many bytes.
-const LONG: usize = 13;
 
 impl StepKind {
     ghost use Rattle.rambo_lines.specs.declared.kind.StepKind.{StepKind};
@@ -67,24 +64,38 @@ impl StepKind {
         ensures found { IfSome result (λ kind. word.now ≡ word_of kind) }
         ensures none { IfNone result ((kind : StepKind) → word.now ≢ word_of kind) }
     {
-        if LONG < word.len() {
-            return StepKind::AdvanceCollect.if_has(word);
-        }
-        match word {
-            b"deliver" => Some(StepKind::Deliver),
-            b"send" => Some(StepKind::Send),
-            b"advance" => Some(StepKind::Advance),
-            b"get" => Some(StepKind::Get),
-            b"set" => Some(StepKind::Set),
-            b"join" => Some(StepKind::Join),
-            b"again" => Some(StepKind::Again),
-            b"collect" => Some(StepKind::Collect),
-            b"recon" => Some(StepKind::Recon),
-            b"rebid" => Some(StepKind::Rebid),
-            b"advance-recon" => Some(StepKind::AdvanceRecon),
-            b"stop" => Some(StepKind::Stop),
-            _ => None,
-        }
+        StepKind::likely(word)?.if_has(word)
+    }
+
+    // The only kind whose word this may be, by its length and one of its bytes.
+    fn likely(word: &[u8]) -> Option<StepKind>
+        ensures { (kind : StepKind) → word.now ≡ word_of kind → result ≡ Some kind }
+    {
+        let kind = match word.len() {
+            3 => match word[0] {
+                b'g' => StepKind::Get,
+                _ => StepKind::Set,
+            },
+            4 => match word[1] {
+                b'o' => StepKind::Join,
+                b'e' => StepKind::Send,
+                _ => StepKind::Stop,
+            },
+            5 => match word[2] {
+                b'a' => StepKind::Again,
+                b'c' => StepKind::Recon,
+                _ => StepKind::Rebid,
+            },
+            7 => match word[0] {
+                b'd' => StepKind::Deliver,
+                b'a' => StepKind::Advance,
+                _ => StepKind::Collect,
+            },
+            13 => StepKind::AdvanceRecon,
+            15 => StepKind::AdvanceCollect,
+            _ => return None,
+        };
+        Some(kind)
     }
 
     // This kind, where its steps begin with a word.

@@ -109,7 +109,9 @@ pub fn get_asked(alloc: Global, more: Option<&[u8]>) -> Result<(Name, Op), Fault
     ensures memory { IfErr result (λ f. f ≡ Fault.OutOfMemory → NeedRoom StepKind.Get (option_copied more.entry)) }
 {
     let (name, key) = two(more)?;
-    Ok((name_of(name)?, Op::Get(read_hex(alloc, key)?)))
+    let name = name_of(name)?;
+    let key = read_hex(alloc, key)?;
+    Ok((name, Op::Get(key)))
 }
 
 fn read_put(alloc: Global, more: Option<&[u8]>) -> Result<Step<Majority>, Fault>

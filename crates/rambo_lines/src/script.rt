@@ -96,6 +96,14 @@ fn push_step(alloc: Global, line: &[u8], steps: &mut Vec<Step<Majority>>) -> Res
     ensures memory { IfErr result (λ f. f ≡ Fault.OutOfMemory → TellsBytesOrStep line.now) }
 {
     let step = read_step(alloc, line)?;
+    keep_step(step, steps)
+}
+
+fn keep_step(step: Step<Majority>, steps: &mut Vec<Step<Majority>>) -> Result<(), Fault>
+    ensures ok { OnOk result (steps.new.items ≡ steps.old.items ++ step ∷ []) }
+    ensures err { OnErr result (steps.new.items ≡ steps.old.items) }
+    ensures fault { IfErr result (λ f. f ≡ Fault.OutOfMemory) }
+{
     match steps.push(step) {
         Ok(()) => Ok(()),
         Err(_) => Err(Fault::OutOfMemory),

@@ -45,53 +45,29 @@ fn append_step(step: &Step<Majority>, out: &mut Vec<u8>) -> Result<(), Refusal>
 {
     match step {
         Step::Join(name, contacts) => {
-            append_kind(StepKind::Join, out)?;
-            append_name(*name, out)?;
+            append_named(StepKind::Join, *name, out)?;
             append_set(contacts, out)
         }
         Step::Call(name, op) => append_call(*name, op, out),
         Step::Send(from, to) => {
-            append_kind(StepKind::Send, out)?;
-            append_name(*from, out)?;
+            append_named(StepKind::Send, *from, out)?;
             append_name(*to, out)
         }
         Step::Deliver(letter) => {
             append_kind(StepKind::Deliver, out)?;
             append_number(*letter, out)
         }
-        Step::Advance(id) => {
-            append_kind(StepKind::Advance, out)?;
-            append_id(id, out)
-        }
-        Step::Again(id) => {
-            append_kind(StepKind::Again, out)?;
-            append_id(id, out)
-        }
-        Step::Collect(name) => {
-            append_kind(StepKind::Collect, out)?;
-            append_name(*name, out)
-        }
-        Step::AdvanceCollect(name) => {
-            append_kind(StepKind::AdvanceCollect, out)?;
-            append_name(*name, out)
-        }
+        Step::Advance(id) => append_called(StepKind::Advance, id, out),
+        Step::Again(id) => append_called(StepKind::Again, id, out),
+        Step::Collect(name) => append_named(StepKind::Collect, *name, out),
+        Step::AdvanceCollect(name) => append_named(StepKind::AdvanceCollect, *name, out),
         Step::Recon(name, wish) => {
-            append_kind(StepKind::Recon, out)?;
-            append_name(*name, out)?;
+            append_named(StepKind::Recon, *name, out)?;
             append_set(&wish.members(), out)
         }
-        Step::Rebid(name) => {
-            append_kind(StepKind::Rebid, out)?;
-            append_name(*name, out)
-        }
-        Step::AdvanceRecon(name) => {
-            append_kind(StepKind::AdvanceRecon, out)?;
-            append_name(*name, out)
-        }
-        Step::Stop(name) => {
-            append_kind(StepKind::Stop, out)?;
-            append_name(*name, out)
-        }
+        Step::Rebid(name) => append_named(StepKind::Rebid, *name, out),
+        Step::AdvanceRecon(name) => append_named(StepKind::AdvanceRecon, *name, out),
+        Step::Stop(name) => append_named(StepKind::Stop, *name, out),
     }
 }
 
@@ -102,13 +78,11 @@ fn append_call(name: Name, op: &Op, out: &mut Vec<u8>) -> Result<(), Refusal>
 {
     match op {
         Op::Get(key) => {
-            append_kind(StepKind::Get, out)?;
-            append_name(name, out)?;
+            append_named(StepKind::Get, name, out)?;
             append_bytes(key, out)
         }
         Op::Set(key, value) => {
-            append_kind(StepKind::Set, out)?;
-            append_name(name, out)?;
+            append_named(StepKind::Set, name, out)?;
             append_bytes(key, out)?;
             append_bytes(value, out)
         }
@@ -123,6 +97,26 @@ fn append_kind(kind: StepKind, out: &mut Vec<u8>) -> Result<(), Refusal>
 {
     out.extend_from_slice(kind.word())?;
     Ok(())
+}
+
+// The first word of a line, and a name.
+fn append_named(kind: StepKind, name: Name, out: &mut Vec<u8>) -> Result<(), Refusal>
+    ensures ok { OnOk result (out.new.items ≡ out.old.items ++ word_of kind ++ 32 ∷ decimal name) }
+    ensures err { OnErr result (Grows out.old.items out.new.items) }
+    ensures refused { IfErr result (λ r. r ≡ Refusal.OutOfMemory) }
+{
+    append_kind(kind, out)?;
+    append_name(name, out)
+}
+
+// The first word of a line, and a call.
+fn append_called(kind: StepKind, id: &CallId, out: &mut Vec<u8>) -> Result<(), Refusal>
+    ensures ok { OnOk result (out.new.items ≡ out.old.items ++ word_of kind ++ 32 ∷ call_text id.now) }
+    ensures err { OnErr result (Grows out.old.items out.new.items) }
+    ensures refused { IfErr result (λ r. r ≡ Refusal.OutOfMemory) }
+{
+    append_kind(kind, out)?;
+    append_id(id, out)
 }
 
 // Each further word stands behind a space.

@@ -6,7 +6,7 @@ use Rattle.rambo_lines.proofs.reading.get_asked.Goals as goal
 pub returns-in_err-name-clause-fault : goal.returns-in_err-name-clause-fault
 returns-in_err-name-clause-fault c = search (rules, count_fault Get _ _ c.in_err-name.ensures.fault.0 c.in_err-name.ensures.fault.1)
 
-pub returns-in_err-read_hex-clause-fault : goal.returns-in_err-read_hex-clause-fault
-returns-in_err-read_hex-clause-fault c =
-    let name = c.in_ok-name_of.ensures.found in
-    search (rules, hex_fault Get _ _ _ _ c.in_ok-name.ensures.found refl (λ none is. inr ((_, name.0, name.1), inl (none, is))) c.in_err-read_hex.ensures.fault)
+pub returns-in_err-key-clause-fault : goal.returns-in_err-key-clause-fault
+returns-in_err-key-clause-fault c =
+    let name = c.in_ok-name-2.ensures.found in
+    search (rules, hex_fault Get _ _ _ _ c.in_ok-name.ensures.found refl (λ none is. inr ((_, name.0, name.1), inl (none, is))) c.in_err-key.ensures.fault)
