@@ -26,6 +26,15 @@ pub(crate) fn frequent_kind(line: &[u8]) -> Option<(StepKind, &[u8])>
         [b'a', b'd', b'v', b'a', b'n', b'c', b'e', b' ', more @ ..] => {
             Some((StepKind::Advance, more))
         }
+        _ => asking_kind(line),
+    }
+}
+
+// The same of the kinds of steps that begin a call.
+fn asking_kind(line: &[u8]) -> Option<(StepKind, &[u8])>
+    ensures { IfSome result (λ found. IsFirstWord line.now (word_of found.0) (Some found.1.now)) }
+{
+    match line {
         [b'g', b'e', b't', b' ', more @ ..] => Some((StepKind::Get, more)),
         [b's', b'e', b't', b' ', more @ ..] => Some((StepKind::Set, more)),
         _ => None,
