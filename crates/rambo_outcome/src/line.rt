@@ -1,7 +1,7 @@
 //! Writing lines.
 //!
 //! After a refusal the text of an `append_` function is what it was, maybe with some bytes behind it.
-ghost use Rattle.std.specs.Prelude.{◌≡◌, ◌++◌, map, OnOk, OnErr, IfErr};
+ghost use Rattle.std.specs.Prelude.{◌≡◌, ◌++◌, ◌∷◌, map, decimal, OnOk, OnErr, IfErr};
 ghost use Rattle.rambo_atomic.specs.declared.event.Event.TheVariants as event;
 ghost use Rattle.rambo_text.specs.Words.{more_words};
 ghost use Rattle.rambo_text.specs.Signs.{call_text, standing_text, Grows};
@@ -83,16 +83,26 @@ fn append_answer(answer: &Answer, out: &mut Vec<u8>) -> Result<(), Refusal>
     Ok(())
 }
 
+// Appends a word with the space behind it, a name and a number.
+fn append_front(word: &[u8], name: Name, number: u64, out: &mut Vec<u8>) -> Result<(), Refusal>
+    ensures ok { OnOk result (out.new.items ≡ out.old.items ++ word.now ++ decimal name ++ 32 ∷ decimal number) }
+    ensures err { OnErr result (Grows out.old.items out.new.items) }
+    ensures refused { IfErr result (λ r. r ≡ Refusal.OutOfMemory) }
+{
+    out.extend_from_slice(word)?;
+    write_name(name, out)?;
+    out.push(b' ')?;
+    write_num(number, out)?;
+    Ok(())
+}
+
 /// Appends the line of a node's collection of a place, which ended.
 pub(crate) fn append_collected(name: Name, place: u64, out: &mut Vec<u8>) -> Result<(), Refusal>
     ensures ok { OnOk result (out.new.items ≡ out.old.items ++ item_line (Collected name place)) }
     ensures err { OnErr result (Grows out.old.items out.new.items) }
     ensures refused { IfErr result (λ r. r ≡ Refusal.OutOfMemory) }
 {
-    out.extend_from_slice(b"collected ")?;
-    write_name(name, out)?;
-    out.push(b' ')?;
-    write_num(place, out)?;
+    append_front(b"collected ", name, place, out)?;
     out.push(b'\n')?;
     Ok(())
 }
@@ -107,10 +117,7 @@ pub(crate) fn append_decided<Q: Quorums>(
     ensures err { OnErr result (Grows out.old.items out.new.items) }
     ensures refused { IfErr result (λ r. r ≡ Refusal.OutOfMemory) }
 {
-    out.extend_from_slice(b"decided ")?;
-    write_name(name, out)?;
-    out.push(b' ')?;
-    write_num(decided.place, out)?;
+    append_front(b"decided ", name, decided.place, out)?;
     out.push(b' ')?;
     write_config(&decided.config, out)?;
     out.push(b'\n')?;
@@ -173,10 +180,7 @@ pub(crate) fn append_map<Q: Quorums>(node: &NodeMap<Q>, out: &mut Vec<u8>) -> Re
     ensures err { OnErr result (Grows out.old.items out.new.items) }
     ensures refused { IfErr result (λ r. r ≡ Refusal.OutOfMemory) }
 {
-    out.extend_from_slice(b"map ")?;
-    write_name(node.name, out)?;
-    out.push(b' ')?;
-    write_num(node.floor, out)?;
+    append_front(b"map ", node.name, node.floor, out)?;
     append_configs(node.active.as_slice(), out)?;
     out.push(b'\n')?;
     Ok(())

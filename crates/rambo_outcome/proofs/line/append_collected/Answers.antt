@@ -2,23 +2,14 @@ use Rattle.std.proofs.lemmas.Grind.{common_steps}
 use Rattle.std.proofs.Common.{rules, arith}
 use Rattle.rambo_outcome.proofs.line.append_collected.Goals as goal
 
-pub returns-in_err-extend_from_slice-clause-ok : goal.returns-in_err-extend_from_slice-clause-ok
-returns-in_err-extend_from_slice-clause-ok c = search rules
+pub returns-in_err-append_front-clause-ok : goal.returns-in_err-append_front-clause-ok
+returns-in_err-append_front-clause-ok c = search rules
 
-pub returns-in_err-extend_from_slice-clause-err : goal.returns-in_err-extend_from_slice-clause-err
-returns-in_err-extend_from_slice-clause-err c = search rules
+pub returns-in_err-append_front-clause-err : goal.returns-in_err-append_front-clause-err
+returns-in_err-append_front-clause-err c = search rules
 
-pub returns-in_err-extend_from_slice-clause-refused : goal.returns-in_err-extend_from_slice-clause-refused
-returns-in_err-extend_from_slice-clause-refused c = search rules
-
-pub returns-in_err-write_name-clause-ok : goal.returns-in_err-write_name-clause-ok
-returns-in_err-write_name-clause-ok c = search rules
-
-pub returns-in_err-write_name-clause-err : goal.returns-in_err-write_name-clause-err
-returns-in_err-write_name-clause-err c = search rules
-
-pub returns-in_err-write_name-clause-refused : goal.returns-in_err-write_name-clause-refused
-returns-in_err-write_name-clause-refused c = search rules
+pub returns-in_err-append_front-clause-refused : goal.returns-in_err-append_front-clause-refused
+returns-in_err-append_front-clause-refused c = search rules
 
 pub returns-in_err-push-clause-ok : goal.returns-in_err-push-clause-ok
 returns-in_err-push-clause-ok c = search rules
@@ -28,24 +19,6 @@ returns-in_err-push-clause-err c = grind (arith, common_steps)
 
 pub returns-in_err-push-clause-refused : goal.returns-in_err-push-clause-refused
 returns-in_err-push-clause-refused c = search rules
-
-pub returns-in_err-write_num-clause-ok : goal.returns-in_err-write_num-clause-ok
-returns-in_err-write_num-clause-ok c = search rules
-
-pub returns-in_err-write_num-clause-err : goal.returns-in_err-write_num-clause-err
-returns-in_err-write_num-clause-err c = grind (arith, common_steps)
-
-pub returns-in_err-write_num-clause-refused : goal.returns-in_err-write_num-clause-refused
-returns-in_err-write_num-clause-refused c = search rules
-
-pub returns-in_err-push-2-clause-ok : goal.returns-in_err-push-2-clause-ok
-returns-in_err-push-2-clause-ok c = search rules
-
-pub returns-in_err-push-2-clause-err : goal.returns-in_err-push-2-clause-err
-returns-in_err-push-2-clause-err c = grind (arith, common_steps)
-
-pub returns-in_err-push-2-clause-refused : goal.returns-in_err-push-2-clause-refused
-returns-in_err-push-2-clause-refused c = search rules
 
 pub returns-clause-err : goal.returns-clause-err
 returns-clause-err c = search rules

@@ -5,9 +5,6 @@ use Rattle.rambo_outcome.proofs.line.append_decided.Goals as goal
 pub returns-in_err-push-clause-err : goal.returns-in_err-push-clause-err
 returns-in_err-push-clause-err g c = grind (arith, common_steps)
 
-pub returns-in_err-write_num-clause-err : goal.returns-in_err-write_num-clause-err
-returns-in_err-write_num-clause-err g c = grind (arith, common_steps)
-
 pub returns-in_err-push-2-clause-err : goal.returns-in_err-push-2-clause-err
 returns-in_err-push-2-clause-err g c = grind (arith, common_steps)
 
