@@ -99,6 +99,7 @@ fn push_step(alloc: Global, line: &[u8], steps: &mut Vec<Step<Majority>>) -> Res
     keep_step(step, steps)
 }
 
+// Puts a step at the end of others.
 fn keep_step(step: Step<Majority>, steps: &mut Vec<Step<Majority>>) -> Result<(), Fault>
     ensures ok { OnOk result (steps.new.items ≡ steps.old.items ++ step ∷ []) }
     ensures err { OnErr result (steps.new.items ≡ steps.old.items) }
