@@ -1,6 +1,6 @@
 -- Whole items, and the line of an array, are read at once
-use Rattle.std.proofs.Common.{◌≡◌, ℕ, suc, ◌+◌, ◌-◌, ◌*◌, ◌/◌, ◌%◌, ◌^◌, ◌<◌, ◌≤◌, Bool, true, false, cond, ◌==◌, List, [], ◌∷◌, ◌++◌, length, get_or, drop, Some, None, decimal, refl, sym, ap, ◌∙◌, arith, append-nil, length-append}
-use Rattle.std.proofs.lemmas.Bool.{true≢false}
+use Rattle.std.proofs.Common.{◌≡◌, ℕ, suc, ◌+◌, ◌-◌, ◌*◌, ◌/◌, ◌%◌, ◌^◌, ◌<◌, ◌≤◌, Bool, true, false, cond, ◌==◌, List, [], ◌∷◌, ◌++◌, length, get_or, drop, Some, None, decimal, refl, sym, ap, ◌∙◌, arith, inl, inr, append_assoc, append-nil, length-append}
+use Rattle.std.proofs.lemmas.Bool.{true≢false, cases_lt}
 use Rattle.std.proofs.lemmas.List.{drop_at}
 use Rattle.std.proofs.lemmas.Fmt.{decimal_digit, decimal_step}
 use Rattle.rambo_resp.specs.declared.awaited.Awaited.{Awaited}
@@ -110,6 +110,53 @@ line_of_two (a ∷ t ∷ b ∷ c ∷ d ∷ bs) n long sign told low high low_one
     let digits : decimal n ≡ t ∷ b ∷ [] =
     decimal_step n (omega (arith, told, low)) (omega (arith, told, high, high_one)) ∙ ap (λ ds. ds ++ (48 + n % 10) ∷ []) first ∙ ap (λ x. t ∷ x ∷ []) one in
     ap (λ x. x ∷ t ∷ b ∷ c ∷ d ∷ bs) sign ∙ ap (λ x. 36 ∷ t ∷ b ∷ x ∷ d ∷ bs) cr ∙ ap (λ x. 36 ∷ t ∷ b ∷ 13 ∷ x ∷ bs) lf ∙ ap (λ ds. ((36 ∷ ds) ++ 13 ∷ 10 ∷ []) ++ bs) (sym digits)
+
+-- what a line that tells a number with one digit is
+pub one_digit_line : (sign n : ℕ) (rest : List ℕ) → n ≤ 9 → number_line sign n ++ rest ≡ sign ∷ (48 + n) ∷ 13 ∷ 10 ∷ rest
+one_digit_line sign n rest low = ap (λ ds. ((sign ∷ ds) ++ 13 ∷ 10 ∷ []) ++ rest) (decimal_digit n (omega (arith, low)))
+
+-- what a line that tells a number with two digits is
+pub two_digit_line : (sign n : ℕ) (rest : List ℕ) → 10 ≤ n → n ≤ 99
+    → number_line sign n ++ rest ≡ sign ∷ (48 + n / 10) ∷ (48 + n % 10) ∷ 13 ∷ 10 ∷ rest
+two_digit_line sign n rest high low =
+    ap (λ ds. ((sign ∷ ds) ++ 13 ∷ 10 ∷ []) ++ rest)
+    (decimal_step n (omega (arith, high)) (omega (arith, low)) ∙ ap (λ ds. ds ++ (48 + n % 10) ∷ []) (decimal_digit (n / 10) (omega (arith, low))))
+
+-- lines of at most two digits are one only where they tell one length, and what is behind is the same
+pub same_line : (n m : ℕ) (a b : List ℕ) → n ≤ 99 → m ≤ 99 → number_line 36 n ++ a ≡ number_line 36 m ++ b → (n ≡ m) × (a ≡ b)
+same_line n m a b small low e =
+    let G : Type 0 = (n ≡ m) × (a ≡ b) in
+    elim (cases_lt n 10) as (λ _. G) [
+      | inl x ↦ elim (cases_lt m 10) as (λ _. G) [
+        | inl y ↦
+            (let l : 36 ∷ (48 + n) ∷ 13 ∷ 10 ∷ a ≡ 36 ∷ (48 + m) ∷ 13 ∷ 10 ∷ b = sym (one_digit_line 36 n a (omega (arith, x))) ∙ e ∙ one_digit_line 36 m b (omega (arith, y)) in
+            let digit : 48 + n ≡ 48 + m = ap (λ s. get_or s 1 0) l in
+            (omega (arith, digit), ap (drop 4) l))
+        | inr y ↦
+            (let l : 36 ∷ (48 + n) ∷ 13 ∷ 10 ∷ a ≡ 36 ∷ (48 + m / 10) ∷ (48 + m % 10) ∷ 13 ∷ 10 ∷ b = sym (one_digit_line 36 n a (omega (arith, x))) ∙ e ∙ two_digit_line 36 m b y low in
+            let digit : 13 ≡ 48 + m % 10 = ap (λ s. get_or s 2 0) l in
+            absurd (omega (arith, digit)))
+      ]
+      | inr x ↦ elim (cases_lt m 10) as (λ _. G) [
+        | inl y ↦
+            (let l : 36 ∷ (48 + n / 10) ∷ (48 + n % 10) ∷ 13 ∷ 10 ∷ a ≡ 36 ∷ (48 + m) ∷ 13 ∷ 10 ∷ b = sym (two_digit_line 36 n a x small) ∙ e ∙ one_digit_line 36 m b (omega (arith, y)) in
+            let digit : 48 + n % 10 ≡ 13 = ap (λ s. get_or s 2 0) l in
+            absurd (omega (arith, digit)))
+        | inr y ↦
+            (let l : 36 ∷ (48 + n / 10) ∷ (48 + n % 10) ∷ 13 ∷ 10 ∷ a ≡ 36 ∷ (48 + m / 10) ∷ (48 + m % 10) ∷ 13 ∷ 10 ∷ b = sym (two_digit_line 36 n a x small) ∙ e ∙ two_digit_line 36 m b y low in
+            let ten : 48 + n / 10 ≡ 48 + m / 10 = ap (λ s. get_or s 1 0) l in
+            let one : 48 + n % 10 ≡ 48 + m % 10 = ap (λ s. get_or s 2 0) l in
+            (omega (arith, ten, one), ap (drop 5) l))
+      ]
+    ]
+
+-- an item of at most 99 bytes that is behind its line
+pub same_item : (n : ℕ) (behind item rest : List ℕ) → n ≤ 99 → length item ≤ 99 → number_line 36 n ++ behind ≡ item_spelling item ++ rest
+    → (n ≡ length item) × (behind ≡ item ++ (13 ∷ 10 ∷ rest))
+same_item n behind item rest small short e =
+    let line : List ℕ = number_line 36 (length item) in
+    same_line n (length item) behind (item ++ (13 ∷ 10 ∷ rest)) small short
+    (e ∙ append_assoc line (item ++ 13 ∷ 10 ∷ []) rest ∙ ap (λ bs. line ++ bs) (append_assoc item (13 ∷ 10 ∷ []) rest))
 
 -- the bytes of an item at the front of others are read
 pub item_on : (v w : ProgressState) (left n : ℕ) (bs item rest : List ℕ) → v.rest.awaited ≡ Dollar left → IsShort item → bs ≡ item_spelling item ++ rest

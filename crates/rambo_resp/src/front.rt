@@ -1,14 +1,15 @@
 //! What stands whole at the front of some bytes.
-ghost use Rattle.std.specs.Prelude.{◌≡◌, ◌≤◌, ◌<◌, ◌++◌, IfSome, length};
+ghost use Rattle.std.specs.Prelude.{◌≡◌, ◌≢◌, ℕ, ◌≤◌, ◌<◌, List, ◌++◌, IfNone, IfSome, length};
 ghost use Rattle.rambo_resp.specs.Spellings.{number_line, item_spelling};
 
 /// An item of at most 99 bytes, and what is behind its spelling.
 ///
-/// None also where an item stands there that is longer.
+/// None exactly where no such item stands there: also where one does that is longer.
 pub fn whole_item(bytes: &[u8]) -> Option<(&[u8], &[u8])>
     ensures spelled { IfSome result (λ r. bytes.now ≡ item_spelling r.0.now ++ r.1.now) }
     ensures few { IfSome result (λ r. length r.0.now ≤ 99) }
     ensures shorter { IfSome result (λ r. length r.1.now < length bytes.now) }
+    ensures none { IfNone result ((item : List ℕ) (rest : List ℕ) → length item ≤ 99 → bytes.now ≢ item_spelling item ++ rest) }
 {
     let (count, behind) = length_line(bytes)?;
     let (item, end) = behind.split_at_checked(count)?;
@@ -20,11 +21,12 @@ pub fn whole_item(bytes: &[u8]) -> Option<(&[u8], &[u8])>
 
 /// The number of items that the line of an array tells with one digit, and what is behind the line.
 ///
-/// None also where it tells 0, or a number of more digits.
+/// None exactly where no such line stands there: also where one tells 0, or a number of more digits.
 pub fn count_line(bytes: &[u8]) -> Option<(u16, &[u8])>
     ensures spelled { IfSome result (λ r. bytes.now ≡ number_line 42 r.0 ++ r.1.now) }
     ensures few { IfSome result (λ r. (1 ≤ r.0) × (r.0 ≤ 9)) }
     ensures shorter { IfSome result (λ r. length r.1.now < length bytes.now) }
+    ensures none { IfNone result ((n : ℕ) (rest : List ℕ) → 1 ≤ n → n ≤ 9 → bytes.now ≢ number_line 42 n ++ rest) }
 {
     match bytes {
         [b'*', one @ b'1'..=b'9', b'\r', b'\n', rest @ ..] => {
@@ -39,6 +41,7 @@ fn length_line(bytes: &[u8]) -> Option<(usize, &[u8])>
     ensures spelled { IfSome result (λ r. bytes.now ≡ number_line 36 r.0 ++ r.1.now) }
     ensures few { IfSome result (λ r. r.0 ≤ 99) }
     ensures shorter { IfSome result (λ r. length r.1.now < length bytes.now) }
+    ensures none { IfNone result ((n : ℕ) (rest : List ℕ) → n ≤ 99 → bytes.now ≢ number_line 36 n ++ rest) }
 {
     match bytes {
         [b'$', one @ b'0'..=b'9', b'\r', b'\n', rest @ ..] => {
@@ -53,6 +56,7 @@ fn two_digit_line(bytes: &[u8]) -> Option<(usize, &[u8])>
     ensures spelled { IfSome result (λ r. bytes.now ≡ number_line 36 r.0 ++ r.1.now) }
     ensures few { IfSome result (λ r. r.0 ≤ 99) }
     ensures shorter { IfSome result (λ r. length r.1.now < length bytes.now) }
+    ensures none { IfNone result ((n : ℕ) (rest : List ℕ) → 10 ≤ n → n ≤ 99 → bytes.now ≢ number_line 36 n ++ rest) }
 {
     match bytes {
         [
