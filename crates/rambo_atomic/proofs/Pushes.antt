@@ -15,7 +15,7 @@ use Rattle.rambo_atomic.specs.Forms.{IsWellFormed}
 use Rattle.rambo_atomic.specs.Histories.{call_in, answer_in, is_call, is_answer, called_at, answered_at}
 use Rattle.rambo_atomic.specs.Looks.{op_of, answer_of}
 use Rattle.rambo_atomic.specs.declared.spot.Spot.{Spot}
-use Rattle.rambo_atomic.specs.Places.{Places, PlacesState, places_in, places_of, spot_of, called_spot, answered_spot, KeepsSpots, FitsSpots, TakesEvent, IsHistory}
+use Rattle.rambo_atomic.specs.Places.{Places, PlacesState, places_in, places_of, spot_of, called_spot, answered_spot, FitsSpots, TakesEvent, IsHistory}
 use Rattle.rambo_atomic.specs.Proper.{EverySplit}
 use Rattle.rambo_atomic.proofs.LookUps.{position-cons, position-push, either, call_in-append, event_at, call_in-at, answer_in-at}
 use Rattle.rambo_atomic.proofs.Splits.{splits-nil, splits-cons, splits-head, splits-tail}
@@ -193,13 +193,6 @@ indexed-push h (event.Answer c a) old new all fine taken = record {
       | true ↦ λ same. ap (λ x. with_answer (length h) (places_in h x)) (same refl)
       | false ↦ λ same. refl
     ] (same_call-path c q)
-
--- the same spots tell the same
-pub indexed-same : (h : List Event) (old new : PlacesState) → IsHistory h old → KeepsSpots old new → IsHistory h new
-indexed-same h old new all same = record {
-  indexed = λ q. ap (option_map places_of) (same q) ∙ all.indexed q;
-  well_formed = all.well_formed;
-}
 
 -- what can stand at the end of a history has the spots for it
 pub fits-spots : (h : List Event) (e : Event) (s : PlacesState) → IsHistory h s → fault_of h e ≡ None → FitsSpots e s

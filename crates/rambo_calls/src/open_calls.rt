@@ -18,11 +18,20 @@ use std::alloc::Global;
 use std::marker::Model;
 
 /// The calls of a node that aren't answered yet, the oldest first. Of several calls of one number the first is meant.
-#[derive(Drop)]
 pub struct OpenCalls<Q: Quorums> {
     list: Vec<OpenCall<Q>>,
     // Never filled: it tells the prover that an open call has a size, which it doesn't see behind a `Vec`.
     spare: Option<OpenCall<Q>>,
+}
+
+// By hand, so that those who drop it needn't follow all that is in it.
+impl<Q: Quorums> Drop for OpenCalls<Q> {
+    fn drop(self) {
+        let OpenCalls {
+            list: _list,
+            spare: _spare,
+        } = self;
+    }
 }
 
 impl<Q: Quorums> Model for OpenCalls<Q> {

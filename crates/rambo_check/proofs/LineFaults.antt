@@ -11,7 +11,7 @@ use Rattle.rambo_text.specs.declared.fault.Fault.TheVariants.{UnknownWord, Wrong
 use Rattle.rambo_text.specs.Forms.{Form, Num, Name, Set, Call, Hex, IsBadWord}
 use Rattle.rambo_text.specs.Words.{AreMore, IsFirstWord}
 use Rattle.rambo_text.proofs.WordSplits.{words_joined}
-use Rattle.rambo_check.specs.Plans.{Plan, Forms, each, call_plan, answer_plan, collected_plan, decided_plan, refused_plan, sequence_plan, map_plan, plan, IsPlanFault, IsLineFault, IsFaulty}
+use Rattle.rambo_check.specs.Plans.{Plan, Forms, each, call_plan, answer_plan, sequence_plan, map_plan, plan, IsPlanFault, IsLineFault, IsFaulty}
 use Rattle.rambo_check.proofs.LineWords.{more_has_words}
 use Rattle.rambo_check.proofs.Rows.{length-each}
 
@@ -41,14 +41,6 @@ plan_unknown w more a b f c d e g =
       subst (λ q. IsPlanFault q UnknownWord)
           (sym (else_so _ _ _ (sym a) ∙ else_so _ _ _ (sym b) ∙ else_so _ _ _ c ∙ else_so _ _ _ d ∙ else_so _ _ _ e ∙ else_so _ _ _ (sym f) ∙ else_so _ _ _ g)) refl,
     )
-
--- what follows the first two words behind `call` or `answer`
-pub on_two : (start more : Option (List ℕ)) (id kind : List ℕ) (p : List (List ℕ) → Plan) (q : List (List ℕ) → Plan) (f : Fault)
-    → ((ws : List (List ℕ)) → AreMore more ws → AreMore start (id ∷ kind ∷ ws))
-    → ((ws : List (List ℕ)) → p (id ∷ kind ∷ ws) ≡ q ws) → IsFaulty q more f → IsFaulty p start f
-on_two start more id kind p q f two same (inl memory) = inl memory
-on_two start more id kind p q f two same (inr bad) =
-    inr (id ∷ kind ∷ bad.0, two bad.0 bad.1, subst (λ r. IsPlanFault r f) (sym (same bad.0)) bad.2)
 
 pub call_unknown : (start more : Option (List ℕ)) (id kind : List ℕ) → ((ws : List (List ℕ)) → AreMore more ws → AreMore start (id ∷ kind ∷ ws))
     → false ≡ bytes_eq kind (codes "get") → false ≡ bytes_eq kind (codes "set") → IsFaulty call_plan start UnknownWord

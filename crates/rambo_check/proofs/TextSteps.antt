@@ -1,5 +1,5 @@
 -- The steps of reading a text
-use Rattle.std.proofs.Common.{◌≡◌, ◌≢◌, ◌⊎◌, inl, inr, ℕ, ◌+◌, ◌<◌, true, List, [], ◌∷◌, ◌++◌, length, fold, Option, None, Some, unwrap_or, refl, sym, ap, ◌∙◌, subst, append_assoc, append-nil, length-append, arith}
+use Rattle.std.proofs.Common.{◌≡◌, ◌≢◌, ◌⊎◌, inl, inr, ℕ, ◌+◌, true, List, [], ◌∷◌, ◌++◌, length, fold, Option, None, Some, unwrap_or, refl, sym, ap, ◌∙◌, subst, append_assoc, append-nil, length-append}
 use Rattle.std.specs.List.{AllByRecursion}
 use Rattle.std.specs.Io.KnownBytes.{Consumes, IsAtEnd}
 use Rattle.rambo_text.specs.declared.fault.Fault.{Fault}
@@ -137,15 +137,6 @@ read_on first left s new u v line now holds taken same =
       number = ap (λ n. n + 1) now.number ∙ sym (length-push now.items i);
       evidence = taken.taken ∙ ap (λ t. with_item t i) now.evidence ∙ sym (fold-push with_item no_evidence now.items i);
     }
-
--- a line is shorter than a text that isn't empty
-pub line_shortens : (held words rest : List ℕ) → held ≢ [] → IsFirstLine held words rest → length rest < length held
-line_shortens [] words rest some first = absurd (some refl)
-line_shortens (b ∷ held) words rest some first =
-    elim first.whole [
-      | inl e ↦ (let l : length (b ∷ held) ≡ length words + length (10 ∷ rest) = ap length e ∙ length-append words (10 ∷ rest) in omega (arith, l))
-      | inr e ↦ (let l : length rest ≡ 0 = ap length e.1 in omega (arith, l))
-    ]
 
 -- the text that was left at first
 abbrev later : Option (List ℕ) → List ℕ

@@ -14,7 +14,6 @@ use std::alloc::Global;
 use std::marker::Model;
 
 /// All letters that were ever sent: the first one is letter 1.
-#[derive(Drop)]
 pub struct Letters<Q: Quorums> {
     list: Vec<Sent>,
     standings: Vec<Standing<Q>>,
@@ -22,6 +21,18 @@ pub struct Letters<Q: Quorums> {
     latest: [usize; 64],
     // Never filled: it tells the prover that a standing has a size, which it doesn't see behind a `Vec`.
     spare: Option<Standing<Q>>,
+}
+
+// By hand, so that those who drop it needn't follow all that is in it.
+impl<Q: Quorums> Drop for Letters<Q> {
+    fn drop(self) {
+        let Letters {
+            list: _list,
+            standings: _standings,
+            latest: _latest,
+            spare: _spare,
+        } = self;
+    }
 }
 
 impl<Q: Quorums> Model for Letters<Q> {

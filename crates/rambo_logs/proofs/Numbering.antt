@@ -1,6 +1,6 @@
 -- Keys and their numbers
-use Rattle.std.proofs.Common.{◌≡◌, ℕ, ◌<◌, Bool, true, false, List, [], ◌∷◌, ◌++◌, length, get_or, Some, None, sym, ap, ◌∙◌, true≢false, append-nil, inl, inr, arith}
-use Rattle.std.specs.Prelude.{if◌then◌else◌, position, slice_index_or}
+use Rattle.std.proofs.Common.{◌≡◌, ℕ, ◌<◌, List, [], ◌∷◌, length, get_or, Some, None, sym, ap, ◌∙◌, true≢false, inl, inr, arith}
+use Rattle.std.specs.Prelude.{position, slice_index_or}
 use Rattle.std.specs.List.{IsDistinct}
 use Rattle.std.specs.Str.{bytes_eq}
 use Rattle.std.proofs.Math.Decide.{dec_lt}
@@ -9,7 +9,6 @@ use Rattle.std.proofs.lemmas.List.Quantifiers.{position-Some}
 use Rattle.std.proofs.lemmas.Map.Keys.{apart_from_distinct}
 use Rattle.rambo_tag.proofs.Keys.{bytes_eq-itself, bytes_eq-true}
 use Rattle.rambo_logs.specs.Stored.{AreDistinct}
-use Rattle.rambo_logs.specs.Numbers.{Extends}
 
 never_below : (keys : List (List ℕ)) (i j : ℕ) → IsDistinct bytes_eq keys → j < length keys → slice_index_or keys i [] ≡ slice_index_or keys j [] → i < j → ⊥
 never_below keys i j distinct known same below =
@@ -32,8 +31,3 @@ found_key key [] i h = let none : Some i ≡ None = h in cc
 found_key key (k ∷ ks) i h =
     let found = position-Some (bytes_eq key) (k ∷ ks) i [] (sym h) in
     sym (bytes_eq-true key (get_or (k ∷ ks) i []) found.1)
-
--- a key that is new stands last
-pub grown : (t : Bool) (old new : List (List ℕ)) (key : List ℕ) → new ≡ (if t then old else old ++ key ∷ []) → Extends old new
-grown true old new key is = ([], is ∙ sym (append-nil old))
-grown false old new key is = (key ∷ [], is)

@@ -22,9 +22,6 @@ abbrev key_in : Option Room → List ℕ
 key_in None = []
 key_in (Some r) = r.key
 
-pub room_name : (keys : List (List ℕ)) (p : Pending) (own number name : ℕ) (key : List ℕ) → p ≡ Put own number → room_in keys p ≡ Some (record { name = name; key = key }) → own ≡ name
-room_name keys p own number name key is h = ap (λ q. name_in (room_in keys q)) (sym is) ∙ ap name_in h
-
 pub room_key : (keys : List (List ℕ)) (p : Pending) (own number name : ℕ) (key : List ℕ) → p ≡ Put own number → room_in keys p ≡ Some (record { name = name; key = key }) → slice_index_or keys number [] ≡ key
 room_key keys p own number name key is h = ap (λ q. key_in (room_in keys q)) (sym is) ∙ ap key_in h
 

@@ -20,7 +20,6 @@ use std::marker::Model;
 /// on, the oldest first.
 ///
 /// Each copy is stored once, in however many logs it stands.
-#[derive(Drop)]
 pub struct Logs {
     // Each copy that was put, in the order of the puts.
     puts: Vec<KeyedVersion>,
@@ -32,6 +31,21 @@ pub struct Logs {
     lacked: Vec<Entry>,
     pack: Pack,
     pending: Pending,
+}
+
+// By hand, so that those who drop it needn't follow all that is in it.
+impl Drop for Logs {
+    fn drop(self) {
+        let Logs {
+            puts: _puts,
+            keys: _keys,
+            hints: _hints,
+            logs: _logs,
+            lacked: _lacked,
+            pack: _pack,
+            pending: _pending,
+        } = self;
+    }
 }
 
 impl Model for Logs {

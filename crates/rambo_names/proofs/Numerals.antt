@@ -2,11 +2,11 @@
 use Rattle.std.proofs.Common.{◌≡◌, ◌≢◌, ℕ, suc, ◌^◌, ◌<◌, ◌+◌, ◌-◌, ◌*◌, List, [], ◌∷◌, ◌++◌, true, not, ◌&&◌, ◌||◌, ◌==◌, length, get_or, take, decimal, refl, subst, sym, ap, ◌∙◌, true≢false, arith, inl, inr}
 use Rattle.std.proofs.lemmas.Bool.{cases_lt}
 use Rattle.std.proofs.lemmas.Bool.Decides.{nat_tests}
-use Rattle.std.proofs.lemmas.Fmt.{decimal-digits_value, decimal_nonempty, digits_decimal, digits_value-decimal, first_decimal, decimal_digit}
+use Rattle.std.proofs.lemmas.Fmt.{decimal-digits_value, decimal_nonempty, first_decimal, decimal_digit}
 use Rattle.std.proofs.lemmas.Int.Digits.{digits_value_push}
 use Rattle.std.proofs.lemmas.List.{take_more}
 use Rattle.std.proofs.lemmas.Str.{digit_value_digit}
-use Rattle.std.proofs.lemmas.Str.Parse.{IsNumeralModel, digit_at, digits_value-take-le, numerals_by_value, tells_digits}
+use Rattle.std.proofs.lemmas.Str.Parse.{IsNumeralModel, numerals_by_value, tells_digits}
 use Rattle.std.specs.Char.{digit_value}
 use Rattle.std.specs.Int.{IsInRange}
 use Rattle.std.specs.Str.Parse.{AllDigits, digits_value}
@@ -43,17 +43,6 @@ more_value bs i l range =
     let v = digit_value_digit (get_or bs i 0) range in
     let is : digit_value (get_or bs i 0) ≡ get_or bs i 0 - 48 = omega (arith, v) in
     ap (digits_value 10) (take_more bs i 0 l) ∙ digits_value_push 10 (take i bs) (get_or bs i 0) ∙ ap (λ d. digits_value 10 (take i bs) * 10 + d) is
-
--- a numeral has digits alone, and each beginning of it writes a number that fits
-pub digit_in : (n : ℕ) (bs : List ℕ) (i : ℕ) → n < 2 ^ 64 → bs ≡ decimal n → i < length bs → IsInRange 48 57 (get_or bs i 0)
-digit_in n bs i h e l = digit_at bs i (subst (AllDigits 10) (sym e) (digits_decimal digits n h)) l
-
-pub fits_more : (n : ℕ) (bs : List ℕ) (i : ℕ) → n < 2 ^ 64 → bs ≡ decimal n → i < length bs → digits_value 10 (take i bs) * 10 + (get_or bs i 0 - 48) < 2 ^ 64
-fits_more n bs i h e l =
-    let more = more_value bs i l (digit_in n bs i h e l) in
-    let within = digits_value-take-le 10 bs (i + 1) (omega arith) in
-    let whole : digits_value 10 bs ≡ n = ap (digits_value 10) e ∙ digits_value-decimal digits n h in
-    omega (arith, more, within, whole, h)
 
 starts : (ds : List ℕ) → 0 < length ds → (get_or ds 0 0 ≢ 43) → (get_or ds 0 0 ≡ 48 → length ds ≡ 1) → starts_plainly ds ≡ true
 starts [] l p q = absurd (omega (arith, l))

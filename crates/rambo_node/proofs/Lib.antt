@@ -4,4 +4,6 @@ pub mod LastNumbers
 pub mod Memory
 pub mod Fitting
 pub mod Sizes
+mod Own
+pub mod Errors
 pub mod Telling

@@ -1,5 +1,5 @@
 -- What follows where no memory is needed
-use Rattle.std.proofs.Common.{◌≡◌, true, false, Result, Ok, Err, IsOk, IfErr, refl, sym}
+use Rattle.std.proofs.Common.{◌≡◌, false, Result, Ok, Err, IsOk, IfErr, refl, sym}
 use Rattle.std.proofs.lemmas.Bool.{true≢false}
 use Rattle.rambo_gossip.specs.declared.letter.Kind.{Kind}
 use Rattle.rambo_gossip.specs.declared.letter.Kind.TheVariants as kind

@@ -23,7 +23,6 @@ use std::marker::Model;
 ///
 /// All that happens to it is a `Change`. One that is refused leaves the node as it was. Of several causes of
 /// a refusal the one of the least number is told, and `OutOfMemory` only where there is no other.
-#[derive(Drop)]
 pub struct Node<Q: Quorums, S: Replica> {
     pub(crate) name: Name,
     pub(crate) status: Status,
@@ -37,6 +36,26 @@ pub struct Node<Q: Quorums, S: Replica> {
     pub(crate) attempt: Option<Attempt<Q>>,
     pub(crate) calls: OpenCalls<Q>,
     pub(crate) map: ConfigMap<Q>,
+}
+
+// By hand, so that those who drop it needn't follow all that is in it.
+impl<Q: Quorums, S: Replica> Drop for Node<Q, S> {
+    fn drop(self) {
+        let Node {
+            name: _name,
+            status: _status,
+            known: _known,
+            number: _number,
+            made: _made,
+            heard: _heard,
+            collection: _collection,
+            registers: _registers,
+            vote: _vote,
+            attempt: _attempt,
+            calls: _calls,
+            map: _map,
+        } = self;
+    }
 }
 
 impl<Q: Quorums, S: Replica> Model for Node<Q, S> {

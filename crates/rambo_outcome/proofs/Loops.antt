@@ -1,15 +1,13 @@
 -- Texts that a loop writes, item by item
-use Rattle.std.proofs.Common.{◌≡◌, ℕ, ◌+◌, ◌<◌, ◌≤◌, List, [], ◌∷◌, ◌++◌, length, get_or, drop, Option, None, Some, refl, sym, ap, ◌∙◌, append_assoc, append-nil, Result, map, arith}
-use Rattle.std.specs.List.{slice_get}
-use Rattle.std.proofs.lemmas.Option.{slice_get-get_or}
-use Rattle.std.proofs.lemmas.List.{drop_all, drop_more}
+use Rattle.std.proofs.Common.{◌≡◌, ℕ, ◌+◌, ◌<◌, List, [], ◌∷◌, ◌++◌, length, get_or, drop, sym, ap, ◌∙◌, append_assoc, Result, map}
+use Rattle.std.proofs.lemmas.List.{drop_more}
 use Rattle.rambo_names.specs.declared.refusal.Refusal.{Refusal}
 use Rattle.rambo_names.specs.Quorums.{QuorumSystem}
 use Rattle.rambo_atomic.specs.declared.event.Event.{Event}
 use Rattle.rambo_node.specs.declared.effect.Effect.{Effect}
 use Rattle.rambo_run.specs.Runs.{OutcomeState}
 use Rattle.rambo_text.specs.Signs.{Grows}
-use Rattle.rambo_check.specs.Lines.{Item, Ordered, items_text}
+use Rattle.rambo_check.specs.Lines.{Ordered, items_text}
 use Rattle.rambo_check.proofs.ItemTexts.{items-append}
 use Rattle.rambo_outcome.specs.Outcomes.{step_items, steps_items, map_item, outcome_lines}
 
@@ -25,11 +23,6 @@ one_on F G step xs i x out new whole h item now before =
 -- more is still behind what there was
 pub grows_on : (start out new more : List ℕ) → new ≡ out ++ more → Grows start out → Grows start new
 grows_on start out new more now front = (front.0 ++ more, now ∙ ap (λ t. t ++ more) front.1 ∙ append_assoc start front.0 more)
-
--- nothing is left
-pub all_done : {X : Type 0} (F : List X → List ℕ) → F [] ≡ [] → (xs : List X) (i : ℕ) (out whole : List ℕ) → length xs ≤ i
-    → out ++ F (drop i xs) ≡ whole → out ≡ whole
-all_done F none xs i out whole h before = sym (ap (λ t. out ++ F t) (drop_all i xs h) ∙ ap (λ t. out ++ t) none ∙ append-nil out) ∙ before
 
 -- a step more
 pub step_on : {Q : Type 0} (s : QuorumSystem Q) (h : List Event) (rs : List (Result (Effect Q) Refusal)) (i : ℕ) (r : Result (Effect Q) Refusal) (out new whole : List ℕ) → i < length rs
@@ -51,11 +44,3 @@ whole_text s o start a b c none steps sequences maps =
     ∙ ap (λ t. t ++ items_text (map (map_item s) o.maps))
     (sequences ∙ ap (λ t. t ++ items_text (map Ordered o.sequences)) first ∙ sym (items-append (steps_items s o.history 1 o.effects) (map Ordered o.sequences)))
     ∙ sym (items-append (steps_items s o.history 1 o.effects ++ map Ordered o.sequences) (map (map_item s) o.maps))
-
-apart : {X : Type 0} (o : Option X) (x : X) → o ≡ None → o ≡ Some x → ⊥
-apart o x e f = let clash : None ≡ Some x = sym e ∙ f in cc
-
--- within its length a list has an item
-pub not_none : {X : Type 0} (xs : List X) (i : ℕ) → i < length xs → slice_get xs i ≡ None → ⊥
-not_none [] i h e = omega arith
-not_none (x ∷ xs) i h e = apart (slice_get (x ∷ xs) i) (get_or (x ∷ xs) i x) e (slice_get-get_or (x ∷ xs) i x h)

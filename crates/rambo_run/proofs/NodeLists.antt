@@ -1,5 +1,5 @@
 -- The nodes of a run: there are 64, and each name has its node
-use Rattle.std.proofs.Common.{◌≡◌, ℕ, zero, suc, ◌-◌, ◌≤◌, List, length, Option, Some, None, slice_get, refl, sym, ap, ◌∙◌, inl, inr, arith, length-set}
+use Rattle.std.proofs.Common.{◌≡◌, ℕ, zero, suc, ◌-◌, ◌≤◌, List, length, Option, Some, None, refl, sym, ap, ◌∙◌, inl, inr, arith, length-set}
 use Rattle.rambo_names.specs.Quorums.{QuorumSystem}
 use Rattle.rambo_node.specs.declared.change.Change.{Change}
 use Rattle.rambo_node.specs.Nodes.{NodeState, first_node}
@@ -14,11 +14,6 @@ use Rattle.rambo_run.proofs.Sights.{Worlds, at}
 use Rattle.rambo_run.proofs.FirstWorlds.{first_count}
 use Rattle.rambo_run.proofs.Worlds.{run_of}
 use Rattle.rambo_run.proofs.Moments.{moment, worlds, last_moment}
-
--- the node of a name stands at its place
-pub node_at_place : {Q : Type 0} (w : WorldState Q) (n : ℕ) → 1 ≤ n → node_at w n ≡ slice_get w.nodes (n - 1)
-node_at_place w zero h = absurd (omega (arith, h))
-node_at_place w (suc n) h = let e : n ≡ suc n - 1 = omega arith in ap (slice_get w.nodes) e
 
 named_at : {Q : Type 0} (w : WorldState Q) (n : ℕ) → length w.nodes ≡ 64 → 1 ≤ n → n ≤ 64 → (x : NodeState Q) × (node_at w n ≡ Some x)
 named_at w zero l a b = absurd (omega (arith, a))

@@ -33,9 +33,6 @@ place_in-history c (event.Answer d a ∷ es) = rw (place_in-history c es) (omega
 found_or : (m n : ℕ) → m ≤ n → unwrap_or (cond (nat_lt m n) (Some m) None) n ≡ m
 found_or m n h = grind (arith, nat_tests)
 
-pub call_place-le : (c : CallId) (h : List Event) → call_place c h ≤ length h
-call_place-le c h = rw (place_in-history c h) (prefix_len-le-length (λ e. not (is_call c e)) h)
-
 pub call_place-called_at : (c : CallId) (h : List Event) → unwrap_or (called_at h c) (length h) ≡ call_place c h
 call_place-called_at c h =
     found_or (position_or_len (is_call c) h) (length h) (prefix_len-le-length (λ e. not (is_call c e)) h) ∙ sym (place_in-history c h)

@@ -1,5 +1,5 @@
 -- The order of copies is total, so the greater of two has the laws of a join
-use Rattle.std.proofs.Common.{◌≡◌, ℕ, Bool, true, false, List, [], ◌∷◌, Option, Some, None, Ordering, refl, sym, ap, ◌∙◌, ◌⊎◌, inl, inr, subst, true≢false, arith}
+use Rattle.std.proofs.Common.{◌≡◌, ℕ, Bool, true, false, List, [], ◌∷◌, Option, Some, None, Ordering, refl, sym, ap, ◌∙◌, ◌⊎◌, inl, inr, true≢false, arith}
 use Rattle.std.specs.Prelude.{nat_lt, nat_eq, if◌then◌else◌}
 use Rattle.std.specs.declared.cmp.Ordering.TheVariants.{Less, Equal, Greater}
 use Rattle.std.specs.Ordering.{nat_cmp, ordering_then, ordering_reverse, is_lt, is_gt}
@@ -7,10 +7,9 @@ use Rattle.std.specs.Cmp.Lexicographic.{slice_cmp}
 use Rattle.std.specs.FinMap.{slice_cmp-IsAntisymmetric, nat_cmp-IsAntisymmetric}
 use Rattle.std.proofs.lemmas.Cmp.{nat_list_cmp_total, same_from_slice_cmp, tied_itself, upto}
 use Rattle.std.proofs.lemmas.Bool.Decides.{nat_tests}
-use Rattle.rambo_tag.specs.declared.tag.Tag.{Tag}
 use Rattle.rambo_tag.specs.declared.version.Version.{Version}
 use Rattle.rambo_tag.specs.Tags.{tag_lt, no_tag, tag_of, bytes_lt, value_lt, version_lt, is_newer, greater}
-use Rattle.rambo_tag.proofs.TagOrder.{TagLt, TagLe, TagLe-refl, TagLe-no_tag, TagLe-from_false, TagLe-from_lt, TagLt-not_le, tag_lt-true, tag_lt-false}
+use Rattle.rambo_tag.proofs.TagOrder.{TagLt, TagLe, TagLe-refl, TagLe-no_tag, TagLe-from_false, tag_lt-true}
 
 -- a value as bytes, which are ordered as the values are
 abbrev value_text : Option (List ℕ) → List ℕ
@@ -205,30 +204,3 @@ TagLe-greater_right a b = TagLe-from_not_below (greater a b) b (greater-right a 
 pub is_newer-from_lt : (held : Option Version) (v : Version) → TagLt (tag_of held) v.tag → is_newer held v ≡ true
 is_newer-from_lt None v h = refl
 is_newer-from_lt (Some u) v h = ap (λ t. if t then true else if tag_lt v.tag u.tag then false else value_lt u.value v.value) (tag_lt-true u.tag v.tag h)
-
-pub is_newer-not_gt : (held : Option Version) (v : Version) → TagLt v.tag (tag_of held) → is_newer held v ≡ false
-is_newer-not_gt None v h = absurd (TagLt-not_le v.tag no_tag h (TagLe-no_tag v.tag))
-is_newer-not_gt (Some u) v h =
-    (λ i. if tag_lt-false u.tag v.tag (TagLe-from_lt v.tag u.tag h) i then true else if tag_lt-true v.tag u.tag h i then false else value_lt u.value v.value)
-
-pub TagLe-from_newer : (held : Option Version) (v : Version) → is_newer held v ≡ true → TagLe (tag_of held) v.tag
-TagLe-from_newer held v h =
-    TagLe-from_not_below (Some v) held (is_below-asymm held (Some v) (sym (is_newer-is_below held v) ∙ h))
-
-pub TagLe-from_not_newer : (held : Option Version) (v : Version) → is_newer held v ≡ false → TagLe v.tag (tag_of held)
-TagLe-from_not_newer held v h = TagLe-from_not_below held (Some v) (sym (is_newer-is_below held v) ∙ h)
-
-pub greater-from_lt : (a b : Option Version) → TagLt (tag_of a) (tag_of b) → greater a b ≡ b
-greater-from_lt a None h = absurd (TagLt-not_le (tag_of a) no_tag h (TagLe-no_tag (tag_of a)))
-greater-from_lt a (Some b) h = ap (λ t. if t then Some b else a) (is_newer-from_lt a b h)
-
-pub greater-from_gt : (a b : Option Version) → TagLt (tag_of b) (tag_of a) → greater a b ≡ a
-greater-from_gt a b h = greater-comm a b ∙ greater-from_lt b a h
-
--- the tag of the greater is the greater tag
-pub tag_of-greater : (a b : Option Version) (t : Tag) → TagLe (tag_of a) t → TagLe (tag_of b) t → TagLe (tag_of (greater a b)) t
-tag_of-greater a b t h k = elim (greater-either a b) [ inl e ↦ subst (λ x. TagLe (tag_of x) t) (sym e) h | inr e ↦ subst (λ x. TagLe (tag_of x) t) (sym e) k ]
-
--- copies of one tag and one value are one
-pub same_version : (a b : Version) → a.tag ≡ b.tag → a.value ≡ b.value → a ≡ b
-same_version a b tags values = λ i. record { tag = tags i; value = values i }

@@ -24,9 +24,6 @@ get-put a key v q = get-insert nat_list_cmp_total a key v q
 pub get-put_same : (a : Copies) (key : List ℕ) (v : Version) → get (insert a key v) key ≡ Some v
 get-put_same a key v = get-put a key v key ∙ ap (λ t. cond t (Some v) (get a key)) (same_key-itself key)
 
-pub get-put_other : (a : Copies) (key : List ℕ) (v : Version) (q : List ℕ) → q ≢ key → get (insert a key v) q ≡ get a q
-get-put_other a key v q apart = get-put a key v q ∙ ap (λ t. cond t (Some v) (get a q)) (same_key-false q key apart)
-
 -- the look-up after a copy took a key's place where it is newer
 put_if : (t : Bool) (a : Copies) (key : List ℕ) (v : Version) (q : List ℕ)
     → get (if t then insert a key v else a) q ≡ cond (same_key q key) (if t then Some v else get a q) (get a q)
@@ -131,14 +128,6 @@ TagLe-put a key v q newer =
 -- to join what was joined, or what is not newer, changes nothing
 pub joined-again : (a b : Copies) → joined (joined a b) b ≡ joined a b
 joined-again a b = joined-assoc a b b ∙ ap (joined a) (joined-idem b)
-
-pub joined-not_newer : (a b : Copies) → ((key : List ℕ) (v : Version) → get b key ≡ Some v → is_newer (get a key) v ≡ false) → joined a b ≡ a
-joined-not_newer a b h =
-    same_copies _ _ (λ q. get-joined a b q
-    ∙ elim (get b q) as (λ x. get b q ≡ x → greater (get a q) x ≡ get a q) [
-      | None ↦ λ e. refl
-      | Some v ↦ λ e. ap (λ t. if t then Some v else get a q) (h q v e)
-    ] refl)
 
 -- for `using(rambo_tag::proofs::Joins::joins)` on a function of a layer above
 pub ruleset joins = (get-joined, joined-again, joined-idem, joined-empty, joined-empty_left)

@@ -61,9 +61,6 @@ pub record IsNewerOf (a : Copies) (cs : List KeyedVersion) (i : ℕ) (rows : Lis
   pub all : greatest_after a rows ≡ greatest_after a (take i cs)
   pub none : joined a (greatest_of cs) ≡ a → rows ≡ []
 
-pub IsNewerOf-start : (a : Copies) (cs rows : List KeyedVersion) → rows ≡ [] → IsNewerOf a cs 0 rows
-IsNewerOf-start a cs rows is = record { all = ap (greatest_after a) is; none = λ idle. is }
-
 pub IsNewerOf-newer : (a : Copies) (cs rows more : List KeyedVersion) (i : ℕ) (c row : KeyedVersion) → IsNewerOf a cs i rows → i < length cs → c ≡ get_or cs i c
     → is_newer (get a c.key) c.version ≡ true → row ≡ c → more ≡ rows ++ row ∷ [] → IsNewerOf a cs (i + 1) more
 IsNewerOf-newer a cs rows more i c row h within is newer same grows = record {

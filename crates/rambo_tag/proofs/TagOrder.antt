@@ -24,29 +24,11 @@ tag_lt-false t u h = grind arith
 pub TagLe-refl : (t : Tag) → TagLe t t
 TagLe-refl t = grind arith
 
-pub TagLe-from_lt : (t u : Tag) → TagLt t u → TagLe t u
-TagLe-from_lt t u h = grind arith
-
 pub TagLe-trans : (t u v : Tag) → TagLe t u → TagLe u v → TagLe t v
 TagLe-trans t u v h k = grind arith
 
-pub TagLt-trans : (t u v : Tag) → TagLt t u → TagLt u v → TagLt t v
-TagLt-trans t u v h k = grind arith
-
-pub TagLt-trans_le : (t u v : Tag) → TagLt t u → TagLe u v → TagLt t v
-TagLt-trans_le t u v h k = grind arith
-
 pub TagLe-trans_lt : (t u v : Tag) → TagLe t u → TagLt u v → TagLt t v
 TagLe-trans_lt t u v h k = grind arith
-
-pub TagLt-irrefl : (t : Tag) → ¬ (TagLt t t)
-TagLt-irrefl t h = grind arith
-
-pub TagLt-not_le : (t u : Tag) → TagLt t u → ¬ (TagLe u t)
-TagLt-not_le t u h k = grind arith
-
-pub TagLt-or_le : (t u : Tag) → TagLt t u ⊎ TagLe u t
-TagLt-or_le t u = grind arith
 
 pub TagLe-antisymm : (t u : Tag) → TagLe t u → TagLe u t → t ≡ u
 TagLe-antisymm t u h k =

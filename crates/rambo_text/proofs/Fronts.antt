@@ -1,5 +1,5 @@
 -- The sign at the front of a line
-use Rattle.std.proofs.Common.{◌≡◌, ℕ, ◌<◌, ◌^◌, List, [], ◌∷◌, ◌++◌, decimal, refl, sym, ap, ◌∙◌, append-nil, append_assoc, arith}
+use Rattle.std.proofs.Common.{◌≡◌, ℕ, ◌<◌, ◌^◌, List, [], ◌∷◌, ◌++◌, decimal, refl, sym, ◌∙◌, append-nil, append_assoc, arith}
 use Rattle.std.proofs.lemmas.Fmt.{decimal_injective, digits_decimal}
 use Rattle.rambo_names.specs.Names.{IsName}
 use Rattle.rambo_names.specs.Signs.{BeginsWith}
@@ -21,12 +21,6 @@ whole_sign line sign is = record { whole = is ∙ sym (append-nil sign); ends = 
 -- a call begins with its name, and a dot
 pub begins_with_name : (line : List ℕ) (c : CallId) (rest : List ℕ) → BeginsWith line (call_text c) rest → BeginsWith line (decimal c.name) (46 ∷ (decimal c.number ++ rest))
 begins_with_name line c rest a = record { whole = a.whole ∙ append_assoc (decimal c.name) (46 ∷ decimal c.number) rest; ends = refl }
-
--- where a name begins a line, so does its call, if the number does what stands behind the dot
-pub begins_with_call : (line : List ℕ) (c : CallId) (behind number rest : List ℕ) → BeginsWith line (decimal c.name) behind → behind ≡ 46 ∷ number → BeginsWith number (decimal c.number) rest
-    → BeginsWith line (call_text c) rest
-begins_with_call line c behind number rest a dot b =
-    record { whole = a.whole ∙ ap (λ t. decimal c.name ++ t) (dot ∙ ap (λ t. 46 ∷ t) b.whole) ∙ sym (append_assoc (decimal c.name) (46 ∷ decimal c.number) rest); ends = b.ends }
 
 -- what stands behind the name of a call is a dot, and the number begins the rest
 pub call_behind : (line : List ℕ) (n : ℕ) (behind : List ℕ) (c : CallId) (rest : List ℕ) → IsName n → IsCall c → BeginsWith line (decimal n) behind → BeginsWith line (call_text c) rest

@@ -9,7 +9,8 @@ mod Turns
 mod Changing
 mod Sendings
 mod Deliveries
-mod Errors
+mod Asked
+mod Offsets
 pub mod Longer
 mod Starting
 mod Reached

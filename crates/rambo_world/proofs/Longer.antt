@@ -102,10 +102,6 @@ events_fit_run {Q} s founders ss st e accepted grown =
       | inr f ↦ subst (λ e. fault_of w.history e ≡ None) (same_from_push w.history w.history f.event e (sym f.history ∙ grown)).1 f.fault
     ]
 
-pub events_fit_from : {Q : Type 0} (s : QuorumSystem Q) (founders : Q) (w : WorldState Q) → w ≡ first_world s founders → (done : List (Step Q)) → EventsFit s (run_from s w done)
-events_fit_from s founders w first done =
-    subst (EventsFit s) (run_is s founders done ∙ ap (λ w. run_from s w done) (sym first)) (events_fit_run s founders done)
-
 -- the outcome of a run
 pub outcome_is : {Q : Type 0} (s : QuorumSystem Q) (founders : Q) (ss : List (Step Q)) (first w : WorldState Q) (effects : List (Result (Effect Q) Refusal))
     → first ≡ first_world s founders → effects ≡ results_from s first ss → w ≡ run_from s first ss → outcome_at effects w ≡ outcome_of s founders ss

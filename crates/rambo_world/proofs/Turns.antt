@@ -1,5 +1,5 @@
 -- What a step that isn't refused does
-use Rattle.std.proofs.Common.{◌≡◌, ℕ, zero, suc, arith, List, Option, None, Some, Result, Ok, Err, IsOk, IfErr, refl, sym, ap, ◌∙◌}
+use Rattle.std.proofs.Common.{◌≡◌, ℕ, zero, suc, arith, List, Option, None, Some, Result, Ok, Err, IfErr, refl, sym, ap, ◌∙◌}
 use Rattle.std.proofs.lemmas.Bool.{false≢true, true≢false}
 use Rattle.std.specs.Option.{is_some, option_map}
 use Rattle.rambo_names.specs.declared.refusal.Refusal.{Refusal}
@@ -23,22 +23,11 @@ pub there : {Q : Type 0} (s : QuorumSystem Q) (o : Option (NodeState Q)) (c : Ch
 there s None c e = absurd (true≢false (ap is_some e))
 there s (Some x) c e = (x, refl)
 
--- a step that isn't refused is refused for memory alone
-pub memory_alone : {T : Type 0} (r : Result T Refusal) (o : Option Refusal) → o ≡ None → IfErr r (IsRefusal o) → IfErr r (λ f. f ≡ OutOfMemory)
-memory_alone (Ok t) o e h = h
-memory_alone (Err f) None e h = h
-memory_alone (Err f) (Some g) e h = absurd (true≢false (ap is_some e))
-
 -- founders that may be are refused for memory alone
 pub err_alone : {T : Type 0} (r : Result T Refusal) (o : Option Refusal) → o ≡ None → IfErr r (λ f. f ≡ OutOfMemory) → IfErr r (IsRefusal o)
 err_alone (Ok t) o n e = e
 err_alone (Err f) None n e = e
 err_alone (Err f) (Some g) n e = absurd (true≢false (ap is_some n))
-
--- what succeeds isn't refused
-pub never_errs : {T E : Type 0} (r : Result T E) (P : E → Type 0) → IsOk r → IfErr r P
-never_errs (Ok t) P e = tt
-never_errs (Err f) P e = absurd (false≢true e)
 
 -- a node that is there is kept
 kept_some : {Q : Type 0} (o : Option (KeptNode Q)) (x : NodeState Q) → option_map state_of o ≡ Some x → (k : KeptNode Q) × (o ≡ Some k) × (k.state ≡ x)

@@ -34,13 +34,24 @@ use std::alloc::Global;
 use std::marker::Model;
 
 /// The nodes of the names 1 to 64, and of each the log of the copies that its registers took on.
-#[derive(Drop)]
 pub(crate) struct Nodes<Q: Quorums, S: Replica> {
     list: Vec<Node<Q, S>>,
     logs: Logs,
     none: NoCopies,
     // Never used: it tells the prover that a node has a size, which it doesn't see behind a `Vec`.
     spare: Node<Q, S>,
+}
+
+// By hand, so that those who drop it needn't follow all that is in it.
+impl<Q: Quorums, S: Replica> Drop for Nodes<Q, S> {
+    fn drop(self) {
+        let Nodes {
+            list: _list,
+            logs: _logs,
+            none: _none,
+            spare: _spare,
+        } = self;
+    }
 }
 
 impl<Q: Quorums, S: Replica> Model for Nodes<Q, S> {

@@ -40,7 +40,7 @@ pub offset_bounds-order-id-index : goal.offset_bounds-order-id-index
 offset_bounds-order-id-index c = grind (arith, common_steps)
 
 pub bounds-order-id-index : goal.bounds-order-id-index
-bounds-order-id-index c = grind (arith, common_steps)
+bounds-order-id-index c = assumption
 
 pub returns-in_err-insert-clause-found : goal.returns-in_err-insert-clause-found
 returns-in_err-insert-clause-found c = grind (arith, common_steps)
@@ -61,4 +61,4 @@ pub returns-clause-distinct : goal.returns-clause-distinct
 returns-clause-distinct c = grind (arith, common_steps)
 
 pub returns-clause-refused : goal.returns-clause-refused
-returns-clause-refused c = grind (arith, common_steps)
+returns-clause-refused c = assumption

@@ -1,9 +1,9 @@
-use Rattle.std.proofs.lemmas.Grind.{common_steps, elements}
+use Rattle.std.proofs.lemmas.Grind.{elements}
 use Rattle.std.proofs.Common.{arith}
 use Rattle.rambo_atomic.proofs.history.answer_at.Goals as goal
 
 pub get-requires : goal.get-requires
-get-requires c = grind (arith, common_steps)
+get-requires c = assumption
 
 pub returns-in_err-answer : goal.returns-in_err-answer
 returns-in_err-answer c = grind (arith, elements)

@@ -1,9 +1,9 @@
-use Rattle.std.proofs.lemmas.Grind.{common_steps, elements}
+use Rattle.std.proofs.lemmas.Grind.{elements}
 use Rattle.std.proofs.Common.{arith}
 use Rattle.rambo_atomic.proofs.history.op_at.Goals as goal
 
 pub get-requires : goal.get-requires
-get-requires c = grind (arith, common_steps)
+get-requires c = assumption
 
 pub returns-in_err-op : goal.returns-in_err-op
 returns-in_err-op c = grind (arith, elements)

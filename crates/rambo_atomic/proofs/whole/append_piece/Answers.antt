@@ -69,7 +69,7 @@ pub returns-in_ok-extend_from_slice-in-Ok-clause-end : goal.returns-in_ok-extend
 returns-in_ok-extend_from_slice-in-Ok-clause-end g c = grind (arith, common_steps)
 
 pub returns-in_ok-extend_from_slice-in-Ok-clause-kept : goal.returns-in_ok-extend_from_slice-in-Ok-clause-kept
-returns-in_ok-extend_from_slice-in-Ok-clause-kept g c = grind (arith, common_steps)
+returns-in_ok-extend_from_slice-in-Ok-clause-kept g c = assumption
 
 pub returns-in_ok-extend_from_slice-in-Ok-clause-reads : goal.returns-in_ok-extend_from_slice-in-Ok-clause-reads
 returns-in_ok-extend_from_slice-in-Ok-clause-reads g c = grind (arith, common_steps)
@@ -78,22 +78,22 @@ pub returns-in_ok-extend_from_slice-in-Ok-clause-fine : goal.returns-in_ok-exten
 returns-in_ok-extend_from_slice-in-Ok-clause-fine g c = grind (arith, common_steps)
 
 pub returns-in_ok-extend_from_slice-in-Ok-clause-fault : goal.returns-in_ok-extend_from_slice-in-Ok-clause-fault
-returns-in_ok-extend_from_slice-in-Ok-clause-fault g c = grind (arith, common_steps)
+returns-in_ok-extend_from_slice-in-Ok-clause-fault g c = assumption
 
 pub returns-in-Err-clause-bytes : goal.returns-in-Err-clause-bytes
-returns-in-Err-clause-bytes g c = grind (arith, common_steps)
+returns-in-Err-clause-bytes g c = assumption
 
 pub returns-in-Err-clause-end : goal.returns-in-Err-clause-end
-returns-in-Err-clause-end g c = grind (arith, common_steps)
+returns-in-Err-clause-end g c = assumption
 
 pub returns-in-Err-clause-kept : goal.returns-in-Err-clause-kept
 returns-in-Err-clause-kept g c = grind (arith, common_steps)
 
 pub returns-in-Err-clause-reads : goal.returns-in-Err-clause-reads
-returns-in-Err-clause-reads g c = grind (arith, common_steps)
+returns-in-Err-clause-reads g c = assumption
 
 pub returns-in-Err-clause-fine : goal.returns-in-Err-clause-fine
-returns-in-Err-clause-fine g c = grind (arith, common_steps)
+returns-in-Err-clause-fine g c = assumption
 
 pub returns-in-Err-clause-fault : goal.returns-in-Err-clause-fault
 returns-in-Err-clause-fault g c = grind (arith, common_steps)

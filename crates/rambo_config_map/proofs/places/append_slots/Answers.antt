@@ -6,7 +6,7 @@ pub loop-slot-init : goal.loop-slot-init
 loop-slot-init g c = grind (arith, common_steps)
 
 pub offset_bounds-more-slot-index : goal.offset_bounds-more-slot-index
-offset_bounds-more-slot-index g c = grind (arith, common_steps)
+offset_bounds-more-slot-index g c = assumption
 
 pub push_reserved-requires : goal.push_reserved-requires
 push_reserved-requires g c = grind (arith, common_steps)
@@ -18,4 +18,4 @@ pub returns-clause-items : goal.returns-clause-items
 returns-clause-items g c = grind (arith, common_steps)
 
 pub returns-clause-capacity : goal.returns-clause-capacity
-returns-clause-capacity g c = grind (arith, common_steps)
+returns-clause-capacity g c = assumption

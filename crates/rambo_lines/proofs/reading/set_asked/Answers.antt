@@ -49,10 +49,10 @@ pub returns-clause-found : goal.returns-clause-found
 returns-clause-found c = grind (arith, common_steps)
 
 pub returns-clause-fault : goal.returns-clause-fault
-returns-clause-fault c = grind (arith, common_steps)
+returns-clause-fault c = assumption
 
 pub returns-clause-memory : goal.returns-clause-memory
-returns-clause-memory c = grind (arith, common_steps)
+returns-clause-memory c = assumption
 
 pub returns-in_err-name-2-clause-fault : goal.returns-in_err-name-2-clause-fault
 returns-in_err-name-2-clause-fault c = grind arith

@@ -8,7 +8,7 @@ pub returns-clause-ok : goal.returns-clause-ok
 returns-clause-ok c = c.loop-entry.invariant ∙ ap (copies_of c.args.puts.now.items) (take_all c.loop-entry.entry-index c.args.entries.now c.loop-entry-test.false)
 
 pub loop-entry-init : goal.loop-entry-init
-loop-entry-init c = grind (arith, common_steps)
+loop-entry-init c = assumption
 
 pub loop-entry-preserved : goal.loop-entry-preserved
 loop-entry-preserved c = grind (arith, common_steps)

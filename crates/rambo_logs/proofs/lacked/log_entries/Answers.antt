@@ -40,16 +40,16 @@ pub log_entry-requires-clause-room : goal.log_entry-requires-clause-room
 log_entry-requires-clause-room c = grind (arith, common_steps)
 
 pub log_entry-requires-clause-node : goal.log_entry-requires-clause-node
-log_entry-requires-clause-node c = grind (arith, common_steps)
+log_entry-requires-clause-node c = assumption
 
 pub log_entry-requires-clause-few : goal.log_entry-requires-clause-few
-log_entry-requires-clause-few c = grind (arith, common_steps)
+log_entry-requires-clause-few c = assumption
 
 pub log_entry-requires-clause-within : goal.log_entry-requires-clause-within
 log_entry-requires-clause-within c = grind (arith, common_steps)
 
 pub log_entry-requires-clause-hints : goal.log_entry-requires-clause-hints
-log_entry-requires-clause-hints c = grind (arith, common_steps)
+log_entry-requires-clause-hints c = assumption
 
 pub returns-clause-log : goal.returns-clause-log
 returns-clause-log c = grind (arith, common_steps)

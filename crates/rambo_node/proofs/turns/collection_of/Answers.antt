@@ -3,7 +3,7 @@ use Rattle.std.proofs.Common.{arith}
 use Rattle.rambo_node.proofs.turns.collection_of.Goals as goal
 
 pub open-requires : goal.open-requires
-open-requires g c = grind (arith, common_steps)
+open-requires g c = assumption
 
 pub unreachable-requires : goal.unreachable-requires
 unreachable-requires g c = grind (arith, common_steps)

@@ -3,10 +3,10 @@ use Rattle.std.proofs.Common.{arith}
 use Rattle.rambo_node.proofs.turns.go_on.Goals as goal
 
 pub top-requires : goal.top-requires
-top-requires g c = grind (arith, common_steps)
+top-requires g c = assumption
 
 pub active_at-requires : goal.active_at-requires
-active_at-requires g c = grind (arith, common_steps)
+active_at-requires g c = assumption
 
 pub unreachable-requires : goal.unreachable-requires
 unreachable-requires g c = grind (arith, common_steps)
@@ -15,7 +15,7 @@ pub unreachable-requires-in-Err : goal.unreachable-requires-in-Err
 unreachable-requires-in-Err g c = grind (arith, common_steps)
 
 pub unreachable-unreachable-in-Err : goal.unreachable-unreachable-in-Err
-unreachable-unreachable-in-Err g c = grind (arith, common_steps)
+unreachable-unreachable-in-Err g c = assumption
 
 pub returns-clause-bid : goal.returns-clause-bid
 returns-clause-bid g c = grind (arith, common_steps)
@@ -27,4 +27,4 @@ pub returns-clause-vote : goal.returns-clause-vote
 returns-clause-vote g c = grind (arith, common_steps)
 
 pub unreachable-unreachable : goal.unreachable-unreachable
-unreachable-unreachable g c = grind arith
+unreachable-unreachable g c = assumption

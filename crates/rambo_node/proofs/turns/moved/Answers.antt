@@ -3,7 +3,7 @@ use Rattle.std.proofs.Common.{arith}
 use Rattle.rambo_node.proofs.turns.moved.Goals as goal
 
 pub advance-requires : goal.advance-requires
-advance-requires g c = grind (arith, common_steps)
+advance-requires g c = assumption
 
 pub unreachable-requires : goal.unreachable-requires
 unreachable-requires g c = grind (arith, common_steps)

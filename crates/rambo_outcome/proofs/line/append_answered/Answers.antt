@@ -42,7 +42,7 @@ pub returns-clause-ok : goal.returns-clause-ok
 returns-clause-ok c = grind (arith, common_steps)
 
 pub returns-clause-err : goal.returns-clause-err
-returns-clause-err c = grind (arith, common_steps)
+returns-clause-err c = assumption
 
 pub returns-clause-refused : goal.returns-clause-refused
-returns-clause-refused c = grind (arith, common_steps)
+returns-clause-refused c = assumption

@@ -21,7 +21,7 @@ pub returns-in_err-push-clause-refused : goal.returns-in_err-push-clause-refused
 returns-in_err-push-clause-refused c = search rules
 
 pub returns-clause-err : goal.returns-clause-err
-returns-clause-err c = search rules
+returns-clause-err c = assumption
 
 pub returns-clause-refused : goal.returns-clause-refused
-returns-clause-refused c = search rules
+returns-clause-refused c = assumption

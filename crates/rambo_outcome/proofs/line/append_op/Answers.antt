@@ -60,16 +60,16 @@ pub returns-in_ok-write_hex-in-Get-clause-ok : goal.returns-in_ok-write_hex-in-G
 returns-in_ok-write_hex-in-Get-clause-ok c = grind (arith, common_steps)
 
 pub returns-in_ok-write_hex-in-Get-clause-err : goal.returns-in_ok-write_hex-in-Get-clause-err
-returns-in_ok-write_hex-in-Get-clause-err c = grind (arith, common_steps)
+returns-in_ok-write_hex-in-Get-clause-err c = assumption
 
 pub returns-in_ok-write_hex-in-Get-clause-refused : goal.returns-in_ok-write_hex-in-Get-clause-refused
-returns-in_ok-write_hex-in-Get-clause-refused c = grind (arith, common_steps)
+returns-in_ok-write_hex-in-Get-clause-refused c = assumption
 
 pub returns-in_ok-write_hex-in-Set-2-clause-ok : goal.returns-in_ok-write_hex-in-Set-2-clause-ok
 returns-in_ok-write_hex-in-Set-2-clause-ok c = grind (arith, common_steps)
 
 pub returns-in_ok-write_hex-in-Set-2-clause-err : goal.returns-in_ok-write_hex-in-Set-2-clause-err
-returns-in_ok-write_hex-in-Set-2-clause-err c = grind (arith, common_steps)
+returns-in_ok-write_hex-in-Set-2-clause-err c = assumption
 
 pub returns-in_ok-write_hex-in-Set-2-clause-refused : goal.returns-in_ok-write_hex-in-Set-2-clause-refused
-returns-in_ok-write_hex-in-Set-2-clause-refused c = grind (arith, common_steps)
+returns-in_ok-write_hex-in-Set-2-clause-refused c = assumption

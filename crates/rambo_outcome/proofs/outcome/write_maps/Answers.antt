@@ -9,13 +9,13 @@ pub returns-then-is_err-clause-err : goal.returns-then-is_err-clause-err
 returns-then-is_err-clause-err g c = grind (arith, common_steps)
 
 pub returns-then-is_err-clause-refused : goal.returns-then-is_err-clause-refused
-returns-then-is_err-clause-refused g c = grind (arith, common_steps)
+returns-then-is_err-clause-refused g c = assumption
 
 pub returns-else-is_err-clause-ok : goal.returns-else-is_err-clause-ok
-returns-else-is_err-clause-ok g c = grind (arith, common_steps)
+returns-else-is_err-clause-ok g c = assumption
 
 pub returns-else-is_err-clause-err : goal.returns-else-is_err-clause-err
 returns-else-is_err-clause-err g c = grind (arith, common_steps)
 
 pub returns-else-is_err-clause-refused : goal.returns-else-is_err-clause-refused
-returns-else-is_err-clause-refused g c = grind (arith, common_steps)
+returns-else-is_err-clause-refused g c = assumption

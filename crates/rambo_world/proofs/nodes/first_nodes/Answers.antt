@@ -1,8 +1,8 @@
-use Rattle.std.proofs.Common.{◌≡◌, ◌∙◌, ap, arith}
+use Rattle.std.proofs.Common.{◌≡◌, ◌∙◌, ap, arith, refl}
+use Rattle.rambo_node.proofs.Errors.{err_kept, err_if_ok}
 use Rattle.rambo_names.specs.Names.{rising}
 use Rattle.rambo_run.specs.Worlds.{first_nodes}
 use Rattle.rambo_world.proofs.Starting.{first_none, first_next}
-use Rattle.rambo_world.proofs.Errors.{err_kept}
 use Rattle.rambo_world.proofs.nodes.first_nodes.Goals as goal
 
 pub loop-place-init : goal.loop-place-init
@@ -20,3 +20,15 @@ returns-clause-first g c =
 
 pub returns-in_err-first_node-clause-refused : goal.returns-in_err-first_node-clause-refused
 returns-in_err-first_node-clause-refused g c = err_kept c.from_residual.result _ _ c.from_residual.ensures.1 c.in_err-first_node.ensures.refused
+
+pub returns-in_err-first_node-clause-first : goal.returns-in_err-first_node-clause-first
+returns-in_err-first_node-clause-first g c = err_if_ok c.from_residual.result _ _ c.from_residual.ensures.1
+
+pub returns-in_err-push-clause-first : goal.returns-in_err-push-clause-first
+returns-in_err-push-clause-first g c = err_if_ok c.from_residual-in_err-push.result _ _ c.from_residual-in_err-push.ensures.1
+
+pub loop-place-smaller : goal.loop-place-smaller
+loop-place-smaller g c = omega (arith, c.loop-place-test.true)
+
+pub returns-in_err-push-clause-refused : goal.returns-in_err-push-clause-refused
+returns-in_err-push-clause-refused g c = err_kept c.from_residual-in_err-push.result _ _ c.from_residual-in_err-push.ensures.1 refl

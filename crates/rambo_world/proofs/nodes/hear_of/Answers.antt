@@ -1,3 +1,4 @@
+use Rattle.rambo_world.proofs.Offsets.{first_offset}
 use Rattle.std.proofs.Common.{◌<◌, ◌-◌, length, Some, slice_get, slice_set, ap, ◌∙◌, sym, arith}
 use Rattle.std.proofs.lemmas.Result.{on_ok_weaker, on_err_weaker}
 use Rattle.rambo_gossip.specs.Letters.{letter_with}
@@ -81,3 +82,9 @@ returns-then-sender-addressee-clause-refused g c = c.hear.ensures.refused
 
 pub returns-else-sender-addressee-clause-refused : goal.returns-else-sender-addressee-clause-refused
 returns-else-sender-addressee-clause-refused g c = c.hear-else-sender-addressee.ensures.refused
+
+pub offset_bounds-0 : goal.offset_bounds-0
+offset_bounds-0 g c = first_offset _
+
+pub offset_bounds-0-else-sender-addressee : goal.offset_bounds-0-else-sender-addressee
+offset_bounds-0-else-sender-addressee g c = first_offset _

@@ -47,7 +47,7 @@ pub returns-in_err-places-clause-within : goal.returns-in_err-places-clause-with
 returns-in_err-places-clause-within c = grind (arith, common_steps)
 
 pub returns-in_err-places-clause-well_formed : goal.returns-in_err-places-clause-well_formed
-returns-in_err-places-clause-well_formed c = grind (arith, common_steps)
+returns-in_err-places-clause-well_formed c = assumption
 
 pub returns-in_err-op-clause-answer : goal.returns-in_err-op-clause-answer
 returns-in_err-op-clause-answer c = grind (arith, common_steps)
@@ -62,7 +62,7 @@ pub returns-in_err-op-clause-within : goal.returns-in_err-op-clause-within
 returns-in_err-op-clause-within c = grind (arith, common_steps)
 
 pub returns-in_err-op-clause-well_formed : goal.returns-in_err-op-clause-well_formed
-returns-in_err-op-clause-well_formed c = grind (arith, common_steps)
+returns-in_err-op-clause-well_formed c = assumption
 
 pub returns-clause-called : goal.returns-clause-called
 returns-clause-called c = grind (arith, common_steps)
@@ -74,4 +74,4 @@ pub returns-clause-within : goal.returns-clause-within
 returns-clause-within c = grind (arith, common_steps)
 
 pub returns-clause-well_formed : goal.returns-clause-well_formed
-returns-clause-well_formed c = grind (arith, common_steps)
+returns-clause-well_formed c = assumption

@@ -58,22 +58,22 @@ pub invariant_of-self-else-not-due : goal.invariant_of-self-else-not-due
 invariant_of-self-else-not-due c = grind (arith, common_steps)
 
 pub invariant_of-self-else-self-lt-READ_LIMIT : goal.invariant_of-self-else-self-lt-READ_LIMIT
-invariant_of-self-else-self-lt-READ_LIMIT c = grind (arith, common_steps)
+invariant_of-self-else-self-lt-READ_LIMIT c = assumption
 
 pub returns-clause-state : goal.returns-clause-state
 returns-clause-state c = grind (arith, common_steps)
 
 pub returns-clause-count : goal.returns-clause-count
-returns-clause-count c = grind (arith, common_steps)
+returns-clause-count c = assumption
 
 pub returns-clause-bytes : goal.returns-clause-bytes
-returns-clause-bytes c = grind (arith, common_steps)
+returns-clause-bytes c = assumption
 
 pub returns-clause-end : goal.returns-clause-end
-returns-clause-end c = grind (arith, common_steps)
+returns-clause-end c = assumption
 
 pub returns-clause-rest : goal.returns-clause-rest
-returns-clause-rest c = grind (arith, common_steps)
+returns-clause-rest c = assumption
 
 pub returns-clause-fails : goal.returns-clause-fails
 returns-clause-fails c = grind (arith, common_steps)

@@ -22,7 +22,7 @@ pub loop-self-smaller : goal.loop-self-smaller
 loop-self-smaller g c = grind (arith, common_steps)
 
 pub returns-in_err-read_piece-clause-knows : goal.returns-in_err-read_piece-clause-knows
-returns-in_err-read_piece-clause-knows g c = grind (arith, common_steps)
+returns-in_err-read_piece-clause-knows g c = assumption
 
 pub returns-in_err-read_piece-clause-bytes : goal.returns-in_err-read_piece-clause-bytes
 returns-in_err-read_piece-clause-bytes g c = grind (arith, common_steps)
@@ -43,22 +43,22 @@ pub returns-in_err-read_piece-clause-fault : goal.returns-in_err-read_piece-clau
 returns-in_err-read_piece-clause-fault g c = grind (arith, common_steps)
 
 pub returns-clause-knows : goal.returns-clause-knows
-returns-clause-knows g c = grind (arith, common_steps)
+returns-clause-knows g c = assumption
 
 pub returns-clause-bytes : goal.returns-clause-bytes
-returns-clause-bytes g c = grind (arith, common_steps)
+returns-clause-bytes g c = assumption
 
 pub returns-clause-ended : goal.returns-clause-ended
-returns-clause-ended g c = grind (arith, common_steps)
+returns-clause-ended g c = assumption
 
 pub returns-clause-line : goal.returns-clause-line
 returns-clause-line g c = grind (arith, common_steps)
 
 pub returns-clause-work : goal.returns-clause-work
-returns-clause-work g c = grind (arith, common_steps)
+returns-clause-work g c = assumption
 
 pub returns-clause-fine : goal.returns-clause-fine
-returns-clause-fine g c = grind (arith, common_steps)
+returns-clause-fine g c = assumption
 
 pub returns-clause-fault : goal.returns-clause-fault
-returns-clause-fault g c = grind (arith, common_steps)
+returns-clause-fault g c = assumption

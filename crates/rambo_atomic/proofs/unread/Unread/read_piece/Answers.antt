@@ -3,7 +3,7 @@ use Rattle.std.proofs.Common.{arith}
 use Rattle.rambo_atomic.proofs.unread.Unread.read_piece.Goals as goal
 
 pub forget_front-requires : goal.forget_front-requires
-forget_front-requires g c = grind (arith, common_steps)
+forget_front-requires g c = assumption
 
 pub invariant_of-self : goal.invariant_of-self
 invariant_of-self g c = grind (arith, common_steps)
@@ -60,7 +60,7 @@ pub returns-then-lines-gt0-clause-fine : goal.returns-then-lines-gt0-clause-fine
 returns-then-lines-gt0-clause-fine g c = grind (arith, common_steps)
 
 pub returns-then-lines-gt0-clause-fault : goal.returns-then-lines-gt0-clause-fault
-returns-then-lines-gt0-clause-fault g c = grind (arith, common_steps)
+returns-then-lines-gt0-clause-fault g c = assumption
 
 pub returns-else-lines-gt0-clause-knows : goal.returns-else-lines-gt0-clause-knows
 returns-else-lines-gt0-clause-knows g c = grind (arith, common_steps)
@@ -78,4 +78,4 @@ pub returns-else-lines-gt0-clause-fine : goal.returns-else-lines-gt0-clause-fine
 returns-else-lines-gt0-clause-fine g c = grind (arith, common_steps)
 
 pub returns-else-lines-gt0-clause-fault : goal.returns-else-lines-gt0-clause-fault
-returns-else-lines-gt0-clause-fault g c = grind (arith, common_steps)
+returns-else-lines-gt0-clause-fault g c = assumption

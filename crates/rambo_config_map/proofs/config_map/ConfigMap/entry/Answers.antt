@@ -5,7 +5,7 @@ pub returns-then-place-self : goal.returns-then-place-self
 returns-then-place-self g c = grind arith
 
 pub overflow_sub-place : goal.overflow_sub-place
-overflow_sub-place g c = omega arith
+overflow_sub-place g c = assumption
 
 pub get-requires : goal.get-requires
 get-requires g c = omega arith

@@ -9,16 +9,16 @@ pub returns-then-len-eq-ACTIVE_LIMIT-clause-answer : goal.returns-then-len-eq-AC
 returns-then-len-eq-ACTIVE_LIMIT-clause-answer g c = grind (arith, common_steps)
 
 pub returns-then-len-eq-ACTIVE_LIMIT-clause-ok : goal.returns-then-len-eq-ACTIVE_LIMIT-clause-ok
-returns-then-len-eq-ACTIVE_LIMIT-clause-ok g c = grind (arith, common_steps)
+returns-then-len-eq-ACTIVE_LIMIT-clause-ok g c = assumption
 
 pub returns-then-len-eq-ACTIVE_LIMIT-clause-err : goal.returns-then-len-eq-ACTIVE_LIMIT-clause-err
-returns-then-len-eq-ACTIVE_LIMIT-clause-err g c = grind (arith, common_steps)
+returns-then-len-eq-ACTIVE_LIMIT-clause-err g c = assumption
 
 pub top-requires : goal.top-requires
 top-requires g c = assumption
 
 pub same-self-in_err-place : goal.same-self-in_err-place
-same-self-in_err-place g c = grind (arith, common_steps)
+same-self-in_err-place g c = assumption
 
 pub returns-in_err-place-clause-answer : goal.returns-in_err-place-clause-answer
 returns-in_err-place-clause-answer g c = grind arith
@@ -45,7 +45,7 @@ pub returns-clause-ok : goal.returns-clause-ok
 returns-clause-ok g c = grind (arith, common_steps)
 
 pub returns-clause-err : goal.returns-clause-err
-returns-clause-err g c = grind (arith, common_steps)
+returns-clause-err g c = assumption
 
 pub same-self : goal.same-self
-same-self g c = grind arith
+same-self g c = assumption

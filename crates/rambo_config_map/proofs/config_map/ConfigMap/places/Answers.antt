@@ -6,7 +6,7 @@ pub returns-clause-row : goal.returns-clause-row
 returns-clause-row g c = grind (arith, common_steps)
 
 pub returns-clause-inline : goal.returns-clause-inline
-returns-clause-inline g c = grind (arith, common_steps)
+returns-clause-inline g c = assumption
 
 pub returns-clause-not_empty : goal.returns-clause-not_empty
 returns-clause-not_empty g c = grind (arith, common_steps)

@@ -38,16 +38,16 @@ pub returns-then-is_empty-clause-ok : goal.returns-then-is_empty-clause-ok
 returns-then-is_empty-clause-ok g c = grind (arith, common_steps)
 
 pub returns-then-is_empty-clause-err : goal.returns-then-is_empty-clause-err
-returns-then-is_empty-clause-err g c = grind (arith, common_steps)
+returns-then-is_empty-clause-err g c = assumption
 
 pub returns-then-is_empty-clause-refused : goal.returns-then-is_empty-clause-refused
-returns-then-is_empty-clause-refused g c = grind (arith, common_steps)
+returns-then-is_empty-clause-refused g c = assumption
 
 pub returns-then-is_empty-clause-succeeds : goal.returns-then-is_empty-clause-succeeds
-returns-then-is_empty-clause-succeeds g c = grind (arith, common_steps)
+returns-then-is_empty-clause-succeeds g c = assumption
 
 pub returns-then-is_empty-clause-had_room : goal.returns-then-is_empty-clause-had_room
-returns-then-is_empty-clause-had_room g c = grind (arith, common_steps)
+returns-then-is_empty-clause-had_room g c = assumption
 
 pub returns-then-is_empty-clause-capacity : goal.returns-then-is_empty-clause-capacity
 returns-then-is_empty-clause-capacity g c = grind (arith, common_steps)
@@ -80,13 +80,13 @@ pub append_slots-requires : goal.append_slots-requires
 append_slots-requires g c = grind (arith, common_steps)
 
 pub returns-clause-err : goal.returns-clause-err
-returns-clause-err g c = grind (arith, common_steps)
+returns-clause-err g c = assumption
 
 pub returns-clause-refused : goal.returns-clause-refused
-returns-clause-refused g c = grind (arith, common_steps)
+returns-clause-refused g c = assumption
 
 pub returns-clause-succeeds : goal.returns-clause-succeeds
-returns-clause-succeeds g c = grind (arith, common_steps)
+returns-clause-succeeds g c = assumption
 
 pub returns-clause-had_room : goal.returns-clause-had_room
 returns-clause-had_room g c = grind (arith, common_steps)

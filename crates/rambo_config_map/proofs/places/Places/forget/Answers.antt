@@ -20,7 +20,7 @@ pub returns-then-count-eq0-clause-configs : goal.returns-then-count-eq0-clause-c
 returns-then-count-eq0-clause-configs g c = grind (arith, common_steps)
 
 pub returns-then-count-eq0-clause-capacity : goal.returns-then-count-eq0-clause-capacity
-returns-then-count-eq0-clause-capacity g c = grind (arith, common_steps)
+returns-then-count-eq0-clause-capacity g c = assumption
 
 pub as_mut_slice-slots-requires : goal.as_mut_slice-slots-requires
 as_mut_slice-slots-requires g c = grind (arith, common_steps)

@@ -6,7 +6,7 @@ pub as_slice-requires : goal.as_slice-requires
 as_slice-requires g c = grind (arith, common_steps)
 
 pub get-requires : goal.get-requires
-get-requires g c = grind (arith, common_steps)
+get-requires g c = assumption
 
 pub returns-in-Some : goal.returns-in-Some
 returns-in-Some g c = grind (arith, elements)

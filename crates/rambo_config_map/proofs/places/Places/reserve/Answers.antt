@@ -39,13 +39,13 @@ pub returns-clause-ok : goal.returns-clause-ok
 returns-clause-ok g c = grind (arith, common_steps)
 
 pub returns-clause-err : goal.returns-clause-err
-returns-clause-err g c = grind (arith, common_steps)
+returns-clause-err g c = assumption
 
 pub returns-clause-refused : goal.returns-clause-refused
-returns-clause-refused g c = grind (arith, common_steps)
+returns-clause-refused g c = assumption
 
 pub returns-clause-succeeds : goal.returns-clause-succeeds
-returns-clause-succeeds g c = grind (arith, common_steps)
+returns-clause-succeeds g c = assumption
 
 pub returns-clause-had_room : goal.returns-clause-had_room
 returns-clause-had_room g c = grind (arith, common_steps)

@@ -146,16 +146,16 @@ pub index-requires : goal.index-requires
 index-requires c = grind (arith, common_steps)
 
 pub list_lacked-requires-clause-empty : goal.list_lacked-requires-clause-empty
-list_lacked-requires-clause-empty c = grind (arith, common_steps)
+list_lacked-requires-clause-empty c = assumption
 
 pub list_lacked-requires-clause-node : goal.list_lacked-requires-clause-node
-list_lacked-requires-clause-node c = grind (arith, common_steps)
+list_lacked-requires-clause-node c = assumption
 
 pub list_lacked-requires-clause-hints : goal.list_lacked-requires-clause-hints
 list_lacked-requires-clause-hints c = grind (arith, common_steps)
 
 pub invariant_of-self : goal.invariant_of-self
-invariant_of-self c = grind (arith, common_steps)
+invariant_of-self c = assumption
 
 pub returns-in_err-list_lacked-clause-ok : goal.returns-in_err-list_lacked-clause-ok
 returns-in_err-list_lacked-clause-ok c = grind (arith, common_steps)
@@ -167,7 +167,7 @@ pub returns-in_err-list_lacked-clause-refused : goal.returns-in_err-list_lacked-
 returns-in_err-list_lacked-clause-refused c = grind (arith, common_steps)
 
 pub invariant_of-self-in_err-repack : goal.invariant_of-self-in_err-repack
-invariant_of-self-in_err-repack c = grind (arith, common_steps)
+invariant_of-self-in_err-repack c = assumption
 
 pub returns-in_err-repack-clause-ok : goal.returns-in_err-repack-clause-ok
 returns-in_err-repack-clause-ok c = grind (arith, common_steps)
@@ -188,10 +188,10 @@ pub returns-in_err-reserve-clause-refused : goal.returns-in_err-reserve-clause-r
 returns-in_err-reserve-clause-refused c = grind (arith, common_steps)
 
 pub returns-clause-idle : goal.returns-clause-idle
-returns-clause-idle c = grind (arith, common_steps)
+returns-clause-idle c = assumption
 
 pub returns-clause-err : goal.returns-clause-err
-returns-clause-err c = grind (arith, common_steps)
+returns-clause-err c = assumption
 
 pub returns-clause-refused : goal.returns-clause-refused
-returns-clause-refused c = grind (arith, common_steps)
+returns-clause-refused c = assumption

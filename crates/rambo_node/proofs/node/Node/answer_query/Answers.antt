@@ -1,4 +1,4 @@
-use Rattle.std.proofs.Common.{ap, ◌∙◌, rules}
+use Rattle.std.proofs.Common.{ap, ◌∙◌}
 use Rattle.rambo_node.specs.Changes.{copy_put}
 use Rattle.rambo_node.specs.Kept.{propagation_begun, copy_held, move_deed}
 use Rattle.rambo_node.specs.Refusals.{is_last}
@@ -7,7 +7,7 @@ use Rattle.rambo_node.proofs.Judged.{asked_next}
 use Rattle.rambo_node.proofs.node.Node.answer_query.Goals as goal
 
 pub propagate-requires : goal.propagate-requires
-propagate-requires g c = (search rules, ap (λ n. is_last n.number) c.in_ok-put.ensures.ok ∙ (asked_next c.args.self.now c.args.asked c.requires.next).0)
+propagate-requires g c = (assumption, ap (λ n. is_last n.number) c.in_ok-put.ensures.ok ∙ (asked_next c.args.self.now c.args.asked c.requires.next).0)
 
 pub returns-clause-node : goal.returns-clause-node
 returns-clause-node g c =

@@ -1,4 +1,5 @@
-use Rattle.std.proofs.Common.{◌≤◌, Some, None, Fits, w64, sym, ap, ◌∙◌, subst, rules, arith}
+use Rattle.rambo_node.proofs.Sizes.{up_fits, back_fits}
+use Rattle.std.proofs.Common.{◌≤◌, Some, None, Fits, w64, sym, ap, ◌∙◌, subst, arith}
 use Rattle.rambo_config_map.specs.Maps.{MapState, active_at, end_of, top_of, learnt}
 use Rattle.rambo_gc.specs.Collections.{has_quorum}
 use Rattle.rambo_node.specs.Changes.{bid_made}
@@ -12,7 +13,7 @@ use Rattle.rambo_node.proofs.node.Node.bid.Goals as goal
 
 pub go_on-requires : goal.go_on-requires
 go_on-requires g c =
-    (search rules, ap (λ n. has_quorum g.Q.Quorums.system (active_at n.map (top_of n.map)) c.args.attempt.repliers) c.self.view_is ∙ c.requires.met)
+    (back_fits _ _ _ (up_fits _ _ _ c.requires-raw.1.1.0), ap (λ n. has_quorum g.Q.Quorums.system (active_at n.map (top_of n.map)) c.args.attempt.repliers) c.self.view_is ∙ c.requires.met)
 
 abbrev bidding : {Q : Type 0} → AttemptState Q → VoteState Q → NodeState Q → NodeState Q
 bidding a v x = record x { attempt = Some a; vote = v }
@@ -32,9 +33,9 @@ learn-requires g c =
     let a = c.args.attempt in
     let fits = subst (AttemptFits m) (ap (λ n. n.attempt) c.self.view_is ∙ c.requires.held) c.self.invariant in
     let unknown : end_of m ≤ a.place = subst (λ n. end_of n.map ≤ a.place) (sym c.self.view_is) c.requires.unknown in
-    let within : Fits w64 c.place-place.result = search rules in
+    let within : Fits w64 c.place-place.result = assumption in
     let same = c.place-place.ensures in
-    (search rules, (fits.1 unknown, omega (arith, unknown, within, same)))
+    (back_fits _ _ _ (up_fits _ _ _ c.requires-raw.1.1.0), (fits.1 unknown, omega (arith, unknown, within, same)))
 
 pub returns-in-Propose-clause-node : goal.returns-in-Propose-clause-node
 unfolding attempt_moved

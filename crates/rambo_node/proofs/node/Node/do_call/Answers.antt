@@ -1,5 +1,5 @@
 use Rattle.std.proofs.lemmas.Grind.{common_steps}
-use Rattle.std.proofs.Common.{rules, arith}
+use Rattle.std.proofs.Common.{arith}
 use Rattle.rambo_node.proofs.Judged.{call_next}
 use Rattle.rambo_node.proofs.node.Node.do_call.Goals as goal
 
@@ -10,10 +10,10 @@ pub returns-clause-node : goal.returns-clause-node
 returns-clause-node g c = grind (arith, common_steps)
 
 pub returns-clause-refused : goal.returns-clause-refused
-returns-clause-refused g c = grind (arith, common_steps)
+returns-clause-refused g c = assumption
 
 pub returns-clause-err : goal.returns-clause-err
-returns-clause-err g c = grind (arith, common_steps)
+returns-clause-err g c = assumption
 
 pub returns-in_err-begin-clause-node : goal.returns-in_err-begin-clause-node
 returns-in_err-begin-clause-node g c = grind arith

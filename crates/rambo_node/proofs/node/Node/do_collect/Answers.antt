@@ -1,4 +1,5 @@
-use Rattle.std.proofs.Common.{◌+◌, Some, nat_le, length, ap, ◌∙◌, rules}
+use Rattle.rambo_node.proofs.Sizes.{up_fits, back_fits}
+use Rattle.std.proofs.Common.{◌+◌, Some, nat_le, length, ap, ◌∙◌}
 use Rattle.rambo_gc.specs.Collections.{CollectionState, opened}
 use Rattle.rambo_node.specs.Nodes.{NodeState}
 use Rattle.rambo_node.specs.Reconfigurations.{collection_opened}
@@ -14,7 +15,7 @@ overflow_add-self g c =
     next_small c.self.inside.number c.self.ranges.1.1.1.0.1 (ap (λ n. is_last n.number) c.self.view_is ∙ (collect_next c.args.self.now c.requires).1)
 
 pub collection_of-requires : goal.collection_of-requires
-collection_of-requires g c = (search rules, ap (λ n. nat_le (length n.map.configs) 1) c.self.view_is ∙ (collect_next c.args.self.now c.requires).0)
+collection_of-requires g c = (back_fits _ _ _ (up_fits _ _ _ c.requires-raw.1.1.0), ap (λ n. nat_le (length n.map.configs) 1) c.self.view_is ∙ (collect_next c.args.self.now c.requires).0)
 
 pub returns : goal.returns
 unfolding collection_opened

@@ -1,5 +1,5 @@
-use Rattle.std.proofs.lemmas.Grind.{common_steps}
-use Rattle.std.proofs.Common.{◌≡◌, Some, nat_le, arith, length, sym, ap, ◌∙◌, subst, rules}
+use Rattle.rambo_node.proofs.Sizes.{up_fits, back_fits, next}
+use Rattle.std.proofs.Common.{◌≡◌, Some, nat_le, arith, length, sym, ap, ◌∙◌, subst}
 use Rattle.rambo_config_map.specs.Maps.{top_of}
 use Rattle.rambo_config_map.specs.MapLaws.{top_below}
 use Rattle.rambo_bids.specs.Fitting.{AttemptFits}
@@ -14,7 +14,7 @@ overflow_add-place g c =
     let x = c.args.self.now in
     let own : c.top_of-place.result ≡ top_of c.self.inside.map = omega (arith, top_below c.self.inside.map, c.top_of-place.ensures.next) in
     let top = own ∙ ap (λ n. top_of n.map) c.self.view_is in
-    has_next c.top_of-place.result (search rules) (ap is_last top ∙ (recon_next x g.Q.Quorums.system c.args.wish c.requires).2)
+    has_next c.top_of-place.result (assumption) (ap is_last top ∙ (recon_next x g.Q.Quorums.system c.args.wish c.requires).2)
 
 pub attempt_of-requires : goal.attempt_of-requires
 attempt_of-requires g c = ap (λ n. is_spent n.vote) c.self.view_is ∙ (recon_next c.args.self.now g.Q.Quorums.system c.args.wish c.requires).1
@@ -26,4 +26,4 @@ invariant_of-self g c =
     (fits_opened m _ _ _ _ (sym c.top_of-place.ensures.next) (ap (λ n. nat_le 8 (length n.map.configs)) c.self.view_is ∙ (recon_next c.args.self.now g.Q.Quorums.system c.args.wish c.requires).0))
 
 pub top_of-place-requires : goal.top_of-place-requires
-top_of-place-requires g c = grind (arith, common_steps)
+top_of-place-requires g c = back_fits _ _ _ (up_fits _ _ _ c.requires-raw.1.1.0)

@@ -1,9 +1,8 @@
 use Rattle.std.proofs.lemmas.Grind.{common_steps}
-use Rattle.std.proofs.Common.{◌≡◌, sym, ap, ◌∙◌, subst, arith}
-use Rattle.std.specs.Option.{option_copied, option_map}
+use Rattle.std.proofs.Common.{sym, ap, ◌∙◌, subst, arith}
+use Rattle.std.specs.Option.{option_map}
 use Rattle.rambo_atomic.specs.declared.event.Event.TheVariants as event
 use Rattle.rambo_calls.specs.Calls.{find_call}
-use Rattle.rambo_calls.specs.Kept.{call_found}
 use Rattle.rambo_node.specs.Notes.{noted, MayStand, answer_due}
 use Rattle.rambo_node.proofs.Sizes.{up_fits, back_fits, next, variant_fits}
 use Rattle.rambo_node.proofs.node.Node.end.Goals as goal
@@ -31,13 +30,13 @@ returns-clause-event g c =
     (c.in_ok-answer.ensures.due ∙ ap answer_due (c.find-call.ensures ∙ ap (λ y. find_call c.args.id.number y.calls) c.self.view_is))
 
 pub same-self-in_err-put_mark : goal.same-self-in_err-put_mark
-same-self-in_err-put_mark g c = grind (arith, common_steps)
+same-self-in_err-put_mark g c = assumption
 
 pub put_answer-requires-clause-room : goal.put_answer-requires-clause-room
-put_answer-requires-clause-room g c = grind (arith, common_steps)
+put_answer-requires-clause-room g c = assumption
 
 pub invariant_of-self : goal.invariant_of-self
-invariant_of-self g c = grind (arith, common_steps)
+invariant_of-self g c = assumption
 
 pub returns-clause-node : goal.returns-clause-node
 returns-clause-node g c = grind (arith, common_steps)
@@ -46,13 +45,13 @@ pub returns-clause-mark : goal.returns-clause-mark
 returns-clause-mark g c = grind (arith, common_steps)
 
 pub returns-clause-refused : goal.returns-clause-refused
-returns-clause-refused g c = grind (arith, common_steps)
+returns-clause-refused g c = assumption
 
 pub returns-clause-err : goal.returns-clause-err
-returns-clause-err g c = grind (arith, common_steps)
+returns-clause-err g c = assumption
 
 pub same-self : goal.same-self
-same-self g c = grind arith
+same-self g c = assumption
 
 pub returns-in_err-put_mark-clause-err : goal.returns-in_err-put_mark-clause-err
 returns-in_err-put_mark-clause-err g c = grind arith

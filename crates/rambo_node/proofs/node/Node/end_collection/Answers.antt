@@ -1,4 +1,5 @@
-use Rattle.std.proofs.Common.{◌≡◌, None, false, rules, nat_le, nat_lt, length, if◌then◌else◌, sym, ap, ◌∙◌, subst}
+use Rattle.rambo_node.proofs.Sizes.{up_fits, back_fits}
+use Rattle.std.proofs.Common.{◌≡◌, None, false, nat_le, nat_lt, length, if◌then◌else◌, sym, ap, ◌∙◌, subst}
 use Rattle.rambo_config_map.specs.Maps.{without_lowest, MapState}
 use Rattle.rambo_gc.specs.Collections.{move_of}
 use Rattle.rambo_bids.specs.Fitting.{AttemptFits}
@@ -16,7 +17,7 @@ remove-requires g c =
     let p = c.place-place.result in
     let there : nat_lt p c.self.inside.map.floor ≡ false → nat_le (length c.self.inside.map.configs) 1 ≡ false = λ kept.
     has_next_place g.Q.Quorums.system c.self.inside.map c.args.collection.now met (sym (ap (λ q. nat_lt q c.self.inside.map.floor) c.place-place.ensures) ∙ kept) in
-    (search rules, there)
+    (back_fits _ _ _ (up_fits _ _ _ c.requires-raw.1.1.0), there)
 
 pub invariant_of-self : goal.invariant_of-self
 invariant_of-self g c =

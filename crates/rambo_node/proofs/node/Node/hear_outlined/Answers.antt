@@ -22,22 +22,22 @@ returns-in-Some-clause-node g c =
     c.merge.ensures.ok
 
 pub returns-in-None-clause-refused : goal.returns-in-None-clause-refused
-returns-in-None-clause-refused g c = grind (arith, common_steps)
+returns-in-None-clause-refused g c = assumption
 
 pub returns-in-None-clause-join : goal.returns-in-None-clause-join
-returns-in-None-clause-join g c = grind (arith, common_steps)
+returns-in-None-clause-join g c = assumption
 
 pub returns-in-None-clause-err : goal.returns-in-None-clause-err
-returns-in-None-clause-err g c = grind (arith, common_steps)
+returns-in-None-clause-err g c = assumption
 
 pub returns-in-Some-clause-refused : goal.returns-in-Some-clause-refused
-returns-in-Some-clause-refused g c = grind (arith, common_steps)
+returns-in-Some-clause-refused g c = assumption
 
 pub returns-in-Some-clause-join : goal.returns-in-Some-clause-join
 returns-in-Some-clause-join g c = grind (arith, common_steps)
 
 pub returns-in-Some-clause-err : goal.returns-in-Some-clause-err
-returns-in-Some-clause-err g c = grind (arith, common_steps)
+returns-in-Some-clause-err g c = assumption
 
 pub meet-requires : goal.meet-requires
 meet-requires g c = assumption

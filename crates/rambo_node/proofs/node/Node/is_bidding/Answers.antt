@@ -1,5 +1,5 @@
-use Rattle.std.proofs.lemmas.Grind.{common_steps}
-use Rattle.std.proofs.Common.{ap, ◌∙◌, arith}
+use Rattle.rambo_node.proofs.Sizes.{up_fits, back_fits}
+use Rattle.std.proofs.Common.{ap, ◌∙◌}
 use Rattle.rambo_config_map.specs.Maps.{end_of}
 use Rattle.rambo_bids.specs.Wishes.{is_for}
 use Rattle.rambo_node.proofs.node.Node.is_bidding.Goals as goal
@@ -8,4 +8,4 @@ pub returns : goal.returns
 returns g c = c.is_bidding.ensures ∙ ap (λ n. is_for (end_of n.map) n.attempt) c.self.view_is
 
 pub is_bidding-requires : goal.is_bidding-requires
-is_bidding-requires g c = grind (arith, common_steps)
+is_bidding-requires g c = back_fits _ _ _ (up_fits _ _ _ c.requires-raw.1.1)

@@ -1,5 +1,5 @@
-use Rattle.std.proofs.lemmas.Grind.{common_steps}
-use Rattle.std.proofs.Common.{◌≡◌, Some, None, OnOk, IfErr, subst, arith}
+use Rattle.rambo_node.proofs.Sizes.{up_fits, back_fits}
+use Rattle.std.proofs.Common.{◌≡◌, Some, None, OnOk, IfErr, subst}
 use Rattle.rambo_names.specs.Refusals.{least}
 use Rattle.rambo_bids.specs.Wishes.{wish_causes}
 use Rattle.rambo_node.proofs.node.Node.may_wish.Goals as goal
@@ -13,4 +13,4 @@ returns-clause-refused g c =
     subst (λ n. IfErr c.may_wish.result (λ r. least (wish_causes g.Q.Quorums.system n.name n.known n.map n.vote n.attempt c.args.wish.now) ≡ Some r)) c.self.view_is c.may_wish.ensures.refused
 
 pub may_wish-requires : goal.may_wish-requires
-may_wish-requires g c = grind (arith, common_steps)
+may_wish-requires g c = back_fits _ _ _ (up_fits _ _ _ c.requires-raw.1.1)

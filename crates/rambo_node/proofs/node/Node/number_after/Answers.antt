@@ -1,5 +1,5 @@
 use Rattle.rambo_node.proofs.Sizes.{up_fits, back_fits, next}
-use Rattle.std.proofs.Common.{Fits, w64, ap, ◌∙◌, subst, rules, ◌-◌, ◌^◌, min}
+use Rattle.std.proofs.Common.{Fits, w64, ap, ◌∙◌, subst, ◌-◌, ◌^◌, min}
 use Rattle.rambo_calls.specs.Hearing.{any_gap, number_after}
 use Rattle.rambo_node.proofs.Judged.{next_number}
 use Rattle.rambo_node.proofs.node.Node.number_after.Goals as goal
@@ -7,7 +7,7 @@ use Rattle.rambo_node.proofs.node.Node.number_after.Goals as goal
 pub returns : goal.returns
 returns g c next =
     let x = c.args.self.now in
-    let fits : Fits w64 c.self.inside.number = search rules in
+    let fits : Fits w64 c.self.inside.number = assumption in
     next_number (any_gap c.args.heard c.args.map.now x.calls) x.number c.number_after.result next (subst (λ m. Fits w64 m) (ap (λ n. n.number) c.self.view_is) fits)
     (c.number_after.ensures ∙ ap (λ n. min (number_after n.number c.args.heard c.args.map.now n.calls) (2 ^ 64 - 1)) c.self.view_is)
 

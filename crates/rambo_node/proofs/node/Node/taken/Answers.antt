@@ -1,4 +1,4 @@
-use Rattle.std.proofs.Common.{◌≡◌, ◌+◌, Some, Fits, w64, sym, ap, ◌∙◌, rules}
+use Rattle.std.proofs.Common.{◌≡◌, ◌+◌, Some, Fits, w64, sym, ap, ◌∙◌}
 use Rattle.std.proofs.lemmas.Result.{IfOk-weaker}
 use Rattle.std.specs.FinMap as map
 use Rattle.std.specs.Option.{option_copied}
@@ -16,7 +16,7 @@ returns-in_ok-clone-in-Set-clause-ok g c free =
     let key = c.in-Set.field-0 in
     let held : option_copied c.copy-held.result ≡ map.get x.registers key = c.copy-held.ensures ∙ ap (map.get _) (c.as_slice.ensures ∙ c.key.ensures ∙ ap key_of c.in-Set.is) ∙ ap (λ y. map.get y.registers key) c.self.view_is in
     let sequence : n ≡ (tag_of (map.get x.registers key)).sequence = c.sequence_of.ensures ∙ ap (λ v. (tag_of v).sequence) held in
-    let fits : Fits w64 n = search rules in
+    let fits : Fits w64 n = assumption in
     let next = next_of n c.saturating_add.result (ap is_last sequence ∙ sym (ap (tags_spent x) c.in-Set.is) ∙ free) fits c.saturating_add.ensures in
     (λ i. Some (record {
       tag = record { sequence = (next ∙ ap (λ m. m + 1) sequence) i; name = (c.self.view_is i).name };

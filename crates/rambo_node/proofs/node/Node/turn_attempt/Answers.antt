@@ -1,4 +1,4 @@
-use Rattle.std.proofs.Common.{◌≡◌, false, nat_lt, sym, ap, ◌∙◌, rules}
+use Rattle.std.proofs.Common.{◌≡◌, false, nat_lt, sym, ap, ◌∙◌}
 use Rattle.std.proofs.lemmas.Bool.{ltb-false}
 use Rattle.rambo_config_map.specs.Maps.{end_of}
 use Rattle.rambo_node.proofs.Judged.{bid_met}
@@ -10,7 +10,7 @@ bid-requires g c =
     let a = c.args.attempt in
     let unknown : nat_lt a.place (end_of x.map) ≡ false =
     sym (c.is_known.ensures ∙ ap (λ p. nat_lt p (end_of c.self.inside.map)) c.place.ensures ∙ ap (λ n. nat_lt a.place (end_of n.map)) c.self.view_is) ∙ c.if-is_known.false in
-    (search rules, (c.requires.held, (ltb-false a.place (end_of x.map) unknown, bid_met x g.Q.Quorums.system a c.requires.judged c.requires.held unknown)))
+    (assumption, (c.requires.held, (ltb-false a.place (end_of x.map) unknown, bid_met x g.Q.Quorums.system a c.requires.judged c.requires.held unknown)))
 
 pub end_attempt-requires : goal.end_attempt-requires
 end_attempt-requires g c = assumption

@@ -1,5 +1,5 @@
-use Rattle.std.proofs.lemmas.Grind.{common_steps}
-use Rattle.std.proofs.Common.{Some, sym, ap, ◌∙◌, rules, arith}
+use Rattle.rambo_node.proofs.Sizes.{up_fits, back_fits}
+use Rattle.std.proofs.Common.{Some, sym, ap, ◌∙◌}
 use Rattle.rambo_gc.specs.declared.gc_move.GcMove.TheVariants.{Propagating, Done}
 use Rattle.rambo_gc.specs.Collections.{move_of}
 use Rattle.rambo_node.specs.Changes.{collection_turned}
@@ -10,13 +10,13 @@ pub move_collection-requires : goal.move_collection-requires
 move_collection-requires g c =
     let s = g.Q.Quorums.system in
     let met = sym (c.would_advance.ensures ∙ ap (λ n. move_of s n.map c.args.collection) c.self.view_is) ∙ c.in-Some-Propagating.is ∙ ap Some c.in-Some-Propagating.field-0-is in
-    (search rules, (met, turn_next c.args.self.now s c.args.collection c.requires.judged c.requires.held met))
+    (assumption, (met, turn_next c.args.self.now s c.args.collection c.requires.judged c.requires.held met))
 
 pub end_collection-requires : goal.end_collection-requires
 end_collection-requires g c =
     let s = g.Q.Quorums.system in
     let met = sym (c.would_advance.ensures ∙ ap (λ n. move_of s n.map c.args.collection) c.self.view_is) ∙ c.in-Some-Done.is ∙ ap Some c.in-Some-Done.field-0-is in
-    (search rules, met)
+    (assumption, met)
 
 pub unreachable-requires : goal.unreachable-requires
 unreachable-requires g c =
@@ -53,16 +53,16 @@ returns-in-Some-Done-clause-deed g c =
     c.end_collection.ensures.deed ∙ sym (ap (λ v. (collection_turned x c.args.collection v).deed) (same_move s x.map c.args.collection Done met))
 
 pub would_advance-requires : goal.would_advance-requires
-would_advance-requires g c = grind (arith, common_steps)
+would_advance-requires g c = back_fits _ _ _ (up_fits _ _ _ c.requires-raw.1.1.0)
 
 pub same-self-in-Some-Done : goal.same-self-in-Some-Done
-same-self-in-Some-Done g c = grind (arith, common_steps)
+same-self-in-Some-Done g c = assumption
 
 pub same-self-in-None : goal.same-self-in-None
-same-self-in-None g c = grind (arith, common_steps)
+same-self-in-None g c = assumption
 
 pub unreachable-unreachable : goal.unreachable-unreachable
-unreachable-unreachable g c = grind (arith, common_steps)
+unreachable-unreachable g c = assumption
 
 pub same-self : goal.same-self
-same-self g c = grind arith
+same-self g c = assumption

@@ -27,10 +27,10 @@ pub returns-clause-ok : goal.returns-clause-ok
 returns-clause-ok g c = grind (arith, common_steps)
 
 pub returns-clause-refused : goal.returns-clause-refused
-returns-clause-refused g c = grind (arith, common_steps)
+returns-clause-refused g c = assumption
 
 pub returns-clause-succeeds : goal.returns-clause-succeeds
-returns-clause-succeeds g c = grind (arith, common_steps)
+returns-clause-succeeds g c = assumption
 
 pub returns-clause-room : goal.returns-clause-room
 returns-clause-room g c = grind (arith, common_steps)

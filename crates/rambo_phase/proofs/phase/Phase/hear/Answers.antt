@@ -51,19 +51,19 @@ pub returns-in_ok-extend-clause-ok : goal.returns-in_ok-extend-clause-ok
 returns-in_ok-extend-clause-ok g c = grind (arith, common_steps)
 
 pub returns-in_ok-extend-clause-answer : goal.returns-in_ok-extend-clause-answer
-returns-in_ok-extend-clause-answer g c = grind (arith, common_steps)
+returns-in_ok-extend-clause-answer g c = assumption
 
 pub returns-in_ok-extend-clause-no_reply : goal.returns-in_ok-extend-clause-no_reply
 returns-in_ok-extend-clause-no_reply g c = grind (arith, common_steps)
 
 pub returns-in_ok-extend-clause-err : goal.returns-in_ok-extend-clause-err
-returns-in_ok-extend-clause-err g c = grind (arith, common_steps)
+returns-in_ok-extend-clause-err g c = assumption
 
 pub returns-in_ok-extend-clause-refused : goal.returns-in_ok-extend-clause-refused
-returns-in_ok-extend-clause-refused g c = grind (arith, common_steps)
+returns-in_ok-extend-clause-refused g c = assumption
 
 pub returns-in_ok-extend-clause-succeeds : goal.returns-in_ok-extend-clause-succeeds
-returns-in_ok-extend-clause-succeeds g c = grind (arith, common_steps)
+returns-in_ok-extend-clause-succeeds g c = assumption
 
 pub returns-in_ok-extend-clause-had_room : goal.returns-in_ok-extend-clause-had_room
 returns-in_ok-extend-clause-had_room g c = grind (arith, common_steps)
@@ -78,22 +78,22 @@ pub returns-else-eq-clause-ok : goal.returns-else-eq-clause-ok
 returns-else-eq-clause-ok g c = grind (arith, common_steps)
 
 pub returns-else-eq-clause-answer : goal.returns-else-eq-clause-answer
-returns-else-eq-clause-answer g c = grind (arith, common_steps)
+returns-else-eq-clause-answer g c = assumption
 
 pub returns-else-eq-clause-no_reply : goal.returns-else-eq-clause-no_reply
-returns-else-eq-clause-no_reply g c = grind (arith, common_steps)
+returns-else-eq-clause-no_reply g c = assumption
 
 pub returns-else-eq-clause-err : goal.returns-else-eq-clause-err
-returns-else-eq-clause-err g c = grind (arith, common_steps)
+returns-else-eq-clause-err g c = assumption
 
 pub returns-else-eq-clause-refused : goal.returns-else-eq-clause-refused
-returns-else-eq-clause-refused g c = grind (arith, common_steps)
+returns-else-eq-clause-refused g c = assumption
 
 pub returns-else-eq-clause-succeeds : goal.returns-else-eq-clause-succeeds
-returns-else-eq-clause-succeeds g c = grind (arith, common_steps)
+returns-else-eq-clause-succeeds g c = assumption
 
 pub returns-else-eq-clause-had_room : goal.returns-else-eq-clause-had_room
-returns-else-eq-clause-had_room g c = grind (arith, common_steps)
+returns-else-eq-clause-had_room g c = assumption
 
 pub returns-else-eq-clause-eight : goal.returns-else-eq-clause-eight
 returns-else-eq-clause-eight g c = grind (arith, common_steps)

@@ -27,7 +27,7 @@ pub returns-clause-err : goal.returns-clause-err
 returns-clause-err g c = grind (arith, common_steps)
 
 pub returns-clause-refused : goal.returns-clause-refused
-returns-clause-refused g c = grind (arith, common_steps)
+returns-clause-refused g c = assumption
 
 pub returns-clause-succeeds : goal.returns-clause-succeeds
 returns-clause-succeeds g c = grind (arith, common_steps)

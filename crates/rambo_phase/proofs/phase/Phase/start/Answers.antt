@@ -18,4 +18,4 @@ pub returns-clause-state : goal.returns-clause-state
 returns-clause-state g c = grind (arith, common_steps)
 
 pub returns-clause-inline : goal.returns-clause-inline
-returns-clause-inline g c = grind (arith, common_steps)
+returns-clause-inline g c = assumption

@@ -1,3 +1,5 @@
+use Rattle.std.proofs.lemmas.List.{length-set}
+use Rattle.rambo_node.proofs.Errors.{err_kept, err_ok, err_if_ok}
 use Rattle.std.proofs.Common.{◌≡◌, ◌<◌, ◌∙◌, length, None, Some, slice_set, sym, ap, subst}
 use Rattle.rambo_names.specs.Refusals.{least}
 use Rattle.rambo_node.specs.Changes.{made_by}
@@ -7,7 +9,6 @@ use Rattle.rambo_letters.proofs.Sizes.{up_fits, back_fits}
 use Rattle.rambo_letters.proofs.Lists.{some_is, on_err_all}
 use Rattle.rambo_world.proofs.Zipping.{node_here, put_node, node_unchanged, node_grows}
 use Rattle.rambo_world.proofs.Logging.{made_name, kept_copies}
-use Rattle.rambo_world.proofs.Errors.{err_kept}
 use Rattle.rambo_world.proofs.nodes.Nodes.act.Goals as goal
 
 pub act-requires : goal.act-requires
@@ -70,3 +71,15 @@ returns-in_err-deed-clause-grow g c =
 
 pub returns-in_err-deed-clause-refused : goal.returns-in_err-deed-clause-refused
 returns-in_err-deed-clause-refused g c = err_kept c.from_residual.result _ _ c.from_residual.ensures.1 c.in_err-deed.ensures.refused
+
+pub invariant_of-self : goal.invariant_of-self
+invariant_of-self g c = (length-set c.self.inside.list.items c.place_of.result c.act.new.self ∙ c.self.invariant.0, c.self.invariant.1)
+
+pub invariant_of-self-2 : goal.invariant_of-self-2
+invariant_of-self-2 g c = (length-set c.self.inside.list.items c.place_of.result c.act.new.self ∙ c.self.invariant.0, c.self.invariant.1)
+
+pub returns-in_err-deed-clause-nodes : goal.returns-in_err-deed-clause-nodes
+returns-in_err-deed-clause-nodes g c = err_ok c.from_residual.result _ _ c.from_residual.ensures.1
+
+pub returns-in_err-deed-clause-deed : goal.returns-in_err-deed-clause-deed
+returns-in_err-deed-clause-deed g c = err_if_ok c.from_residual.result _ _ c.from_residual.ensures.1

@@ -1,3 +1,5 @@
+use Rattle.std.proofs.lemmas.List.{length-set}
+use Rattle.rambo_node.proofs.Errors.{err_kept, err_ok, err_if_ok}
 use Rattle.std.proofs.Common.{◌≡◌, ◌<◌, ◌∙◌, ◌+◌, length, None, Some, slice_set, sym, ap, subst}
 use Rattle.rambo_names.specs.Refusals.{least}
 use Rattle.rambo_node.specs.Changes.{made_by}
@@ -9,7 +11,6 @@ use Rattle.rambo_world.proofs.Zipping.{node_here, put_node, node_unchanged, node
 use Rattle.rambo_node.specs.Operations.{called}
 use Rattle.rambo_node.specs.declared.change.Change.TheVariants as change
 use Rattle.rambo_world.proofs.Logging.{made_name}
-use Rattle.rambo_world.proofs.Errors.{err_kept}
 use Rattle.rambo_world.proofs.nodes.Nodes.begin.Goals as goal
 
 pub begin-requires : goal.begin-requires
@@ -73,3 +74,15 @@ returns-in_err-id-clause-grow g c =
 
 pub returns-in_err-id-clause-refused : goal.returns-in_err-id-clause-refused
 returns-in_err-id-clause-refused g c = err_kept c.from_residual.result _ _ c.from_residual.ensures.1 c.in_err-id.ensures.refused
+
+pub invariant_of-self : goal.invariant_of-self
+invariant_of-self g c = (length-set c.self.inside.list.items c.place_of.result c.begin.new.self ∙ c.self.invariant.0, c.self.invariant.1)
+
+pub invariant_of-self-2 : goal.invariant_of-self-2
+invariant_of-self-2 g c = (length-set c.self.inside.list.items c.place_of.result c.begin.new.self ∙ c.self.invariant.0, c.self.invariant.1)
+
+pub returns-in_err-id-clause-nodes : goal.returns-in_err-id-clause-nodes
+returns-in_err-id-clause-nodes g c = err_ok c.from_residual.result _ _ c.from_residual.ensures.1
+
+pub returns-in_err-id-clause-id : goal.returns-in_err-id-clause-id
+returns-in_err-id-clause-id g c = err_if_ok c.from_residual.result _ _ c.from_residual.ensures.1
