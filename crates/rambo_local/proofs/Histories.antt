@@ -5,7 +5,6 @@ use Rattle.rambo_names.specs.Quorums.{majorities}
 use Rattle.rambo_atomic.specs.declared.operation.Op.{Op}
 use Rattle.rambo_atomic.specs.declared.operation.Answer.{Answer}
 use Rattle.rambo_atomic.specs.declared.event.CallId.{CallId}
-use Rattle.rambo_atomic.specs.declared.event.Event.{Event}
 use Rattle.rambo_atomic.specs.declared.event.Event.TheVariants as event
 use Rattle.rambo_node.specs.declared.effect.Effect.{Effect}
 use Rattle.rambo_node.specs.declared.effect.Effect.TheVariants as effect
@@ -18,7 +17,7 @@ use Rattle.rambo_world.specs.Worlds.{WorldOf, state}
 use Rattle.rambo_client.proofs.RunSteps.{run-more}
 use Rattle.rambo_client.specs.Calls.{id_at, IsOfRun}
 use Rattle.rambo_local.specs.Clusters.{history_of}
-use Rattle.rambo_local.proofs.Turns.{answered_by, send_quiet, deliver_quiet, call_told, uncalled_told, advance_told}
+use Rattle.rambo_direct.proofs.Turns.{answered_by, send_quiet, deliver_quiet, call_told, uncalled_told, advance_told}
 use Rattle.rambo_client.proofs.WellFormed.{no_history}
 
 -- a step that wasn't refused

@@ -1,3 +1,1 @@
-pub mod Turns
-pub mod Histories
-pub mod Directs
+mod Histories

@@ -1,14 +1,10 @@
--- The histories of the nodes that a client asks
+-- The history of the nodes that a client asks
 use Rattle.std.specs.Prelude.{List}
 use Rattle.rambo_atomic.specs.declared.event.Event.{Event}
 use Rattle.rambo_names.specs.Names.{NameSet}
 use Rattle.rambo_names.specs.Quorums.{majorities}
-use Rattle.rambo_world.specs.Worlds.{RunningOf, WorldOf, state}
+use Rattle.rambo_world.specs.Worlds.{WorldOf, state}
 
 -- the history of a world over majorities
 abbrev pub history_of : WorldOf NameSet → List Event
 history_of w = (state majorities w).history
-
--- and of one that goes on with no letters
-abbrev pub direct_history : RunningOf NameSet → List Event
-direct_history d = d.state.history

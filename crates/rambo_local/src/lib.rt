@@ -1,6 +1,6 @@
 //! One client of a whole store in one process: its commands are read, and answered by the node that it asks.
 //!
-//! - `local`: serves a client on nodes of its own.
+//! - `local`, which `rambo_direct` defines: serves a client on nodes of its own.
 //! - `local_on`: the same on a world just made, which then tells its history.
 //! - `Host`: the worlds that `local_on` is lent.
 //! - `LocalFault`: why a client wasn't served to the end.
@@ -12,4 +12,5 @@ mod serving;
 
 pub use cluster::Host;
 pub use rambo_client::LocalFault;
-pub use serving::{local, local_on};
+pub use rambo_direct::local;
+pub use serving::local_on;

@@ -1,62 +1,21 @@
-//! Serving a client.
-ghost use Rattle.std.specs.Prelude.{◌≡◌, ◌≤◌, [], IfOk, IfErr, OnOk, OnErr};
+//! Serving a client of a world.
+ghost use Rattle.std.specs.Prelude.{◌≡◌, ◌≤◌, [], IfErr, OnOk, OnErr};
 ghost use Rattle.rambo_names.specs.Names.{count_of};
 ghost use Rattle.rambo_client.specs.Calls.{lowest};
 ghost use Rattle.rambo_client.specs.Faults.{reads_failed, writes_failed};
-ghost use Rattle.rambo_client.specs.Talks.{Served, Stopped, ServesAt, StopsAt};
-ghost use Rattle.rambo_local.specs.Clusters.{direct_history, history_of};
+ghost use Rattle.rambo_client.specs.Talks.{ServesAt, StopsAt};
+ghost use Rattle.rambo_local.specs.Clusters.{history_of};
 
-use crate::cluster::{Host, Local};
+use crate::cluster::Host;
 use crate::founding::founders_of;
 use rambo_atomic::{Sink, Source};
 use rambo_client::{Client, LocalFault, serve};
-use rambo_names::{Majority, Quorums, Refusal};
-use rambo_tag::Registers;
 use std::alloc::Global;
-use std::hash::{BuildHasherDefault, FoldHasher};
 
-/// Serves one client of a store of its own: the commands that a source gives, in RESP2, are answered into a sink.
+/// Serves one client, as `local` does, of the nodes of a world just made.
 ///
-/// `PING` answers `PONG`, or its word; `GET` the value of a key, or nil; `SET` sets a key to a value. What is written is
-/// what an ordinary map replies, and behind a fault of the input the reply to it, after which no more is read. A
-/// command that the end of the input cuts short is not answered. Those that are whole are answered before more is read.
-///
-/// `Read` and `Write` where a call of that stream fails; `Memory` where there is no room for what is to be kept. Then a
-/// beginning of the replies was written.
-pub fn local<R: Source, W: Sink>(
-    alloc: Global,
-    founders: Majority,
-    reader: &mut R,
-    writer: &mut W,
-) -> Result<(), LocalFault>
-    requires { 1 ≤ count_of founders }
-    ensures ok { OnOk result (Served (R.left reader.old) (R.left reader.new) (W.taken writer.old) (W.taken writer.new)) }
-    ensures err { OnErr result (Stopped (R.left reader.old) (R.left reader.new) (W.taken writer.old) (W.taken writer.new)) }
-    ensures fine_reader { OnOk result (R.failures reader.new ≡ R.failures reader.old) }
-    ensures fine_writer { OnOk result (W.failures writer.new ≡ W.failures writer.old) }
-    ensures reads { IfErr result (λ f. R.failures reader.new ≡ reads_failed f (R.failures reader.old)) }
-    ensures writes { IfErr result (λ f. W.failures writer.new ≡ writes_failed f (W.failures writer.old)) }
-{
-    let Some(client) = Client::new(founders.members()) else {
-        return Err(LocalFault::Memory);
-    };
-    let mut cluster = nodes_of(alloc, founders)?;
-    serve(&client, alloc, &mut cluster, reader, writer)
-}
-
-// The nodes of these founders, before any call.
-// (a function of its own: where a run is made and dropped in one, the prover follows each piece of it on each way)
-fn nodes_of(alloc: Global, founders: Majority) -> Result<Local, Refusal>
-    requires { 1 ≤ count_of founders }
-    ensures { IfOk result (λ nodes. direct_history nodes ≡ []) }
-{
-    let registers = Registers::new(alloc, BuildHasherDefault::<FoldHasher>::new());
-    Local::new(alloc, founders, &registers)
-}
-
-/// The same on a world just made, whose history is then that of the calls: of each `GET` and `SET` that isn't refused
-/// its call at the lowest founder, and its answer. For each phase the lowest founder exchanges letters with each other
-/// founder.
+/// The world's history is then that of the calls: of each `GET` and `SET` that isn't refused its call at the lowest
+/// founder, and its answer. For each phase the lowest founder exchanges letters with each other founder.
 ///
 /// After a fault the history is a beginning of that.
 pub fn local_on<R: Source, W: Sink>(

@@ -7,7 +7,8 @@ use Rattle.clap.specs.declared.error.Error.{Error}
 use Rattle.clap.specs.declared.error.kind.ErrorKind.TheVariants.{OutOfMemory}
 use Rattle.rambo_text.specs.declared.fault.ReplayFault.TheVariants.{Memory}
 use Rattle.rambo_command_line.specs.Lines.{rambo}
-use Rattle.rambo_main.specs.Statuses.{AnswersTo, EndsAs, EndsBy, GivesUp, IsFine, Stream}
+use Rattle.rambo_telling.specs.Telling.{EndsAs, GivesUp, IsFine, Stream}
+use Rattle.rambo_main.specs.Statuses.{AnswersTo, EndsBy}
 
 pub answered : (words : List Text) (e : Error) (status : ℕ) (write told : Stream) → HasKind (fault_of rambo words) e
     → (kind_of e ≡ OutOfMemory → GivesUp status write told) → GivesUp status write told ⊎ EndsAs (kind_of e) status write told → AnswersTo words status write told

@@ -1,3 +1,1 @@
 mod Answered
-mod Told
-mod Untouched

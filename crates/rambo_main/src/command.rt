@@ -2,15 +2,18 @@
 ghost use Rattle.std.specs.Prelude.{◌≡◌, ◌≤◌, ◌⊎◌, map};
 ghost use Rattle.rambo_names.specs.Names.{count_of};
 ghost use Rattle.rambo_command_line.specs.Lines.{Asks, AsksLocal};
-ghost use Rattle.rambo_main.specs.Statuses.{AnswersTo, ChecksTo, LocalTo, ReplaysTo, ServesTo, of_local, stream};
+ghost use Rattle.rambo_telling.specs.Telling.{stream};
+ghost use Rattle.rambo_main.specs.Statuses.{AnswersTo, ChecksTo, LocalTo, ReplaysTo, ServesTo, of_local};
 ghost use Rattle.rambo_command_line.specs.declared.line.Task.{Task as AnyTask};
 
-use crate::telling::{DONE, answer, tell, tell_bad_founders};
 use rambo_atomic::{Sink, Source};
+use rambo_client::LocalFault;
 use rambo_command_line::{Task, task_of};
-use rambo_local::{LocalFault, local};
+use rambo_direct::local;
 use rambo_names::{Majority, Members};
-use rambo_script::{check_text, replay};
+use rambo_outcome::check_text;
+use rambo_replay::replay;
+use rambo_telling::{DONE, answer, tell, tell_bad_founders};
 use rambo_text::ReplayFault;
 use std::alloc::Global;
 use std::convert::AsStr;

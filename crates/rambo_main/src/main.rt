@@ -3,15 +3,14 @@
 #![tactic(auto)]
 
 mod command;
-mod telling;
 
 use command::command;
 use rambo_atomic::Wrapped;
+use rambo_telling::{tell, tell_no_text};
 use rambo_text::ReplayFault;
 use std::io;
 use std::io::ErrorKind;
 use std::process::ExitCode;
-use telling::{tell, tell_no_text};
 
 fn main(rt: HostRuntime) -> ExitCode {
     let mut errors = Wrapped::new(rt.stderr());

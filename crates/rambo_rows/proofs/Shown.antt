@@ -3,7 +3,7 @@ use Rattle.std.proofs.Common.{◌≡◌, ◌++◌, ℕ, List, Bool, inl, inr}
 use Rattle.std.specs.Prelude.{Result, Ok, Err, IfOk, IsTrue, codes}
 use Rattle.rambo_names.specs.Names.{NameSet}
 use Rattle.rambo_names.specs.Signs.{set_text}
-use Rattle.rambo_script.specs.Replays.{IsReplay}
+use Rattle.rambo_steps.specs.Replays.{IsReplay}
 use Rattle.rambo_rows.specs.Rows.{IsServed, Shows}
 
 -- a replay

@@ -4,7 +4,7 @@ use Rattle.rambo_names.specs.Names.{NameSet}
 use Rattle.rambo_names.specs.Signs.{set_text}
 use Rattle.rambo_client.specs.Talks.{Served}
 use Rattle.rambo_check.specs.Checks.{IsChecked}
-use Rattle.rambo_script.specs.Replays.{IsReplay}
+use Rattle.rambo_steps.specs.Replays.{IsReplay}
 
 -- of a client that sent an input, or more than was read of it behind a fault, this is all that was replied
 abbrev pub IsServed : List ℕ → List ℕ → Type 0

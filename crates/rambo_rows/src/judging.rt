@@ -5,7 +5,7 @@ ghost use Rattle.rambo_names.specs.Signs.{set_text};
 ghost use Rattle.rambo_client.specs.Talks.{Served};
 ghost use Rattle.rambo_check.specs.Checks.{IsChecked};
 ghost use Rattle.rambo_rows.specs.Rows.{IsServed, Shows};
-ghost use Rattle.rambo_script.specs.Replays.{IsReplay, Replays};
+ghost use Rattle.rambo_steps.specs.Replays.{IsReplay, Replays};
 
 use crate::row::{LOCAL, Row};
 use rambo_atomic::{Sink, Source, Tape};

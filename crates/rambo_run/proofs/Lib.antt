@@ -30,6 +30,7 @@ pub mod Sequence
 pub mod Moments
 pub mod NodeLists
 pub mod EveryRun
+pub mod Runs
 pub mod FreshReplies
 pub mod CollectionClaims
 pub mod Effects

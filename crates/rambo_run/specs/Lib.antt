@@ -4,3 +4,5 @@ pub mod Runs
 pub mod Journals
 pub mod Claims
 pub mod Configurations
+pub mod Ongoing
+pub mod Told

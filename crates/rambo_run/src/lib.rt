@@ -3,6 +3,7 @@
 
 mod laws;
 mod outcome;
+mod run;
 mod step;
 
 pub use laws::{
@@ -12,4 +13,5 @@ pub use laws::{
     told_collections_are_whole,
 };
 pub use outcome::{NodeMap, Outcome};
+pub use run::Run;
 pub use step::Step;

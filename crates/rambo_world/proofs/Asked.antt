@@ -1,5 +1,5 @@
 -- What a call asks, as a node tells it: a set of this key, or no set
-use Rattle.std.proofs.Common.{◌≡◌, Bool, true, false, List, ℕ, [], Option, None, Some, sym, ap, subst, ◌∙◌}
+use Rattle.std.proofs.Common.{◌≡◌, Bool, true, false, List, ℕ, [], Option, None, Some, ap, subst, ◌∙◌}
 use Rattle.std.proofs.lemmas.Bool.{false≢true}
 use Rattle.rambo_atomic.specs.declared.operation.Op.{Op}
 use Rattle.rambo_atomic.specs.declared.operation.Op.TheVariants as op

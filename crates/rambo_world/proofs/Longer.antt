@@ -17,19 +17,12 @@ use Rattle.rambo_run.specs.Worlds.{WorldState, first_world}
 use Rattle.rambo_run.specs.Steps.{Turn, refusal, turn}
 use Rattle.rambo_sequence.specs.Sequences.{SequenceOf}
 use Rattle.rambo_run.specs.Runs.{MapOf, maps_of, after, unless_refused, run_from, run, result_of, results_from, outcome_at, outcome_of, OutcomeState}
+use Rattle.rambo_run.proofs.Runs.{run_from-more}
 use Rattle.rambo_run.proofs.Fitting.{events_fit}
 use Rattle.rambo_run.proofs.EveryRun.{is_atomic}
-use Rattle.rambo_world.specs.Worlds.{EventsFit, AreAccepted, RunningOf}
+use Rattle.rambo_run.specs.Ongoing.{RunningOf}
+use Rattle.rambo_world.specs.Worlds.{EventsFit, AreAccepted}
 use Rattle.rambo_letters.proofs.Lists.{some_is}
-
-pub run_from-more : {Q : Type 0} (s : QuorumSystem Q) (w : WorldState Q) (sts : List (Step Q)) (st : Step Q) → run_from s w (sts ++ st ∷ []) ≡ after s (run_from s w sts) st
-unfolding run_from
-run_from-more s w [] st = refl
-run_from-more s w (x ∷ sts) st = run_from-more s (after s w x) sts st
-
-pub run_from-none : {Q : Type 0} (s : QuorumSystem Q) (w : WorldState Q) → run_from s w [] ≡ w
-unfolding run_from
-run_from-none s w = refl
 
 pub results_from-none : {Q : Type 0} (s : QuorumSystem Q) (w : WorldState Q) → results_from s w [] ≡ []
 unfolding results_from

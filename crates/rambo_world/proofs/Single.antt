@@ -18,8 +18,8 @@ use Rattle.rambo_run.specs.declared.step.Step.TheVariants as step
 use Rattle.rambo_run.specs.Runs.{after, result_of}
 use Rattle.rambo_run.specs.Steps.{Turn, causes_at, refusal, turn, turn_at, turn_by}
 use Rattle.rambo_run.specs.Worlds.{WorldState, node_at}
-use Rattle.rambo_world.specs.Told.{went_on}
-use Rattle.rambo_world.specs.Worlds.{RunningOf}
+use Rattle.rambo_run.specs.Told.{went_on}
+use Rattle.rambo_run.specs.Ongoing.{RunningOf}
 use Rattle.rambo_world.proofs.Longer.{after-taken, after-refused}
 use Rattle.rambo_world.proofs.Turns.{there, step_refusal, step_turn}
 

@@ -2,5 +2,4 @@ pub mod Kept
 pub mod Logging
 pub mod Worlds
 pub mod Deliveries
-pub mod Told
 pub mod Direct

@@ -14,25 +14,11 @@ use Rattle.rambo_run.specs.declared.step.Step.{Step}
 use Rattle.rambo_run.specs.Worlds.{WorldState, node_at}
 use Rattle.rambo_run.specs.Steps.{refusal, turn}
 use Rattle.rambo_run.specs.Runs.{run}
-use Rattle.rambo_run.specs.Claims.{Agrees}
 
 -- founders, and the accepted steps
 pub record WorldOf (Q : Type 0) : Type 0 where
   pub founders : Q
   pub steps : List (Step Q)
-
--- founders, and the world that some steps made of theirs
-pub record RunningOf (Q : Type 0) : Type 0 where
-  pub founders : Q
-  pub state : WorldState Q
-
--- some steps lead from the world of the founders to this one
-abbrev pub IsReached : {Q : Type 0} → QuorumSystem Q → Q → WorldState Q → Type 0
-IsReached {Q} s founders w = (steps : List (Step Q)) × (w ≡ run s founders steps)
-
--- and, whichever steps lead there, while they are taken no two nodes hold different configurations at one place
-abbrev pub AgreesSoFar : {Q : Type 0} → QuorumSystem Q → Q → WorldState Q → Type 0
-AgreesSoFar {Q} s founders w = IsReached s founders w × ((steps : List (Step Q)) → w ≡ run s founders steps → Agrees s founders steps)
 
 -- the state that they make
 abbrev pub state : {Q : Type 0} → QuorumSystem Q → WorldOf Q → WorldState Q

@@ -5,7 +5,7 @@ ghost use Rattle.rambo_run.specs.Runs.{after, result_of};
 ghost use Rattle.rambo_run.specs.Steps.{refusal};
 ghost use Rattle.rambo_run.specs.Worlds.{first_world};
 ghost use Rattle.rambo_run.specs.declared.step.Step.TheVariants as step;
-ghost use Rattle.rambo_world.specs.Told.{called, advanced};
+ghost use Rattle.rambo_run.specs.Told.{called, advanced};
 ghost use Rattle.rambo_world.specs.Worlds.{founding_causes};
 ghost use Rattle.rambo_world.specs.Direct.{passed, pass_refusal, told_refusal, IsReachedBarLetters};
 
@@ -31,7 +31,7 @@ impl<Q: Quorums, S: Replica> Model for Direct<Q, S> {
     ghost use Rattle.std.specs.Coded.{codes};
     ghost use Rattle.rambo_names.specs.Names.{names_code};
     ghost use Rattle.rambo_tag.specs.Copies.{copies_code};
-    ghost use Rattle.rambo_world.specs.Worlds.{RunningOf};
+    ghost use Rattle.rambo_run.specs.Ongoing.{RunningOf};
     ghost use Rattle.rambo_world.specs.Direct.{IsReachedBarLetters};
 
     ghost Value = { RunningOf Q };

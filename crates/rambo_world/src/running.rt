@@ -1,15 +1,13 @@
 //! Runs that go on.
-ghost use Rattle.std.specs.Prelude.{◌≡◌, List, ℕ, None, IfOk, IfErr, OnOk, OnErr};
+ghost use Rattle.std.specs.Prelude.{◌≡◌, List, ℕ, None, IfOk, IfErr, OnOk};
 ghost use Rattle.rambo_names.specs.Refusals.{least, IsRefusal};
 ghost use Rattle.rambo_atomic.specs.Proper.{IsProper};
-ghost use Rattle.rambo_sequence.specs.Sequences.{sequences_of, sequence_in};
-ghost use Rattle.rambo_run.specs.Runs.{after, result_of, results_from, run_from, maps_of, outcome_at};
-ghost use Rattle.rambo_run.specs.Steps.{refusal};
+ghost use Rattle.rambo_sequence.specs.Sequences.{sequence_in};
+ghost use Rattle.rambo_run.specs.Runs.{results_from, run_from, outcome_at};
 ghost use Rattle.rambo_run.specs.Worlds.{first_world};
-ghost use Rattle.rambo_run.specs.declared.step.Step.TheVariants as step;
 ghost use Rattle.rambo_node.specs.Changes.{answer_in};
-ghost use Rattle.rambo_world.specs.Told.{sent, called, delivered, advanced};
-ghost use Rattle.rambo_world.specs.Worlds.{founding_causes, AgreesSoFar};
+ghost use Rattle.rambo_run.specs.Ongoing.{AgreesSoFar};
+ghost use Rattle.rambo_world.specs.Worlds.{founding_causes};
 
 use crate::runs::outcome;
 use crate::state::State;
@@ -17,7 +15,7 @@ use crate::world::may_found;
 use rambo_atomic::{Answer, CallId, History, Op};
 use rambo_names::{Name, Quorums, Refusal};
 use rambo_node::Effect;
-use rambo_run::{NodeMap, Outcome, Step};
+use rambo_run::{NodeMap, Outcome, Run, Step};
 use rambo_sequence::KeySequence;
 use rambo_tag::Replica;
 use std::alloc::Global;
@@ -34,7 +32,7 @@ impl<Q: Quorums, S: Replica> Model for Running<Q, S> {
     ghost use Rattle.std.specs.Coded.{codes};
     ghost use Rattle.rambo_names.specs.Names.{names_code};
     ghost use Rattle.rambo_tag.specs.Copies.{copies_code};
-    ghost use Rattle.rambo_world.specs.Worlds.{RunningOf, IsReached};
+    ghost use Rattle.rambo_run.specs.Ongoing.{RunningOf, IsReached};
 
     ghost Value = { RunningOf Q };
 
@@ -61,87 +59,6 @@ impl<Q: Quorums, S: Replica> Running<Q, S> {
         })
     }
 
-    /// Takes a step: what it did, or why it was refused, after which the run goes on.
-    ///
-    /// `OutOfMemory` where there is no room for what it does; then nothing changes. A refusal needs no room.
-    pub fn take(&mut self, step: &Step<Q>) -> Result<Result<Effect<Q>, Refusal>, Refusal>
-        ensures told { IfOk result (λ r. r ≡ result_of (refusal Q.system self.old.state step.now) self.old.state step.now) }
-        ensures after { OnOk result (self.new ≡ record self.old { state = after Q.system self.old.state step.now }) }
-        ensures accepted { OnErr result (refusal Q.system self.old.state step.now ≡ None) }
-        ensures err { OnErr result (self.new ≡ self.old) }
-        ensures refused { IfErr result (λ r. r ≡ Refusal.OutOfMemory) }
-    {
-        self.state.take(step)
-    }
-
-    /// A node sends a letter to another: the number of the letter, or why that was refused, after which the run goes on.
-    ///
-    /// `OutOfMemory` where there is no room for the letter; then nothing changes. A refusal needs no room.
-    pub fn send(&mut self, from: Name, to: Name) -> Result<Result<u64, Refusal>, Refusal>
-        ensures told { IfOk result (λ r. sent r ≡ result_of (refusal Q.system self.old.state (step.Send from to)) self.old.state (step.Send from to)) }
-        ensures after { OnOk result (self.new ≡ record self.old { state = after Q.system self.old.state (step.Send from to) }) }
-        ensures accepted { OnErr result (refusal Q.system self.old.state (step.Send from to) ≡ None) }
-        ensures err { OnErr result (self.new ≡ self.old) }
-        ensures refused { IfErr result (λ r. r ≡ Refusal.OutOfMemory) }
-    {
-        if let Err(refusal) = self.state.nodes.node(from).may_send(to) {
-            return Ok(Err(refusal));
-        }
-        let number = self.state.send(from, to)?;
-        Ok(Ok(number))
-    }
-
-    /// The letter of a number comes to its addressee, or why that was refused, after which the run goes on.
-    ///
-    /// `OutOfMemory` where there is no room for what the letter tells; then nothing changes. A refusal needs no room.
-    pub fn deliver(&mut self, number: u64) -> Result<Result<(), Refusal>, Refusal>
-        ensures told { IfOk result (λ r. delivered r ≡ result_of (refusal Q.system self.old.state (step.Deliver number)) self.old.state (step.Deliver number)) }
-        ensures after { OnOk result (self.new ≡ record self.old { state = after Q.system self.old.state (step.Deliver number) }) }
-        ensures accepted { OnErr result (refusal Q.system self.old.state (step.Deliver number) ≡ None) }
-        ensures err { OnErr result (self.new ≡ self.old) }
-        ensures refused { IfErr result (λ r. r ≡ Refusal.OutOfMemory) }
-    {
-        if let Err(refusal) = self.state.may_deliver(number) {
-            return Ok(Err(refusal));
-        }
-        self.state.deliver(number)?;
-        Ok(Ok(()))
-    }
-
-    /// A client asks a node for an operation: the call, or why that was refused, after which the run goes on.
-    ///
-    /// `OutOfMemory` where there is no room for the call; then nothing changes. A refusal needs no room.
-    pub fn call(&mut self, name: Name, op: Op) -> Result<Result<CallId, Refusal>, Refusal>
-        ensures told { IfOk result (λ r. called r ≡ result_of (refusal Q.system self.old.state (step.Call name op)) self.old.state (step.Call name op)) }
-        ensures after { OnOk result (self.new ≡ record self.old { state = after Q.system self.old.state (step.Call name op) }) }
-        ensures accepted { OnErr result (refusal Q.system self.old.state (step.Call name op) ≡ None) }
-        ensures err { OnErr result (self.new ≡ self.old) }
-        ensures refused { IfErr result (λ r. r ≡ Refusal.OutOfMemory) }
-    {
-        if let Err(refusal) = self.state.nodes.node(name).may_call(&op) {
-            return Ok(Err(refusal));
-        }
-        let id = self.state.call(name, op)?;
-        Ok(Ok(id))
-    }
-
-    /// A call goes on: its answer, if it got one, or why that was refused, after which the run goes on.
-    ///
-    /// `OutOfMemory` where there is no room for what it does; then nothing changes. A refusal needs no room.
-    pub fn advance(&mut self, id: CallId) -> Result<Result<Option<Answer>, Refusal>, Refusal>
-        ensures told { IfOk result (λ r. advanced id r ≡ result_of (refusal Q.system self.old.state (step.Advance id)) self.old.state (step.Advance id)) }
-        ensures after { OnOk result (self.new ≡ record self.old { state = after Q.system self.old.state (step.Advance id) }) }
-        ensures accepted { OnErr result (refusal Q.system self.old.state (step.Advance id) ≡ None) }
-        ensures err { OnErr result (self.new ≡ self.old) }
-        ensures refused { IfErr result (λ r. r ≡ Refusal.OutOfMemory) }
-    {
-        if let Err(refusal) = self.state.nodes.node(id.name).may_advance(&id) {
-            return Ok(Err(refusal));
-        }
-        let effect = self.state.advance(id)?;
-        Ok(Ok(answer_got(effect)))
-    }
-
     /// Takes all of these steps, and gives what they did, the history, the sequences and the maps. A step that is
     /// refused is noted with its refusal, and the run goes on. With no step before, that is the outcome of the run of these
     /// steps, for any system of quorums.
@@ -159,36 +76,56 @@ impl<Q: Quorums, S: Replica> Running<Q, S> {
         } = self;
         outcome(alloc, &mut state, steps)
     }
+}
 
-    /// The calls and answers, in order.
-    pub fn history(&self) -> &History
-        ensures { result.now.events ≡ self.now.state.history }
-    {
+impl<Q: Quorums, S: Replica> Run<Q> for Running<Q, S> {
+    ghost running = { λ r. r };
+
+    fn take(&mut self, step: &Step<Q>) -> Result<Result<Effect<Q>, Refusal>, Refusal> {
+        self.state.take(step)
+    }
+
+    fn send(&mut self, from: Name, to: Name) -> Result<Result<u64, Refusal>, Refusal> {
+        if let Err(refusal) = self.state.nodes.node(from).may_send(to) {
+            return Ok(Err(refusal));
+        }
+        let number = self.state.send(from, to)?;
+        Ok(Ok(number))
+    }
+
+    fn deliver(&mut self, number: u64) -> Result<Result<(), Refusal>, Refusal> {
+        if let Err(refusal) = self.state.may_deliver(number) {
+            return Ok(Err(refusal));
+        }
+        self.state.deliver(number)?;
+        Ok(Ok(()))
+    }
+
+    fn call(&mut self, name: Name, op: Op) -> Result<Result<CallId, Refusal>, Refusal> {
+        if let Err(refusal) = self.state.nodes.node(name).may_call(&op) {
+            return Ok(Err(refusal));
+        }
+        let id = self.state.call(name, op)?;
+        Ok(Ok(id))
+    }
+
+    fn advance(&mut self, id: CallId) -> Result<Result<Option<Answer>, Refusal>, Refusal> {
+        if let Err(refusal) = self.state.nodes.node(id.name).may_advance(&id) {
+            return Ok(Err(refusal));
+        }
+        let effect = self.state.advance(id)?;
+        Ok(Ok(answer_got(effect)))
+    }
+
+    fn history(&self) -> &History {
         &self.state.history
     }
 
-    /// The given sequences of all keys that have one. The answered operations of each key, with some sets that weren't
-    /// answered, stand in its sequence: each get answers the latest set before it, or nil, and what was answered before
-    /// another operation was called stands before it.
-    ///
-    /// `OutOfMemory` where there is no room for them.
-    pub fn sequences(&self, alloc: Global) -> Result<Vec<KeySequence>, Refusal>
-        ensures given { IfOk result (λ s. s.items ≡ sequences_of self.now.state.history self.now.state.marks) }
-        ensures proper { IfOk result (λ s. (key : List ℕ) → IsProper self.now.state.history key (sequence_in s.items key)) }
-        ensures refused { IfErr result (λ r. r ≡ Refusal.OutOfMemory) }
-    {
+    fn sequences(&self, alloc: Global) -> Result<Vec<KeySequence>, Refusal> {
         self.state.sequences(alloc)
     }
 
-    /// The maps of the nodes that aren't idle. No two nodes, at one moment of the run or at two, hold different
-    /// configurations at one place.
-    ///
-    /// `OutOfMemory` where there is no room for them.
-    pub fn maps(&self, alloc: Global) -> Result<Vec<NodeMap<Q>>, Refusal>
-        ensures maps { IfOk result (λ maps. maps.items ≡ maps_of self.now.state.nodes) }
-        ensures agreed { AgreesSoFar Q.system self.now.founders self.now.state }
-        ensures refused { IfErr result (λ r. r ≡ Refusal.OutOfMemory) }
-    {
+    fn maps(&self, alloc: Global) -> Result<Vec<NodeMap<Q>>, Refusal> {
         self.state.maps(alloc)
     }
 }

@@ -1,6 +1,6 @@
 use Rattle.std.proofs.Common.{codes, inl, inr, map, refl, subst}
 use Rattle.rambo_text.specs.declared.fault.ReplayFault.TheVariants.{Memory}
-use Rattle.rambo_main.specs.Statuses.{stream}
+use Rattle.rambo_telling.specs.Telling.{stream}
 use Rattle.rambo_main.proofs.Answered.{answered, ends_by}
 use Rattle.rambo_command_line.proofs.Asked.{asks_memory, check_or_local, local_memory, replay_or_local}
 use Rattle.rambo_command_line.specs.Lines.{Asks}

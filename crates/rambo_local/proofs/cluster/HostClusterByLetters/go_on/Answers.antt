@@ -1,7 +1,7 @@
 use Rattle.std.proofs.Common.{◌++◌, ap, ◌∙◌}
 use Rattle.rambo_local.specs.Clusters.{history_of}
 use Rattle.rambo_local.proofs.Histories.{went_on, unanswered, of_run}
-use Rattle.rambo_local.proofs.Turns.{answered_by}
+use Rattle.rambo_direct.proofs.Turns.{answered_by}
 use Rattle.rambo_local.proofs.cluster.HostClusterByLetters.go_on.Goals as goal
 
 pub returns-in-Answered-clause-ok : goal.returns-in-Answered-clause-ok

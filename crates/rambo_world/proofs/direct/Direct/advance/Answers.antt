@@ -1,12 +1,12 @@
 use Rattle.std.proofs.Common.{◌≡◌, None, Some, Ok, ◌∙◌, ap, refl, sym, subst}
 use Rattle.rambo_node.specs.declared.change.Change.TheVariants as change
 use Rattle.rambo_world.specs.Deliveries.{world_of}
-use Rattle.rambo_world.specs.Told.{went_on}
+use Rattle.rambo_run.specs.Told.{went_on}
 use Rattle.rambo_run.specs.declared.step.Step.TheVariants as step
 use Rattle.rambo_run.specs.Runs.{result_of}
 use Rattle.rambo_run.specs.Steps.{refusal}
 use Rattle.rambo_world.specs.Direct.{IsReachedBarLetters}
-use Rattle.rambo_world.specs.Worlds.{RunningOf}
+use Rattle.rambo_run.specs.Ongoing.{RunningOf}
 use Rattle.rambo_letters.proofs.Sizes.{up_fits, back_fits, next}
 use Rattle.rambo_world.proofs.Letterless.{bar_fits, bar_next}
 use Rattle.rambo_world.proofs.Single.{on_err, refused_told, taken_told, taken_after, stands, moves_on, advancing}

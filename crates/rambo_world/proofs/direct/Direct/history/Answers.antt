@@ -1,6 +1,6 @@
 use Rattle.std.proofs.Common.{subst}
 use Rattle.rambo_world.specs.Direct.{IsReachedBarLetters}
-use Rattle.rambo_world.specs.Worlds.{RunningOf}
+use Rattle.rambo_run.specs.Ongoing.{RunningOf}
 use Rattle.rambo_world.proofs.direct.Direct.history.Goals as goal
 
 pub returns-clause-reached : goal.returns-clause-reached

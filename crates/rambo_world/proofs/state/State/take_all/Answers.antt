@@ -2,7 +2,8 @@ use Rattle.std.proofs.Common.{◌∙◌, take, sym, ap, subst}
 use Rattle.std.proofs.lemmas.List.{take_all}
 use Rattle.rambo_run.specs.Runs.{results_from, run_from}
 use Rattle.rambo_world.specs.Worlds.{EventsFit}
-use Rattle.rambo_world.proofs.Longer.{run_from-none, results_from-none, next_state, next_results}
+use Rattle.rambo_run.proofs.Runs.{run_from-none}
+use Rattle.rambo_world.proofs.Longer.{results_from-none, next_state, next_results}
 use Rattle.rambo_world.proofs.state.State.take_all.Goals as goal
 
 pub loop-step-init : goal.loop-step-init

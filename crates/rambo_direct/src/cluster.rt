@@ -1,0 +1,46 @@
+//! The nodes that a client asks.
+ghost use Rattle.std.specs.Prelude.{◌≡◌};
+ghost use Rattle.rambo_direct.specs.Histories.{direct_history};
+
+use rambo_atomic::{Answer, CallId, Op};
+use rambo_client::Cluster;
+use rambo_names::{Majority, Name, Refusal};
+use rambo_tag::Registers;
+use rambo_world::Direct;
+use std::hash::{BuildHasherDefault, FoldHasher};
+
+/// Nodes over majorities that hold their copies in hash tables. Their letters come as they are sent, and aren't kept.
+pub(crate) type Majorities = Direct<Majority, Registers<BuildHasherDefault<FoldHasher>>>;
+
+/// The same, as a client asks them. (A type of this crate alone: who stands on it needs to know nothing of it.)
+#[derive(Drop)]
+pub(crate) struct Nodes {
+    pub(crate) direct: Majorities,
+}
+
+/// That nodes of a run are asked, which hear of each other by letters.
+pub(crate) struct ByLetters;
+
+impl Cluster<ByLetters> for Nodes {
+    ghost history = { λ n. direct_history n.direct };
+
+    fn ask(&mut self, name: Name, op: Op) -> Result<CallId, Refusal> {
+        self.direct.call(name, op)?
+    }
+
+    fn exchange(&mut self, name: Name, peer: Name) -> Result<(), Refusal> {
+        pass(&mut self.direct, name, peer)?;
+        pass(&mut self.direct, peer, name)
+    }
+
+    fn go_on(&mut self, id: &CallId) -> Result<Option<Answer>, Refusal> {
+        self.direct.advance(*id)?
+    }
+}
+
+// A letter passes from one node to another.
+fn pass(direct: &mut Majorities, from: Name, to: Name) -> Result<(), Refusal>
+    ensures { direct_history direct.new ≡ direct_history direct.old }
+{
+    direct.pass(from, to)?
+}

@@ -1,0 +1,2 @@
+mod AfterRun
+mod Founding

@@ -1,2 +1,0 @@
-mod AfterRun
-mod RunAlong

@@ -1,0 +1,46 @@
+use Rattle.std.proofs.Common.{rules, subst}
+use Rattle.std.proofs.lemmas.Result.{IfOk-at_ok, IfErr-weaker}
+use Rattle.std.specs.Option.{option_copied}
+use Rattle.rambo_text.specs.Words.{IsFirstWord}
+use Rattle.rambo_lines.specs.declared.kind.StepKind.TheVariants as kind
+use Rattle.rambo_lines.specs.StepLines.{word_of}
+use Rattle.rambo_steps.proofs.RunAlong.{parts_fault}
+use Rattle.rambo_steps.proofs.replaying.take_line.Goals as goal
+
+pub returns-in-Send-clause-fault : goal.returns-in-Send-clause-fault
+returns-in-Send-clause-fault g c =
+    let found = IfOk-at_ok _ c.in_ok-kind.ensures.ok c.read_kind.ensures.found in
+    IfErr-weaker c.take_send.result _ _ (λ f fault.
+    parts_fault c.args.line.now kind.Send _ _ f found.0 (subst (λ k. IsFirstWord c.args.line.now (word_of k) (option_copied c.in_ok-kind.more)) c.in-Send.is found.1) fault) c.take_send.ensures.fault
+
+pub returns-in-Deliver-clause-fault : goal.returns-in-Deliver-clause-fault
+returns-in-Deliver-clause-fault g c =
+    let found = IfOk-at_ok _ c.in_ok-kind.ensures.ok c.read_kind.ensures.found in
+    IfErr-weaker c.take_deliver.result _ _ (λ f fault.
+    parts_fault c.args.line.now kind.Deliver _ _ f found.0 (subst (λ k. IsFirstWord c.args.line.now (word_of k) (option_copied c.in_ok-kind.more)) c.in-Deliver.is found.1) fault) c.take_deliver.ensures.fault
+
+pub returns-in-Advance-clause-fault : goal.returns-in-Advance-clause-fault
+returns-in-Advance-clause-fault g c =
+    let found = IfOk-at_ok _ c.in_ok-kind.ensures.ok c.read_kind.ensures.found in
+    IfErr-weaker c.take_advance.result _ _ (λ f fault.
+    parts_fault c.args.line.now kind.Advance _ _ f found.0 (subst (λ k. IsFirstWord c.args.line.now (word_of k) (option_copied c.in_ok-kind.more)) c.in-Advance.is found.1) fault) c.take_advance.ensures.fault
+
+pub returns-in-Get-clause-fault : goal.returns-in-Get-clause-fault
+returns-in-Get-clause-fault g c =
+    let found = IfOk-at_ok _ c.in_ok-kind.ensures.ok c.read_kind.ensures.found in
+    IfErr-weaker c.take_get.result _ _ (λ f fault.
+    parts_fault c.args.line.now kind.Get _ _ f found.0 (subst (λ k. IsFirstWord c.args.line.now (word_of k) (option_copied c.in_ok-kind.more)) c.in-Get.is found.1) fault) c.take_get.ensures.fault
+
+pub returns-in-Set-clause-fault : goal.returns-in-Set-clause-fault
+returns-in-Set-clause-fault g c =
+    let found = IfOk-at_ok _ c.in_ok-kind.ensures.ok c.read_kind.ensures.found in
+    IfErr-weaker c.take_put.result _ _ (λ f fault.
+    parts_fault c.args.line.now kind.Set _ _ f found.0 (subst (λ k. IsFirstWord c.args.line.now (word_of k) (option_copied c.in_ok-kind.more)) c.in-Set.is found.1) fault) c.take_put.ensures.fault
+
+pub returns-in_default : goal.returns-in_default
+returns-in_default g c =
+    let found = IfOk-at_ok _ c.in_ok-kind.ensures.ok c.read_kind.ensures.found in
+    record {
+      taken = search rules;
+      fault = IfErr-weaker c.take_step.result _ _ (λ f fault. parts_fault c.args.line.now c.in_ok-kind.kind _ _ f found.0 found.1 fault) c.take_step.ensures.fault;
+    }

@@ -1,0 +1,239 @@
+//! Scripts over a run of any kind.
+ghost use Rattle.std.specs.Prelude.{◌≡◌, ◌⊎◌, ◌+◌, ◌<◌, ◌^◌, ◌++◌, Ok, OnOk, IfOk, IfErr};
+ghost use Rattle.std.specs.Option.{option_copied};
+ghost use Rattle.rambo_atomic.specs.Histories.{call_in};
+ghost use Rattle.rambo_run.specs.declared.step.Step.TheVariants as step;
+ghost use Rattle.rambo_check.specs.Lines.{items_text};
+ghost use Rattle.rambo_outcome.specs.Outcomes.{call_items};
+ghost use Rattle.rambo_lines.specs.Faults.{IsLineFault, TellNoStep, TellsBytes};
+ghost use Rattle.rambo_steps.specs.Replays.{IsReplay, GivesUp};
+ghost use Rattle.rambo_steps.specs.Runs.{TellsFounders, IsFounded, Takes, TakesStep, TakesTold, IsPartsFault, ended, IsFaultAt};
+
+use rambo_atomic::{CallId, History, Op};
+use rambo_lines::{
+    StepKind, at_line, get_asked, read_call, read_founders, read_kind, read_letter, read_names,
+    read_parts, set_asked,
+};
+use rambo_names::{Majority, Members, Name, Refusal};
+use rambo_outcome::{
+    write_answered, write_called, write_maps, write_refused, write_sequences, write_step,
+};
+use rambo_run::Run;
+use rambo_text::{Fault, ReplayFault, next_line};
+use std::alloc::Global;
+
+/// The founders that the first line of a script tells.
+///
+/// `Script` where that line is faulty.
+pub fn founders_in(input: &[u8]) -> Result<Members, ReplayFault>
+    ensures founders { IfOk result (λ s. TellsFounders input.now s) }
+    ensures fault { IfErr result (λ f. GivesUp input.now f) }
+{
+    let (line, _) = next_line(input);
+    let founders = at_line(1, read_founders(line))?;
+    Ok(founders)
+}
+
+/// Takes the steps that the lines behind the first tell: the text of what the run gives.
+///
+/// The run is that of the founders of the first line, before any step. `Script` where a line behind the first is faulty,
+/// or where there is no room for the bytes of a get or a set; `Memory` where there is no room for the run or its text.
+/// Then the steps of the lines before were taken.
+pub fn run_through<R: Run<Majority>>(
+    alloc: Global,
+    input: &[u8],
+    running: &mut R,
+) -> Result<Vec<u8>, ReplayFault>
+    requires { IsFounded input.now (R.running running.old) }
+    ensures ok { IfOk result (λ text. IsReplay input.now text.items) }
+    ensures fault { IfErr result (λ f. GivesUp input.now f) }
+{
+    let (_, mut rest) = next_line(input);
+    let mut text = Vec::new(alloc);
+    let mut number = 0;
+    while !rest.is_empty() {
+        let (line, behind) = next_line(rest);
+        number += 1;
+        take_line(alloc, number, line, running, &mut text)?;
+        rest = behind;
+    }
+    end(alloc, running, &mut text)?;
+    Ok(text)
+}
+
+// Takes the step of this number, which a line tells, and appends what is told of it.
+fn take_line<R: Run<Majority>>(
+    alloc: Global,
+    number: u64,
+    line: &[u8],
+    running: &mut R,
+    text: &mut Vec<u8>,
+) -> Result<(), ReplayFault>
+    requires { number < 2 ^ 63 }
+    ensures taken { OnOk result (TakesStep line.now number (R.running running.old) (R.running running.new) text.old.items text.new.items) }
+    ensures fault { IfErr result (λ f. IsFaultAt (number + 1) (λ g. ((g ≡ Fault.OutOfMemory) × TellsBytes line.now) ⊎ IsLineFault TellNoStep line.now g) f) }
+{
+    let (kind, more) = at_line(number + 1, read_kind(line))?;
+    match kind {
+        StepKind::Send => take_send(number, more, running, text),
+        StepKind::Deliver => take_deliver(number, more, running, text),
+        StepKind::Advance => take_advance(number, more, running, text),
+        StepKind::Get => take_get(alloc, number, more, running, text),
+        StepKind::Set => take_put(alloc, number, more, running, text),
+        _ => take_step(alloc, kind, number, more, running, text),
+    }
+}
+
+// Takes the sending that the words behind the first tell, and appends what is told of it.
+fn take_send<R: Run<Majority>>(
+    number: u64,
+    more: Option<&[u8]>,
+    running: &mut R,
+    text: &mut Vec<u8>,
+) -> Result<(), ReplayFault>
+    requires { number < 2 ^ 63 }
+    ensures taken { OnOk result (TakesTold StepKind.Send (option_copied more.entry) number (R.running running.old) (R.running running.new) text.old.items text.new.items) }
+    ensures fault { IfErr result (λ f. IsFaultAt (number + 1) (IsPartsFault StepKind.Send (option_copied more.entry)) f) }
+{
+    let (from, to) = at_line(number + 1, read_names(more))?;
+    match in_memory(running.send(from, to))? {
+        Ok(_) => Ok(()),
+        Err(refusal) => in_memory(write_refused(number, refusal, text)),
+    }
+}
+
+// Takes the delivery that the words behind the first tell, and appends what is told of it.
+fn take_deliver<R: Run<Majority>>(
+    number: u64,
+    more: Option<&[u8]>,
+    running: &mut R,
+    text: &mut Vec<u8>,
+) -> Result<(), ReplayFault>
+    requires { number < 2 ^ 63 }
+    ensures taken { OnOk result (TakesTold StepKind.Deliver (option_copied more.entry) number (R.running running.old) (R.running running.new) text.old.items text.new.items) }
+    ensures fault { IfErr result (λ f. IsFaultAt (number + 1) (IsPartsFault StepKind.Deliver (option_copied more.entry)) f) }
+{
+    let letter = at_line(number + 1, read_letter(more))?;
+    match in_memory(running.deliver(letter))? {
+        Ok(()) => Ok(()),
+        Err(refusal) => in_memory(write_refused(number, refusal, text)),
+    }
+}
+
+// Takes the advance of a call that the words behind the first tell, and appends what is told of it.
+fn take_advance<R: Run<Majority>>(
+    number: u64,
+    more: Option<&[u8]>,
+    running: &mut R,
+    text: &mut Vec<u8>,
+) -> Result<(), ReplayFault>
+    requires { number < 2 ^ 63 }
+    ensures taken { OnOk result (TakesTold StepKind.Advance (option_copied more.entry) number (R.running running.old) (R.running running.new) text.old.items text.new.items) }
+    ensures fault { IfErr result (λ f. IsFaultAt (number + 1) (IsPartsFault StepKind.Advance (option_copied more.entry)) f) }
+{
+    let id = at_line(number + 1, read_call(more))?;
+    match in_memory(running.advance(id))? {
+        Ok(Some(answer)) => in_memory(write_answered(&id, &answer, text)),
+        Ok(None) => Ok(()),
+        Err(refusal) => in_memory(write_refused(number, refusal, text)),
+    }
+}
+
+// Takes the get that the words behind the first tell, and appends what is told of it.
+fn take_get<R: Run<Majority>>(
+    alloc: Global,
+    number: u64,
+    more: Option<&[u8]>,
+    running: &mut R,
+    text: &mut Vec<u8>,
+) -> Result<(), ReplayFault>
+    requires { number < 2 ^ 63 }
+    ensures taken { OnOk result (TakesTold StepKind.Get (option_copied more.entry) number (R.running running.old) (R.running running.new) text.old.items text.new.items) }
+    ensures fault { IfErr result (λ f. IsFaultAt (number + 1) (IsPartsFault StepKind.Get (option_copied more.entry)) f) }
+{
+    let (name, op) = at_line(number + 1, get_asked(alloc, more))?;
+    take_call(number, name, op, running, text)
+}
+
+// Takes the set that the words behind the first tell, and appends what is told of it.
+fn take_put<R: Run<Majority>>(
+    alloc: Global,
+    number: u64,
+    more: Option<&[u8]>,
+    running: &mut R,
+    text: &mut Vec<u8>,
+) -> Result<(), ReplayFault>
+    requires { number < 2 ^ 63 }
+    ensures taken { OnOk result (TakesTold StepKind.Set (option_copied more.entry) number (R.running running.old) (R.running running.new) text.old.items text.new.items) }
+    ensures fault { IfErr result (λ f. IsFaultAt (number + 1) (IsPartsFault StepKind.Set (option_copied more.entry)) f) }
+{
+    let (name, op) = at_line(number + 1, set_asked(alloc, more))?;
+    take_call(number, name, op, running, text)
+}
+
+// Takes the call of an operation, and appends what is told of it.
+fn take_call<R: Run<Majority>>(
+    number: u64,
+    name: Name,
+    op: Op,
+    running: &mut R,
+    text: &mut Vec<u8>,
+) -> Result<(), ReplayFault>
+    ensures taken { OnOk result (Takes (step.Call name op) number (R.running running.old) (R.running running.new) text.old.items text.new.items) }
+    ensures fault { IfErr result (λ f. f ≡ ReplayFault.Memory) }
+{
+    match in_memory(running.call(name, op))? {
+        Ok(id) => in_memory(write_call(&id, running.history(), text)),
+        Err(refusal) => in_memory(write_refused(number, refusal, text)),
+    }
+}
+
+// Appends the line of a call, with what the history says that it asked.
+fn write_call(id: &CallId, history: &History, text: &mut Vec<u8>) -> Result<(), Refusal>
+    ensures ok { OnOk result (text.new.items ≡ text.old.items ++ items_text (call_items id.now (call_in history.now.events id.now))) }
+    ensures refused { IfErr result (λ r. r ≡ Refusal.OutOfMemory) }
+{
+    match history.call(id) {
+        Some(op) => write_called(id, op, text),
+        None => Ok(()),
+    }
+}
+
+// Takes a step of any kind that the words behind the first tell, and appends what is told of it.
+// (a step is large, and where this is inlined the other kinds pay for its room)
+#[inline(never)]
+fn take_step<R: Run<Majority>>(
+    alloc: Global,
+    kind: StepKind,
+    number: u64,
+    more: Option<&[u8]>,
+    running: &mut R,
+    text: &mut Vec<u8>,
+) -> Result<(), ReplayFault>
+    requires { number < 2 ^ 63 }
+    ensures taken { OnOk result (TakesTold kind (option_copied more.entry) number (R.running running.old) (R.running running.new) text.old.items text.new.items) }
+    ensures fault { IfErr result (λ f. IsFaultAt (number + 1) (IsPartsFault kind (option_copied more.entry)) f) }
+{
+    let step = at_line(number + 1, read_parts(alloc, kind, more))?;
+    let told = in_memory(running.take(&step))?;
+    in_memory(write_step(number, &told, running.history(), text))
+}
+
+// Appends the sequences and the maps of a run.
+fn end<R: Run<Majority>>(alloc: Global, running: &R, text: &mut Vec<u8>) -> Result<(), ReplayFault>
+    ensures ok { OnOk result (text.new.items ≡ ended (R.running running.now).state text.old.items) }
+    ensures fault { IfErr result (λ f. f ≡ ReplayFault.Memory) }
+{
+    let sequences = in_memory(running.sequences(alloc))?;
+    in_memory(write_sequences(sequences.as_slice(), text))?;
+    let maps = in_memory(running.maps(alloc))?;
+    in_memory(write_maps(maps.as_slice(), text))
+}
+
+/// The same, where a refusal can only be one for want of memory.
+pub fn in_memory<T>(told: Result<T, Refusal>) -> Result<T, ReplayFault>
+    ensures ok { IfOk result (λ x. told ≡ Ok x) }
+    ensures fault { IfErr result (λ f. f ≡ ReplayFault.Memory) }
+{
+    told.map_err(|_| ReplayFault::Memory)
+}

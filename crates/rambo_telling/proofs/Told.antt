@@ -1,0 +1,48 @@
+-- What a stream took, part by part
+use Rattle.std.proofs.Common.{◌≡◌, ℕ, List, ◌++◌, sym, ap, subst, ◌∙◌, append_assoc}
+use Rattle.std.specs.Prelude.{Option, Some, None}
+use Rattle.std.specs.Io.KnownBytes.{Appends}
+use Rattle.rambo_atomic.specs.Streams.{counted, Begins}
+use Rattle.rambo_telling.specs.Telling.{Breaks, Takes, stream}
+
+-- one text behind another
+appends_both : (a b : List ℕ) (x y z : Option (List ℕ)) → Appends x y a → Appends y z b → Appends x z (a ++ b)
+appends_both a b None y z front back = tt
+appends_both a b (Some xs) None z front back = absurd front
+appends_both a b (Some xs) (Some ys) None front back = absurd back
+appends_both a b (Some xs) (Some ys) (Some zs) front back = back ∙ ap (λ l. l ++ b) front ∙ append_assoc xs a b
+
+-- what stands before a part of the line of a fault, and what from there on
+module _ (a n b l f : List ℕ) where
+  pub from_line : (((a ++ n) ++ b) ++ l) ++ f ≡ ((a ++ n) ++ b) ++ (l ++ f)
+  from_line = append_assoc ((a ++ n) ++ b) l f
+
+  pub from_at : (((a ++ n) ++ b) ++ l) ++ f ≡ (a ++ n) ++ (b ++ (l ++ f))
+  from_at = from_line ∙ append_assoc (a ++ n) b (l ++ f)
+
+  pub from_number : (((a ++ n) ++ b) ++ l) ++ f ≡ a ++ (n ++ (b ++ (l ++ f)))
+  from_number = from_at ∙ append_assoc a n (b ++ (l ++ f))
+
+module _ {E : Type 0} (taken : E → Option (List ℕ)) (failures : E → ℕ) where
+  -- the first part was taken
+  pub takes_first : (a b : List ℕ) (x y : E) → b ≡ a → Appends (taken x) (taken y) b → failures y ≡ failures x → Takes a (stream taken failures x y)
+  takes_first a b x y is appends fine = record { fine = fine; taken = subst (Appends (taken x) (taken y)) is appends }
+
+  -- and one more
+  pub takes_next : (a b d : List ℕ) (x y z : E) → Takes a (stream taken failures x y) → d ≡ b → Appends (taken y) (taken z) d → failures z ≡ failures y
+      → Takes (a ++ b) (stream taken failures x z)
+  takes_next a b d x y z front is appends fine =
+      record { fine = fine ∙ front.fine; taken = appends_both a b _ _ _ front.taken (subst (Appends (taken y) (taken z)) is appends) }
+
+  -- a part wasn't
+  pub breaks_next : (text a b c d : List ℕ) (x y z : E) → text ≡ a ++ (b ++ c) → Takes a (stream taken failures x y) → d ≡ b → Begins (taken y) (taken z) d
+      → failures z ≡ counted (failures y) → Breaks text (stream taken failures x z)
+  breaks_next text a b c d x y z is front same begins failed = record {
+    failed = failed ∙ ap counted front.fine;
+    taken = (
+      a ++ begins.0,
+      begins.1 ++ c,
+      is ∙ ap (λ r. a ++ (r ++ c)) (sym same ∙ begins.2) ∙ ap (λ r. a ++ r) (append_assoc begins.0 begins.1 c) ∙ sym (append_assoc a begins.0 _),
+      appends_both a begins.0 _ _ _ front.taken begins.3,
+    );
+  }

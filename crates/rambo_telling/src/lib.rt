@@ -1,0 +1,10 @@
+//! What the program tells its user, and its exit status then.
+//!
+//! - `tell`: the line of a fault.
+//! - `answer`: what clap answers in place of a task.
+//! - `tell_no_text`, `tell_bad_founders`: words that are no text, and founders that are none.
+#![tactic(auto)]
+
+mod telling;
+
+pub use telling::{DONE, answer, tell, tell_bad_founders, tell_no_text};

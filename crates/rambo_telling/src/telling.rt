@@ -1,0 +1,120 @@
+//! What is told to the user.
+ghost use Rattle.std.specs.Prelude.{◌≡◌, ◌⊎◌, ◌++◌, [], ◌∷◌, codes, OnOk, OnErr};
+ghost use Rattle.clap.specs.Words.{kind_of};
+ghost use Rattle.rambo_text.specs.Faults.{told};
+ghost use Rattle.rambo_telling.specs.Telling.{Breaks, EndsAs, GivesUp, Takes, Tells, fault_line, status_of, stream};
+
+use clap::Error;
+use clap::error::ErrorKind;
+use itoa::Buffer;
+use rambo_atomic::{Sink, StreamFault, write_all};
+use rambo_text::{ReplayFault, ScriptFault};
+use std::alloc::Global;
+
+/// The exit status of what was done.
+pub const DONE: u8 = 0;
+
+/// The exit status where a stream failed or memory ran out.
+const FAILED: u8 = 1;
+
+/// The exit status where the command line or the input is faulty.
+const FAULTY: u8 = 2;
+
+/// What is told of a word that is no text.
+const NO_TEXT: &[u8] = b"error: invalid UTF-8 was detected in one or more arguments
+
+Usage: rambo <COMMAND>
+
+For more information, try '--help'.
+";
+
+/// Tells a fault in one line, and answers the exit status for it.
+///
+/// Where `errors` fails the rest of the line is lost. That is hidden on purpose: there is nowhere left to tell it,
+/// and the status is that of the fault all the same.
+pub fn tell<E: Sink>(fault: ReplayFault, errors: &mut E) -> u8
+    ensures status { result ≡ status_of fault }
+    ensures line { Tells (fault_line fault) (stream E.taken E.failures errors.old errors.new) }
+{
+    match fault {
+        ReplayFault::Script(fault) => {
+            let _ = write_line(fault, errors);
+            FAULTY
+        }
+        ReplayFault::Read => {
+            let _ = write_all(errors, b"fault read\n");
+            FAILED
+        }
+        ReplayFault::Write => {
+            let _ = write_all(errors, b"fault write\n");
+            FAILED
+        }
+        ReplayFault::Memory => {
+            let _ = write_all(errors, b"fault memory\n");
+            FAILED
+        }
+    }
+}
+
+// Writes the line of a fault of a text. It takes no memory.
+fn write_line<E: Sink>(fault: ScriptFault, errors: &mut E) -> Result<(), StreamFault>
+    ensures ok { OnOk result (Takes (told fault ++ 10 ∷ []) (stream E.taken E.failures errors.old errors.new)) }
+    ensures err { OnErr result (Breaks (told fault ++ 10 ∷ []) (stream E.taken E.failures errors.old errors.new)) }
+{
+    let mut buffer = Buffer::new();
+    write_all(errors, b"script fault S")?;
+    write_all(errors, buffer.format(fault.fault.number()).as_bytes())?;
+    write_all(errors, b" at line ")?;
+    write_all(errors, buffer.format(fault.line).as_bytes())?;
+    write_all(errors, b"\n")?;
+    Ok(())
+}
+
+/// Tells what clap answers in place of a task, and answers the exit status for it.
+///
+/// - Help or the version goes to the writer: 0, and 1 where the writer failed.
+/// - A mistake in the words goes to `errors`: 2.
+/// - 1 where there was no room for it.
+pub fn answer<W: Sink, E: Sink>(alloc: Global, error: &Error, writer: &mut W, errors: &mut E) -> u8
+    ensures ends { GivesUp result (stream W.taken W.failures writer.old writer.new)
+        (stream E.taken E.failures errors.old errors.new)
+        ⊎ EndsAs (kind_of error.now) result (stream W.taken W.failures writer.old writer.new)
+        (stream E.taken E.failures errors.old errors.new) }
+    ensures memory { kind_of error.now ≡ ErrorKind.OutOfMemory
+        → GivesUp result (stream W.taken W.failures writer.old writer.new)
+        (stream E.taken E.failures errors.old errors.new) }
+    ensures quiet { (result ≡ 0) ⊎ (result ≡ 3) → errors.new ≡ errors.old }
+{
+    if let ErrorKind::OutOfMemory = error.kind() {
+        return tell(ReplayFault::Memory, errors);
+    }
+    let Ok(text) = format!(in alloc; "{error}") else {
+        return tell(ReplayFault::Memory, errors);
+    };
+    if error.use_stderr() {
+        let _ = write_all(errors, text.as_bytes());
+        return FAULTY;
+    }
+    match write_all(writer, text.as_bytes()) {
+        Ok(()) => DONE,
+        Err(_) => tell(ReplayFault::Write, errors),
+    }
+}
+
+/// Tells that a word of the command line is no text, and answers the exit status for it.
+pub fn tell_no_text<E: Sink>(errors: &mut E) -> u8
+    ensures status { result ≡ 2 }
+    ensures line { Tells NO_TEXT.now (stream E.taken E.failures errors.old errors.new) }
+{
+    let _ = write_all(errors, NO_TEXT);
+    FAULTY
+}
+
+/// Tells that the founders on the command line are none, and answers the exit status for it.
+pub fn tell_bad_founders<E: Sink>(errors: &mut E) -> u8
+    ensures status { result ≡ 2 }
+    ensures line { Tells (codes "bad founders" ++ 10 ∷ []) (stream E.taken E.failures errors.old errors.new) }
+{
+    let _ = write_all(errors, b"bad founders\n");
+    FAULTY
+}
