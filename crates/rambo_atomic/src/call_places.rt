@@ -2,7 +2,7 @@
 ghost use Rattle.std.specs.Prelude.{◌≡◌, ◌≤◌, ◌<◌, ◌+◌, ◌^◌, ℕ, [], length, get_or, None, is_some, if◌then◌else◌, IsOk, OnOk};
 ghost use Rattle.std.specs.Bool.{MatchBool};
 ghost use Rattle.std.specs.Map.{lookup};
-ghost use Rattle.indexmap.specs.IndexMap.{spare};
+ghost use Rattle.std.specs.HashMap.{spare};
 ghost use Rattle.std.specs.Option.{option_copied, option_map};
 ghost use Rattle.rambo_atomic.specs.declared.event.CallId.{CallId};
 ghost use Rattle.rambo_atomic.specs.Calls.{same_call};
@@ -11,9 +11,9 @@ ghost use Rattle.rambo_atomic.specs.Places.{listed, answered_spot, spot_of, Keep
 use crate::call_list::CallList;
 use crate::event::{CallId, Event};
 use crate::spot::Spot;
-use indexmap::IndexMap;
 use rambo_names::Name;
 use std::alloc::{AllocError, Global};
+use std::collections::HashMap;
 use std::marker::Model;
 
 /// Where the calls of a history and their answers stand.
@@ -25,11 +25,11 @@ use std::marker::Model;
 pub(crate) struct CallPlaces {
     // By the number of the name.
     lists: Vec<CallList>,
-    others: IndexMap<CallId, Spot>,
+    others: HashMap<CallId, Spot>,
 }
 
 impl Model for CallPlaces {
-    ghost use Rattle.indexmap.specs.IndexMap.{spare};
+    ghost use Rattle.std.specs.HashMap.{spare};
     ghost use Rattle.rambo_atomic.specs.Places.{PlacesState};
 
     ghost Value = { PlacesState };
@@ -44,7 +44,7 @@ impl CallPlaces {
     {
         CallPlaces {
             lists: Vec::new(alloc),
-            others: IndexMap::new(alloc),
+            others: HashMap::new(alloc),
         }
     }
 
@@ -157,7 +157,7 @@ fn answer_listed(lists: &mut Vec<CallList>, id: &CallId, place: usize) -> bool
 }
 
 // Where a call stands, if it is in a map. It is seldom that one has any.
-fn other<'a>(others: &'a IndexMap<CallId, Spot>, id: &CallId) -> Option<&'a Spot>
+fn other<'a>(others: &'a HashMap<CallId, Spot>, id: &CallId) -> Option<&'a Spot>
     ensures { option_copied result ≡ lookup (same_call id.now) others.now.entries }
 {
     if others.is_empty() {
@@ -167,7 +167,7 @@ fn other<'a>(others: &'a IndexMap<CallId, Spot>, id: &CallId) -> Option<&'a Spot
 }
 
 // Puts a call into a map.
-fn put_other(others: &mut IndexMap<CallId, Spot>, id: &CallId, spot: Spot)
+fn put_other(others: &mut HashMap<CallId, Spot>, id: &CallId, spot: Spot)
     requires { 0 < spare others.old }
     ensures spots { (q : CallId) → lookup (same_call q) others.new.entries ≡ (if same_call id.now q then Some spot else lookup (same_call q) others.old.entries) }
     ensures room { spare others.old ≤ spare others.new + 1 }
@@ -176,7 +176,7 @@ fn put_other(others: &mut IndexMap<CallId, Spot>, id: &CallId, spot: Spot)
 }
 
 // Puts the place of an answer to its call, if that is in a map.
-fn answer_other(others: &mut IndexMap<CallId, Spot>, id: &CallId, place: usize)
+fn answer_other(others: &mut HashMap<CallId, Spot>, id: &CallId, place: usize)
     ensures spots { (q : CallId) → lookup (same_call q) others.new.entries ≡ (if same_call id.now q then option_map (answered_spot place) (lookup (same_call id.now) others.old.entries) else lookup (same_call q) others.old.entries) }
     ensures room { spare others.new ≡ spare others.old }
 {

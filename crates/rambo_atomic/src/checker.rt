@@ -10,8 +10,9 @@ use crate::checking::judge_entries;
 use crate::event::{CallId, Event};
 use crate::history::History;
 use crate::verdict::{Rule, Verdict};
-use indexmap::{IndexMap, IndexSet};
+use indexmap::IndexSet;
 use rambo_names::Refusal;
+use std::collections::HashMap;
 use std::marker::Model;
 
 /// A checker of the orders that are to explain one history.
@@ -19,7 +20,7 @@ use std::marker::Model;
 pub struct Checker<'a> {
     history: &'a History,
     // How many answered calls of each key the history has.
-    answered: IndexMap<&'a [u8], usize>,
+    answered: HashMap<&'a [u8], usize>,
 }
 
 impl<'a> Model for Checker<'a> {
@@ -43,7 +44,7 @@ impl<'a> Checker<'a> {
         ensures made { IfOk result (λ checker. checker ≡ history.now.events) }
         ensures refused { IfErr result (λ r. r ≡ Refusal.OutOfMemory) }
     {
-        let mut answered = IndexMap::new(history.allocator());
+        let mut answered = HashMap::new(history.allocator());
         let mut rest = history.events();
         while let Some((event, others)) = rest.split_first() {
             if let Event::Call(id, op) = event {
@@ -115,7 +116,7 @@ fn is_answered_call(history: &History, key: &[u8], id: &CallId) -> bool
 }
 
 // The count at a key, or 0.
-fn count_at(counts: &IndexMap<&[u8], usize>, key: &[u8]) -> usize
+fn count_at(counts: &HashMap<&[u8], usize>, key: &[u8]) -> usize
     ensures { result ≡ count_at counts.now.entries key.now }
 {
     match counts.get(&key) {
@@ -125,7 +126,7 @@ fn count_at(counts: &IndexMap<&[u8], usize>, key: &[u8]) -> usize
 }
 
 // Counts one more at a key.
-fn count<'a>(counts: &mut IndexMap<&'a [u8], usize>, key: &'a [u8]) -> Result<(), Refusal>
+fn count<'a>(counts: &mut HashMap<&'a [u8], usize>, key: &'a [u8]) -> Result<(), Refusal>
     requires { count_at counts.old.entries key.now + 1 < 2 ^ 64 }
     ensures counted { OnOk result ((q : List ℕ) → count_at counts.new.entries q ≡ count_at counts.old.entries q + (if bytes_eq key.now q then 1 else 0)) }
     ensures refused { IfErr result (λ r. r ≡ Refusal.OutOfMemory) }
