@@ -38,7 +38,7 @@ pub fn founders_in(input: &[u8]) -> Result<Members, ReplayFault>
 ///
 /// The run is that of the founders of the first line, before any step. `Script` where a line behind the first is faulty,
 /// or where there is no room for the bytes of a get or a set; `Memory` where there is no room for the run or its text.
-/// Then the steps of the lines before were taken.
+/// What the run is afterwards, the contract does not say.
 pub fn run_through<R: Run<Majority>>(
     alloc: Global,
     input: &[u8],
