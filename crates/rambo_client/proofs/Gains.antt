@@ -85,10 +85,6 @@ pub says-kept : (name : ℕ) (qs : List Request) (q : Request) (r : Reply) (h : 
 says-kept name qs q r h e calls = says-more name qs q h (subst (λ q. Calls name (after_all no_values qs) (q ∷ []) []) (sym e) refl) calls
 
 -- what holds of a result whatever it is
-pub on_err : {A E : Type 0} (r : Result A E) (P : Type 0) → P → OnErr r P
-on_err (Ok x) P p = tt
-on_err (Err e) P p = p
-
 pub on_ok : {A E : Type 0} (r : Result A E) (P : Type 0) → P → OnOk r P
 on_ok (Ok x) P p = p
 on_ok (Err e) P p = tt

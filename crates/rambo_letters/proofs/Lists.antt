@@ -1,5 +1,5 @@
--- Lists with one item more, and results
-use Rattle.std.proofs.Common.{◌≡◌, ℕ, zero, suc, List, [], ◌∷◌, ◌++◌, Option, None, Some, Result, Ok, Err, OnErr, slice_get, ap, subst}
+-- Lists with one item more
+use Rattle.std.proofs.Common.{◌≡◌, ℕ, zero, suc, List, [], ◌∷◌, ◌++◌, Option, None, Some, slice_get, ap, subst}
 use Rattle.std.proofs.lemmas.Bool.{false≢true}
 use Rattle.std.specs.Option.{is_some}
 
@@ -9,10 +9,6 @@ or_this x (Some y) = y
 
 pub some_is : {X : Type 0} (x y : X) → Some x ≡ Some y → x ≡ y
 some_is x y e = ap (or_this x) e
-
-pub on_err_all : {T E P : Type 0} (r : Result T E) → P → OnErr r P
-on_err_all (Ok t) p = tt
-on_err_all (Err e) p = p
 
 -- a letter at the end of a list
 pub sent_push : {X : Type 0} (P : X → Type 0) (xs : List X) (x : X) → ((place : ℕ) (y : X) → slice_get xs place ≡ Some y → P y) → P x

@@ -1,6 +1,6 @@
 -- What there is room for
-use Rattle.std.proofs.Common.{◌≡◌, ℕ, List, [], Option, Some, None, Result, Ok, Err, sym, ap, ◌∙◌, subst}
-use Rattle.std.specs.Prelude.{slice_index_or, OnErr}
+use Rattle.std.proofs.Common.{◌≡◌, ℕ, List, [], Option, Some, None, sym, ap, ◌∙◌, subst}
+use Rattle.std.specs.Prelude.{slice_index_or}
 use Rattle.std.specs.Option.{IsSomeAnd}
 use Rattle.rambo_tag.specs.declared.keyed_version.KeyedVersion.{KeyedVersion}
 use Rattle.rambo_logs.specs.declared.pending.Pending.{Pending}
@@ -39,8 +39,3 @@ pub brought_copies : (l : Inside) (p : Pending) (b : Brought) → brought_in l p
 brought_copies l Nothing b e = cc
 brought_copies l (Put name number) b e = cc
 brought_copies l (TakeOn own) b e = ap copies_in e
-
--- what holds holds of a call that fails
-pub on_err : {T E P : Type 0} (r : Result T E) → P → OnErr r P
-on_err (Ok x) h = tt
-on_err (Err e) h = h

@@ -1,28 +1,28 @@
 //! Numbers of keys.
-ghost use Rattle.std.specs.Prelude.{◌≡◌, ◌<◌, ◌++◌, [], length, slice_index_or, IfOk, IfErr};
+ghost use Rattle.std.specs.Prelude.{◌≡◌, ◌<◌, [], length, slice_index_or, IfOk, IfErr};
 ghost use Rattle.rambo_logs.specs.Stored.{AreDistinct};
 ghost use Rattle.rambo_logs.specs.Numbers.{Extends};
 
-use indexmap::IndexSet;
 use rambo_names::{Bytes, Refusal};
 use std::alloc::Global;
-use std::hash::{BuildHasherDefault, FoldHasher};
+use std::collections::HashMap;
 use std::marker::Model;
 
 // Keys, numbered from 0 on as they came. Seen as the list of them.
 #[derive(Drop)]
 pub(crate) struct KeyNumbers {
-    keys: IndexSet<Bytes, BuildHasherDefault<FoldHasher>>,
+    numbers: HashMap<Bytes, u32>,
 }
 
 impl Model for KeyNumbers {
-    ghost use Rattle.std.specs.Prelude.{List, ℕ, length, ◌<◌, ◌^◌};
+    ghost use Rattle.std.specs.Prelude.{List, ℕ};
+    ghost use Rattle.rambo_logs.specs.Numbers.{by_number, AreNumbers};
 
     ghost Value = { List (List ℕ) };
 
-    ghost view = { λ k. k.keys.keys };
+    ghost view = { λ k. by_number k.numbers.entries };
 
-    ghost invariant = { λ k. length k.keys.keys < 2 ^ 32 };
+    ghost invariant = { λ k. AreNumbers k.numbers.entries };
 }
 
 impl KeyNumbers {
@@ -30,7 +30,7 @@ impl KeyNumbers {
         ensures { result ≡ [] }
     {
         KeyNumbers {
-            keys: IndexSet::with_hasher(alloc, BuildHasherDefault::new()),
+            numbers: HashMap::new(alloc),
         }
     }
 
@@ -44,14 +44,15 @@ impl KeyNumbers {
         ensures distinct { AreDistinct self.new }
         ensures refused { IfErr result (λ r. r ≡ Refusal.OutOfMemory) }
     {
-        let count = self.keys.len();
-        if let Some(number) = self.keys.get_index_of(key) {
-            return Ok(number as u32);
+        if let Some(number) = self.numbers.get(key) {
+            return Ok(*number);
         }
+        let count = self.numbers.len();
         if count >= u32::MAX as usize {
             return Err(Refusal::OutOfMemory);
         }
-        let (number, _) = self.keys.insert_full(key.clone()?)?;
-        Ok(number as u32)
+        let number = count as u32;
+        self.numbers.insert(key.clone()?, number)?;
+        Ok(number)
     }
 }

@@ -5,3 +5,5 @@ pub mod MaskSteps
 pub mod NameTexts
 pub mod NameInserts
 pub mod ReadSteps
+pub mod Sizes
+pub mod Errors

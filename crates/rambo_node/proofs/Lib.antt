@@ -5,5 +5,4 @@ pub mod Memory
 pub mod Fitting
 pub mod Sizes
 mod Own
-pub mod Errors
 pub mod Telling

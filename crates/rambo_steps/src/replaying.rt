@@ -1,5 +1,5 @@
 //! Scripts over a run of any kind.
-ghost use Rattle.std.specs.Prelude.{◌≡◌, ◌⊎◌, ◌+◌, ◌<◌, ◌^◌, ◌++◌, Ok, OnOk, IfOk, IfErr};
+ghost use Rattle.std.specs.Prelude.{◌≡◌, ◌≢◌, ◌⊎◌, ◌+◌, ◌<◌, ◌^◌, ◌++◌, Ok, IsOk, OnOk, IfOk, IfErr};
 ghost use Rattle.std.specs.Option.{option_copied};
 ghost use Rattle.rambo_atomic.specs.Histories.{call_in};
 ghost use Rattle.rambo_run.specs.declared.step.Step.TheVariants as step;
@@ -28,6 +28,7 @@ use std::alloc::Global;
 pub fn founders_in(input: &[u8]) -> Result<Members, ReplayFault>
     ensures founders { IfOk result (λ s. TellsFounders input.now s) }
     ensures fault { IfErr result (λ f. GivesUp input.now f) }
+    ensures told { IfErr result (λ f. f ≢ ReplayFault.Memory) }
 {
     let (line, _) = next_line(input);
     let founders = at_line(1, read_founders(line))?;
@@ -234,6 +235,7 @@ fn end<R: Run<Majority>>(alloc: Global, running: &R, text: &mut Vec<u8>) -> Resu
 pub fn in_memory<T>(told: Result<T, Refusal>) -> Result<T, ReplayFault>
     ensures ok { IfOk result (λ x. told ≡ Ok x) }
     ensures fault { IfErr result (λ f. f ≡ ReplayFault.Memory) }
+    ensures succeeds { IsOk told → IsOk result }
 {
     told.map_err(|_| ReplayFault::Memory)
 }

@@ -1,5 +1,5 @@
 -- What steps of one kind do, and what is told of them
-use Rattle.std.proofs.Common.{◌≡◌, false, Option, None, Some, Result, Ok, Err, OnErr, refl, sym, ap, ◌∙◌, true≢false}
+use Rattle.std.proofs.Common.{◌≡◌, false, Option, None, Some, Ok, Err, refl, sym, ap, ◌∙◌, true≢false}
 use Rattle.rambo_names.specs.declared.refusal.Refusal.{Refusal}
 use Rattle.rambo_names.specs.Quorums.{QuorumSystem}
 use Rattle.rambo_names.specs.Refusals.{least}
@@ -22,10 +22,6 @@ use Rattle.rambo_run.specs.Told.{went_on}
 use Rattle.rambo_run.specs.Ongoing.{RunningOf}
 use Rattle.rambo_world.proofs.Longer.{after-taken, after-refused}
 use Rattle.rambo_world.proofs.Turns.{there, step_refusal, step_turn}
-
-pub on_err : {A B P : Type 0} (r : Result A B) → P → OnErr r P
-on_err (Ok x) p = tt
-on_err (Err f) p = p
 
 module _ {Q : Type 0} (s : QuorumSystem Q) (w : WorldState Q) (st : Step Q) where
   -- a refusal

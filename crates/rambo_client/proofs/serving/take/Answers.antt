@@ -2,20 +2,21 @@ use Rattle.std.proofs.Common.{◌++◌, length, sym, ap, ◌∙◌, subst, appen
 use Rattle.rambo_client.specs.Replies.{requests, replies, after_all}
 use Rattle.rambo_client.specs.Maps.{no_values}
 use Rattle.rambo_client.specs.Talks.{Answers}
-use Rattle.rambo_client.proofs.Gains.{on_err, begins-whole}
+use Rattle.rambo_names.proofs.Errors.{on_err}
+use Rattle.rambo_client.proofs.Gains.{begins-whole}
 use Rattle.rambo_client.proofs.Pieces.{taken_of, untaken, begun, served, no_last, some_last}
 use Rattle.rambo_client.proofs.serving.take.Goals as goal
 
 pub returns-in_err-feed-clause-err : goal.returns-in_err-feed-clause-err
 returns-in_err-feed-clause-err g c = λ stream commands talk.
-    on_err c.from_residual.result _ (untaken c.args.client.now.name c.args.decoder.now (g.C.Cluster.history c.args.cluster.now) stream c.args.piece.now commands talk)
+    on_err c.from_residual.result (untaken c.args.client.now.name c.args.decoder.now (g.C.Cluster.history c.args.cluster.now) stream c.args.piece.now commands talk)
 
 pub returns-in_err-fault-clause-err : goal.returns-in_err-fault-clause-err
 returns-in_err-fault-clause-err g c = λ stream commands talk.
     let name = c.args.client.now.name in
     let h = g.C.Cluster.history c.args.cluster.now in
     let taken = c.in_ok-feed.ensures.ok stream (length commands) (taken_of name c.args.decoder.now h stream commands talk) in
-    on_err c.from_residual-in_err-fault.result _
+    on_err c.from_residual-in_err-fault.result
     (begun name c.args.decoder.now h stream c.args.piece.now commands talk c.feed.new.decoder taken (g.C.Cluster.history c.answer_all.new.cluster)
     (c.in_err-fault.ensures.err (requests commands) talk.calls))
 
@@ -24,7 +25,7 @@ returns-in_err-write_fault-in-Some-clause-err g c = λ stream commands talk.
     let name = c.args.client.now.name in
     let h = g.C.Cluster.history c.args.cluster.now in
     let taken = c.in_ok-feed.ensures.ok stream (length commands) (taken_of name c.args.decoder.now h stream commands talk) in
-    on_err c.from_residual-in_err-write_fault-in-Some.result _
+    on_err c.from_residual-in_err-write_fault-in-Some.result
     (begun name c.args.decoder.now h stream c.args.piece.now commands talk c.feed.new.decoder taken (g.C.Cluster.history c.answer_all.new.cluster)
     (begins-whole name (requests commands ++ requests c.feed.new.decoder.waiting) (g.C.Cluster.history c.answer_all.new.cluster) (c.in_ok-fault.ensures.ok (requests commands) talk.calls)))
 

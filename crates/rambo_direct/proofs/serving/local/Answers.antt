@@ -1,6 +1,7 @@
 use Rattle.std.proofs.Common.{[], refl}
 use Rattle.rambo_direct.specs.Histories.{direct_history}
-use Rattle.rambo_client.proofs.Gains.{on_err, on_ok-weaker, on_err-weaker}
+use Rattle.rambo_names.proofs.Errors.{on_err}
+use Rattle.rambo_client.proofs.Gains.{on_ok-weaker, on_err-weaker}
 use Rattle.rambo_client.proofs.Pieces.{nothing, served_alone, stopped_alone}
 use Rattle.rambo_direct.proofs.serving.local.Goals as goal
 
@@ -8,7 +9,7 @@ pub returns-in_err-cluster-clause-err : goal.returns-in_err-cluster-clause-err
 returns-in_err-cluster-clause-err g c =
     let left = g.R.Source.left c.args.reader.now in
     let taken = g.W.Sink.taken c.args.writer.now in
-    on_err c.from_residual.result _ (stopped_alone 0 left left taken taken [] (nothing 0 left taken [] refl))
+    on_err c.from_residual.result (stopped_alone 0 left left taken taken [] (nothing 0 left taken [] refl))
 
 pub returns-in_default-clause-err : goal.returns-in_default-clause-err
 returns-in_default-clause-err g c =

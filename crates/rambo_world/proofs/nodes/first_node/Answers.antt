@@ -1,4 +1,4 @@
-use Rattle.rambo_node.proofs.Errors.{err_kept}
+use Rattle.rambo_names.proofs.Errors.{err_kept}
 use Rattle.rambo_world.proofs.nodes.first_node.Goals as goal
 
 pub returns-in_err-name-clause-refused : goal.returns-in_err-name-clause-refused

@@ -1,5 +1,5 @@
 use Rattle.std.proofs.Common.{◌≡◌, ◌∙◌, ap, arith, refl}
-use Rattle.rambo_node.proofs.Errors.{err_kept, err_if_ok}
+use Rattle.rambo_names.proofs.Errors.{err_kept, err_if_ok}
 use Rattle.rambo_names.specs.Names.{rising}
 use Rattle.rambo_run.specs.Worlds.{first_nodes}
 use Rattle.rambo_world.proofs.Starting.{first_none, first_next}
@@ -32,3 +32,6 @@ loop-place-smaller g c = omega (arith, c.loop-place-test.true)
 
 pub returns-in_err-push-clause-refused : goal.returns-in_err-push-clause-refused
 returns-in_err-push-clause-refused g c = err_kept c.from_residual-in_err-push.result _ _ c.from_residual-in_err-push.ensures.1 refl
+
+pub first_node-requires : goal.first_node-requires
+first_node-requires g c = (c.requires-raw.1.1, (omega arith, omega (arith, c.loop-place-test.true)))

@@ -88,3 +88,9 @@ offset_bounds-0 g c = first_offset _
 
 pub offset_bounds-0-else-sender-addressee : goal.offset_bounds-0-else-sender-addressee
 offset_bounds-0-else-sender-addressee g c = first_offset _
+
+pub split_at_mut-front-requires : goal.split_at_mut-front-requires
+split_at_mut-front-requires g c = omega (arith, c.place_of-addressee.ensures.within, c.requires.count)
+
+pub split_at_mut-front-requires-else-sender-addressee : goal.split_at_mut-front-requires-else-sender-addressee
+split_at_mut-front-requires-else-sender-addressee g c = omega (arith, c.place_of-sender.ensures.within, c.requires.count)

@@ -1,7 +1,7 @@
 use Rattle.std.proofs.Common.{◌≡◌, ◌∙◌, Some, ap, sym}
 use Rattle.std.specs.Option.{option_copied}
 use Rattle.rambo_world.proofs.Asked.{nothing_set, get_sets_not, set_of}
-use Rattle.rambo_node.proofs.Errors.{err_kept}
+use Rattle.rambo_names.proofs.Errors.{err_kept}
 use Rattle.rambo_world.proofs.nodes.make_room.Goals as goal
 
 pub returns-in_err-reserve-in-Some-Set-clause-refused : goal.returns-in_err-reserve-in-Some-Set-clause-refused

@@ -2,7 +2,7 @@ use Rattle.std.proofs.Common.{◌≡◌, ◌∙◌, ◌++◌, ◌∷◌, [], sym
 use Rattle.std.proofs.lemmas.List.{take_all}
 use Rattle.rambo_joiner.specs.Statuses.{is_idle}
 use Rattle.rambo_run.specs.Runs.{maps_of}
-use Rattle.rambo_letters.proofs.Sizes.{up_fits, back_fits}
+use Rattle.rambo_names.proofs.Sizes.{up_fits, back_fits}
 use Rattle.rambo_world.proofs.Starting.{maps_next, no_map, own_map}
 use Rattle.rambo_world.proofs.nodes.maps_of.Goals.{then-not-is_idle+in_ok-configs_of+in_ok-push, else-not-is_idle}
 use Rattle.rambo_world.proofs.nodes.maps_of.Goals as goal

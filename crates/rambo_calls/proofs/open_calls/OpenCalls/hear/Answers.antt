@@ -1,4 +1,4 @@
-use Rattle.std.proofs.lemmas.Grind.{common_steps}
+use Rattle.rambo_names.proofs.Sizes.{up_fits, back_fits, variant_fits}
 use Rattle.std.proofs.Common.{map, length, arith, take, drop, ◌++◌, sym, ap, ◌∙◌, subst}
 use Rattle.std.proofs.Math.Seq.{take-append_seam}
 use Rattle.rambo_calls.specs.Hearing.{heard_call}
@@ -13,4 +13,4 @@ returns g c room =
     ∙ ap (λ cs. map (heard_call c.args.heard c.args.from c.args.map.now c.args.number c.args.merged.now c.args.me) (calls_of cs)) whole
 
 pub hear-requires : goal.hear-requires
-hear-requires g c = grind (arith, common_steps)
+hear-requires g c = (variant_fits _ _ _ _ (back_fits _ _ _ (up_fits _ _ _ c.requires-raw.1.0)), c.requires-raw.1.1)

@@ -1,4 +1,4 @@
-use Rattle.std.proofs.lemmas.Grind.{common_steps}
+use Rattle.rambo_names.proofs.Sizes.{up_fits, back_fits, variant_fits}
 use Rattle.std.proofs.Common.{arith, ◌≡◌, List, ℕ, take, drop, length, ◌++◌, ap, ◌∙◌, subst, sym}
 use Rattle.rambo_calls.specs.Kept.{calls_of, IsRoomy}
 use Rattle.std.proofs.Math.Seq.{take-append_seam}
@@ -10,7 +10,7 @@ written : {A : Type 0} (new old : List A) (count : ℕ) → count ≡ length new
 written new old count e = ap (λ n. take n (new ++ drop (length new) old)) e ∙ take-append_seam new _
 
 pub make_room-requires : goal.make_room-requires
-make_room-requires g c = grind (arith, common_steps)
+make_room-requires g c = (variant_fits _ _ _ _ (back_fits _ _ _ (up_fits _ _ _ c.requires-raw.1.0)), c.requires-raw.1.1)
 
 pub returns-clause-same : goal.returns-clause-same
 returns-clause-same g c =

@@ -1,11 +1,11 @@
-use Rattle.std.proofs.lemmas.Grind.{common_steps}
-use Rattle.std.proofs.Common.{arith, ap, ◌∙◌, sym}
+use Rattle.rambo_names.proofs.Sizes.{up_fits, back_fits, variant_fits}
+use Rattle.std.proofs.Common.{ap, ◌∙◌, sym}
 use Rattle.rambo_calls.specs.Calls.{asked_in, query_in, find_call}
 use Rattle.rambo_calls.specs.Kept.{calls_of}
 use Rattle.rambo_calls.proofs.open_calls.OpenCalls.query.Goals as goal
 
 pub find-requires : goal.find-requires
-find-requires g c = grind (arith, common_steps)
+find-requires g c = variant_fits _ _ _ _ (back_fits _ _ _ (up_fits _ _ _ c.requires-raw.1))
 
 pub returns-in-Query : goal.returns-in-Query
 returns-in-Query g c =

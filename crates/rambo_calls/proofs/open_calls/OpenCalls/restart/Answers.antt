@@ -1,4 +1,4 @@
-use Rattle.std.proofs.lemmas.Grind.{common_steps}
+use Rattle.rambo_names.proofs.Sizes.{up_fits, back_fits, variant_fits}
 use Rattle.std.proofs.Common.{◌≡◌, sym, ap, ◌∙◌, subst, length, slice_set, get_or, arith}
 use Rattle.rambo_calls.specs.Hearing.{restarted}
 use Rattle.rambo_calls.specs.Calls.{place_of, find_call}
@@ -27,4 +27,4 @@ pub index_mut-requires : goal.index_mut-requires
 index_mut-requires g c = omega arith
 
 pub restart-requires : goal.restart-requires
-restart-requires g c = grind (arith, common_steps)
+restart-requires g c = (variant_fits _ _ _ _ (back_fits _ _ _ (up_fits _ _ _ c.requires-raw.1.0)), c.requires-raw.1.1)

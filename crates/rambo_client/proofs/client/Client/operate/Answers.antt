@@ -1,12 +1,13 @@
 use Rattle.std.proofs.Common.{◌∷◌, [], ◌∙◌}
 use Rattle.std.proofs.lemmas.Result.{IfOk-weaker}
 use Rattle.rambo_client.specs.declared.request.Request.TheVariants.{Does}
-use Rattle.rambo_client.proofs.Gains.{answered_right, called_begins, begins-kept, on_err, on_err-weaker, on_ok-from, if_ok-and}
+use Rattle.rambo_names.proofs.Errors.{on_err}
+use Rattle.rambo_client.proofs.Gains.{answered_right, called_begins, begins-kept, on_err-weaker, on_ok-from, if_ok-and}
 use Rattle.rambo_client.proofs.client.Client.operate.Goals as goal
 
 pub returns-in_err-id-clause-err : goal.returns-in_err-id-clause-err
 returns-in_err-id-clause-err g c = λ qs calls.
-    on_err c.from_residual.result _ (begins-kept c.args.self.now.name qs (Does c.args.op ∷ []) (g.C.Cluster.history c.args.cluster.now) (g.C.Cluster.history c.ask.new.self) calls c.in_err-id.ensures.err)
+    on_err c.from_residual.result (begins-kept c.args.self.now.name qs (Does c.args.op ∷ []) (g.C.Cluster.history c.args.cluster.now) (g.C.Cluster.history c.ask.new.self) calls c.in_err-id.ensures.err)
 
 pub returns-clause-answer : goal.returns-clause-answer
 returns-clause-answer g c = λ qs calls.

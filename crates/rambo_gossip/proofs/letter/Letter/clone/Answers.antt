@@ -1,6 +1,6 @@
 use Rattle.std.proofs.Common.{◌≡◌, sym, ap, ◌∙◌}
 use Rattle.rambo_gossip.specs.declared.letter.Kind.TheVariants as kind
-use Rattle.rambo_gossip.proofs.Sizes.{up_fits, back_fits, variant_fits}
+use Rattle.rambo_names.proofs.Sizes.{up_fits, back_fits, variant_fits}
 use Rattle.rambo_gossip.proofs.letter.Letter.clone.Goals as goal
 use Rattle.rambo_gossip.proofs.letter.Letter.clone.Goals.{in-Join, in-Gossip+in_ok-clone-in-Gossip}
 

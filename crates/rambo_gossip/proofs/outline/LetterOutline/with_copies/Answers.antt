@@ -2,7 +2,7 @@ use Rattle.std.proofs.Common.{◌≡◌, sym, ap, ◌∙◌}
 use Rattle.rambo_gossip.specs.declared.letter.Kind.TheVariants as kind
 use Rattle.rambo_gossip.specs.Letters.{letter_with, kind_with}
 use Rattle.rambo_gossip.specs.Outlines.{outlined}
-use Rattle.rambo_gossip.proofs.Sizes.{up_fits, back_fits, variant_fits}
+use Rattle.rambo_names.proofs.Sizes.{up_fits, back_fits, variant_fits}
 use Rattle.rambo_gossip.proofs.outline.LetterOutline.with_copies.Goals as goal
 use Rattle.rambo_gossip.proofs.outline.LetterOutline.with_copies.Goals.{in-None, in-Some}
 

@@ -4,7 +4,7 @@ use Rattle.std.specs.Option.{option_map}
 use Rattle.std.proofs.lemmas.Option.{slice_get_past, slice_get_read, slice_get-map}
 use Rattle.rambo_letters.specs.Shared.{sent_in}
 use Rattle.rambo_letters.proofs.Sharing.{sent_here}
-use Rattle.rambo_letters.proofs.Sizes.{up_fits, back_fits, variant_fits}
+use Rattle.rambo_names.proofs.Sizes.{up_fits, back_fits, variant_fits}
 use Rattle.rambo_letters.proofs.letters.Letters.get.Goals as goal
 
 pub returns-then-place-len : goal.returns-then-place-len

@@ -1,8 +1,8 @@
 use Rattle.std.proofs.Common.{◌∙◌, ◌++◌, map, length, slice_get, sym, ap, subst}
 use Rattle.rambo_letters.specs.Shared.{sent_in, IsHeld, AreHeld}
-use Rattle.rambo_letters.proofs.Lists.{on_err_all}
+use Rattle.rambo_names.proofs.Errors.{on_err}
 use Rattle.rambo_letters.proofs.Lists.{sent_push}
-use Rattle.rambo_letters.proofs.Sizes.{up_fits, back_fits, variant_fits}
+use Rattle.rambo_names.proofs.Sizes.{up_fits, back_fits, variant_fits}
 use Rattle.rambo_letters.proofs.Sharing.{all_held, all_stay, pushed_view}
 use Rattle.rambo_letters.proofs.letters.Letters.push.Goals as goal
 
@@ -23,7 +23,7 @@ pub returns-in_err-sent-clause-err : goal.returns-in_err-sent-clause-err
 returns-in_err-sent-clause-err g c =
     let standings = c.self.inside.standings.items in
     let grows = c.keep.ensures.grows in
-    on_err_all c.from_residual-in_err-sent.result
+    on_err c.from_residual-in_err-sent.result
     ((λ i. map (sent_in (grows.1 i)) (c.reserve.ensures.items i)) ∙ all_stay standings grows.0 c.self.inside.list.items c.self.invariant ∙ c.self.view_is)
 
 pub invariant_of-self-2 : goal.invariant_of-self-2

@@ -10,7 +10,7 @@ use Rattle.rambo_logs.specs.Stored.{copies_of, is_lacked, entries_of, IsEntry, I
 use Rattle.rambo_logs.proofs.Lacking.{joined-lacked}
 use Rattle.rambo_logs.proofs.Bringing.{part_entries, more_entries, more_seen, none_picked, stored_same, entries_of-same, room_there}
 use Rattle.rambo_logs.proofs.Storing.{length-entries_of}
-use Rattle.rambo_logs.proofs.Rooms.{on_err}
+use Rattle.rambo_names.proofs.Errors.{on_err}
 use Rattle.rambo_logs.proofs.logs.Logs.bring.Goals as goal
 
 pub list_lacked-requires-clause-within : goal.list_lacked-requires-clause-within

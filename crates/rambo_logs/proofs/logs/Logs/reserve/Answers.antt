@@ -7,7 +7,7 @@ use Rattle.rambo_logs.specs.Stored.{copies_of, entries_of, AreStored}
 use Rattle.rambo_logs.proofs.Bringing.{stored_same, entries_of-same, room_there}
 use Rattle.rambo_logs.proofs.Storing.{length-entries_of}
 use Rattle.rambo_logs.proofs.Reserving.{stored_keys, stored_rows, stored_puts}
-use Rattle.rambo_logs.proofs.Rooms.{on_err}
+use Rattle.rambo_names.proofs.Errors.{on_err}
 use Rattle.rambo_logs.proofs.logs.Logs.reserve.Goals as goal
 
 pub invariant_of-self-in_err-number : goal.invariant_of-self-in_err-number

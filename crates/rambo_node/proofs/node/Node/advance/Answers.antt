@@ -1,5 +1,5 @@
 use Rattle.std.proofs.Common.{refl}
-use Rattle.rambo_node.proofs.Errors.{err_ok, err_if_ok, on_err}
+use Rattle.rambo_names.proofs.Errors.{err_ok, err_if_ok, on_err}
 use Rattle.rambo_node.proofs.node.Node.advance.Goals as goal
 
 pub drop-deed-requires : goal.drop-deed-requires

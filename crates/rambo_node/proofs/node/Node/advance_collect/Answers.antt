@@ -1,6 +1,6 @@
 use Rattle.std.proofs.Common.{refl}
 use Rattle.rambo_node.specs.Changes.{made_by}
-use Rattle.rambo_node.proofs.Errors.{err_kept, err_ok, err_if_ok, on_err}
+use Rattle.rambo_names.proofs.Errors.{err_kept, err_ok, err_if_ok, on_err}
 use Rattle.rambo_node.proofs.node.Node.advance_collect.Goals as goal
 
 pub collected-requires : goal.collected-requires

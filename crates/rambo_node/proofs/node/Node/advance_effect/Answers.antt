@@ -1,4 +1,4 @@
-use Rattle.std.proofs.Common.{◌≡◌, sym, ap, ◌∙◌}
+use Rattle.std.proofs.Common.{sym, ap, ◌∙◌}
 use Rattle.std.proofs.lemmas.Result.{IfOk-weaker}
 use Rattle.std.specs.Option.{option_copied}
 use Rattle.rambo_calls.specs.Calls.{find_call}
@@ -6,7 +6,7 @@ use Rattle.rambo_node.specs.Changes.{made_by}
 use Rattle.rambo_node.specs.Kept.{answered_from}
 use Rattle.rambo_node.proofs.Advances.{query_moves, call_closes}
 use Rattle.rambo_node.proofs.Judged.{advance_next}
-use Rattle.rambo_node.proofs.Sizes.{up_fits, back_fits, next, variant_fits}
+use Rattle.rambo_names.proofs.Sizes.{up_fits, back_fits, next, variant_fits}
 use Rattle.rambo_node.proofs.node.Node.advance_effect.Goals as goal
 
 pub find-requires : goal.find-requires

@@ -1,7 +1,7 @@
 use Rattle.std.proofs.Common.{◌∙◌, ap, arith}
 use Rattle.rambo_node.specs.Refusals.{is_last}
 use Rattle.rambo_node.proofs.Judged.{call_next, next_small}
-use Rattle.rambo_node.proofs.Sizes.{up_fits, back_fits, next}
+use Rattle.rambo_names.proofs.Sizes.{up_fits, back_fits, next}
 use Rattle.rambo_node.proofs.node.Node.begin.Goals as goal
 
 pub next_id-id-requires : goal.next_id-id-requires

@@ -1,4 +1,4 @@
-use Rattle.rambo_node.proofs.Sizes.{up_fits, back_fits}
+use Rattle.rambo_names.proofs.Sizes.{up_fits, back_fits}
 use Rattle.std.proofs.Common.{◌≤◌, Some, None, Fits, w64, sym, ap, ◌∙◌, subst, arith}
 use Rattle.rambo_config_map.specs.Maps.{MapState, active_at, end_of, top_of, learnt}
 use Rattle.rambo_gc.specs.Collections.{has_quorum}

@@ -4,7 +4,7 @@ use Rattle.rambo_calls.specs.Calls.{place_of, find_call}
 use Rattle.rambo_calls.specs.Kept.{calls_of}
 use Rattle.rambo_node.specs.Kept.{answered_from}
 use Rattle.rambo_node.proofs.Advances.{call_closes, with_calls}
-use Rattle.rambo_node.proofs.Sizes.{up_fits, back_fits, next, variant_fits}
+use Rattle.rambo_names.proofs.Sizes.{up_fits, back_fits, next, variant_fits}
 use Rattle.rambo_node.proofs.node.Node.close.Goals as goal
 
 pub returns-clause-node : goal.returns-clause-node

@@ -1,4 +1,4 @@
-use Rattle.std.proofs.Common.{◌+◌, ap, ◌∙◌, rules}
+use Rattle.std.proofs.Common.{◌+◌, ap, ◌∙◌}
 use Rattle.rambo_calls.specs.Calls.{place_of, find_call}
 use Rattle.rambo_node.specs.Changes.{made_by}
 use Rattle.rambo_calls.specs.Hearing.{restarted}
@@ -6,7 +6,7 @@ use Rattle.rambo_calls.specs.Kept.{calls_of, with_call}
 use Rattle.rambo_node.specs.Refusals.{is_last}
 use Rattle.rambo_node.proofs.Advances.{begins_again, next_calls}
 use Rattle.rambo_node.proofs.Judged.{again_next, next_small}
-use Rattle.rambo_node.proofs.Sizes.{up_fits, back_fits, next}
+use Rattle.rambo_names.proofs.Sizes.{up_fits, back_fits, next}
 use Rattle.rambo_node.proofs.node.Node.do_again.Goals as goal
 
 pub overflow_add-self : goal.overflow_add-self

@@ -1,4 +1,4 @@
-use Rattle.rambo_node.proofs.Sizes.{up_fits, back_fits}
+use Rattle.rambo_names.proofs.Sizes.{up_fits, back_fits}
 use Rattle.std.proofs.Common.{◌+◌, Some, nat_le, length, ap, ◌∙◌}
 use Rattle.rambo_gc.specs.Collections.{CollectionState, opened}
 use Rattle.rambo_node.specs.Nodes.{NodeState}

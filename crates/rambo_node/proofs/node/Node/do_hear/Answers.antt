@@ -5,7 +5,7 @@ use Rattle.rambo_node.specs.Hearing.{heard_kind, heard_gossip}
 use Rattle.rambo_calls.specs.Hearing.{any_gap}
 use Rattle.rambo_node.specs.Refusals.{restarts, is_last}
 use Rattle.rambo_node.proofs.Judged.{hear_next}
-use Rattle.rambo_node.proofs.Sizes.{up_fits, back_fits, variant_fits}
+use Rattle.rambo_names.proofs.Sizes.{up_fits, back_fits, variant_fits}
 use Rattle.rambo_node.proofs.node.Node.do_hear.Goals as goal
 
 pub returns-in-Gossip-clause-ok : goal.returns-in-Gossip-clause-ok

@@ -1,4 +1,4 @@
-use Rattle.rambo_node.proofs.Sizes.{up_fits, back_fits, next}
+use Rattle.rambo_names.proofs.Sizes.{up_fits, back_fits}
 use Rattle.std.proofs.Common.{◌≡◌, Some, nat_le, arith, length, sym, ap, ◌∙◌, subst}
 use Rattle.rambo_config_map.specs.Maps.{top_of}
 use Rattle.rambo_config_map.specs.MapLaws.{top_below}

@@ -4,7 +4,7 @@ use Rattle.std.specs.Option.{option_map}
 use Rattle.rambo_atomic.specs.declared.event.Event.TheVariants as event
 use Rattle.rambo_calls.specs.Calls.{find_call}
 use Rattle.rambo_node.specs.Notes.{noted, MayStand, answer_due}
-use Rattle.rambo_node.proofs.Sizes.{up_fits, back_fits, next, variant_fits}
+use Rattle.rambo_names.proofs.Sizes.{up_fits, back_fits, next, variant_fits}
 use Rattle.rambo_node.proofs.node.Node.end.Goals as goal
 
 pub find-call-requires : goal.find-call-requires

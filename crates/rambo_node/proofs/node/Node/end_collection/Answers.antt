@@ -1,4 +1,4 @@
-use Rattle.rambo_node.proofs.Sizes.{up_fits, back_fits}
+use Rattle.rambo_names.proofs.Sizes.{up_fits, back_fits}
 use Rattle.std.proofs.Common.{◌≡◌, None, false, nat_le, nat_lt, length, if◌then◌else◌, sym, ap, ◌∙◌, subst}
 use Rattle.rambo_config_map.specs.Maps.{without_lowest, MapState}
 use Rattle.rambo_gc.specs.Collections.{move_of}

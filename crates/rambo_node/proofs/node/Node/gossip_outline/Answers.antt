@@ -1,4 +1,4 @@
-use Rattle.rambo_node.proofs.Sizes.{up_fits, back_fits}
+use Rattle.rambo_names.proofs.Sizes.{up_fits, back_fits}
 use Rattle.std.proofs.lemmas.Grind.{common_steps}
 use Rattle.std.proofs.Common.{arith}
 use Rattle.rambo_node.proofs.node.Node.gossip_outline.Goals as goal

@@ -1,4 +1,4 @@
-use Rattle.rambo_node.proofs.Sizes.{up_fits, back_fits}
+use Rattle.rambo_names.proofs.Sizes.{up_fits, back_fits}
 use Rattle.std.proofs.Common.{ap, ◌∙◌}
 use Rattle.rambo_config_map.specs.Maps.{end_of}
 use Rattle.rambo_bids.specs.Wishes.{is_for}

@@ -1,6 +1,6 @@
 use Rattle.std.proofs.Common.{◌∙◌, not, nat_eq, sym, ap}
 use Rattle.rambo_calls.specs.Calls.{is_missing, find_call}
-use Rattle.rambo_node.proofs.Sizes.{up_fits, back_fits, next}
+use Rattle.rambo_names.proofs.Sizes.{up_fits, back_fits, next}
 use Rattle.rambo_node.proofs.Own.{other_call, own_call}
 use Rattle.rambo_node.proofs.node.Node.is_missing.Goals as goal
 

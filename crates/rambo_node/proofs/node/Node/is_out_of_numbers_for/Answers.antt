@@ -1,8 +1,8 @@
-use Rattle.std.proofs.Common.{◌≡◌, true, false, sym, ap, ◌∙◌}
+use Rattle.std.proofs.Common.{◌≡◌, true, sym, ap, ◌∙◌}
 use Rattle.rambo_gossip.specs.Outlines.{outlined}
 use Rattle.rambo_calls.specs.Hearing.{any_gap}
 use Rattle.rambo_node.specs.Refusals.{restarts, is_last}
-use Rattle.rambo_node.proofs.Sizes.{up_fits, back_fits, next}
+use Rattle.rambo_names.proofs.Sizes.{up_fits, back_fits, next}
 use Rattle.rambo_node.proofs.LastNumbers.{gap_at_last, no_last}
 use Rattle.rambo_node.proofs.node.Node.is_out_of_numbers_for.Goals as goal
 

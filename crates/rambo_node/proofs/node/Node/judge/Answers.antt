@@ -1,4 +1,4 @@
-use Rattle.std.proofs.Common.{◌≡◌, Some, IfErr, sym, subst, rules}
+use Rattle.std.proofs.Common.{◌≡◌, Some, IfErr, sym, subst}
 use Rattle.rambo_node.specs.Changes.{refusal_of}
 use Rattle.rambo_node.proofs.Sizes.{deliver_fits}
 use Rattle.rambo_node.proofs.node.Node.judge.Goals as goal

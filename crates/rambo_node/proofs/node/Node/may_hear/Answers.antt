@@ -1,4 +1,4 @@
-use Rattle.rambo_node.proofs.Sizes.{up_fits, back_fits}
+use Rattle.rambo_names.proofs.Sizes.{up_fits, back_fits}
 use Rattle.rambo_node.proofs.node.Node.may_hear.Goals as goal
 
 pub is_out_of_numbers-requires : goal.is_out_of_numbers-requires

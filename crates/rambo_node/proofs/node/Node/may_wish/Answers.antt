@@ -1,4 +1,4 @@
-use Rattle.rambo_node.proofs.Sizes.{up_fits, back_fits}
+use Rattle.rambo_names.proofs.Sizes.{up_fits, back_fits}
 use Rattle.std.proofs.Common.{◌≡◌, Some, None, OnOk, IfErr, subst}
 use Rattle.rambo_names.specs.Refusals.{least}
 use Rattle.rambo_bids.specs.Wishes.{wish_causes}

@@ -8,7 +8,7 @@ use Rattle.rambo_node.specs.Hearing.{heard_gossip, collection_after, attempt_aft
 use Rattle.rambo_calls.specs.Hearing.{heard_call}
 use Rattle.rambo_bids.specs.Fitting.{AttemptFits}
 use Rattle.rambo_node.specs.Nodes.{raised}
-use Rattle.rambo_node.proofs.Sizes.{up_fits, back_fits, next}
+use Rattle.rambo_names.proofs.Sizes.{up_fits, back_fits, next}
 use Rattle.rambo_node.proofs.node.Node.merge.Goals as goal
 
 pub returns-clause-ok : goal.returns-clause-ok
@@ -56,3 +56,6 @@ pub hear_vote-requires : goal.hear_vote-requires
 hear_vote-requires g c =
     let fits = up_fits _ _ _ c.requires-raw.1.1 in
     back_fits _ _ _ fits
+
+pub hear_offer-requires : goal.hear_offer-requires
+hear_offer-requires g c = back_fits _ _ _ (up_fits _ _ _ c.requires-raw.1.1)

@@ -1,7 +1,12 @@
+use Rattle.rambo_names.proofs.Sizes.{up_fits, back_fits}
 use Rattle.std.proofs.Common.{ap, ◌∙◌, rules}
 use Rattle.rambo_node.specs.Refusals.{is_last}
 use Rattle.rambo_node.proofs.Judged.{next_small}
+use Rattle.rambo_gc.specs.Collections.{move_of}
 use Rattle.rambo_node.proofs.node.Node.move_collection.Goals as goal
 
 pub overflow_add-self : goal.overflow_add-self
 overflow_add-self g c = next_small c.self.inside.number c.self.ranges.1.1.1.0.1 (ap (λ n. is_last n.number) c.self.view_is ∙ c.requires.next)
+
+pub moved-requires : goal.moved-requires
+moved-requires g c = (back_fits _ _ _ (up_fits _ _ _ c.requires-raw.1.1.0), ap (λ x. move_of g.Q.Quorums.system x.map c.args.collection) c.self.view_is ∙ c.requires.met)

@@ -1,4 +1,4 @@
-use Rattle.rambo_node.proofs.Sizes.{up_fits, back_fits, next}
+use Rattle.rambo_names.proofs.Sizes.{up_fits, back_fits, next}
 use Rattle.std.proofs.Common.{Fits, w64, ap, ◌∙◌, subst, ◌-◌, ◌^◌, min}
 use Rattle.rambo_calls.specs.Hearing.{any_gap, number_after}
 use Rattle.rambo_node.proofs.Judged.{next_number}

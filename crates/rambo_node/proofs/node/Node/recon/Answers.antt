@@ -1,6 +1,6 @@
 use Rattle.std.proofs.Common.{refl}
 use Rattle.rambo_node.specs.Changes.{made_by}
-use Rattle.rambo_node.proofs.Errors.{err_kept, err_ok, on_err}
+use Rattle.rambo_names.proofs.Errors.{err_kept, err_ok, on_err}
 use Rattle.rambo_node.proofs.node.Node.recon.Goals as goal
 
 pub returns-in_err-may_recon-clause-judged : goal.returns-in_err-may_recon-clause-judged

@@ -1,4 +1,4 @@
-use Rattle.rambo_node.proofs.Sizes.{up_fits, back_fits, next, variant_fits}
+use Rattle.rambo_names.proofs.Sizes.{up_fits, back_fits, next, variant_fits}
 use Rattle.rambo_node.proofs.node.Node.restarts.Goals as goal
 
 pub any_gap-requires : goal.any_gap-requires

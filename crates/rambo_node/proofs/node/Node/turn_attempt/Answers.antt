@@ -1,3 +1,4 @@
+use Rattle.rambo_names.proofs.Sizes.{up_fits, back_fits}
 use Rattle.std.proofs.Common.{◌≡◌, false, nat_lt, sym, ap, ◌∙◌}
 use Rattle.std.proofs.lemmas.Bool.{ltb-false}
 use Rattle.rambo_config_map.specs.Maps.{end_of}
@@ -17,3 +18,6 @@ end_attempt-requires g c = assumption
 
 pub place-requires : goal.place-requires
 place-requires g c = assumption
+
+pub is_known-requires : goal.is_known-requires
+is_known-requires g c = back_fits _ _ _ (up_fits _ _ _ c.requires-raw.1.1.0)

@@ -1,4 +1,4 @@
-use Rattle.rambo_node.proofs.Sizes.{up_fits, back_fits}
+use Rattle.rambo_names.proofs.Sizes.{up_fits, back_fits}
 use Rattle.std.proofs.Common.{Some, sym, ap, ◌∙◌}
 use Rattle.rambo_gc.specs.declared.gc_move.GcMove.TheVariants.{Propagating, Done}
 use Rattle.rambo_gc.specs.Collections.{move_of}

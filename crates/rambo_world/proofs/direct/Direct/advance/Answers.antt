@@ -7,9 +7,10 @@ use Rattle.rambo_run.specs.Runs.{result_of}
 use Rattle.rambo_run.specs.Steps.{refusal}
 use Rattle.rambo_world.specs.Direct.{IsReachedBarLetters}
 use Rattle.rambo_run.specs.Ongoing.{RunningOf}
-use Rattle.rambo_letters.proofs.Sizes.{up_fits, back_fits, next}
+use Rattle.rambo_names.proofs.Sizes.{up_fits, back_fits, next}
 use Rattle.rambo_world.proofs.Letterless.{bar_fits, bar_next}
-use Rattle.rambo_world.proofs.Single.{on_err, refused_told, taken_told, taken_after, stands, moves_on, advancing}
+use Rattle.rambo_names.proofs.Errors.{on_err}
+use Rattle.rambo_world.proofs.Single.{refused_told, taken_told, taken_after, stands, moves_on, advancing}
 use Rattle.rambo_world.proofs.Turns.{judged_at, step_refusal, step_turn}
 use Rattle.rambo_world.proofs.direct.Direct.advance.Goals as goal
 

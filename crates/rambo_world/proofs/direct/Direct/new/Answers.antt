@@ -1,4 +1,4 @@
-use Rattle.rambo_letters.proofs.Sizes.{up_fits, back_fits}
+use Rattle.rambo_names.proofs.Sizes.{up_fits, back_fits}
 use Rattle.rambo_world.proofs.Letterless.{bar_first}
 use Rattle.rambo_world.proofs.direct.Direct.new.Goals as goal
 

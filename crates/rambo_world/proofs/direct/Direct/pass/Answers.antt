@@ -1,9 +1,9 @@
 use Rattle.std.proofs.Common.{◌∙◌, sym, ap, subst}
-use Rattle.rambo_letters.proofs.Sizes.{up_fits, back_fits}
+use Rattle.rambo_names.proofs.Sizes.{up_fits, back_fits}
 use Rattle.rambo_world.specs.Direct.{pass_refusal, passed, IsReachedBarLetters}
 use Rattle.rambo_run.specs.Ongoing.{RunningOf}
 use Rattle.rambo_world.proofs.Letterless.{bar_none, bar_passed, unpassed}
-use Rattle.rambo_world.proofs.Single.{on_err}
+use Rattle.rambo_names.proofs.Errors.{on_err}
 use Rattle.rambo_world.proofs.direct.Direct.pass.Goals as goal
 
 pub may_pass-requires : goal.may_pass-requires

@@ -1,12 +1,13 @@
 use Rattle.std.proofs.lemmas.List.{length-set}
-use Rattle.rambo_node.proofs.Errors.{err_kept, err_ok, err_if_ok}
+use Rattle.rambo_names.proofs.Errors.{err_kept, err_ok, err_if_ok}
 use Rattle.std.proofs.Common.{◌≡◌, ◌<◌, ◌∙◌, ◌+◌, length, None, Some, slice_set, sym, ap, subst}
 use Rattle.rambo_names.specs.Refusals.{least}
 use Rattle.rambo_node.specs.Changes.{made_by}
 use Rattle.rambo_run.specs.Steps.{causes_at}
 use Rattle.rambo_world.specs.Kept.{kept_of, state_at, moved, AllGrow}
-use Rattle.rambo_letters.proofs.Sizes.{up_fits, back_fits}
-use Rattle.rambo_letters.proofs.Lists.{some_is, on_err_all}
+use Rattle.rambo_names.proofs.Sizes.{up_fits, back_fits}
+use Rattle.rambo_letters.proofs.Lists.{some_is}
+use Rattle.rambo_names.proofs.Errors.{on_err}
 use Rattle.rambo_world.proofs.Zipping.{node_here, put_node, node_unchanged, node_grows}
 use Rattle.rambo_node.specs.Operations.{called}
 use Rattle.rambo_node.specs.declared.change.Change.TheVariants as change
@@ -60,7 +61,7 @@ returns-in_err-id-clause-err g c =
     let x = c.index_mut.result.now in
     let below : c.place_of.result < length xs = subst (λ n. c.place_of.result < n) (sym c.self.invariant.0) c.place_of.ensures.within in
     let y = c.begin.new.self in
-    on_err_all c.from_residual.result (node_unchanged xs ls c.place_of.result c.args.name x y c.place_of.ensures.place c.place_of.ensures.named.0 below c.index_mut.ensures.value c.in_err-id.ensures.err ∙ c.self.view_is)
+    on_err c.from_residual.result (node_unchanged xs ls c.place_of.result c.args.name x y c.place_of.ensures.place c.place_of.ensures.named.0 below c.index_mut.ensures.value c.in_err-id.ensures.err ∙ c.self.view_is)
 
 pub returns-in_err-id-clause-grow : goal.returns-in_err-id-clause-grow
 returns-in_err-id-clause-grow g c =

@@ -1,4 +1,4 @@
-use Rattle.rambo_letters.proofs.Sizes.{up_fits, back_fits}
+use Rattle.rambo_names.proofs.Sizes.{up_fits, back_fits}
 use Rattle.rambo_world.proofs.nodes.Nodes.drop.Goals as goal
 
 pub drop-spare-requires : goal.drop-spare-requires

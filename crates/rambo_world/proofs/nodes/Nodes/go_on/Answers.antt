@@ -1,4 +1,4 @@
-use Rattle.std.proofs.Common.{◌≡◌, ◌<◌, ◌-◌, ◌∙◌, ◌++◌, List, [], length, None, Some, slice_set, refl, sym, ap, subst}
+use Rattle.std.proofs.Common.{◌≡◌, ◌<◌, ◌-◌, ◌∙◌, ◌++◌, List, [], length, None, Some, slice_set, refl, sym, ap, subst, arith}
 use Rattle.std.proofs.lemmas.List.{length-set}
 use Rattle.std.specs.Prelude.{slice_index_or}
 use Rattle.rambo_names.specs.Refusals.{least}
@@ -14,8 +14,9 @@ use Rattle.rambo_node.specs.declared.change.Change.TheVariants as change
 use Rattle.rambo_run.specs.Steps.{causes_at}
 use Rattle.rambo_world.specs.Kept.{kept_of, state_at, moved, AllGrow}
 use Rattle.rambo_world.specs.Logging.{listed}
-use Rattle.rambo_letters.proofs.Sizes.{up_fits, back_fits}
-use Rattle.rambo_letters.proofs.Lists.{some_is, on_err_all}
+use Rattle.rambo_names.proofs.Sizes.{up_fits, back_fits}
+use Rattle.rambo_letters.proofs.Lists.{some_is}
+use Rattle.rambo_names.proofs.Errors.{on_err}
 use Rattle.rambo_world.proofs.Logging.{made_name, made_recorded, put_key}
 use Rattle.rambo_world.proofs.Zipping.{node_here, put_node, node_unchanged, log_grows, all_same}
 use Rattle.rambo_world.proofs.nodes.Nodes.go_on.Goals as goal
@@ -49,7 +50,7 @@ err_same g c =
     ∙ node_unchanged xs ls c.place_of-2.result c.args.id.name x c.go_on.new.self c.place_of-2.ensures.place c.place_of-2.ensures.named.0 below c.index_mut.ensures.value c.in_err-copy.ensures.err.0 ∙ c.self.view_is
 
 pub returns-in_err-copy-clause-err : goal.returns-in_err-copy-clause-err
-returns-in_err-copy-clause-err g c = on_err_all c.from_residual-in_err-copy.result (err_same g c, c.in_err-copy.ensures.err.1, c.in_err-copy.ensures.err.2)
+returns-in_err-copy-clause-err g c = on_err c.from_residual-in_err-copy.result (err_same g c, c.in_err-copy.ensures.err.1, c.in_err-copy.ensures.err.2)
 
 pub returns-in_err-copy-clause-grow : goal.returns-in_err-copy-clause-grow
 returns-in_err-copy-clause-grow g c = all_same c.args.self.now _ (err_same g c)
@@ -116,3 +117,9 @@ returns-clause-grow g c =
       extends = (more, refl);
       recorded = λ before. ap (λ y. y.registers) c.in_ok-copy.ensures.node ∙ made_recorded x own [] (change.Advance c.args.id) before (ap (joined x.registers) greatest_of-nil);
     })))
+
+pub index-requires : goal.index-requires
+index-requires g c = omega (arith, c.place_of.ensures.within, c.self.inside.list.ok.0, c.self.invariant.0)
+
+pub index_mut-requires : goal.index_mut-requires
+index_mut-requires g c = omega (arith, c.place_of-2.ensures.within, c.self.inside.list.ok.0, c.self.invariant.0)

@@ -1,4 +1,4 @@
-use Rattle.std.proofs.Common.{◌≡◌, ◌<◌, ◌-◌, ◌∙◌, ◌++◌, List, [], length, None, Some, slice_set, refl, sym, ap, subst}
+use Rattle.std.proofs.Common.{◌≡◌, ◌<◌, ◌-◌, ◌∙◌, ◌++◌, List, [], length, None, Some, slice_set, refl, sym, ap, subst, arith}
 use Rattle.std.proofs.lemmas.List.{length-set}
 use Rattle.std.specs.Prelude.{slice_index_or}
 use Rattle.rambo_names.specs.Refusals.{least}
@@ -13,8 +13,8 @@ use Rattle.rambo_node.specs.Changes.{made_by}
 use Rattle.rambo_node.specs.declared.change.Change.TheVariants as change
 use Rattle.rambo_run.specs.Steps.{causes_at}
 use Rattle.rambo_world.specs.Kept.{KeptNode, kept_of, state_at, log_at, brought, moved, AllGrow}
-use Rattle.rambo_letters.proofs.Sizes.{up_fits, back_fits}
-use Rattle.rambo_letters.proofs.Lists.{on_err_all}
+use Rattle.rambo_names.proofs.Sizes.{up_fits, back_fits}
+use Rattle.rambo_names.proofs.Errors.{on_err}
 use Rattle.rambo_world.proofs.Logging.{made_name, heard_recorded, told_copies, untold_copies, untold_registers}
 use Rattle.rambo_world.proofs.Zipping.{node_here, put_node, node_unchanged, node_grows, log_grows, brought_is, enough_brought, all_same}
 use Rattle.rambo_world.proofs.nodes.Nodes.hear.Goals as goal
@@ -60,7 +60,7 @@ err_same g c =
     ∙ node_unchanged xs ls c.place_of.result l.addressee x c.hear_outlined.new.self c.place_of.ensures.place c.place_of.ensures.named.0 below c.index_mut.ensures.value c.in_err-hear_outlined.ensures.err ∙ c.self.view_is
 
 pub returns-in_err-hear_outlined-clause-err : goal.returns-in_err-hear_outlined-clause-err
-returns-in_err-hear_outlined-clause-err g c = on_err_all c.from_residual-in_err-hear_outlined.result (err_same g c)
+returns-in_err-hear_outlined-clause-err g c = on_err c.from_residual-in_err-hear_outlined.result (err_same g c)
 
 pub returns-in_err-hear_outlined-clause-grow : goal.returns-in_err-hear_outlined-clause-grow
 returns-in_err-hear_outlined-clause-grow g c = all_same c.args.self.now _ (err_same g c)
@@ -182,3 +182,6 @@ returns-else-is_some-clause-grow g c =
     (node_grows xs ls c.place_of.result l.addressee x c.hear_outlined.new.self c.place_of.ensures.place c.place_of.ensures.named.0 below c.index_mut.ensures.value
     (ap (λ y. y.name) heard ∙ made_name x (change.Deliver (letter_with l (greatest_of more))))
     (ap (λ y. y.registers) heard ∙ untold_registers x (letter_with l (greatest_of more)) told)))
+
+pub index_mut-requires : goal.index_mut-requires
+index_mut-requires g c = omega (arith, c.place_of.ensures.within, c.self.inside.list.ok.0, c.self.invariant.0)

@@ -2,7 +2,7 @@ use Rattle.std.proofs.Common.{◌≡◌, ◌∙◌, List, sym, ap, subst, IfOk}
 use Rattle.rambo_node.specs.Nodes.{NodeState}
 use Rattle.rambo_run.specs.Runs.{maps_of}
 use Rattle.rambo_world.specs.Kept.{states_of}
-use Rattle.rambo_letters.proofs.Sizes.{up_fits, back_fits}
+use Rattle.rambo_names.proofs.Sizes.{up_fits, back_fits}
 use Rattle.rambo_world.proofs.Zipping.{states_of-kept}
 use Rattle.rambo_world.proofs.nodes.Nodes.maps.Goals as goal
 

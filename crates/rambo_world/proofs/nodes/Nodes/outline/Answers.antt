@@ -2,7 +2,7 @@ use Rattle.std.proofs.Common.{◌≡◌, ◌<◌, ◌-◌, ◌∙◌, [], length
 use Rattle.std.specs.Prelude.{if◌then◌else◌, slice_index_or}
 use Rattle.rambo_joiner.specs.Statuses.{is_active}
 use Rattle.rambo_world.specs.Kept.{kept_at, outline}
-use Rattle.rambo_letters.proofs.Sizes.{up_fits, back_fits}
+use Rattle.rambo_names.proofs.Sizes.{up_fits, back_fits}
 use Rattle.rambo_letters.proofs.Lists.{some_is}
 use Rattle.rambo_world.proofs.Zipping.{with_log, log_here}
 use Rattle.rambo_world.proofs.nodes.Nodes.outline.Goals.{then-is_active, else-is_active}

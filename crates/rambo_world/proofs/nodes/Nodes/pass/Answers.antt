@@ -10,8 +10,8 @@ use Rattle.rambo_logs.specs.NodeLogs.{part, lacked, extended}
 use Rattle.rambo_node.specs.Changes.{made_by}
 use Rattle.rambo_node.specs.declared.change.Change.TheVariants as change
 use Rattle.rambo_node.specs.Nodes.{NodeState}
-use Rattle.rambo_letters.proofs.Lists.{on_err_all}
-use Rattle.rambo_letters.proofs.Sizes.{up_fits, back_fits}
+use Rattle.rambo_names.proofs.Errors.{on_err}
+use Rattle.rambo_names.proofs.Sizes.{up_fits, back_fits}
 use Rattle.rambo_world.specs.Direct.{outlined_for}
 use Rattle.rambo_world.specs.Kept.{KeptNode, kept_of, kept_at, outline}
 use Rattle.rambo_world.proofs.Cutting.{written_over}
@@ -51,7 +51,7 @@ returns-in_err-hear_of-clause-err g c =
     let ys = c.hear_of.new.nodes in
     let same = c.as_mut_slice.ensures.value in
     let back : take c.self.inside.list.len (ys ++ drop (length ys) xs) ≡ ys = written_over xs ys c.self.inside.list.len c.self.inside.list.ok.0 (c.hear_of.auto.nodes ∙ ap length same) in
-    on_err_all c.from_residual.result (ap (λ l. kept_of l ls) (back ∙ c.in_err-hear_of.ensures.err ∙ same) ∙ c.self.view_is)
+    on_err c.from_residual.result (ap (λ l. kept_of l ls) (back ∙ c.in_err-hear_of.ensures.err ∙ same) ∙ c.self.view_is)
 
 pub returns-in_err-hear_of-clause-grow : goal.returns-in_err-hear_of-clause-grow
 returns-in_err-hear_of-clause-grow g c =
@@ -167,7 +167,7 @@ returns-in_err-hear_of-2-clause-err g c =
     let ys = c.hear_of-2.new.nodes in
     let same = c.as_mut_slice-2.ensures.value in
     let back : take c.self.inside.list.len (ys ++ drop (length ys) xs) ≡ ys = written_over xs ys c.self.inside.list.len c.self.inside.list.ok.0 (c.hear_of-2.auto.nodes ∙ ap length same) in
-    on_err_all c.from_residual-in_err-hear_of-2.result ((λ i. kept_of ((back ∙ c.in_err-hear_of-2.ensures.err ∙ same) i) (ap (λ s. s.logs) c.in_ok-bring.ensures.ok i)) ∙ c.self.view_is)
+    on_err c.from_residual-in_err-hear_of-2.result ((λ i. kept_of ((back ∙ c.in_err-hear_of-2.ensures.err ∙ same) i) (ap (λ s. s.logs) c.in_ok-bring.ensures.ok i)) ∙ c.self.view_is)
 
 pub returns-in_err-hear_of-2-clause-grow : goal.returns-in_err-hear_of-2-clause-grow
 returns-in_err-hear_of-2-clause-grow g c =

@@ -1,7 +1,7 @@
 use Rattle.std.proofs.Common.{◌≡◌, IfOk, subst}
 use Rattle.rambo_run.specs.Runs.{results_from, run_from, outcome_at}
 use Rattle.rambo_run.specs.Ongoing.{RunningOf, AgreesSoFar}
-use Rattle.rambo_letters.proofs.Sizes.{up_fits, back_fits}
+use Rattle.rambo_names.proofs.Sizes.{up_fits, back_fits}
 use Rattle.rambo_world.proofs.Reached.{reached_fits_from, reached_agrees_from, reached_told}
 use Rattle.rambo_world.proofs.running.Running.finish.Goals as goal
 

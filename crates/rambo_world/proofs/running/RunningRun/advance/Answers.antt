@@ -6,9 +6,10 @@ use Rattle.rambo_run.specs.declared.step.Step.TheVariants as step
 use Rattle.rambo_run.specs.Runs.{result_of}
 use Rattle.rambo_run.specs.Steps.{refusal}
 use Rattle.rambo_run.specs.Ongoing.{RunningOf, IsReached}
-use Rattle.rambo_letters.proofs.Sizes.{up_fits, back_fits, next}
+use Rattle.rambo_names.proofs.Sizes.{up_fits, back_fits, next}
 use Rattle.rambo_world.proofs.Reached.{reached_fits, reached_next}
-use Rattle.rambo_world.proofs.Single.{on_err, refused_told, taken_told, taken_after, stands, moves_on, advancing}
+use Rattle.rambo_names.proofs.Errors.{on_err}
+use Rattle.rambo_world.proofs.Single.{refused_told, taken_told, taken_after, stands, moves_on, advancing}
 use Rattle.rambo_world.proofs.Turns.{judged_at, step_refusal, step_turn, step_fits}
 use Rattle.rambo_world.proofs.running.RunningRun.advance.Goals as goal
 

@@ -1,7 +1,7 @@
 use Rattle.std.proofs.Common.{◌≡◌, IfOk, subst}
 use Rattle.rambo_run.specs.Runs.{maps_of}
 use Rattle.rambo_run.specs.Ongoing.{RunningOf, AgreesSoFar}
-use Rattle.rambo_letters.proofs.Sizes.{up_fits, back_fits}
+use Rattle.rambo_names.proofs.Sizes.{up_fits, back_fits}
 use Rattle.rambo_world.proofs.Reached.{reached_agrees}
 use Rattle.rambo_world.proofs.running.RunningRun.maps.Goals as goal
 

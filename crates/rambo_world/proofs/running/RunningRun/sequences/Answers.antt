@@ -2,7 +2,7 @@ use Rattle.std.proofs.Common.{◌≡◌, ℕ, List, IfOk, subst}
 use Rattle.rambo_atomic.specs.Proper.{IsProper}
 use Rattle.rambo_sequence.specs.Sequences.{sequences_of, sequence_in}
 use Rattle.rambo_run.specs.Ongoing.{RunningOf}
-use Rattle.rambo_letters.proofs.Sizes.{up_fits, back_fits}
+use Rattle.rambo_names.proofs.Sizes.{up_fits, back_fits}
 use Rattle.rambo_world.proofs.Reached.{given_proper}
 use Rattle.rambo_world.proofs.running.RunningRun.sequences.Goals as goal
 

@@ -2,7 +2,7 @@ use Rattle.std.proofs.Common.{◌≡◌, None, IfOk, OnErr, subst}
 use Rattle.rambo_run.specs.Runs.{result_of}
 use Rattle.rambo_run.specs.Steps.{refusal}
 use Rattle.rambo_run.specs.Ongoing.{RunningOf}
-use Rattle.rambo_letters.proofs.Sizes.{up_fits, back_fits}
+use Rattle.rambo_names.proofs.Sizes.{up_fits, back_fits}
 use Rattle.rambo_world.proofs.Reached.{reached_on, reached_fits, goes_on, stays}
 use Rattle.rambo_world.proofs.running.RunningRun.take.Goals as goal
 

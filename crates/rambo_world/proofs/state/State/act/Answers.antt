@@ -7,7 +7,7 @@ use Rattle.rambo_run.specs.Steps.{Meant, meant, refusal, turn}
 use Rattle.rambo_run.specs.Worlds.{WorldState}
 use Rattle.rambo_world.specs.Logging.{keeps_copies}
 use Rattle.rambo_world.specs.Worlds.{sends}
-use Rattle.rambo_letters.proofs.Sizes.{up_fits, back_fits, variant_fits}
+use Rattle.rambo_names.proofs.Sizes.{up_fits, back_fits, variant_fits}
 use Rattle.rambo_world.proofs.Turns.{step_refusal, step_turn, step_fits}
 use Rattle.rambo_world.proofs.state.State.act.Given.{Over}
 use Rattle.rambo_world.proofs.state.State.act.Goals as goal
@@ -121,3 +121,9 @@ unfolding of_pair
 returns-clause-ok g c =
     let w = c.args.self.now in
     IfOk-weaker c.change.result _ _ (λ e done. step_turn w c.args.step.now c.match-step.name.0 c.match-step.name.1 (means_then g c w) ∙ done) c.change.ensures.ok
+
+pub drop-requires : goal.drop-requires
+drop-requires g c = tt
+
+pub clone-requires : goal.clone-requires
+clone-requires g c = tt

@@ -10,7 +10,7 @@ use Rattle.rambo_world.specs.Deliveries.{world_of}
 use Rattle.rambo_world.specs.Kept.{state_at}
 use Rattle.rambo_world.specs.Worlds.{EventFits}
 use Rattle.rambo_letters.proofs.Lists.{some_is}
-use Rattle.rambo_letters.proofs.Sizes.{up_fits, back_fits, next}
+use Rattle.rambo_names.proofs.Sizes.{up_fits, back_fits, next}
 use Rattle.rambo_world.proofs.Stepping.{kept_stays, letters_stay}
 use Rattle.rambo_world.proofs.Turns.{there}
 use Rattle.rambo_world.proofs.Changing.{changed_world, noted-event, noted-mark}
@@ -54,3 +54,9 @@ returns-clause-ok g c =
     (c.in_ok-effect.ensures.effect ∙ ap (λ y. (made_by y (change.Advance c.args.id)).deed.effect) (some_is c.node.result.now x.0 (sym c.node.ensures ∙ x.1)))
     (c.in_ok-go_on.ensures.event x.0 x.1 ∙ ap (λ h. noted h deed.event) c.in_ok-reserve.ensures.events ∙ noted-event c.self.inside.history.events deed.event)
     (c.in_ok-go_on.ensures.mark x.0 x.1 ∙ ap (λ ms. noted ms deed.mark) c.in_ok-reserve-2.ensures.items ∙ noted-mark c.self.inside.marks.items deed.mark)
+
+pub reserve-requires : goal.reserve-requires
+reserve-requires g c = tt
+
+pub drop-effect-requires : goal.drop-effect-requires
+drop-effect-requires g c = tt

@@ -11,7 +11,7 @@ use Rattle.rambo_run.specs.Worlds.{node_at}
 use Rattle.rambo_world.specs.Deliveries.{world_of}
 use Rattle.rambo_world.specs.Kept.{state_at}
 use Rattle.rambo_world.specs.Worlds.{EventFits}
-use Rattle.rambo_letters.proofs.Sizes.{up_fits, back_fits, next}
+use Rattle.rambo_names.proofs.Sizes.{up_fits, back_fits, next}
 use Rattle.rambo_world.proofs.Stepping.{kept_stays, letters_stay}
 use Rattle.rambo_world.proofs.Turns.{there}
 use Rattle.rambo_world.proofs.Changing.{changed_world}

@@ -5,7 +5,7 @@ use Rattle.rambo_run.specs.Steps.{causes_at, turn_at, with_event, with_mark}
 use Rattle.rambo_run.specs.Worlds.{node_at}
 use Rattle.rambo_world.specs.Kept.{state_at}
 use Rattle.rambo_world.specs.Worlds.{EventFits}
-use Rattle.rambo_letters.proofs.Sizes.{up_fits, back_fits, next}
+use Rattle.rambo_names.proofs.Sizes.{up_fits, back_fits, next}
 use Rattle.rambo_world.proofs.Stepping.{kept_stays, letters_stay}
 use Rattle.rambo_world.proofs.Turns.{there}
 use Rattle.rambo_world.specs.Deliveries.{world_of}
@@ -49,3 +49,9 @@ returns-clause-ok g c =
     ∙ changed_world ks c.act.new.self c.self.inside.letters c.self.inside.history.events c.push_event.new.history.events c.self.inside.marks.items c.push_mark.new.marks.items n c.args.change.now
     c.in_ok-deed.deed.effect x.0 c.in_ok-deed.ensures.nodes (letters_stay ks c.act.new.self c.act.ensures.grow c.self.inside.letters c.self.invariant.sent) x.1 c.requires.quiet (ap (λ d. d.effect) deed)
     (c.push_event.ensures ∙ (λ i. with_event (c.in_ok-reserve.ensures.events i) (deed i).event)) (c.push_mark.ensures ∙ (λ i. with_mark (c.in_ok-reserve-2.ensures.items i) (deed i).mark))
+
+pub reserve-requires : goal.reserve-requires
+reserve-requires g c = tt
+
+pub drop-deed-requires : goal.drop-deed-requires
+drop-deed-requires g c = tt

@@ -3,7 +3,7 @@ use Rattle.rambo_names.specs.Refusals.{least}
 use Rattle.rambo_run.specs.declared.step.Step.TheVariants as step
 use Rattle.rambo_run.specs.Steps.{refusal, turn}
 use Rattle.rambo_world.specs.Deliveries.{world_of}
-use Rattle.rambo_letters.proofs.Sizes.{up_fits, back_fits, next}
+use Rattle.rambo_names.proofs.Sizes.{up_fits, back_fits, next}
 use Rattle.rambo_world.proofs.Turns.{deliver_refusal}
 use Rattle.rambo_world.proofs.Deliveries.{sent_causes}
 use Rattle.rambo_world.proofs.state.State.deliver.Goals as goal

@@ -1,4 +1,4 @@
-use Rattle.rambo_letters.proofs.Sizes.{up_fits, back_fits, next}
+use Rattle.rambo_names.proofs.Sizes.{up_fits, back_fits, next}
 use Rattle.rambo_world.proofs.state.State.drop.Goals as goal
 
 pub drop-nodes-requires : goal.drop-nodes-requires

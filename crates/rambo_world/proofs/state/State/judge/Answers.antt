@@ -4,7 +4,7 @@ use Rattle.rambo_node.specs.declared.change.Change.TheVariants as change
 use Rattle.rambo_run.specs.declared.step.Step.TheVariants as step
 use Rattle.rambo_run.specs.Steps.{Meant, meant, refusal}
 use Rattle.rambo_run.specs.Worlds.{WorldState}
-use Rattle.rambo_letters.proofs.Sizes.{up_fits, back_fits, next, variant_fits}
+use Rattle.rambo_names.proofs.Sizes.{up_fits, back_fits, next, variant_fits}
 use Rattle.rambo_world.proofs.Turns.{judged_at, deliver_refusal}
 use Rattle.rambo_world.specs.Deliveries.{world_of}
 use Rattle.rambo_world.proofs.state.State.judge.Given.{Over}

@@ -1,7 +1,7 @@
 use Rattle.std.proofs.Common.{◌≡◌, ◌∙◌, Some, sym, ap, subst}
 use Rattle.rambo_run.specs.Worlds.{node_at}
 use Rattle.rambo_letters.proofs.Lists.{some_is}
-use Rattle.rambo_letters.proofs.Sizes.{up_fits, back_fits, next}
+use Rattle.rambo_names.proofs.Sizes.{up_fits, back_fits, next}
 use Rattle.rambo_world.proofs.state.State.map.Goals as goal
 
 pub node-requires : goal.node-requires

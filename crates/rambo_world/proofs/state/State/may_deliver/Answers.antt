@@ -5,7 +5,7 @@ use Rattle.rambo_node.specs.declared.change.Change.TheVariants as change
 use Rattle.rambo_run.specs.Steps.{causes_at, causes_of, delivery}
 use Rattle.rambo_letters.specs.Kept.{SentState, sent_at}
 use Rattle.rambo_world.specs.Kept.{state_at}
-use Rattle.rambo_letters.proofs.Sizes.{up_fits, back_fits, next}
+use Rattle.rambo_names.proofs.Sizes.{up_fits, back_fits, next}
 use Rattle.rambo_world.proofs.Deliveries.{sent_causes, no_causes}
 use Rattle.rambo_world.proofs.state.State.may_deliver.Goals as goal
 

@@ -8,7 +8,7 @@ use Rattle.rambo_run.specs.declared.step.Step.TheVariants as step
 use Rattle.rambo_run.specs.Runs.{after}
 use Rattle.rambo_run.specs.Steps.{causes_at, refusal}
 use Rattle.rambo_run.specs.Worlds.{WorldState}
-use Rattle.rambo_letters.proofs.Sizes.{up_fits, back_fits, next}
+use Rattle.rambo_names.proofs.Sizes.{up_fits, back_fits, next}
 use Rattle.rambo_world.specs.Deliveries.{world_of}
 use Rattle.rambo_world.specs.Direct.{first_of, pass_refusal, outlined_for}
 use Rattle.rambo_world.specs.Kept.{whole_letter}

@@ -1,4 +1,4 @@
-use Rattle.rambo_letters.proofs.Sizes.{up_fits, back_fits, next}
+use Rattle.rambo_names.proofs.Sizes.{up_fits, back_fits, next}
 use Rattle.rambo_world.proofs.Starting.{first_fits, first_is}
 use Rattle.rambo_world.proofs.state.State.new.Goals as goal
 

@@ -7,7 +7,7 @@ use Rattle.rambo_run.specs.Runs.{after}
 use Rattle.rambo_run.specs.Steps.{causes_at, refusal}
 use Rattle.rambo_run.specs.Worlds.{WorldState}
 use Rattle.rambo_letters.proofs.Lists.{some_is}
-use Rattle.rambo_letters.proofs.Sizes.{up_fits, back_fits, next}
+use Rattle.rambo_names.proofs.Sizes.{up_fits, back_fits, next}
 use Rattle.rambo_world.specs.Deliveries.{world_of}
 use Rattle.rambo_world.specs.Direct.{pass_refusal, passed}
 use Rattle.rambo_world.specs.Kept.{state_at, whole_letter, outline, IsKept}

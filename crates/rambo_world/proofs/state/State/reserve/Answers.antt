@@ -1,6 +1,6 @@
 use Rattle.std.proofs.lemmas.Grind.{common_steps}
 use Rattle.std.proofs.Common.{arith}
-use Rattle.rambo_letters.proofs.Sizes.{up_fits, back_fits, next}
+use Rattle.rambo_names.proofs.Sizes.{up_fits, back_fits, next}
 use Rattle.rambo_world.proofs.state.State.reserve.Goals as goal
 
 pub reserve-requires : goal.reserve-requires

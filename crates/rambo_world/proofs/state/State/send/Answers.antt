@@ -3,7 +3,7 @@ use Rattle.rambo_node.specs.declared.change.Change.TheVariants as change
 use Rattle.rambo_run.specs.declared.step.Step.TheVariants as step
 use Rattle.rambo_run.specs.Steps.{refusal, turn}
 use Rattle.rambo_world.specs.Kept.{state_at, IsKept, IsSent}
-use Rattle.rambo_letters.proofs.Sizes.{up_fits, back_fits, next}
+use Rattle.rambo_names.proofs.Sizes.{up_fits, back_fits, next}
 use Rattle.rambo_world.proofs.Turns.{there, kept_there, step_refusal}
 use Rattle.rambo_world.specs.Deliveries.{world_of}
 use Rattle.rambo_world.proofs.Sendings.{name_of, outline_sent, kept_sent, send_world}

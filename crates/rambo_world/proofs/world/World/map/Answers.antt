@@ -1,7 +1,7 @@
 use Rattle.std.proofs.Common.{◌≡◌, ◌∙◌, Some, sym, ap, subst}
 use Rattle.rambo_run.specs.Worlds.{node_at}
 use Rattle.rambo_world.specs.Worlds.{state}
-use Rattle.rambo_letters.proofs.Sizes.{up_fits, back_fits}
+use Rattle.rambo_names.proofs.Sizes.{up_fits, back_fits}
 use Rattle.rambo_run.proofs.EveryRun.{agrees}
 use Rattle.rambo_world.proofs.world.World.map.Goals as goal
 

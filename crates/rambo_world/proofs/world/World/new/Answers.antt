@@ -1,6 +1,6 @@
 use Rattle.std.proofs.Common.{◌∙◌, sym, ap, subst}
 use Rattle.rambo_run.specs.Runs.{run}
-use Rattle.rambo_letters.proofs.Sizes.{up_fits, back_fits}
+use Rattle.rambo_names.proofs.Sizes.{up_fits, back_fits}
 use Rattle.rambo_world.specs.Worlds.{AreAccepted}
 use Rattle.rambo_world.proofs.Longer.{run_none, accepted_none}
 use Rattle.rambo_world.proofs.world.World.new.Goals as goal

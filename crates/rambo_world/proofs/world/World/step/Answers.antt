@@ -1,5 +1,5 @@
 use Rattle.std.proofs.Common.{◌≡◌, ◌++◌, ◌∷◌, [], sym, ap, ◌∙◌, subst}
-use Rattle.rambo_letters.proofs.Sizes.{up_fits, back_fits}
+use Rattle.rambo_names.proofs.Sizes.{up_fits, back_fits}
 use Rattle.rambo_run.specs.Runs.{run}
 use Rattle.rambo_world.specs.Worlds.{EventsFit, AreAccepted}
 use Rattle.rambo_world.proofs.Longer.{kept_run, accepted_more, events_fit_run}
@@ -30,3 +30,9 @@ invariant_of-self-2 g c =
       kept_run s founders old c.args.step c.self.inside.state c.act.new.self c.in_ok-effect.effect c.push_reserved.new.self.items c.self.invariant.0 c.in_ok-judge.ensures.ok c.in_ok-effect.ensures.ok steps,
       accepted_more s founders old c.args.step c.self.inside.state c.push_reserved.new.self.items c.self.invariant.0 c.self.invariant.1 c.in_ok-judge.ensures.ok steps,
     )
+
+pub drop-requires : goal.drop-requires
+drop-requires g c = tt
+
+pub drop-step-requires : goal.drop-step-requires
+drop-step-requires g c = tt

@@ -13,10 +13,6 @@ back_fits m n b h = omega (arith, h)
 pub next : (a e s b : ℕ) → up a e + s < b → e < b
 next a e s b h = omega (arith, h)
 
--- the first of two fields
-pub first_fits : (a x s z n b : ℕ) → up a (up x (up z 0 + n) + s) < b → n < b
-first_fits a x s z n b h = back_fits _ _ _ (next _ _ _ _ (up_fits _ _ _ h))
-
 -- the one field of an enum's second and last variant, where the first has none
 pub variant_fits : (a x s b : ℕ) → up a (max 1 (max (up x 1 + s) 1)) < b → s < b
 variant_fits a x s b h = omega (arith, h, le-max_right 1 (max (up x 1 + s) 1), le-max_left (up x 1 + s) 1)
