@@ -40,7 +40,7 @@ found es key n distinct h =
     lookup_from_place nat_list_eq_equiv es its.0 (key_of es n) n distinct its.1
 
 module _ (es : List (List ℕ × ℕ)) where
-  pub length-by_number : length (by_number es) ≡ length es
+  length-by_number : length (by_number es) ≡ length es
   length-by_number = length-map-range_with_len (key_of es) 0 (length es)
 
   key_at : (n : ℕ) → n < length es → slice_index_or (by_number es) n [] ≡ key_of es n
@@ -62,14 +62,6 @@ module _ (es : List (List ℕ × ℕ)) where
         let second : j < length es = omega (arith, there, length-by_number) in
         let both : Some i ≡ Some j = sym (h.each i first) ∙ ap (λ k. lookup (bytes_eq k) es) (sym (key_at i first) ∙ same ∙ key_at j second) ∙ h.each j second in
         ap (λ o. unwrap_or o i) both
-
-pub AreNumbers-none : (es : List (List ℕ × ℕ)) → es ≡ [] → AreNumbers es
-AreNumbers-none [] none = record {
-  few = omega arith;
-  known = λ key n h. absurd (true≢false (sym (ap is_some h)));
-  each = λ n below. absurd (omega (arith, below));
-}
-AreNumbers-none (e ∷ es) none = let gone : length (e ∷ es) ≡ 0 = ap length none in absurd (omega (arith, gone))
 
 -- a key that has no number gets the next one
 module _ (es fs : List (List ℕ × ℕ)) (key : List ℕ) (h : AreNumbers es) (count : length fs ≡ length es + 1) (absent : lookup (bytes_eq key) es ≡ None)
