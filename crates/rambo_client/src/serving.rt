@@ -1,7 +1,8 @@
 //! Serving a client.
-ghost use Rattle.std.specs.Prelude.{◌≡◌, ◌++◌, ◌∷◌, [], ℕ, List, IfOk, IfErr, OnOk, OnErr};
+ghost use Rattle.std.specs.Prelude.{◌≡◌, ◌<◌, ◌++◌, ◌∷◌, [], ℕ, List, length, IfOk, IfErr, OnOk, OnErr};
 ghost use Rattle.rambo_resp.specs.Decoders.{HasTaken};
 ghost use Rattle.rambo_resp.specs.Replies.{reply_spelling};
+ghost use Rattle.rambo_resp.specs.Streams.{open_at};
 ghost use Rattle.rambo_client.specs.declared.request.Request.{Request as AnyRequest};
 ghost use Rattle.rambo_client.specs.Calls.{IsHistory, BeginsHistory};
 ghost use Rattle.rambo_client.specs.Faults.{reads_failed, writes_failed};
@@ -49,25 +50,50 @@ pub fn serve<By, C: Cluster<By>, R: Source, W: Sink>(
     ensures reads { IfErr result (λ f. R.failures reader.new ≡ reads_failed f (R.failures reader.old)) }
     ensures writes { IfErr result (λ f. W.failures writer.new ≡ writes_failed f (W.failures writer.old)) }
 {
-    let mut decoder = Decoder::new(alloc);
-    let mut out = BytesMut::new(alloc);
     let mut piece = Vec::new(alloc);
     piece.resize(PIECE, 0u8)?;
+    let mut decoder = Decoder::new(alloc);
+    serve_pieces(
+        client,
+        alloc,
+        cluster,
+        reader,
+        writer,
+        &mut decoder,
+        piece.as_mut_slice(),
+    )
+}
+
+// Serves a client as `serve` does, with a decoder that has read nothing and room for a piece of the input.
+fn serve_pieces<By, C: Cluster<By>, R: Source, W: Sink>(
+    client: &Client,
+    alloc: Global,
+    cluster: &mut C,
+    reader: &mut R,
+    writer: &mut W,
+    decoder: &mut Decoder,
+    piece: &mut [u8],
+) -> Result<(), LocalFault>
+    requires uncalled { C.history cluster.old ≡ [] }
+    requires empty { decoder.old ≡ record { waiting = []; ending = open_at [] 0 } }
+    requires taken { HasTaken decoder.old [] 0 }
+    requires room { 0 < length piece.old }
+    ensures ok { OnOk result (ServesAt client.now.name (R.left reader.old) (R.left reader.new) (W.taken writer.old) (W.taken writer.new) (C.history cluster.new)) }
+    ensures err { OnErr result (StopsAt client.now.name (R.left reader.old) (R.left reader.new) (W.taken writer.old) (W.taken writer.new) (C.history cluster.new)) }
+    ensures fine_reader { OnOk result (R.failures reader.new ≡ R.failures reader.old) }
+    ensures fine_writer { OnOk result (W.failures writer.new ≡ W.failures writer.old) }
+    ensures reads { IfErr result (λ f. R.failures reader.new ≡ reads_failed f (R.failures reader.old)) }
+    ensures writes { IfErr result (λ f. W.failures writer.new ≡ writes_failed f (W.failures writer.old)) }
+{
+    let mut out = BytesMut::new(alloc);
     loop {
-        let Ok(count) = reader.read(piece.as_mut_slice()) else {
+        let Ok(count) = reader.read(piece) else {
             return Err(LocalFault::Read);
         };
         if count == 0 {
             return Ok(());
         }
-        let over = take(
-            client,
-            alloc,
-            cluster,
-            &mut decoder,
-            &piece[..count],
-            &mut out,
-        )?;
+        let over = take(client, alloc, cluster, decoder, &piece[..count], &mut out)?;
         write_all(writer, out.as_slice())?;
         if over {
             return Ok(());

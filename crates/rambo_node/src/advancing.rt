@@ -93,7 +93,7 @@ impl<Q: Quorums, S: Replica> Node<Q, S> {
             Some(op) => op.clone()?,
             None => return self.close(id),
         };
-        self.answer_query(id, asked)
+        self.answer_query(id, &asked)
     }
 
     // A met propagation is answered.
@@ -112,17 +112,17 @@ impl<Q: Quorums, S: Replica> Node<Q, S> {
     }
 
     // A query that asked for this is answered, and its propagation begins. All that can fail comes first.
-    fn answer_query(&mut self, id: CallId, asked: Op) -> Result<Deed<Q>, Refusal>
-        requires asked { query_in (open_call self.old id) ≡ Some asked }
-        requires next { query_spent self.old (Some asked) ≡ false }
+    fn answer_query(&mut self, id: CallId, asked: &Op) -> Result<Deed<Q>, Refusal>
+        requires asked { query_in (open_call self.old id) ≡ Some asked.now }
+        requires next { query_spent self.old (Some asked.now) ≡ false }
         ensures node { OnOk result (self.new ≡ (advanced self.old id (open_call self.old id)).node) }
         ensures deed { IfOk result (λ d. d ≡ (advanced self.old id (open_call self.old id)).deed) }
         ensures refused { IfErr result (λ r. r ≡ Refusal.OutOfMemory) }
         ensures err { OnErr result (self.new ≡ self.old) }
     {
         let number = id.number;
-        let kept = self.taken(&asked)?;
-        let deed = Deed::moved(id, &asked, &kept)?;
+        let kept = self.taken(asked)?;
+        let deed = Deed::moved(id, asked, &kept)?;
         self.put(&deed.copy)?;
         self.propagate(number, kept);
         Ok(deed)

@@ -29,8 +29,11 @@ impl<Q: Quorums, S: Replica> Node<Q, S> {
         ensures no_memory { needs_memory change ≡ false → IfErr result (λ r. refusal_of Q.system self.old change ≡ Some r) }
         ensures err { OnErr result (self.new ≡ self.old) }
     {
-        self.judge(&change)?;
-        self.act(&change)
+        // (one way out: what a change holds is dropped on each)
+        match self.judge(&change) {
+            Ok(()) => self.act(&change),
+            Err(refusal) => Err(refusal),
+        }
     }
 
     /// Takes a change that isn't refused, and tells what it did.

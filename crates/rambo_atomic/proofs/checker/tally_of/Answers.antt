@@ -1,6 +1,7 @@
 use Rattle.std.proofs.lemmas.Grind.{common_steps}
-use Rattle.std.proofs.Common.{◌≡◌, ◌+◌, ◌<◌, ◌++◌, ◌∷◌, [], take, length, sym, ap, ◌∙◌, cond, arith}
+use Rattle.std.proofs.Common.{◌≡◌, ◌+◌, ◌<◌, ◌++◌, ◌∷◌, [], take, length, refl, sym, ap, ◌∙◌, cond, arith}
 use Rattle.std.proofs.lemmas.List.{take_more}
+use Rattle.rambo_names.proofs.Errors.{err_kept, err_if_ok}
 use Rattle.rambo_atomic.proofs.Seen.{seen-none, seen-again, seen-new}
 use Rattle.rambo_atomic.proofs.checker.tally_of.Goals as goal
 use Rattle.rambo_atomic.proofs.checker.tally_of.Goals.{then-not-branch, else-not-branch+then-is_answered_call, else-not-branch+else-is_answered_call}
@@ -28,28 +29,28 @@ loop-id-preserved c =
     ]
 
 pub returns-in_err-seen-clause-found : goal.returns-in_err-seen-clause-found
-returns-in_err-seen-clause-found c = grind (arith, common_steps)
+returns-in_err-seen-clause-found c = err_if_ok c.from_residual.result _ _ c.from_residual.ensures.1
 
 pub returns-in_err-seen-clause-distinct : goal.returns-in_err-seen-clause-distinct
-returns-in_err-seen-clause-distinct c = grind (arith, common_steps)
+returns-in_err-seen-clause-distinct c = err_if_ok c.from_residual.result _ _ c.from_residual.ensures.1
 
 pub returns-in_err-seen-clause-refused : goal.returns-in_err-seen-clause-refused
-returns-in_err-seen-clause-refused c = grind (arith, common_steps)
+returns-in_err-seen-clause-refused c = err_kept c.from_residual.result _ _ c.from_residual.ensures.1 refl
 
 pub offset_bounds-order-id-index : goal.offset_bounds-order-id-index
-offset_bounds-order-id-index c = grind (arith, common_steps)
+offset_bounds-order-id-index c = grind arith
 
 pub bounds-order-id-index : goal.bounds-order-id-index
 bounds-order-id-index c = assumption
 
 pub returns-in_err-insert-clause-found : goal.returns-in_err-insert-clause-found
-returns-in_err-insert-clause-found c = grind (arith, common_steps)
+returns-in_err-insert-clause-found c = err_if_ok c.from_residual-in_err-insert.result _ _ c.from_residual-in_err-insert.ensures.1
 
 pub returns-in_err-insert-clause-distinct : goal.returns-in_err-insert-clause-distinct
-returns-in_err-insert-clause-distinct c = grind (arith, common_steps)
+returns-in_err-insert-clause-distinct c = err_if_ok c.from_residual-in_err-insert.result _ _ c.from_residual-in_err-insert.ensures.1
 
 pub returns-in_err-insert-clause-refused : goal.returns-in_err-insert-clause-refused
-returns-in_err-insert-clause-refused c = grind (arith, common_steps)
+returns-in_err-insert-clause-refused c = err_kept c.from_residual-in_err-insert.result _ _ c.from_residual-in_err-insert.ensures.1 refl
 
 pub overflow_add-found : goal.overflow_add-found
 overflow_add-found c = grind (arith, common_steps)

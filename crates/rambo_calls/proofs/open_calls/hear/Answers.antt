@@ -1,8 +1,17 @@
-use Rattle.std.proofs.lemmas.Grind.{common_steps}
-use Rattle.std.proofs.Common.{◌<◌, length, ◌∙◌, arith, rules, refl}
+use Rattle.std.proofs.Common.{◌≡◌, ◌≤◌, ◌<◌, ℕ, zero, suc, List, [], ◌∷◌, ◌++◌, map, take, drop, length, ap, ◌∙◌, arith, refl, rules}
+use Rattle.rambo_calls.specs.declared.open_call.OpenCall.{OpenCall}
+use Rattle.rambo_calls.specs.Calls.{CallState}
 use Rattle.rambo_calls.specs.Hearing.{heard_call}
+use Rattle.rambo_calls.specs.Kept.{call_of, calls_of}
 use Rattle.rambo_calls.proofs.CallLists.{roomy_at, roomy_rest, heard_more}
 use Rattle.rambo_calls.proofs.open_calls.hear.Goals as goal
+
+-- past the last one all have heard it
+heard_all : {Q : Type 0} (h : CallState Q → CallState Q) (cs : List (OpenCall Q)) (i : ℕ) → length cs ≤ i → calls_of cs ≡ calls_of (take i cs) ++ map h (calls_of (drop i cs))
+heard_all h [] zero past = refl
+heard_all h [] (suc i) past = refl
+heard_all h (c ∷ cs) zero past = absurd (omega (arith, past))
+heard_all h (c ∷ cs) (suc i) past = ap (λ xs. call_of c ∷ xs) (heard_all h cs i (omega (arith, past)))
 
 pub loop-call-preserved : goal.loop-call-preserved
 loop-call-preserved g c room =
@@ -20,7 +29,7 @@ pub hear-requires : goal.hear-requires
 hear-requires g c = assumption
 
 pub returns : goal.returns
-returns g c = grind (arith, common_steps)
+returns g c room = heard_all (heard_call c.args.heard c.args.from c.args.map.now c.args.number c.args.merged.now c.args.me) c.loop-call.calls c.loop-call.call-index (omega (arith, c.loop-call-test.false, c.loop-call.auto.calls)) ∙ (c.loop-call.invariant room).0
 
 pub offset_bounds-calls-call-index : goal.offset_bounds-calls-call-index
 offset_bounds-calls-call-index g c = search rules

@@ -1,3 +1,4 @@
+use Rattle.rambo_names.proofs.Sizes.{up_fits, back_fits}
 use Rattle.std.proofs.Common.{◌≤◌, ◌<◌, length, get_or, sym, ap, ◌∙◌, subst, arith, refl, rules}
 use Rattle.std.proofs.Math.Seq.{map-set_same}
 use Rattle.rambo_phase.specs.Phases.{PhaseState, needed}
@@ -5,7 +6,6 @@ use Rattle.rambo_calls.specs.declared.open_call.OpenCall.{OpenCall}
 use Rattle.rambo_calls.specs.Calls.{CallState}
 use Rattle.rambo_calls.specs.Kept.{call_of, IsRoomy}
 use Rattle.rambo_calls.proofs.CallLists.{roomy_more}
-use Rattle.std.proofs.lemmas.Grind.{common_steps}
 use Rattle.std.proofs.lemmas.List.{take_all}
 use Rattle.rambo_calls.proofs.open_calls.make_room.Goals as goal
 
@@ -25,7 +25,7 @@ loop-call-preserved g c =
     )
 
 pub reserve-requires : goal.reserve-requires
-reserve-requires g c = grind (arith, common_steps)
+reserve-requires g c = (back_fits _ _ _ (up_fits _ _ _ c.requires-raw.1.0), c.requires-raw.1.1)
 
 pub returns : goal.returns
 returns g c = record {
@@ -38,7 +38,7 @@ pub loop-call-init : goal.loop-call-init
 loop-call-init g c = (refl, _)
 
 pub loop-call-smaller : goal.loop-call-smaller
-loop-call-smaller g c = omega arith
+loop-call-smaller g c = omega (arith, c.loop-call-test.true)
 
 pub offset_bounds-calls-call-index : goal.offset_bounds-calls-call-index
 offset_bounds-calls-call-index g c = search rules

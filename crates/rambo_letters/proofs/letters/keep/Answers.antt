@@ -6,6 +6,7 @@ use Rattle.rambo_gossip.specs.declared.letter.Kind.{Kind}
 use Rattle.rambo_letters.specs.declared.sent.Sent.{Sent}
 use Rattle.rambo_letters.specs.Kept.{SentState, kind_of}
 use Rattle.rambo_letters.specs.Shared.{gossip_with, standing_of}
+use Rattle.rambo_names.proofs.Errors.{err_if_ok}
 use Rattle.rambo_letters.proofs.letters.keep.Goals as goal
 
 pub shared-requires : goal.shared-requires
@@ -43,3 +44,18 @@ returns-in-None-clause-kept g c =
 
 pub returns-in-None-clause-grows : goal.returns-in-None-clause-grows
 returns-in-None-clause-grows g c = ([], sym (append-nil c.args.standings.now.items))
+
+pub returns-in_ok-shared-in-Some-clause-grows : goal.returns-in_ok-shared-in-Some-clause-grows
+returns-in_ok-shared-in-Some-clause-grows g c = c.shared.ensures.grows
+
+pub returns-in_err-shared-in-Some-clause-grows : goal.returns-in_err-shared-in-Some-clause-grows
+returns-in_err-shared-in-Some-clause-grows g c = c.shared.ensures.grows
+
+pub returns-in_err-shared-in-Some-clause-kept : goal.returns-in_err-shared-in-Some-clause-kept
+returns-in_err-shared-in-Some-clause-kept g c = err_if_ok c.from_residual.result _ _ c.from_residual.ensures.1
+
+pub returns-in_err-shared-in-Some-clause-held : goal.returns-in_err-shared-in-Some-clause-held
+returns-in_err-shared-in-Some-clause-held g c = err_if_ok c.from_residual.result _ _ c.from_residual.ensures.1
+
+pub returns-in-None-clause-held : goal.returns-in-None-clause-held
+returns-in-None-clause-held g c gossips = cc

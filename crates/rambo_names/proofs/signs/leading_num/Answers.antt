@@ -1,5 +1,7 @@
-use Rattle.std.proofs.Common.{◌<◌, ◌^◌, ℕ, List, decimal, IfNone, subst, sym, arith}
-use Rattle.rambo_names.specs.Signs.{BeginsWith}
+use Rattle.std.proofs.Common.{◌≡◌, ◌<◌, ◌^◌, ℕ, List, decimal, length, take, IfNone, IfSome, subst, sym, ap, ◌∙◌, arith}
+use Rattle.std.proofs.lemmas.List.{drop_all}
+use Rattle.std.specs.Str.Parse.{AllDigits, digits_value}
+use Rattle.rambo_names.specs.Signs.{BeginsWith, IsNumberEnd}
 use Rattle.rambo_names.proofs.Numerals.{more_digits, more_value}
 use Rattle.rambo_names.proofs.Leading.{too_many}
 use Rattle.rambo_names.proofs.signs.leading_num.Goals as goal
@@ -42,3 +44,24 @@ loop-place-preserved c =
       value = omega (arith, more, value, tens, digit, sum_is);
       fits = omega (arith, sum_fits, sum_is);
     }
+
+whole : (c : goal.After-loop-place) → c.loop-place.place ≡ length c.args.line.now
+whole c = omega (arith, c.loop-place-test.false, c.loop-place.auto.place-end)
+
+pub ended-requires-2-clause-digits : goal.ended-requires-2-clause-digits
+ended-requires-2-clause-digits c = subst (λ n. AllDigits 10 (take n c.args.line.now)) (whole c) c.loop-place.invariant.digits
+
+pub ended-requires-2-clause-value : goal.ended-requires-2-clause-value
+ended-requires-2-clause-value c = c.loop-place.invariant.value ∙ ap (λ n. digits_value 10 (take n c.args.line.now)) (whole c)
+
+pub returns-in_err-checked_mul-clause-found : goal.returns-in_err-checked_mul-clause-found
+returns-in_err-checked_mul-clause-found c = subst (λ o. IfSome o (λ r. (r.0 < 2 ^ 64) × BeginsWith c.args.line.now (decimal r.0) r.1.now)) (sym c.from_residual.ensures) tt
+
+pub returns-in_err-number-clause-found : goal.returns-in_err-number-clause-found
+returns-in_err-number-clause-found c = subst (λ o. IfSome o (λ r. (r.0 < 2 ^ 64) × BeginsWith c.args.line.now (decimal r.0) r.1.now)) (sym c.from_residual-in_err-number.ensures) tt
+
+pub overflow_sub-byte : goal.overflow_sub-byte
+overflow_sub-byte c = c.if-not-is_ascii_digit.ensures.cases.0
+
+pub ended-requires-2-clause-behind : goal.ended-requires-2-clause-behind
+ended-requires-2-clause-behind c = subst IsNumberEnd (sym (drop_all (length c.args.line.now) c.args.line.now (omega arith))) tt

@@ -1,6 +1,7 @@
 use Rattle.std.proofs.lemmas.Grind.{common_steps}
+use Rattle.rambo_names.proofs.Errors.{on_err}
 use Rattle.std.proofs.Common.{◌≡◌, ◌∷◌, [], ◌++◌, map, refl, ap, ◌∙◌, append_assoc, arith}
-use Rattle.rambo_text.specs.Signs.{call_text}
+use Rattle.rambo_text.specs.Signs.{Grows, call_text}
 use Rattle.rambo_text.specs.Words.{more_words}
 use Rattle.rambo_outcome.proofs.Loops.{one_on, grows_on}
 use Rattle.rambo_outcome.proofs.line.append_calls.Goals as goal
@@ -18,3 +19,10 @@ loop-id-preserved c =
 
 pub returns-clause-ok : goal.returns-clause-ok
 returns-clause-ok c = grind (arith, common_steps)
+
+pub returns-in_err-push-clause-err : goal.returns-in_err-push-clause-err
+returns-in_err-push-clause-err c = let front = c.loop-id.invariant.front in let grown : Grows c.args.out.now.items c.push.new.self.items = (front.0, c.in_err-push.ensures.items ∙ front.1) in on_err _ grown
+
+pub returns-in_err-write_call-clause-err : goal.returns-in_err-write_call-clause-err
+returns-in_err-write_call-clause-err c =
+    on_err _ (grows_on _ c.loop-id.out.items c.write_call.new.out.items (32 ∷ []) (c.in_err-write_call.ensures.err ∙ c.in_ok-push.ensures.items) c.loop-id.invariant.front)

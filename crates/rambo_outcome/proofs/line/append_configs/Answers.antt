@@ -1,5 +1,6 @@
 use Rattle.std.proofs.lemmas.Grind.{common_steps}
-use Rattle.std.proofs.Common.{rules, ◌≡◌, ◌∷◌, [], ◌++◌, map, refl, ap, ◌∙◌, append_assoc, arith}
+use Rattle.std.proofs.Common.{◌≡◌, ◌∷◌, [], ◌++◌, map, refl, ap, ◌∙◌, append_assoc, arith}
+use Rattle.rambo_names.proofs.Errors.{on_err}
 use Rattle.rambo_names.specs.Signs.{set_text}
 use Rattle.rambo_text.specs.Words.{more_words}
 use Rattle.rambo_outcome.proofs.Loops.{one_on, grows_on}
@@ -7,7 +8,7 @@ use Rattle.rambo_outcome.proofs.line.append_configs.Goals as goal
 
 pub returns-in_err-write_set-clause-err : goal.returns-in_err-write_set-clause-err
 returns-in_err-write_set-clause-err g c =
-    search (rules, grows_on _ c.loop-config.out.items c.write_set.new.out.items (32 ∷ []) (c.in_err-write_set.ensures.err ∙ c.in_ok-push.ensures.items) c.loop-config.invariant.front)
+    on_err _ (grows_on _ c.loop-config.out.items c.write_set.new.out.items (32 ∷ []) (c.in_err-write_set.ensures.err ∙ c.in_ok-push.ensures.items) c.loop-config.invariant.front)
 
 pub loop-config-preserved : goal.loop-config-preserved
 loop-config-preserved g c =
@@ -15,7 +16,7 @@ loop-config-preserved g c =
     let word = 32 ∷ set_text (members c.config-item.result) in
     let now : c.write_set.new.out.items ≡ c.loop-config.out.items ++ word =
     c.in_ok-write_set.ensures.ok ∙ ap (λ s. c.push.new.self.items ++ set_text s) c.members.ensures
-    ∙ ap (λ t. t ++ set_text (members c.config-item.result)) c.in_ok-push.ensures.items ∙ append_assoc c.loop-config.out.items (32 ∷ []) (set_text (members c.config-item.result)) in
+    ∙ ap (λ t. t ++ set_text (members c.config-item.result)) {x = c.push.new.self.items} {y = c.loop-config.out.items ++ 32 ∷ []} c.in_ok-push.ensures.items ∙ append_assoc c.loop-config.out.items (32 ∷ []) (set_text (members c.config-item.result)) in
     record {
       text = one_on (λ cs. more_words (map set_text (map members cs))) (λ q. 32 ∷ set_text (members q)) (λ q qs. refl) c.args.configs.now c.loop-config.config-index c.config-item.result c.loop-config.out.items c.write_set.new.out.items _
           c.loop-config-test.true c.config-item.is now c.loop-config.invariant.text;

@@ -1,6 +1,7 @@
-use Rattle.std.proofs.Common.{length, refl, ap, ◌∙◌, arith}
+use Rattle.std.proofs.Common.{◌≡◌, ℕ, List, [], ◌∷◌, length, refl, ap, ◌∙◌, arith}
 use Rattle.std.specs.FinMap.{insert}
 use Rattle.indexmap.specs.IndexMap.{spare}
+use Rattle.rambo_tag.specs.Logs.{greatest_after}
 use Rattle.rambo_tag.specs.Tables.{kept_in, copies_in}
 use Rattle.rambo_tag.proofs.Tables.{IsSome-found, copies_in-put}
 use Rattle.rambo_tag.proofs.MergeSteps.{greatest_after-step, insert-raised, insert-absent, held_in, absent_in, OnOk-from_ok}
@@ -46,3 +47,13 @@ loop-key-preserved-in-None-get_mut-3 g c =
           ∙ ap (λ table. insert (copies_in table.entries) key copy.version) same
           ∙ insert-absent (copies_in t) key copy.version (absent_in (copies_in t) t key refl c.in-None-get_mut.ensures.value));
     }
+
+none_left : {A : Type 0} (xs : List A) (n : ℕ) → n ≡ length xs → n ≡ 0 → [] ≡ xs
+none_left [] n e z = refl
+none_left (x ∷ xs) n e z = absurd (omega (arith, e, z))
+
+pub returns : goal.returns
+returns g c =
+    let rest = c.loop-key.key-iterator.rest in
+    let long : rest.len ≡ length rest.items = omega (arith, rest.ok.0) in
+    ap (greatest_after (copies_in c.loop-key.table.entries)) (none_left rest.items rest.len long c.in-None.ensures.steps.0) ∙ c.loop-key.invariant.copies

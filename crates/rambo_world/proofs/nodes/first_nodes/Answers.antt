@@ -35,3 +35,9 @@ returns-in_err-push-clause-refused g c = err_kept c.from_residual-in_err-push.re
 
 pub first_node-requires : goal.first_node-requires
 first_node-requires g c = (c.requires-raw.1.1, (omega arith, omega (arith, c.loop-place-test.true)))
+
+pub overflow_add-place : goal.overflow_add-place
+overflow_add-place g c = omega (arith, c.loop-place-test.true)
+
+pub returns-clause-refused : goal.returns-clause-refused
+returns-clause-refused g c = tt

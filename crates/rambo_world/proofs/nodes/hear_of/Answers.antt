@@ -94,3 +94,22 @@ split_at_mut-front-requires g c = omega (arith, c.place_of-addressee.ensures.wit
 
 pub split_at_mut-front-requires-else-sender-addressee : goal.split_at_mut-front-requires-else-sender-addressee
 split_at_mut-front-requires-else-sender-addressee g c = omega (arith, c.place_of-sender.ensures.within, c.requires.count)
+
+pub bounds-back-0 : goal.bounds-back-0
+bounds-back-0 g c =
+    let w = c.place_of-addressee.ensures.within in
+    omega (arith, c.split_at_mut-front.ensures.back_len, c.requires.count, w)
+
+pub bounds-front-sender : goal.bounds-front-sender
+bounds-front-sender g c = omega (arith, c.split_at_mut-front.ensures.front_len, c.if-sender-addressee.true)
+
+pub bounds-back-0-else-sender-addressee : goal.bounds-back-0-else-sender-addressee
+bounds-back-0-else-sender-addressee g c =
+    let w = c.place_of-sender.ensures.within in
+    omega (arith, c.split_at_mut-front-else-sender-addressee.ensures.back_len, c.requires.count, w)
+
+pub bounds-front-addressee : goal.bounds-front-addressee
+bounds-front-addressee g c =
+    let from = c.place_of-sender.ensures.place in
+    let to = c.place_of-addressee.ensures.place in
+    omega (arith, c.split_at_mut-front-else-sender-addressee.ensures.front_len, c.if-sender-addressee.false, from, to, c.requires.apart, c.place_of-sender.ensures.named.0, c.place_of-addressee.ensures.named.0)

@@ -1,5 +1,6 @@
 use Rattle.std.proofs.Common.{rules, arith}
 use Rattle.std.proofs.lemmas.Grind.{common_steps}
+use Rattle.rambo_names.proofs.Errors.{err_kept, err_if_ok}
 use Rattle.rambo_atomic.proofs.Tallied.{count-fits}
 use Rattle.rambo_atomic.specs.Tests.{is_due}
 use Rattle.rambo_atomic.proofs.checker.Checker.new.Goals as goal
@@ -10,31 +11,31 @@ count-requires c =
     (search rules) (grind (arith, common_steps, c.loop-event.invariant c.as_slice.result.now)) c.events-rest.ensures.fits
 
 pub loop-event-init : goal.loop-event-init
-loop-event-init c = grind (arith, common_steps)
+loop-event-init c = grind arith
 
 pub returns-in_err-count-clause-made : goal.returns-in_err-count-clause-made
-returns-in_err-count-clause-made c = grind (arith, common_steps)
+returns-in_err-count-clause-made c = err_if_ok c.from_residual.result _ _ c.from_residual.ensures.1
 
 pub returns-in_err-count-clause-refused : goal.returns-in_err-count-clause-refused
-returns-in_err-count-clause-refused c = grind (arith, common_steps)
+returns-in_err-count-clause-refused c = err_kept c.from_residual.result _ _ c.from_residual.ensures.1 c.in_err-count.ensures.refused
 
 pub loop-event-smaller-in_ok-count : goal.loop-event-smaller-in_ok-count
-loop-event-smaller-in_ok-count c = grind (arith, common_steps)
+loop-event-smaller-in_ok-count c = omega (arith, c.in-Some.ensures.cases.1)
 
 pub loop-event-preserved-in_ok-count : goal.loop-event-preserved-in_ok-count
-loop-event-preserved-in_ok-count c = grind (arith, common_steps)
+loop-event-preserved-in_ok-count c = grind arith
 
 pub loop-event-smaller-else-is_some : goal.loop-event-smaller-else-is_some
-loop-event-smaller-else-is_some c = grind (arith, common_steps)
+loop-event-smaller-else-is_some c = omega (arith, c.in-Some.ensures.cases.1)
 
 pub loop-event-preserved-else-is_some : goal.loop-event-preserved-else-is_some
-loop-event-preserved-else-is_some c = grind (arith, common_steps)
+loop-event-preserved-else-is_some c = grind arith
 
 pub loop-event-smaller : goal.loop-event-smaller
-loop-event-smaller c = grind (arith, common_steps)
+loop-event-smaller c = omega (arith, c.in-Some.ensures.cases.1)
 
 pub loop-event-preserved : goal.loop-event-preserved
-loop-event-preserved c = grind (arith, common_steps)
+loop-event-preserved c = grind arith
 
 pub invariant_of-result : goal.invariant_of-result
 invariant_of-result c = grind (arith, common_steps)

@@ -1,4 +1,6 @@
+use Rattle.rambo_names.proofs.Sizes.{up_fits, back_fits}
 use Rattle.std.proofs.Common.{sym, ap, ◌∙◌}
+use Rattle.std.proofs.lemmas.Bool.{false≢true}
 use Rattle.rambo_phase.specs.Phases.{PhaseState}
 use Rattle.rambo_calls.specs.Calls.{CallState}
 use Rattle.rambo_calls.specs.declared.open_call.OpenCall.{OpenCall}
@@ -22,3 +24,9 @@ pub returns-in-Ok-Old : goal.returns-in-Ok-Old
 returns-in-Ok-Old g c room =
     ap (in_phase c.args.self.now) (c.in-Ok-Old.ensures.ok ∙ sym (phase_stays c.args.heard c.args.from c.args.map.now c.args.number c.args.merged.now c.args.me c.args.self.now.phase.state
     (sym c.in-Ok-Old.ensures.answer ∙ c.in-Ok-Old.field-0-is)))
+
+pub hear-requires : goal.hear-requires
+hear-requires g c = (back_fits _ _ _ (up_fits _ _ _ c.requires-raw.1.0), c.requires-raw.1.1)
+
+pub returns-in-Err : goal.returns-in-Err
+returns-in-Err g c room = absurd (false≢true (c.in-Err.ensures.succeeds room))

@@ -1,6 +1,5 @@
-use Rattle.std.proofs.lemmas.Grind.{common_steps}
 use Rattle.rambo_names.proofs.Sizes.{up_fits, back_fits, variant_fits}
-use Rattle.std.proofs.Common.{arith, ap, ◌∙◌, not}
+use Rattle.std.proofs.Common.{ap, ◌∙◌, not}
 use Rattle.rambo_calls.specs.Calls.{is_unmet, find_call}
 use Rattle.rambo_calls.specs.Kept.{calls_of}
 use Rattle.rambo_calls.proofs.open_calls.OpenCalls.is_unmet.Goals as goal
@@ -9,7 +8,7 @@ pub find-requires : goal.find-requires
 find-requires g c = variant_fits _ _ _ _ (back_fits _ _ _ (up_fits _ _ _ c.requires-raw.1))
 
 pub met-requires : goal.met-requires
-met-requires g c = grind (arith, common_steps)
+met-requires g c = back_fits _ _ _ (up_fits _ _ _ (variant_fits _ _ _ _ (back_fits _ _ _ (up_fits _ _ _ c.requires-raw.1))))
 
 pub returns-in-Some : goal.returns-in-Some
 returns-in-Some g c =

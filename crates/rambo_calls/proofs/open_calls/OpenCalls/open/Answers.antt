@@ -1,8 +1,8 @@
-use Rattle.std.proofs.Common.{ap, ◌∙◌, ◌++◌, ◌∷◌, [], arith}
+use Rattle.std.proofs.Common.{ap, ◌∙◌, ◌++◌, ◌∷◌, []}
 use Rattle.rambo_calls.specs.Kept.{call_of, calls_of}
 use Rattle.std.proofs.lemmas.List.{map-append}
 use Rattle.rambo_calls.specs.declared.stage.Stage.TheVariants.{Query}
-use Rattle.std.proofs.lemmas.Grind.{common_steps}
+use Rattle.rambo_names.proofs.Sizes.{up_fits, back_fits, variant_fits}
 use Rattle.rambo_calls.proofs.open_calls.OpenCalls.open.Goals as goal
 
 pub returns-clause-ok : goal.returns-clause-ok
@@ -17,4 +17,4 @@ pub returns-clause-refused : goal.returns-clause-refused
 returns-clause-refused g c = _
 
 pub start-requires : goal.start-requires
-start-requires g c = grind (arith, common_steps)
+start-requires g c = (c.requires-raw.1.1, back_fits _ _ _ (up_fits _ _ _ (variant_fits _ _ _ _ (back_fits _ _ _ (up_fits _ _ _ c.requires-raw.1.0)))))

@@ -1,6 +1,7 @@
 use Rattle.std.proofs.Common.{None, ap, ◌∙◌}
 use Rattle.rambo_node.specs.Nodes.{first_node, first_status, first_known}
 use Rattle.rambo_calls.specs.Kept.{calls_of}
+use Rattle.rambo_names.proofs.Sizes.{up_fits, back_fits, next}
 use Rattle.rambo_node.proofs.node.Node.new.Goals as goal
 
 pub returns : goal.returns
@@ -21,3 +22,27 @@ returns g c =
       attempt = None;
       vote = c.new-4.ensures i;
     }
+
+pub first_status-requires : goal.first_status-requires
+first_status-requires g c = tt
+
+pub first_known-requires : goal.first_known-requires
+first_known-requires g c = tt
+
+pub new-requires-2 : goal.new-requires-2
+new-requires-2 g c = tt
+
+pub invariant_of-result : goal.invariant_of-result
+invariant_of-result g c = tt
+
+pub members-members-requires : goal.members-members-requires
+members-members-requires g c = assumption
+
+pub new-requires-4 : goal.new-requires-4
+new-requires-4 g c = assumption
+
+pub new-requires : goal.new-requires
+new-requires g c = back_fits _ _ _ (up_fits _ _ _ c.requires-raw.1.1.0)
+
+pub new-requires-3 : goal.new-requires-3
+new-requires-3 g c = back_fits _ _ _ (next _ _ _ _ (up_fits _ _ _ c.requires-raw.1.1.0))
