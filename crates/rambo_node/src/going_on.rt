@@ -19,7 +19,6 @@ ghost use Rattle.rambo_tag.specs.Tags.{tag_of};
 use crate::advancing::sequence_of;
 use crate::deed::{answer_of, clone_of};
 use crate::effect::Effect;
-use crate::new_copies::NewCopies;
 use crate::node::Node;
 use rambo_atomic::{Answer, CallId, Event, History, Op};
 use rambo_calls::{OpenCall, Stage};
@@ -99,35 +98,35 @@ impl<Q: Quorums, S: Replica> Node<Q, S> {
         ensures refused { IfErr result (λ r. r ≡ Refusal.OutOfMemory) }
         ensures err { OnErr result ((self.new ≡ self.old) × (marks.new.items ≡ marks.old.items)) }
     {
-        let number = id.number;
         let tag = Tag {
             sequence: sequence_of(self.registers.copy(key.as_slice())) + 1,
             name: self.name,
         };
-        let copies = NewCopies::of(&key, &value, &tag)?;
-        let NewCopies {
-            held,
-            told,
-            marked,
-            sent,
-        } = copies;
-        self.hold(held)?;
+        let kept = version(tag, &value)?;
+        let sent = version(tag, &value)?;
+        let copy = KeyedVersion {
+            key: key.clone()?,
+            version: version(tag, &value)?,
+        };
+        let own = key.clone()?;
+        let held = version(tag, &value)?;
+        self.hold(own, held)?;
         marks.push_reserved(Mark {
             id,
             op: Op::Set(key, value),
-            kept: Some(marked),
+            kept: Some(kept),
         });
-        self.propagate(number, Some(sent));
-        Ok(Some(told))
+        self.propagate(id.number, Some(sent));
+        Ok(Some(copy))
     }
 
     // Holds this copy of a key.
-    fn hold(&mut self, copy: KeyedVersion) -> Result<(), Refusal>
-        ensures ok { OnOk result (self.new ≡ record self.old { registers = finite.insert self.old.registers copy.key copy.version }) }
+    fn hold(&mut self, key: Bytes, version: Version) -> Result<(), Refusal>
+        ensures ok { OnOk result (self.new ≡ record self.old { registers = finite.insert self.old.registers key version }) }
         ensures refused { IfErr result (λ r. r ≡ Refusal.OutOfMemory) }
         ensures err { OnErr result (self.new ≡ self.old) }
     {
-        self.registers.put(copy.key, copy.version)?;
+        self.registers.put(key, version)?;
         Ok(())
     }
 
@@ -155,6 +154,17 @@ impl<Q: Quorums, S: Replica> Node<Q, S> {
         self.calls.close(number);
         Ok(())
     }
+}
+
+// A value under a tag.
+fn version(tag: Tag, value: &Bytes) -> Result<Version, Refusal>
+    ensures made { IfOk result (λ v. v ≡ record { tag = tag; value = Some value.now }) }
+    ensures refused { IfErr result (λ r. r ≡ Refusal.OutOfMemory) }
+{
+    Ok(Version {
+        tag,
+        value: Some(value.clone()?),
+    })
 }
 
 // What is told of a call whose propagation is met, if there is one that is in it.

@@ -12,7 +12,6 @@ mod hearing;
 mod judging;
 mod judging_turns;
 mod laws;
-mod new_copies;
 mod node;
 mod reconfiguring;
 mod taking;
