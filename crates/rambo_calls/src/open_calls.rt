@@ -1,7 +1,7 @@
 //! The open calls of a node, the oldest first.
-ghost use Rattle.std.specs.Prelude.{◌≡◌, ◌-◌, ◌^◌, ◌++◌, ◌∷◌, [], length, min, OnOk, OnErr, IfErr, remove, map as list_map};
+ghost use Rattle.std.specs.Prelude.{◌≡◌, ◌-◌, ◌^◌, ◌++◌, ◌∷◌, [], length, min, OnOk, OnErr, IfErr, remove, slice_get, map as list_map};
 ghost use Rattle.std.specs.Option.{option_copied};
-ghost use Rattle.rambo_calls.specs.Calls.{place_of, find_call, is_missing, is_unmet, query_in};
+ghost use Rattle.rambo_calls.specs.Calls.{place_of, find_call, is_missing, is_unmet, query_in, number_in};
 ghost use Rattle.rambo_calls.specs.Hearing.{any_gap, number_after, restarted, heard_call};
 ghost use Rattle.rambo_calls.specs.Kept.{calls_of, call_found, with_call, propagating, IsRoomy};
 ghost use Rattle.rambo_phase.specs.Phases.{started};
@@ -218,6 +218,13 @@ impl<Q: Quorums> OpenCalls<Q> {
         find(self.list.as_slice(), number)
     }
 
+    /// The number of the call at a place, if there is one.
+    pub fn number_at(&self, place: usize) -> Option<u64>
+        ensures { result ≡ number_in (slice_get (calls_of self.now) place) }
+    {
+        number_at(self.list.as_slice(), place)
+    }
+
     /// Whether a letter with this heard number and map restarts a phase: whether it is a reply whose map leaves a gap.
     pub fn any_gap(&self, heard: u64, map: &ConfigMap<Q>) -> bool
         ensures { result ≡ any_gap heard map.now (calls_of self.now) }
@@ -256,6 +263,21 @@ fn find<Q: Quorums>(calls: &[OpenCall<Q>], number: u64) -> Option<&OpenCall<Q>>
     ensures { call_found (option_copied result) ≡ find_call number (calls_of calls.now) }
 {
     calls.get(place_of(calls, number))
+}
+
+fn call_at<Q: Quorums>(calls: &[OpenCall<Q>], place: usize) -> Option<&OpenCall<Q>>
+    ensures { call_found (option_copied result) ≡ slice_get (calls_of calls.now) place }
+{
+    calls.get(place)
+}
+
+fn number_at<Q: Quorums>(calls: &[OpenCall<Q>], place: usize) -> Option<u64>
+    ensures { result ≡ number_in (slice_get (calls_of calls.now) place) }
+{
+    match call_at(calls, place) {
+        Some(call) => Some(call.number),
+        None => None,
+    }
 }
 
 fn any_gap<Q: Quorums>(calls: &[OpenCall<Q>], heard: u64, map: &ConfigMap<Q>) -> bool

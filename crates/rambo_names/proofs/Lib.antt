@@ -7,3 +7,5 @@ pub mod NameInserts
 pub mod ReadSteps
 pub mod Sizes
 pub mod Errors
+pub mod WeightCounts
+pub mod WeightChanges

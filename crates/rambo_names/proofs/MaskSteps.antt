@@ -1,13 +1,14 @@
 -- What the operations on masks do to the sets that they stand for
-use Rattle.std.proofs.Common.{◌≡◌, ℕ, ◌+◌, ◌-◌, ◌*◌, ◌/◌, ◌%◌, ◌^◌, ◌<◌, ◌≤◌, ◌≢◌, inl, inr, Bool, true, false, nat_eq, ◌&&◌, ◌||◌, sym, ap, ◌∙◌, true≢false, arith, bit_and, bit_or, w64, min, max}
+use Rattle.std.proofs.Common.{◌≡◌, ℕ, ◌+◌, ◌-◌, ◌*◌, ◌/◌, ◌%◌, ◌^◌, ◌<◌, ◌≤◌, ◌≢◌, inl, inr, Bool, true, false, nat_eq, not, ◌&&◌, ◌||◌, sym, ap, ◌∙◌, true≢false, arith, bit_and, bit_or, w64, min, max}
 use Rattle.std.proofs.lemmas.Bool.{cases_lt}
 use Rattle.std.proofs.lemmas.Bool.Decides.{nat_tests, same_from_decides, Decides-eqb}
-use Rattle.std.proofs.lemmas.Nat.Bits.{bit_at-zero, bit_at_and, bit_at_or, bit_at-lt, bit_at_set_same, bit_at_set_other, same_from_bits_below, shr_and_one}
+use Rattle.std.proofs.lemmas.Nat.Bits.{bit_at-zero, bit_at_and, bit_at_or, bit_at-lt, bit_at_set_same, bit_at_set_other, bit_at_clear_same, bit_at_clear_other, same_from_bits_below, shr_and_one}
 use lib.Bits.{and_le_l}
-use Rattle.std.specs.Int.{bit_at}
+use mir.Val.{bits}
+use Rattle.std.specs.Int.{bit_at, bit_not}
 use Rattle.std.specs.Ordering.{nat_cmp, eq_by_cmp}
 use Rattle.std.specs.Cmp.{nat_cmp_total, unsigned_tied}
-use Rattle.std.specs.FinSet.{contains, empty, insert, union, is_subset, contains-empty, contains-insert, contains-union, intersection, contains-intersection, is_subset-contains, contains-is_subset, same_set, nat_cmp-IsAntisymmetric}
+use Rattle.std.specs.FinSet.{contains, empty, insert, remove, union, is_subset, contains-empty, contains-insert, contains-remove, contains-union, intersection, contains-intersection, is_subset-contains, contains-is_subset, same_set, nat_cmp-IsAntisymmetric}
 use Rattle.rambo_names.specs.Names.{NameSet, same_names}
 use Rattle.rambo_names.specs.Same.{same_names-decides, same_names-path}
 use Rattle.rambo_names.specs.Masks.{has_bit, set_of, mask_of, mask_of-set_of, contains-set_of, contains-set_of-none, contains-set_of-past}
@@ -142,3 +143,39 @@ set_of-and a b =
 
 pub has_test : (b n : ℕ) → 1 ≤ n → n ≤ 64 → nat_eq (bit_and (b / 2 ^ (n - 1)) 1) 1 ≡ contains (set_of b) n
 has_test b n low high = ap (λ x. nat_eq x 1) (shr_and_one b (n - 1)) ∙ sym (contains-set_of b n low high)
+
+abbrev pub bit_clear : ℕ → ℕ → ℕ
+bit_clear b k = bit_and b (bit_not w64 (1 * 2 ^ k % 2 ^ bits w64))
+
+clear_other : (b c k i : ℕ) → i ≢ k → bit_at c i ≡ bit_at b i → (not (nat_eq (i + 1) (k + 1)) && has_bit b i) ≡ has_bit c i
+clear_other b c k i ne e = grind (arith, nat_tests)
+
+clear_same : (c k : ℕ) (t : Bool) → bit_at c k ≡ 0 → (not (nat_eq (k + 1) (k + 1)) && t) ≡ has_bit c k
+clear_same c k t e = grind (arith, nat_tests)
+
+clear_at : (b k i : ℕ) → k < 64 → i < 64 → (not (nat_eq (i + 1) (k + 1)) && has_bit b i) ≡ has_bit (bit_clear b k) i
+clear_at b k i h low =
+    elim (cases_lt i k) [
+      | inl lt ↦ clear_other b (bit_clear b k) k i (omega arith) (bit_at_clear_other w64 b k h i low (omega arith))
+      | inr ge ↦ elim (cases_lt k i) [
+        | inl gt ↦ clear_other b (bit_clear b k) k i (omega arith) (bit_at_clear_other w64 b k h i low (omega arith))
+        | inr le ↦
+            let same : i ≡ k = omega arith in
+            rw same (clear_same (bit_clear b k) k (has_bit b k) (bit_at_clear_same w64 b k h))
+      ]
+    ]
+
+and_none : (x y : Bool) → y ≡ false → (x && y) ≡ false
+and_none true y e = e
+and_none false y e = λ i. false
+
+pub set_of-clear : (b n : ℕ) → 1 ≤ n → n ≤ 64 → set_of (bit_clear b (n - 1)) ≡ remove (set_of b) n
+set_of-clear b n low high =
+    set_of-is (bit_clear b (n - 1)) (remove (set_of b) n)
+    (contains-remove nat_cmp_total (set_of b) n 0 ∙ and_none _ _ (contains-set_of-none b 0 (omega arith)))
+    (λ q past. contains-remove nat_cmp_total (set_of b) n q ∙ and_none _ _ (contains-set_of-past b q past))
+    (λ i h. contains-remove nat_cmp_total (set_of b) n (i + 1)
+    ∙ ap (λ t. not t && contains (set_of b) (i + 1)) (unsigned_tied (i + 1) n)
+    ∙ ap (λ t. not (nat_eq (i + 1) n) && t) (at_place b i h)
+    ∙ ap (λ x. not (nat_eq (i + 1) x) && has_bit b i) (omega arith)
+    ∙ clear_at b (n - 1) i (omega arith) h)

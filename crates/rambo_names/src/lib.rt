@@ -16,6 +16,7 @@ mod refusal;
 mod set_sign;
 mod short_bytes;
 mod signs;
+mod weighted;
 
 pub use bytes::Bytes;
 pub use majority::Majority;
@@ -25,3 +26,4 @@ pub use quorums::Quorums;
 pub use refusal::Refusal;
 pub use set_sign::read_set;
 pub use signs::{leading_num, read_num, write_set};
+pub use weighted::Weighted;

@@ -1,5 +1,6 @@
 //! Majority quorums.
 ghost use Rattle.std.specs.Prelude.{◌≡◌};
+ghost use Rattle.std.proofs.Common.{lit≤};
 ghost use Rattle.rambo_names.specs.Quorums.{majorities};
 ghost use Rattle.rambo_names.specs.Majorities.{majorities_sound};
 ghost use Rattle.rambo_names.specs.Same.{same_names-path};
@@ -44,6 +45,8 @@ impl Quorums for Majority {
     ghost sound = { majorities_sound };
 
     ghost identical = { same_names-path };
+
+    ghost small = { lit≤ tt };
 
     fn members(&self) -> Members {
         self.members

@@ -74,6 +74,15 @@ impl Members {
         }
     }
 
+    /// The set without a name, or itself where it doesn't have the name.
+    pub fn without(&self, name: Name) -> Self
+        ensures { result ≡ set.remove self.now name }
+    {
+        Members {
+            bits: self.bits & !(1 << (name.number() - 1)),
+        }
+    }
+
     /// The names that are in either set.
     pub fn union(&self, other: Members) -> Self
         ensures { result ≡ set.union self.now other }

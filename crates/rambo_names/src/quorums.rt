@@ -1,6 +1,7 @@
 //! Configurations.
-ghost use Rattle.std.specs.Prelude.{◌≡◌, true};
+ghost use Rattle.std.specs.Prelude.{◌≡◌, ◌≤◌, true};
 ghost use Rattle.rambo_names.specs.Quorums.{QuorumSystem, IsSound};
+ghost use Rattle.rambo_names.specs.Room.{room_of};
 
 use crate::members::Members;
 
@@ -24,4 +25,7 @@ pub trait Quorums: Copy + Eq {
 
     // Configurations that compare as equal are identical.
     ghost identical: { (a b : Self) → Self.eq a b ≡ true → a ≡ b };
+
+    // A configuration takes few bytes, so that what holds some of them, as a node does, has a size.
+    ghost small: { room_of Self.row ≤ 4096 };
 }

@@ -1,5 +1,5 @@
 -- What a node holds, and what a new one holds
-use Rattle.std.specs.Prelude.{ℕ, ◌-◌, max, nat_eq, if◌then◌else◌, List, [], Option, None, replicate, slice_index, slice_set}
+use Rattle.std.specs.Prelude.{ℕ, ◌-◌, max, nat_eq, if◌then◌else◌, List, [], Option, None, Some, replicate, slice_index, slice_set}
 use Rattle.std.specs.FinSet as set
 use Rattle.std.specs.FinMap as map
 use Rattle.rambo_names.specs.Names.{NameSet}
@@ -35,6 +35,11 @@ pub record NodeState (Q : Type 0) : Type 0 where
 -- the open call of an id: none where the id is of another node
 abbrev pub open_call : {Q : Type 0} → NodeState Q → CallId → Option (CallState Q)
 open_call x id = if nat_eq id.name x.name then find_call id.number x.calls else None
+
+-- the id of a call of this name, whose number may be there
+abbrev pub id_of : ℕ → Option ℕ → Option CallId
+id_of name None = None
+id_of name (Some number) = Some (record { name = name; number = number })
 
 -- the greatest phase number of a name that was heard
 abbrev pub heard_from : List ℕ → ℕ → ℕ

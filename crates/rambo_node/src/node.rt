@@ -1,9 +1,9 @@
 //! Nodes.
-ghost use Rattle.std.specs.Prelude.{◌≡◌};
+ghost use Rattle.std.specs.Prelude.{◌≡◌, length, slice_get};
 ghost use Rattle.std.specs.FinMap as map;
 ghost use Rattle.std.specs.Option.{option_copied};
-ghost use Rattle.rambo_node.specs.Nodes.{first_node, first_status, first_known, open_call};
-ghost use Rattle.rambo_calls.specs.Calls.{query_in};
+ghost use Rattle.rambo_node.specs.Nodes.{first_node, first_status, first_known, open_call, id_of};
+ghost use Rattle.rambo_calls.specs.Calls.{query_in, number_in};
 
 use crate::heard_numbers::HeardNumbers;
 use rambo_atomic::{CallId, Op};
@@ -152,6 +152,26 @@ impl<Q: Quorums, S: Replica> Node<Q, S> {
             return None;
         }
         self.calls.query(id.number)
+    }
+
+    /// How many calls are open.
+    pub fn count_calls(&self) -> usize
+        ensures { result ≡ length self.now.calls }
+    {
+        self.calls.len()
+    }
+
+    /// The id of the open call at a place, the oldest first, if there is one.
+    pub fn call_at(&self, place: usize) -> Option<CallId>
+        ensures { result ≡ id_of self.now.name (number_in (slice_get self.now.calls place)) }
+    {
+        match self.calls.number_at(place) {
+            Some(number) => Some(CallId {
+                name: self.name,
+                number,
+            }),
+            None => None,
+        }
     }
 }
 

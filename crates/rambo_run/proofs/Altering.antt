@@ -1,5 +1,5 @@
 -- What a node that alters its collection or attempt keeps, and what it makes of its map
-use Rattle.std.proofs.Common.{◌≡◌, ℕ, ◌≤◌, nat_lt, Some, refl, ap, ◌∙◌, inl, inr, arith}
+use Rattle.std.proofs.Common.{◌≡◌, ℕ, ◌≤◌, nat_lt, Some, None, refl, ap, ◌∙◌, inl, inr, arith}
 use Rattle.std.proofs.lemmas.Bool.{lt-ltb, le-ltb, cond-true, cond-false}
 use Rattle.rambo_names.specs.Quorums.{QuorumSystem}
 use Rattle.rambo_config_map.specs.Maps.{merged_map, learnt, without_lowest}
@@ -47,7 +47,7 @@ altered_rest s x y (gives_up a i p e) = kept x y _ e (record { name = refl; regi
 -- the map stays, loses its lowest place after a whole collection, or gains the configuration that an attempt chose
 pub data MapMove {Q : Type 0} (s : QuorumSystem Q) (x y : NodeState Q) : Type 0 where
   map_stays : y.map ≡ x.map → MapMove s x y
-  map_loses : (g : CollectionState) → x.collection ≡ Some g → HasSecondQuorum s x.map g → y.map ≡ without_lowest x.map → MapMove s x y
+  map_loses : (g : CollectionState) → x.collection ≡ Some g → HasSecondQuorum s x.map g → y.map ≡ without_lowest x.map → y.collection ≡ None → MapMove s x y
   map_gains : (a : AttemptState Q) (c : Q) → IsBacked s x a → a.stage ≡ stage.Propose c → y.map ≡ learnt x.map c → MapMove s x y
 
 pub map_move : {Q : Type 0} (s : QuorumSystem Q) (x y : NodeState Q) → Alters s x y → MapMove s x y
@@ -56,7 +56,7 @@ map_move s x y (collects h e) = map_stays (ap (λ y. y.map) e)
 map_move s x y (seconds g i d e) = map_stays (ap (λ y. y.map) e)
 map_move s x y (finishes g i d e) = elim (collection_over s x.map g d) [
   | inl l ↦ map_stays (ap (λ y. y.map) e ∙ cond-true (nat_lt g.place x.map.floor) x.map (without_lowest x.map) (lt-ltb g.place x.map.floor l))
-  | inr h ↦ map_loses g i h (ap (λ y. y.map) e ∙ cond-false (nat_lt g.place x.map.floor) x.map (without_lowest x.map) (le-ltb g.place x.map.floor h.kept))
+  | inr h ↦ map_loses g i h (ap (λ y. y.map) e ∙ cond-false (nat_lt g.place x.map.floor) x.map (without_lowest x.map) (le-ltb g.place x.map.floor h.kept)) (ap (λ y. y.collection) e)
 ]
 map_move s x y (opens wish e) = map_stays (ap (λ y. y.map) e)
 map_move s x y (rebids a i p e) = map_stays (ap (λ y. y.map) e)

@@ -1,28 +1,23 @@
 -- Places are removed only after a collection; what collections carry never falls; later phases read what was propagated
-use Rattle.std.proofs.Common.{◌≡◌, ℕ, suc, ◌+◌, ◌<◌, ◌≤◌, true, List, Some, refl, sym, ap, ◌∙◌, subst, inl, inr, arith}
+use Rattle.std.proofs.Common.{◌≡◌, ℕ, zero, suc, ◌+◌, ◌<◌, ◌≤◌, true, List, Option, Some, slice_get, refl, sym, ap, ◌∙◌, subst, inl, inr, ⊎_elim, arith, eq-or-lt_of_le}
 use Rattle.std.proofs.lemmas.Bool.{cases_lt}
-use Rattle.std.specs.FinMap as map
 use Rattle.rambo_names.specs.Quorums.{QuorumSystem, IsSound}
-use Rattle.rambo_tag.specs.Tags.{tag_of}
-use Rattle.rambo_tag.proofs.TagOrder.{TagLe, tag_lt-false}
-use Rattle.rambo_atomic.specs.Calls.{key_of}
-use Rattle.rambo_calls.specs.Calls.{kept_in}
 use Rattle.rambo_config_map.specs.Maps.{active_at}
 use Rattle.rambo_node.specs.Nodes.{NodeState, first_node}
 use Rattle.rambo_run.specs.declared.step.Step.{Step}
 use Rattle.rambo_run.specs.Worlds.{WorldState, node_at}
-use Rattle.rambo_run.specs.Claims.{AtLeast}
-use Rattle.rambo_run.specs.Configurations.{HasTold, IsCollected, RemovedPlacesAreCollected, CollectionsNeverFall, LaterPhasesRead}
-use Rattle.rambo_run.proofs.Lists.{Member, member_stands}
+use Rattle.rambo_run.specs.declared.step.Step.TheVariants as step
+use Rattle.rambo_run.specs.Claims.{AtLeast, IsDone}
+use Rattle.rambo_run.specs.Configurations.{begun, HasTold, IsCollected, RemovedPlacesAreCollected, CollectionsNeverFall}
 use Rattle.rambo_run.proofs.Turn.{Moments, Telling, Run}
 use Rattle.rambo_run.proofs.Events.{none_or_some}
-use Rattle.rambo_run.proofs.Held.{HoldsAll, holds_trans, up, number_up}
+use Rattle.rambo_run.proofs.Held.{HoldsAll, holds_trans, up}
 use Rattle.rambo_run.proofs.Places.{HeldAt}
 use Rattle.rambo_run.proofs.Agreement.{agreement}
-use Rattle.rambo_run.proofs.Phases.{CountedReply, calls_at}
-use Rattle.rambo_run.proofs.Collections.{Collected, removed}
-use Rattle.rambo_run.proofs.LaterPhases.{done_at, reads}
-use Rattle.rambo_run.proofs.Sights.{Worlds, Came, at}
+use Rattle.rambo_run.proofs.Phases.{CountedReply}
+use Rattle.rambo_run.proofs.Collections.{FirstQuorum, Collected, collection_number, removed}
+use Rattle.rambo_run.proofs.Questions.{turned_by, ended_by, opened_by}
+use Rattle.rambo_run.proofs.Sights.{Worlds, Happens, Came, at}
 use Rattle.rambo_run.proofs.Worlds.{run_of}
 use Rattle.rambo_run.proofs.Moments.{moment, worlds}
 use Rattle.rambo_run.proofs.NodeLists.{node_is, node_stays, nowhere}
@@ -35,16 +30,16 @@ module _ {Q : Type 0} (s : QuorumSystem Q) (founders : Q) (ss : List (Step Q)) w
   abbrev all : Worlds s founders (moment s founders ss)
   all = worlds s founders ss
 
-  abbrev then : Moments Q
+  abbrev pub then : Moments Q
   then m n = at s founders (moment s founders ss) (worlds s founders ss) m n
 
-  abbrev Letter : Telling
+  abbrev pub Letter : Telling
   Letter m n u j = Came s founders (moment s founders ss) (worlds s founders ss) m n u j
 
-  abbrev runs : Run s (Came s founders (moment s founders ss) (worlds s founders ss)) founders (at s founders (moment s founders ss) (worlds s founders ss))
+  abbrev pub runs : Run s (Came s founders (moment s founders ss) (worlds s founders ss)) founders (at s founders (moment s founders ss) (worlds s founders ss))
   runs = run_of s founders (moment s founders ss) (worlds s founders ss)
 
-  is_then : (m n : ℕ) (x : NodeState Q) → node_at (world m) n ≡ Some x → x ≡ then m n
+  pub is_then : (m n : ℕ) (x : NodeState Q) → node_at (world m) n ≡ Some x → x ≡ then m n
   is_then m n x e = node_is s founders (moment s founders ss) all m n x e
 
   first_number : (n : ℕ) → (first_node s founders n).number ≡ 0
@@ -69,14 +64,41 @@ module _ {Q : Type 0} (s : QuorumSystem Q) (founders : Q) (ss : List (Step Q)) w
     holds = at_least (then t n) (then r.moment j) r.reply.told;
   }
 
-  pub collected_by : (p e : ℕ) → Collected Letter s then p e → IsCollected s founders ss e p
-  collected_by p e g =
+  -- a step that isn't refused
+  abbrev Does : ℕ → Step Q → Type 0
+  Does m st = Happens s founders (moment s founders ss) (worlds s founders ss) m st
+
+  is_done : (m : ℕ) (st : Step Q) → Does m st → IsDone s founders ss m st
+  unfolding worlds
+  is_done m st h = h
+
+  -- a collection was opened in the step before the moment at which it has its number first
+  opened_in : (k p e t : ℕ) (g : FirstQuorum Letter s then k p e t) → (u : ℕ) × (e ≡ suc u) × Does u (step.Collect k)
+  opened_in k p zero t g = absurd (let z = ap (λ x. x.number) (runs.first k) ∙ first_number k in omega (arith, g.took, g.positive, z))
+  opened_in k p (suc u) t g =
+      let low : (then u k).number < g.asked.number = elim (cases_lt (then u k).number g.asked.number) [ inl l ↦ l | inr l ↦ absurd (let b = g.fresh.by u l in omega (arith, b)) ] in (
+        u,
+        refl,
+        opened_by s founders (moment s founders ss) all u k (begun g.asked) g.asks g.quorum.stage
+            (λ d i. let n = collection_number s founders then runs u k d i in omega (arith, n, low)),
+      )
+
+  pub collected_by : (p e : ℕ) (g : Collected Letter s then p e) → Does g.ended (step.AdvanceCollect g.node) → IsCollected s founders ss e p
+  collected_by p e g does =
       let there : (u : ℕ) → node_at (world u) g.node ≡ Some (then u g.node) = λ u. asker_there g.opened u g.node (omega (arith, g.first.took, g.first.positive)) in
+      let o = opened_in g.node p g.opened g.turned g.first in
+      let plus : suc g.turned ≡ g.turned + 1 = omega arith in
       record {
         node = g.node;
+        began = o.0;
         opened = g.opened;
         turned = g.turned;
         ended = g.ended;
+        opens = is_done o.0 (step.Collect g.node) o.2;
+        next_opened = omega (arith, o.1);
+        turns = is_done g.turned (step.AdvanceCollect g.node)
+            (turned_by s founders (moment s founders ss) all g.turned g.node g.first.asked (begun g.asked) g.first.is_open g.first.quorum.stage g.asks g.quorum.stage);
+        ends = is_done g.ended (step.AdvanceCollect g.node) does;
         order = g.first.order;
         later = g.later;
         before = g.before;
@@ -87,15 +109,19 @@ module _ {Q : Type 0} (s : QuorumSystem Q) (founders : Q) (ss : List (Step Q)) w
         turner = then g.turned g.node;
         turner_is = there g.turned;
         first = g.first.asked;
+        first_begun = g.first.asks;
         first_open = g.first.is_open;
         first_place = g.first.place;
         first_number = sym g.first.took;
         first_quorum = g.first.quorum;
         first_told = λ j i. let r = g.first.replies j i in
             (has_told g.node g.opened g.turned j g.first.asked.number there g.first.positive r, at_least (then r.moment j) (then g.turned g.node) r.reply.kept);
+        asker = then (suc g.turned) g.node;
+        asker_is = subst (λ u. node_at (world u) g.node ≡ Some (then (suc g.turned) g.node)) plus (there (suc g.turned));
         ender = then g.ended g.node;
         ender_is = there g.ended;
         second = g.asked;
+        second_begun = g.asks;
         second_open = g.is_open;
         second_place = g.place;
         second_quorum = g.quorum;
@@ -110,11 +136,15 @@ module _ {Q : Type 0} (s : QuorumSystem Q) (founders : Q) (ss : List (Step Q)) w
               holds = at_least (then g.turned g.node) (then r.moment j)
                   (holds_trans (then g.turned g.node) (then (suc g.turned) g.node) (then r.moment j) (up s founders then runs g.turned (suc g.turned) g.node (omega arith)) r.reply.told);
             };
+        still_lowest = omega (arith, g.first.floor, g.quorum.kept, g.place, (up s founders then runs g.opened g.ended g.node (omega (arith, g.first.order, g.later))).floor);
       }
 
   -- a place that a node's map has removed was collected
-  pub removed_by : (m n : ℕ) (x : NodeState Q) → node_at (world m) n ≡ Some x → (p : ℕ) → p < x.map.floor → IsCollected s founders ss m p
-  removed_by m n x e p h = collected_by p m (removed s founders then runs m n p (subst (λ x. p < x.map.floor) (is_then m n x e) h))
+  pub removed_by : (m n : ℕ) (x : NodeState Q) → node_at (world m) n ≡ Some x → (p : ℕ) → p < x.map.floor → (g : IsCollected s founders ss m p) × (g.ended < m)
+  unfolding collected_by
+  removed_by m n x e p h =
+      let r = removed s founders then runs m n p (subst (λ x. p < x.map.floor) (is_then m n x e) h) in
+      (collected_by p m r.0 (ended_by s founders (moment s founders ss) all r.0.ended r.0.node r.0.asked r.0.is_open r.1), r.2)
 
   -- the configuration of a quorum was held
   first_held : (until p : ℕ) (g : IsCollected s founders ss until p) → HeldAt then p g.first_quorum.met.config
@@ -137,9 +167,14 @@ module _ {Q : Type 0} (s : QuorumSystem Q) (founders : Q) (ss : List (Step Q)) w
       let k = up s founders then runs t.told u.told j (omega (arith, t.before, u.later, h)) in
       subst (λ x. HoldsAll x u.replier) (sym (is_then t.told j t.replier t.replier_is)) (subst (HoldsAll (then t.told j)) (sym (is_then u.told j u.replier u.replier_is)) k)
 
-  never_falls : IsSound s → (until p : ℕ) (g : IsCollected s founders ss until (p + 1)) → (h : IsCollected s founders ss g.opened p) × AtLeast h.turner g.turner
+  other_step : (a b : ℕ) → ◌≡◌ {A = Option (Step Q)} (Some (step.AdvanceCollect a)) (Some (step.Collect b)) → ⊥
+  other_step a b e = cc
+
+  never_falls : IsSound s → (until p : ℕ) (g : IsCollected s founders ss until (p + 1)) → (h : IsCollected s founders ss g.opened p) × (h.ended < g.began) × AtLeast h.turner g.turner
   never_falls law until p g =
-      let h = removed_by g.opened g.node g.opener g.opener_is p (omega (arith, g.lowest)) in
+      let o = removed_by g.opened g.node g.opener g.opener_is p (omega (arith, g.lowest)) in
+      let h = o.0 in
+      let over : h.ended < g.began = ⊎_elim (λ e. absurd (other_step h.node g.node (sym h.ends.0 ∙ ap (slice_get ss) e ∙ g.opens.0))) (λ l. l) (eq-or-lt_of_le (omega (arith, o.1, g.next_opened))) in
       let old : Q = h.second_quorum.met.config in
       let same : old ≡ g.first_quorum.met.config = agreement s law founders then runs (p + 1) old g.first_quorum.met.config (second_held g.opened p h) (first_held until (p + 1) g) in
       let r = law.share old h.second.repliers g.first.repliers h.second_quorum.met.quorum (subst (λ c. s.is_quorum c g.first.repliers ≡ true) (sym same) g.first_quorum.met.quorum) in
@@ -147,7 +182,7 @@ module _ {Q : Type 0} (s : QuorumSystem Q) (founders : Q) (ss : List (Step Q)) w
       let t = h.second_told j r.2 in
       let u = g.first_told j r.3 in
       let k = told_up (h.turned + 1) h.ended g.opened g.turned j h.turner g.opener t u.0 h.before in
-      (h, at_least h.turner g.turner (holds_trans h.turner t.replier g.turner (holds_all h.turner t.replier t.holds) (holds_trans t.replier u.0.replier g.turner k (holds_all u.0.replier g.turner u.1))))
+      (h, over, at_least h.turner g.turner (holds_trans h.turner t.replier g.turner (holds_all h.turner t.replier t.holds) (holds_trans t.replier u.0.replier g.turner k (holds_all u.0.replier g.turner u.1))))
 
 -- a place that a node's map has removed was collected
 pub removed_places_are_collected : {Q : Type 0} (s : QuorumSystem Q) → RemovedPlacesAreCollected s
@@ -156,20 +191,3 @@ removed_places_are_collected s founders ss m n x e p h = removed_by s founders s
 -- what collections carry from place to place never falls
 pub collections_never_fall : {Q : Type 0} (s : QuorumSystem Q) → IsSound s → CollectionsNeverFall s
 collections_never_fall s law founders ss until p g = never_falls s founders ss law until p g
-
--- a phase that begins after a propagation was met, and is met, reads at least its tag
-pub later_phases_read : {Q : Type 0} (s : QuorumSystem Q) → IsSound s → LaterPhasesRead s
-later_phases_read s law founders ss m u n k x y z ex ey ez c sc pc mc d sd l md =
-    let node = then s founders ss in
-    let run = runs s founders ss in
-    let f = calls_at s founders node run m n c (subst (λ x. Member c x.calls) (is_then s founders ss m n x ex) (member_stands c x.calls sc)) in
-    let o = calls_at s founders node run u k d (subst (λ z. Member d z.calls) (is_then s founders ss u k z ez) (member_stands d z.calls sd)) in
-    let key = key_of c.op in
-    let tag = tag_of (kept_in c.stage) in
-    let done = done_at s node f.began m n c.phase f.phase mc key tag (f.kept pc) in
-    let later : m ≤ o.began = elim (cases_lt o.began m) [
-      | inr a ↦ a
-      | inl a ↦ absurd (let b = number_up s founders node run o.began m k (omega (arith, a)) in omega (arith, b, o.phase.took, l, ap (λ y. y.number) (is_then s founders ss m k y ey)))
-    ] in
-    let r = reads s law founders node run key tag m done o.began u k d.phase o.phase later md in
-    tag_lt-false (tag_of (map.get z.registers key)) tag (subst (λ z. TagLe tag (tag_of (map.get z.registers key))) (sym (is_then s founders ss u k z ez)) r)

@@ -92,7 +92,7 @@ module _ {Q : Type 0} (s : QuorumSystem Q) where
   unfolding after
   done_after w st e = ap (λ o. unless_refused o w (turn w st).world) e
 
-  next_world : (founders : Q) (ss : List (Step Q)) (m : ℕ) (st : Step Q) → slice_get ss m ≡ Some st → refusal s (run s founders (take m ss)) st ≡ None
+  pub next_world : (founders : Q) (ss : List (Step Q)) (m : ℕ) (st : Step Q) → slice_get ss m ≡ Some st → refusal s (run s founders (take m ss)) st ≡ None
       → run s founders (take (m + 1) ss) ≡ (turn (run s founders (take m ss)) st).world
   unfolding run
   next_world founders ss m st e r =

@@ -112,7 +112,7 @@ module _ {Q : Type 0} (s : QuorumSystem Q) where
   -- neither end of a map falls
   pub map_grows : (x y : NodeState Q) → IsFormed x → MapMove s x y → HasActive y.map × (x.map.floor ≤ y.map.floor) × (end_of x.map ≤ end_of y.map)
   map_grows x y f (map_stays e) = (subst HasActive (sym e) f.active, omega (arith, ap (λ m. m.floor) e), omega (arith, ap end_of e))
-  map_grows x y f (map_loses g i h e) =
+  map_grows x y f (map_loses g i h e o) =
       let room : 1 < length x.map.configs = loses_room x g f i h.kept in
       (subst HasActive (sym e) (omega (arith, room, length-drop 1 x.map.configs)), omega (arith, ap (λ m. m.floor) e), omega (arith, ap end_of e, lost_end x.map room))
   map_grows x y f (map_gains a c b g e) =

@@ -7,13 +7,14 @@ use Rattle.rambo_tag.specs.Tags.{tag_of}
 use Rattle.rambo_tag.proofs.TagOrder.{tag_lt-false, TagLe-from_false}
 use Rattle.rambo_gc.specs.declared.stage.Stage.{Stage}
 use Rattle.rambo_gc.specs.declared.stage.Stage.TheVariants.{First, Second}
+use Rattle.rambo_calls.specs.Hearing.{restarted}
 use Rattle.rambo_node.specs.Nodes.{NodeState, first_node, heard_from}
 use Rattle.rambo_run.specs.declared.step.Step.{Step}
 use Rattle.rambo_run.specs.Worlds.{WorldState, node_at}
 use Rattle.rambo_run.specs.Runs.{run}
 use Rattle.rambo_run.specs.Claims.{AtLeast, IsHeard, IsFresh, RepliesAreFresh}
-use Rattle.rambo_run.specs.Configurations.{CollectionRepliesAreFresh}
-use Rattle.rambo_run.proofs.Lists.{Member, member_stands}
+use Rattle.rambo_run.specs.Configurations.{begun, IsFreshAnswer, CollectionRepliesAreFresh}
+use Rattle.rambo_run.proofs.Lists.{Member, member_stands, stands_member}
 use Rattle.rambo_run.proofs.Turn.{Moments}
 use Rattle.rambo_run.proofs.Events.{none_or_some}
 use Rattle.rambo_run.proofs.Held.{HoldsAll, Fresh, get_or-replicate}
@@ -25,10 +26,10 @@ use Rattle.rambo_run.proofs.Moments.{moment, worlds, last_moment}
 use Rattle.rambo_run.proofs.NodeLists.{node_is, node_stays, nowhere}
 
 pub at_least : {Q : Type 0} (x y : NodeState Q) → HoldsAll x y → AtLeast x y
-at_least x y h = record { tags = λ key. tag_lt-false (tag_of (map.get y.registers key)) (tag_of (map.get x.registers key)) (h.tags key); floor = h.floor; top = h.top }
+at_least x y h = record { copies = h.copies; tags = λ key. tag_lt-false (tag_of (map.get y.registers key)) (tag_of (map.get x.registers key)) (h.tags key); floor = h.floor; top = h.top }
 
 pub holds_all : {Q : Type 0} (x y : NodeState Q) → AtLeast x y → HoldsAll x y
-holds_all x y h = record { tags = λ key. TagLe-from_false (tag_of (map.get y.registers key)) (tag_of (map.get x.registers key)) (h.tags key); floor = h.floor; top = h.top }
+holds_all x y h = record { copies = h.copies; tags = λ key. TagLe-from_false (tag_of (map.get y.registers key)) (tag_of (map.get x.registers key)) (h.tags key); floor = h.floor; top = h.top }
 
 module _ {Q : Type 0} (s : QuorumSystem Q) (founders : Q) (world : ℕ → WorldState Q) (all : Worlds s founders world) where
   abbrev then : Moments Q
@@ -100,23 +101,32 @@ module _ {Q : Type 0} (s : QuorumSystem Q) (founders : Q) (ss : List (Step Q)) w
 
 -- each reply that a phase counts
 pub replies_are_fresh : {Q : Type 0} (s : QuorumSystem Q) → RepliesAreFresh s
+unfolding fresh_reply
 replies_are_fresh s founders ss n x e c st j i =
     let all = worlds s founders ss in
     let world = moment s founders ss in
     let f = calls_at s founders (at s founders world all) (run_of s founders world all) (length ss) n c (subst (λ x. Member c x.calls) (last_node s founders ss n x e) (member_stands c x.calls st)) in
-    fresh_reply s founders ss n x e f.began c.phase.number f.phase.took f.phase.positive f.phase.fresh j (f.phase.replies j i).0
+    let r = f.phase.replies j i in
+    record {
+      fresh = fresh_reply s founders ss n x e f.began c.phase.number f.phase.took f.phase.positive f.phase.fresh j r.0;
+      asks = stands_member (restarted c.phase.number (node s founders ss f.began n).map n c) (node s founders ss f.began n).calls f.opening;
+      lo = sym f.phase.lo;
+      within = r.1;
+    }
 
 -- each reply that a collection counts
 pub collection_replies_are_fresh : {Q : Type 0} (s : QuorumSystem Q) → CollectionRepliesAreFresh s
+unfolding fresh_reply
 collection_replies_are_fresh s founders ss n x e g i j r =
     let all = worlds s founders ss in
     let world = moment s founders ss in
     let o = collection_at s founders (at s founders world all) (run_of s founders world all) (length ss) n g (ap (λ x. x.collection) (sym (last_node s founders ss n x e)) ∙ i) in
     by_stage g.stage refl o
   where
-    fresh_in : (t : ℕ) → StageAt (Came s founders (moment s founders ss) (worlds s founders ss)) (node s founders ss) t (length ss) n g.number g.repliers → IsFresh s founders ss n x g.number j
-    fresh_in t f = fresh_reply s founders ss n x e t g.number f.took f.positive f.fresh j (f.replies j r)
+    fresh_in : (t : ℕ) → (node s founders ss t n).collection ≡ Some (begun g) → StageAt (Came s founders (moment s founders ss) (worlds s founders ss)) (node s founders ss) t (length ss) n g.number g.repliers
+        → IsFreshAnswer s founders ss n x g j
+    fresh_in t a f = record { fresh = fresh_reply s founders ss n x e t g.number f.took f.positive f.fresh j (f.replies j r); asks = a }
 
-    by_stage : (stage : Stage) → g.stage ≡ stage → CollectionAt (Came s founders (moment s founders ss) (worlds s founders ss)) s (node s founders ss) (length ss) n g → IsFresh s founders ss n x g.number j
-    by_stage First z o = fresh_in o.opened (o.early z)
-    by_stage Second z o = let l = o.late z in fresh_in (suc l.turned) l.now
+    by_stage : (stage : Stage) → g.stage ≡ stage → CollectionAt (Came s founders (moment s founders ss) (worlds s founders ss)) s (node s founders ss) (length ss) n g → IsFreshAnswer s founders ss n x g j
+    by_stage First z o = fresh_in o.opened (o.asks z) (o.early z)
+    by_stage Second z o = let l = o.late z in fresh_in (suc l.turned) l.asks l.now

@@ -1,14 +1,16 @@
 -- What a node holds only grows, and what a heard number says
-use Rattle.std.proofs.Common.{◌≡◌, ℕ, zero, suc, ◌-◌, ◌<◌, ◌≤◌, max, ◌⊎◌, List, [], ◌∷◌, get_or, replicate, refl, sym, ap, ◌∙◌, subst, inl, inr, ⊎_elim, arith, eq-or-lt_of_le, slice_set}
+use Rattle.std.proofs.Common.{◌≡◌, ℕ, zero, suc, ◌-◌, ◌<◌, ◌≤◌, max, ◌⊎◌, Some, true, if◌then◌else◌, List, [], ◌∷◌, get_or, replicate, refl, sym, ap, ◌∙◌, subst, inl, inr, ⊎_elim, arith, eq-or-lt_of_le, slice_set}
 use Rattle.std.proofs.lemmas.Bool.{cases_lt}
 use Rattle.std.proofs.lemmas.List.{get_or-set_other}
 use Rattle.std.specs.FinMap as map
 use Rattle.rambo_names.specs.Quorums.{QuorumSystem}
 use Rattle.rambo_tag.specs.declared.version.Version.{Version}
-use Rattle.rambo_tag.specs.Tags.{tag_of}
+use Rattle.rambo_tag.specs.Tags.{tag_of, is_newer, greater}
 use Rattle.rambo_tag.proofs.TagOrder.{TagLe, TagLt, TagLe-refl, TagLe-trans}
-use Rattle.rambo_tag.proofs.CopyOrder.{is_newer-from_lt}
-use Rattle.rambo_tag.proofs.Joins.{TagLe-joined_left, TagLe-joined_right, TagLe-put}
+use Rattle.rambo_tag.specs.Copies.{Copies, joined}
+use Rattle.rambo_tag.proofs.CopyOrder.{greater-idem, greater-comm, is_newer-from_lt}
+use Rattle.rambo_tag.proofs.Joins.{same_copies, get-put, get-joined, joined-idem, joined-comm, joined-assoc, joined-again, TagLe-joined_left, TagLe-joined_right, TagLe-put}
+use Rattle.rambo_tag.proofs.Keys.{same_key, same_key-true}
 use Rattle.rambo_atomic.specs.declared.operation.Op.{Op}
 use Rattle.rambo_atomic.specs.declared.operation.Op.TheVariants as op
 use Rattle.rambo_config_map.specs.Maps.{end_of}
@@ -27,12 +29,17 @@ use Rattle.rambo_run.proofs.Formed.{IsFormed, map_grows, formed}
 
 -- y holds at least what x holds
 pub record HoldsAll {Q : Type 0} (x y : NodeState Q) : Type 0 where
+  pub copies : joined y.registers x.registers ≡ y.registers
   pub tags : (key : List ℕ) → TagLe (tag_of (map.get x.registers key)) (tag_of (map.get y.registers key))
   pub floor : x.map.floor ≤ y.map.floor
   pub top : end_of x.map ≤ end_of y.map
 
+copies_same : (a b : Copies) → b ≡ a → joined b a ≡ b
+copies_same a b e = ap (joined b) (sym e) ∙ joined-idem b
+
 pub holds_same : {Q : Type 0} (x y : NodeState Q) → y.registers ≡ x.registers → y.map ≡ x.map → HoldsAll x y
 holds_same x y r m = record {
+  copies = copies_same x.registers y.registers r;
   tags = λ key. subst (λ r. TagLe (tag_of (map.get x.registers key)) (tag_of (map.get r key))) (sym r) (TagLe-refl (tag_of (map.get x.registers key)));
   floor = subst (λ m. x.map.floor ≤ m.floor) (sym m) (omega arith);
   top = subst (λ m. end_of x.map ≤ end_of m) (sym m) (omega arith);
@@ -40,6 +47,7 @@ holds_same x y r m = record {
 
 pub holds_trans : {Q : Type 0} (x y z : NodeState Q) → HoldsAll x y → HoldsAll y z → HoldsAll x z
 holds_trans x y z h k = record {
+  copies = ap (λ r. joined r x.registers) (sym k.copies) ∙ joined-assoc z.registers y.registers x.registers ∙ ap (joined z.registers) h.copies ∙ k.copies;
   tags = λ key. TagLe-trans (tag_of (map.get x.registers key)) (tag_of (map.get y.registers key)) (tag_of (map.get z.registers key)) (h.tags key) (k.tags key);
   floor = omega (arith, h.floor, k.floor);
   top = omega (arith, h.top, k.top);
@@ -72,6 +80,24 @@ put_raises x (op.Set k value) key =
     let above : TagLt (tag_of held) v.tag = inl (omega arith) in
     TagLe-put x.registers k v key (is_newer-from_lt held v above)
 
+-- a newer copy put in a key's place
+put_joins : (a : Copies) (key : List ℕ) (v : Version) → is_newer (map.get a key) v ≡ true → joined (map.insert a key v) a ≡ map.insert a key v
+put_joins a key v newer = same_copies (joined (map.insert a key v) a) (map.insert a key v) (λ q. get-joined (map.insert a key v) a q ∙ elim (pick (same_key q key) (Some v) (map.get a q)) [
+  | inl p ↦ (let e : map.get (map.insert a key v) q ≡ Some v = get-put a key v q ∙ p.1 in
+      ap (λ c. greater c (map.get a q)) e ∙ greater-comm (Some v) (map.get a q)
+      ∙ ap (λ t. if t then Some v else map.get a q) (ap (λ k. is_newer (map.get a k) v) (same_key-true q key p.0) ∙ newer) ∙ sym e)
+  | inr p ↦ (let e : map.get (map.insert a key v) q ≡ map.get a q = get-put a key v q ∙ p.1 in
+      ap (λ c. greater c (map.get a q)) e ∙ greater-idem (map.get a q) ∙ sym e)
+])
+
+put_keeps : {Q : Type 0} (x : NodeState Q) (o : Op) → joined (with_copy x.registers o (taken x o)) x.registers ≡ with_copy x.registers o (taken x o)
+put_keeps x (op.Get k) = joined-idem x.registers
+put_keeps x (op.Set k value) =
+    let held = map.get x.registers k in
+    let v : Version = new_copy x k value in
+    let above : TagLt (tag_of held) v.tag = inl (omega arith) in
+    put_joins x.registers k v (is_newer-from_lt held v above)
+
 number_up_after : {Q : Type 0} (x : NodeState Q) (g : Gossip Q) → x.number ≤ number_after x g
 number_up_after x g = elim (pick (any_gap g.heard g.map x.calls) (suc x.number) x.number) [
   | inl p ↦ subst (λ n. x.number ≤ n) (sym p.1) (omega arith)
@@ -94,13 +120,16 @@ heard_cases heard j number k a b = elim (cases_lt k j) [
       (eq-or-lt_of_le l)
 ]
 
+joined_keeps : (a b : Copies) → joined (joined a b) a ≡ joined a b
+joined_keeps a b = ap (λ r. joined r a) (joined-comm a b) ∙ joined-again b a ∙ joined-comm b a
+
 pub hear_left : {Q : Type 0} (x : NodeState Q) (j : ℕ) (g : Gossip Q) → HasActive x.map → HasActive g.map → HoldsAll x (heard_gossip x j g)
 unfolding heard_gossip
-hear_left x j g a b = record { tags = λ key. TagLe-joined_left x.registers g.copies key; floor = omega arith; top = omega (arith, merged_end x.map g.map a b) }
+hear_left x j g a b = record { copies = joined_keeps x.registers g.copies; tags = λ key. TagLe-joined_left x.registers g.copies key; floor = omega arith; top = omega (arith, merged_end x.map g.map a b) }
 
 pub hear_right : {Q : Type 0} (x : NodeState Q) (j n : ℕ) (y : NodeState Q) → HasActive x.map → HasActive y.map → HoldsAll y (heard_gossip x j (gossip_for y n))
 unfolding heard_gossip
-hear_right x j n y a b = record { tags = λ key. TagLe-joined_right x.registers y.registers key; floor = omega arith; top = omega (arith, merged_end x.map y.map a b) }
+hear_right x j n y a b = record { copies = joined-again x.registers y.registers; tags = λ key. TagLe-joined_right x.registers y.registers key; floor = omega arith; top = omega (arith, merged_end x.map y.map a b) }
 
 -- a node keeps its name
 pub name_turn : {Q : Type 0} {T : Telling} (s : QuorumSystem Q) (at : Moments Q) (m n : ℕ) (x y : NodeState Q) → Turn s T at m n x y → y.name ≡ x.name
@@ -120,6 +149,7 @@ holds_altered s x y f a =
     let m = map_grows s x y f (map_move s x y a) in
     let k = altered_rest s x y a in
     record {
+      copies = copies_same x.registers y.registers k.registers;
       tags = λ key. subst (λ r. TagLe (tag_of (map.get x.registers key)) (tag_of (map.get r key))) (sym k.registers) (TagLe-refl (tag_of (map.get x.registers key)));
       floor = m.1;
       top = m.2;
@@ -164,7 +194,7 @@ module _ {Q : Type 0} {T : Telling} (s : QuorumSystem Q) (founders : Q) (at : Mo
       subst (Growth at m x) (sym e) (by_letter u j h (hear_left x j g (active m n) (active u j)) (hear_right x j n (at u j) (active m n) (active u j)) (number_up_after x g)
       (λ k a. heard_cases x.heard j (at u j).number k a b) (omega arith))
   growth m n (queried c i p h e) =
-      subst (Growth at m (at m n)) (sym e) (by_itself (record { tags = put_raises (at m n) c.op; floor = omega arith; top = omega arith }) (omega arith) refl (omega arith))
+      subst (Growth at m (at m n)) (sym e) (by_itself (record { copies = put_keeps (at m n) c.op; tags = put_raises (at m n) c.op; floor = omega arith; top = omega arith }) (omega arith) refl (omega arith))
   growth m n (answers c i p h e) = by_itself (holds_same _ _ (ap (λ y. y.registers) e) (ap (λ y. y.map) e)) (omega (arith, ap (λ y. y.number) e)) (ap (λ y. y.heard) e) (omega (arith, ap (λ y. y.made) e))
   growth m n (agains c i e) = by_itself (holds_same _ _ (ap (λ y. y.registers) e) (ap (λ y. y.map) e)) (omega (arith, ap (λ y. y.number) e)) (ap (λ y. y.heard) e) (omega (arith, ap (λ y. y.made) e))
   growth m n (alters a) =

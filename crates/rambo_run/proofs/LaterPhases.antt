@@ -1,5 +1,5 @@
 -- A phase that is met reads what a phase wrote that was met before it began
-use Rattle.std.proofs.Common.{◌≡◌, ℕ, zero, suc, ◌+◌, ◌-◌, ◌<◌, ◌≤◌, Bool, true, false, ◌&&◌, List, [], ◌∷◌, Some, slice_get, refl, sym, subst, inl, inr, arith, true≢false}
+use Rattle.std.proofs.Common.{◌≡◌, ℕ, zero, suc, ◌+◌, ◌-◌, ◌<◌, ◌≤◌, ◌⊎◌, Bool, true, false, ◌&&◌, List, [], ◌∷◌, Some, slice_get, refl, sym, subst, inl, inr, arith, true≢false}
 use Rattle.std.proofs.lemmas.Bool.{cases_lt}
 use Rattle.std.specs.List.{list_all}
 use Rattle.std.specs.FinSet as set
@@ -60,14 +60,14 @@ all_get f (x ∷ xs) zero a h e = subst (λ a. f a ≡ true) (some_inj x a e) (a
 all_get f (x ∷ xs) (suc i) a h e = all_get f xs i a (and_both (f x) (list_all f xs) h).1 e
 
 -- the repliers of a phase that is met are a quorum at each of its places
-met_quorums : {Q : Type 0} {T : Telling} (s : QuorumSystem Q) (at : Moments Q) (t m n : ℕ) (p : PhaseState Q) → PhaseAt T at t m n p → is_met s p ≡ true
+pub met_quorums : {Q : Type 0} {T : Telling} (s : QuorumSystem Q) (at : Moments Q) (t m n : ℕ) (p : PhaseState Q) → PhaseAt T at t m n p → is_met s p ≡ true
     → (place : ℕ) → p.lo ≤ place → place < above p → QuorumAt s at place p.repliers
 met_quorums s at t m n p f met place l h =
     let c = f.held place l h in
     record { config = c.config; held = c.held; quorum = all_get (λ q. s.is_quorum q p.repliers) p.configs (place - p.lo) c.config met c.is }
 
 -- a phase that is met at moment m, and began with the tag
-pub done_at : {Q : Type 0} {T : Telling} (s : QuorumSystem Q) (at : Moments Q) (t m n : ℕ) (p : PhaseState Q) → PhaseAt T at t m n p → is_met s p ≡ true → (key : List ℕ) (tag : Tag)
+abbrev pub done_at : {Q : Type 0} {T : Telling} (s : QuorumSystem Q) (at : Moments Q) (t m n : ℕ) (p : PhaseState Q) → PhaseAt T at t m n p → is_met s p ≡ true → (key : List ℕ) (tag : Tag)
     → TagLe tag (tag_of (map.get (at t n).registers key)) → Done s at m key tag
 done_at s at t m n p f met key tag h = record {
   node = n;
@@ -118,7 +118,7 @@ module _ {Q : Type 0} {T : Telling} (s : QuorumSystem Q) (law : IsSound s) (foun
   -- the chain of collections goes on by one place
   next_carries : (k : ℕ) → Carries T s at key tag k → Carries T s at key tag (k + 1)
   next_carries k c e g =
-      let before : Collected T s at k g.opened = removed s founders at run g.opened g.node k (omega (arith, g.first.floor)) in
+      let before : Collected T s at k g.opened = (removed s founders at run g.opened g.node k (omega (arith, g.first.floor))).0 in
       let both = shared (k + 1) before.asked.repliers g.first.asked.repliers (second_at k g.opened before) (first_at (k + 1) e g) in
       let j : ℕ = both.0 in
       let told = before.replies j both.1 in
@@ -158,7 +158,7 @@ module _ {Q : Type 0} {T : Telling} (s : QuorumSystem Q) (law : IsSound s) (foun
   lies_above e d u m n p f h met l =
       let k : ℕ = p.lo - 1 in
       let lo : p.lo ≡ k + 1 = omega (arith, l, d.ordered) in
-      let g : Collected T s at k u = removed s founders at run u n k (omega (arith, f.lo, lo)) in
+      let g : Collected T s at k u = (removed s founders at run u n k (omega (arith, f.lo, lo))).0 in
       let c : Has g.turned g.node = carries_on (d.end - 1) k (omega (arith, l, d.ordered)) (first_carries e (d.end - 1) d (omega (arith, d.ordered))) u g in
       let mine : QuorumAt s at (k + 1) p.repliers = subst (λ q. QuorumAt s at q p.repliers) lo (met_quorums s at u m n p f met p.lo (omega arith) f.ordered) in
       let both = shared (k + 1) g.asked.repliers p.repliers (second_at k u g) mine in
@@ -172,7 +172,7 @@ module _ {Q : Type 0} {T : Telling} (s : QuorumSystem Q) (law : IsSound s) (foun
   lies_below e d u m n p f h met l =
       let k : ℕ = above p - 1 in
       let top : above p ≡ k + 1 = omega (arith, f.ordered) in
-      let g : Collected T s at k d.began = removed s founders at run d.began d.node k (omega (arith, d.floor, l, top)) in
+      let g : Collected T s at k d.began = (removed s founders at run d.began d.node k (omega (arith, d.floor, l, top))).0 in
       let both = shared k g.first.asked.repliers p.repliers (first_at k d.began g) (met_quorums s at u m n p f met k (omega (arith, top, f.ordered)) (omega (arith, top))) in
       let j : ℕ = both.0 in
       let told = g.first.replies j both.1 in
@@ -189,6 +189,20 @@ module _ {Q : Type 0} {T : Telling} (s : QuorumSystem Q) (law : IsSound s) (foun
       | inl b ↦ elim (cases_lt d.lo p.lo) [
         | inl c ↦ meets e d u m n p f h met p.lo (omega (arith, c)) a (omega arith) f.ordered
         | inr c ↦ meets e d u m n p f h met d.lo (omega arith) d.ordered c b
+      ]
+    ]
+  ]
+
+  -- it has a place in common with the propagation, or lies above it
+  pub meets_or_above : (e : ℕ) (d : Done s at e key tag) (u m n : ℕ) (p : PhaseState Q) → PhaseAt T at u m n p → e ≤ u → is_met s p ≡ true
+      → ((place : ℕ) × (d.lo ≤ place) × (place < d.end) × (p.lo ≤ place) × (place < above p)) ⊎ (d.end ≤ p.lo)
+  meets_or_above e d u m n p f h met = elim (cases_lt p.lo d.end) [
+    | inr l ↦ inr l
+    | inl a ↦ elim (cases_lt d.lo (above p)) [
+      | inr l ↦ absurd (lies_below e d u m n p f h met l)
+      | inl b ↦ elim (cases_lt d.lo p.lo) [
+        | inl c ↦ inl (p.lo, omega (arith, c), a, omega arith, f.ordered)
+        | inr c ↦ inl (d.lo, omega arith, d.ordered, c, b)
       ]
     ]
   ]

@@ -32,11 +32,14 @@ pub mod NodeLists
 pub mod EveryRun
 pub mod Runs
 pub mod FreshReplies
+pub mod Questions
 pub mod CollectionClaims
 pub mod Effects
 pub mod Decisions
 pub mod ToldCollections
 pub mod Replays
+pub mod LaterClaims
+pub mod TagClaims
 pub mod Fitting
 mod Rows
 mod ChangeRows

@@ -118,6 +118,26 @@ member_find number (d ∷ cs) c e = elim (pick (nat_eq d.number number) zero (su
   | inr p ↦ (let r = member_find number cs c (sym (ap (slice_get (d ∷ cs)) p.1) ∙ e) in (inr r.0, r.1))
 ]
 
+-- a call of the list is found under its number
+pub find_member : {Q : Type 0} (cs : List (CallState Q)) (c : CallState Q) → Single cs → Member c cs → find_call c.number cs ≡ Some c
+find_member [] c s h = absurd h
+find_member (d ∷ cs) c s h = elim (pick (nat_eq d.number c.number) zero (suc (place_of c.number cs))) [
+  | inl p ↦ ap (slice_get (d ∷ cs)) p.1 ∙ ap Some (elim h [ inl e ↦ e | inr m ↦ absurd (s.0 c m (sym (eqb-true d.number c.number p.0))) ])
+  | inr p ↦ elim h [
+    | inl e ↦ absurd (eqb-false d.number c.number p.0 (ap (λ c. c.number) e))
+    | inr m ↦ ap (slice_get (d ∷ cs)) p.1 ∙ find_member cs c s.1 m
+  ]
+]
+
+-- what is put in the place of a call stands in the list
+pub put_member : {Q : Type 0} (number : ℕ) (new c : CallState Q) (xs : List (CallState Q)) → Member c xs → c.number ≡ number → Member new (slice_set xs (place_of number xs) new)
+put_member number new c [] h e = absurd h
+put_member number new c (x ∷ xs) h e = elim (pick (nat_eq x.number number) zero (suc (place_of number xs))) [
+  | inl p ↦ subst (λ i. Member new (slice_set (x ∷ xs) i new)) (sym p.1) (inl refl)
+  | inr p ↦ subst (λ i. Member new (slice_set (x ∷ xs) i new)) (sym p.1)
+      (inr (put_member number new c xs (elim h [ inl q ↦ absurd (eqb-false x.number number p.0 (ap (λ c. c.number) q ∙ e)) | inr m ↦ m ]) e))
+]
+
 -- an old call of another number, or the one that was put there
 pub member_put : {Q : Type 0} (number : ℕ) (new d : CallState Q) (xs : List (CallState Q)) → Single xs → Member d (slice_set xs (place_of number xs) new)
     → (Member d xs × (d.number ≡ number → ⊥)) ⊎ (new ≡ d)

@@ -34,7 +34,7 @@ module _ {Q : Type 0} {T : Telling} (s : QuorumSystem Q) (founders : Q) (at : Mo
   origin_turn m n f y (map_merges u j h e) p c a =
       ⊎_elim (f m n (omega arith) p c) (f u j h p c) (merged_from (at m n).map (at u j).map p c (subst (λ m. active_at m p ≡ Some c) e a))
   origin_turn m n f y (map_moves (map_stays e)) p c a = f m n (omega arith) p c (subst (λ m. active_at m p ≡ Some c) e a)
-  origin_turn m n f y (map_moves (map_loses g i h e)) p c a = f m n (omega arith) p c (lost_from (at m n).map p c (subst (λ m. active_at m p ≡ Some c) e a))
+  origin_turn m n f y (map_moves (map_loses g i h e o)) p c a = f m n (omega arith) p c (lost_from (at m n).map p c (subst (λ m. active_at m p ≡ Some c) e a))
   origin_turn m n f y (map_moves (map_gains b q k g e)) p c a =
       elim (gained_from (at m n).map q p c (subst (λ m. active_at m p ≡ Some c) e a)) [
         | inl o ↦ f m n (omega arith) p c o

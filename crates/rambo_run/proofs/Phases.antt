@@ -17,6 +17,7 @@ use Rattle.rambo_config_map.specs.Maps.{MapState, end_of}
 use Rattle.rambo_config_map.specs.MapLaws.{active_kept}
 use Rattle.rambo_phase.specs.Phases.{PhaseState, only, started, above, fits, counted}
 use Rattle.rambo_phase.specs.PhaseLaws.{counted_old, counted_new, counted_end, counted_reply as counts_reply}
+use Rattle.rambo_calls.specs.declared.stage.Stage.TheVariants.{Query, Propagation}
 use Rattle.rambo_calls.specs.Calls.{CallState, propagates, kept_in}
 use Rattle.rambo_node.specs.Nodes.{NodeState, first_node, heard_from}
 use Rattle.rambo_node.specs.Letters.{gossip_for}
@@ -79,6 +80,7 @@ pub record PhaseAt {Q : Type 0} (T : Telling) (at : Moments Q) (t m n : ℕ) (p 
 pub record CallAt {Q : Type 0} (T : Telling) (at : Moments Q) (m n : ℕ) (c : CallState Q) : Type 0 where
   pub began : ℕ
   pub phase : PhaseAt T at began m n c.phase
+  pub opening : Member (restarted c.phase.number (at began n).map n c) (at began n).calls
   pub since : c.number ≤ (at began n).made
   pub kept : propagates c.stage ≡ true → TagLe (tag_of (kept_in c.stage)) (tag_of (map.get (at began n).registers (key_of c.op)))
 
@@ -150,7 +152,7 @@ module _ {Q : Type 0} {T : Telling} (s : QuorumSystem Q) (founders : Q) (at : Mo
   }
 
   call_lasts : (m n : ℕ) (c : CallState Q) → CallAt T at m n c → CallAt T at (suc m) n c
-  call_lasts m n c f = record { began = f.began; phase = lasts f.began m n c.phase f.phase; since = f.since; kept = f.kept }
+  call_lasts m n c f = record { began = f.began; phase = lasts f.began m n c.phase f.phase; opening = f.opening; since = f.since; kept = f.kept }
 
   -- the places that a phase has once a letter is counted
   counted_held : (t m n : ℕ) (p : PhaseState Q) → PhaseAt T at t m n p → (u j : ℕ) → (at u j).map.floor ≤ above p → (place : ℕ) → p.lo ≤ place → place < above (counted p (at u j).map j)
@@ -186,12 +188,18 @@ module _ {Q : Type 0} {T : Telling} (s : QuorumSystem Q) (founders : Q) (at : Mo
         held = λ place l v. counted_held t m n p f u j floor place l v;
       }
 
+  -- the call of a phase that begins in this step
+  opens_with : (m n number : ℕ) (p : MapState Q) (name : ℕ) (c : CallState Q) → (at (suc m) n).map ≡ p → name ≡ n → Member (restarted number p name c) (at (suc m) n).calls
+      → Member (restarted number (at (suc m) n).map n c) (at (suc m) n).calls
+  opens_with m n number p name c e f i = subst (λ p. Member (restarted number p n c) (at (suc m) n).calls) (sym e) (subst (λ k. Member (restarted number p k c) (at (suc m) n).calls) f i)
+
   -- a call goes on in a phase that begins in this step
-  goes_on : (m n number : ℕ) (p : MapState Q) (name : ℕ) (c : CallState Q) → (at (suc m) n).map ≡ p → name ≡ n → (at (suc m) n).number ≡ number → (at m n).number < number → CallAt T at m n c
+  goes_on : (m n number : ℕ) (p : MapState Q) (name : ℕ) (c : CallState Q) → (at (suc m) n).map ≡ p → name ≡ n → (at (suc m) n).number ≡ number → (at m n).number < number → Member (restarted number p name c) (at (suc m) n).calls → CallAt T at m n c
       → CallAt T at (suc m) n (restarted number p name c)
-  goes_on m n number p name c e f k h o = record {
+  goes_on m n number p name c e f k h i o = record {
     began = suc m;
     phase = begins m n number p name e f k h;
+    opening = opens_with m n number p name c e f i;
     since = omega (arith, o.since, made_up s founders at run o.began (suc m) n (omega (arith, o.phase.before)));
     kept = λ a. TagLe-trans (tag_of (kept_in c.stage)) (tag_of (map.get (at o.began n).registers (key_of c.op))) (tag_of (map.get (at (suc m) n).registers (key_of c.op))) (o.kept a)
         ((up s founders at run o.began (suc m) n (omega (arith, o.phase.before))).tags (key_of c.op));
@@ -200,17 +208,19 @@ module _ {Q : Type 0} {T : Telling} (s : QuorumSystem Q) (founders : Q) (at : Mo
   heard_on : (m n u j number : ℕ) (merged : MapState Q) (name : ℕ) (d : CallState Q) → u ≤ m → 1 ≤ n → T m n u j → CallAt T at m n d
       → (has_gap (heard_from (at u j).heard n) (at u j).map d ≡ true → (at m n).number < number)
       → (at (suc m) n).map ≡ merged → name ≡ n → (at (suc m) n).number ≡ number → HoldsAll (at u j) (at (suc m) n)
+      → Member (heard_call (heard_from (at u j).heard n) j (at u j).map number merged name d) (at (suc m) n).calls
       → CallAt T at (suc m) n (heard_call (heard_from (at u j).heard n) j (at u j).map number merged name d)
-  heard_on m n u j number merged name d h w came f grown e nm k a =
+  heard_on m n u j number merged name d h w came f grown e nm k a i =
       let there = (at u j).map in
       let heard : ℕ = heard_from (at u j).heard n in
       let with_phase : PhaseState Q → CallState Q = λ p. record { number = d.number; op = d.op; stage = d.stage; phase = p } in
       elim (pick (nat_le d.phase.number heard) (if fits d.phase there then counted d.phase there j else started number merged name) d.phase) [
         | inl p ↦ elim (pick (fits d.phase there) (counted d.phase there j) (started number merged name)) [
           | inl q ↦ subst (λ p. CallAt T at (suc m) n (with_phase p)) (sym (p.1 ∙ q.1))
-              (record { began = f.began; phase = counts f.began m n d.phase f.phase u j h w (leb-true d.phase.number heard p.0) q.0 a came; since = f.since; kept = f.kept })
+              (record { began = f.began; phase = counts f.began m n d.phase f.phase u j h w (leb-true d.phase.number heard p.0) q.0 a came; opening = f.opening; since = f.since; kept = f.kept })
           | inr q ↦ subst (λ p. CallAt T at (suc m) n (with_phase p)) (sym (p.1 ∙ q.1))
-              (goes_on m n number merged name d e nm k (grown (elim (pick (nat_le d.phase.number heard) (not (fits d.phase there)) false) [ inl v ↦ v.1 ∙ ap not q.0 | inr v ↦ absurd (true≢false (sym p.0 ∙ v.0)) ])) f)
+              (goes_on m n number merged name d e nm k (grown (elim (pick (nat_le d.phase.number heard) (not (fits d.phase there)) false) [ inl v ↦ v.1 ∙ ap not q.0 | inr v ↦ absurd (true≢false (sym p.0 ∙ v.0)) ]))
+              (subst (λ p. Member (with_phase p) (at (suc m) n).calls) (p.1 ∙ q.1) i) f)
         ]
         | inr p ↦ subst (λ p. CallAt T at (suc m) n (with_phase p)) (sym p.1) (call_lasts m n d f)
       ]
@@ -231,7 +241,8 @@ module _ {Q : Type 0} {T : Telling} (s : QuorumSystem Q) (founders : Q) (at : Mo
       λ v. elim (pick (any_gap g.heard g.map x.calls) (suc x.number) x.number) [ inl p ↦ omega (arith, p.1) | inr p ↦ absurd (true≢false (sym (gap_any g.heard g.map d x.calls r.1 v) ∙ p.0)) ] in
       subst (CallAt T at (suc m) n) r.2
       (heard_on m n u j y.number y.map x.name d h w came (all d r.1) grown (ap (λ z. z.map) e) (names s founders at run m n) (ap (λ z. z.number) e)
-      (subst (HoldsAll (at u j)) (sym e) (hear_right x j n (at u j) (active s founders at run m n) (active s founders at run u j))))
+      (subst (HoldsAll (at u j)) (sym e) (hear_right x j n (at u j) (active s founders at run m n) (active s founders at run u j)))
+      (subst (λ c. Member c (at (suc m) n).calls) (sym r.2) i))
 
   calls_on : (m n : ℕ) → AllAt m n → Turn s T at m n (at m n) (at (suc m) n) → AllAt (suc m) n
   unfolding called query_answered call_closed called_again
@@ -243,6 +254,7 @@ module _ {Q : Type 0} {T : Telling} (s : QuorumSystem Q) (founders : Q) (at : Mo
         | inr r ↦ subst (CallAt T at (suc m) n) r (record {
           began = suc m;
           phase = begins m n ((at m n).number + 1) (at m n).map (at m n).name (ap (λ z. z.map) e) (names s founders at run m n) (ap (λ z. z.number) e) (omega arith);
+          opening = opens_with m n ((at m n).number + 1) (at m n).map (at m n).name (record { number = (at m n).made + 1; op = o; stage = Query; phase = started ((at m n).number + 1) (at m n).map (at m n).name }) (ap (λ z. z.map) e) (names s founders at run m n) (subst (λ c. Member c (at (suc m) n).calls) (sym r) i);
           since = omega (arith, ap (λ z. z.made) e);
           kept = λ f. absurd (true≢false (sym f));
         })
@@ -254,6 +266,8 @@ module _ {Q : Type 0} {T : Telling} (s : QuorumSystem Q) (founders : Q) (at : Mo
         | inr r ↦ subst (CallAt T at (suc m) n) r (record {
           began = suc m;
           phase = begins m n ((at m n).number + 1) (at m n).map (at m n).name (ap (λ z. z.map) e) (names s founders at run m n) (ap (λ z. z.number) e) (omega arith);
+          opening = opens_with m n ((at m n).number + 1) (at m n).map (at m n).name (record { number = d.number; op = d.op; stage = Propagation (taken (at m n) d.op); phase = started ((at m n).number + 1) (at m n).map (at m n).name })
+              (ap (λ z. z.map) e) (names s founders at run m n) (subst (λ c. Member c (at (suc m) n).calls) (sym r) i);
           since = (let o = all d b in omega (arith, o.since, made_up s founders at run o.began (suc m) n (omega (arith, o.phase.before))));
           kept = λ f. subst (λ z. TagLe (tag_of (taken (at m n) d.op)) (tag_of (map.get z.registers (key_of d.op)))) (sym e) (keeps (at m n) d.op);
         })
@@ -263,7 +277,8 @@ module _ {Q : Type 0} {T : Telling} (s : QuorumSystem Q) (founders : Q) (at : Mo
       elim (member_put d.number _ c (at m n).calls (numbered m n).single (subst (λ z. Member c z.calls) e i)) [
         | inl o ↦ call_lasts m n c (all c o.0)
         | inr r ↦ subst (CallAt T at (suc m) n) r
-            (goes_on m n ((at m n).number + 1) (at m n).map (at m n).name d (ap (λ z. z.map) e) (names s founders at run m n) (ap (λ z. z.number) e) (omega arith) (all d b))
+            (goes_on m n ((at m n).number + 1) (at m n).map (at m n).name d (ap (λ z. z.map) e) (names s founders at run m n) (ap (λ z. z.number) e) (omega arith)
+            (subst (λ c. Member c (at (suc m) n).calls) (sym r) i) (all d b))
       ]
   calls_on m n all (alters a) c i = call_lasts m n c (all c (subst (Member c) (altered_rest s (at m n) (at (suc m) n) a).calls i))
 

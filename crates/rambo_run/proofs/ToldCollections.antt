@@ -16,6 +16,7 @@ use Rattle.rambo_run.specs.declared.step.Step.{Step}
 use Rattle.rambo_run.specs.declared.step.Step.TheVariants as step
 use Rattle.rambo_run.specs.Worlds.{WorldState, node_at}
 use Rattle.rambo_run.specs.Steps.{causes_at, causes, refusal, effect_in, turn_at, turn}
+use Rattle.rambo_run.specs.Claims.{IsDone}
 use Rattle.rambo_run.specs.Configurations.{IsCollected, ToldCollectionsAreWhole}
 use Rattle.rambo_run.proofs.Lists.{some_inj, none-some}
 use Rattle.rambo_run.proofs.Deeds.{collection_silent}
@@ -57,28 +58,29 @@ module _ {Q : Type 0} (s : QuorumSystem Q) (founders : Q) (ss : List (Step Q)) (
   world = moment s founders ss m
 
   -- a collection that ended had its second quorum, or its place was removed already
-  ended : (x : NodeState Q) → node_at world k ≡ Some x → Ends s x p → IsCollected s founders ss m p
-  ended x e g =
+  ended : IsDone s founders ss m (step.AdvanceCollect k) → (x : NodeState Q) → node_at world k ≡ Some x → Ends s x p → IsCollected s founders ss m p
+  unfolding worlds
+  ended does x e g =
       let node = at s founders (moment s founders ss) (worlds s founders ss) in
       let runs = run_of s founders (moment s founders ss) (worlds s founders ss) in
       let is = node_is s founders (moment s founders ss) (worlds s founders ss) m k x e in
       elim (collection_over s x.map g.0 g.3) [
-        | inl l ↦ removed_by s founders ss m k x e p (subst (λ p. p < x.map.floor) g.2 l)
+        | inl l ↦ (removed_by s founders ss m k x e p (subst (λ p. p < x.map.floor) g.2 l)).0
         | inr q ↦ (let i = ap (λ x. x.collection) (sym is) ∙ g.1 in
             subst (IsCollected s founders ss m) g.2
-            (collected_by s founders ss g.0.place m (ends s founders node runs m k g.0 i (collection_at s founders node runs m k g.0 i) (subst (λ x. HasSecondQuorum s x.map g.0) is q))))
+            (collected_by s founders ss g.0.place m (ends s founders node runs m k g.0 i (collection_at s founders node runs m k g.0 i) (subst (λ x. HasSecondQuorum s x.map g.0) is q)) does))
       ]
 
   abbrev Tells : Option (NodeState Q) → Type 0
   Tells o = (turn_at world k o change.AdvanceCollect).effect ≡ effect.Collected n p
 
-  told_at : (o : Option (NodeState Q)) → node_at world k ≡ o → AllClear (causes_at s o change.AdvanceCollect) → Tells o → IsCollected s founders ss m p
+  told_at : IsDone s founders ss m (step.AdvanceCollect k) → (o : Option (NodeState Q)) → node_at world k ≡ o → AllClear (causes_at s o change.AdvanceCollect) → Tells o → IsCollected s founders ss m p
   unfolding made_by
-  told_at None i d e = absurd (none-some p (ap place_in e))
-  told_at (Some x) i d e =
+  told_at does None i d e = absurd (none-some p (ap place_in e))
+  told_at does (Some x) i d e =
       let made = collection_advanced x x.collection in
       let silent : effect_in world.letters made.deed.effect made.letter ≡ made.deed.effect = ap (effect_in world.letters made.deed.effect) (collection_silent x x.collection).letter in
-      ended x i (advance_ends s x p x.collection refl d.1.1.0 (ap place_in (sym silent ∙ e)))
+      ended does x i (advance_ends s x p x.collection refl d.1.1.0 (ap place_in (sym silent ∙ e)))
 
   refused_not : refusal s world (step.AdvanceCollect k) ≡ None → AllClear (causes_at s (node_at world k) change.AdvanceCollect)
   unfolding refusal causes
@@ -88,4 +90,4 @@ module _ {Q : Type 0} (s : QuorumSystem Q) (founders : Q) (ss : List (Step Q)) (
 pub told_collections_are_whole : {Q : Type 0} (s : QuorumSystem Q) → ToldCollectionsAreWhole s
 unfolding turn
 told_collections_are_whole s founders ss m n k p d e =
-    told_at s founders ss m k n p (node_at (moment s founders ss m) k) refl (refused_not s founders ss m k n p d.1) e
+    told_at s founders ss m k n p d (node_at (moment s founders ss m) k) refl (refused_not s founders ss m k n p d.1) e

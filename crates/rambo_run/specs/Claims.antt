@@ -5,14 +5,20 @@ use Rattle.std.specs.FinMap as map
 use Rattle.std.specs.Prelude.{true, false}
 use Rattle.rambo_names.specs.Quorums.{QuorumSystem}
 use Rattle.rambo_tag.specs.Tags.{tag_lt, tag_of}
+use Rattle.rambo_tag.specs.Copies.{joined}
+use Rattle.rambo_atomic.specs.Calls.{key_of, is_get}
+use Rattle.rambo_atomic.specs.Histories.{answered_before}
 use Rattle.rambo_atomic.specs.Proper.{IsProper, Stands}
 use Rattle.rambo_config_map.specs.Maps.{active_at, end_of}
 use Rattle.rambo_joiner.specs.Statuses.{is_active}
+use Rattle.rambo_phase.specs.Phases.{above}
 use Rattle.rambo_calls.specs.Calls.{CallState}
+use Rattle.rambo_calls.specs.Hearing.{restarted}
 use Rattle.rambo_node.specs.Letters.{letter_for}
 use Rattle.rambo_node.specs.Nodes.{NodeState, heard_from}
 use Rattle.rambo_run.specs.declared.step.Step.{Step}
 use Rattle.rambo_run.specs.declared.step.Step.TheVariants as step
+use Rattle.rambo_sequence.specs.declared.mark.Mark.{Mark}
 use Rattle.rambo_sequence.specs.Sequences.{sequence_of}
 use Rattle.rambo_run.specs.Worlds.{WorldState, node_at, letter_at}
 use Rattle.rambo_run.specs.Steps.{refusal}
@@ -32,8 +38,10 @@ Agrees {Q} s founders steps =
     (early late rest : List (Step Q)) (n k p : ℕ) (c d : Q) → steps ≡ early ++ late ++ rest
     → Holds s founders early n p c → Holds s founders (early ++ late) k p d → c ≡ d
 
--- y holds at least what x holds: of each key a tag that is no less, and a map that is no less at either end
+-- y holds at least what x holds: to merge the copies of x into those of y changes none of them, so of each key the tag is
+-- no less, and the map is no less at either end
 pub record AtLeast {Q : Type 0} (x y : NodeState Q) : Type 0 where
+  pub copies : joined y.registers x.registers ≡ y.registers
   pub tags : (key : List ℕ) → tag_lt (tag_of (map.get y.registers key)) (tag_of (map.get x.registers key)) ≡ false
   pub floor : x.map.floor ≤ y.map.floor
   pub top : end_of x.map ≤ end_of y.map
@@ -71,9 +79,13 @@ pub record IsFresh {Q : Type 0} (s : QuorumSystem Q) (founders : Q) (steps : Lis
   pub holds : AtLeast opener replier
   pub kept : AtLeast replier x
 
--- a reply to a phase of a call
-abbrev pub IsFreshReply : {Q : Type 0} → QuorumSystem Q → Q → List (Step Q) → ℕ → NodeState Q → CallState Q → ℕ → Type 0
-IsFreshReply s founders steps n x c j = IsFresh s founders steps n x c.phase.number j
+-- a reply to a phase of a call, which began there: the call had it anew, with the map of its node. So its lowest place is
+-- the floor of that map; and the map of who replied told of no place above the phase
+pub record IsFreshReply {Q : Type 0} (s : QuorumSystem Q) (founders : Q) (steps : List (Step Q)) (n : ℕ) (x : NodeState Q) (c : CallState Q) (j : ℕ) : Type 0 where
+  pub fresh : IsFresh s founders steps n x c.phase.number j
+  pub asks : Stands fresh.opener.calls (restarted c.phase.number fresh.opener.map n c)
+  pub lo : c.phase.lo ≡ fresh.opener.map.floor
+  pub within : end_of fresh.replier.map ≤ above c.phase
 
 -- each counted reply was told after its sender had heard a letter that was sent since the phase began, and came in one
 -- that was sent then
@@ -89,3 +101,17 @@ EveryRunIsAtomic {Q} s = (founders : Q) (steps : List (Step Q)) → IsAtomic (ru
 -- and nodes hold the same configurations
 abbrev pub EveryRunAgrees : {Q : Type 0} → QuorumSystem Q → Type 0
 EveryRunAgrees {Q} s = (founders : Q) (steps : List (Step Q)) → Agrees s founders steps
+
+-- what two nodes hold of a key, at one moment of the run or at two, is the same if its tag is
+abbrev pub OneTagOneCopy : {Q : Type 0} → QuorumSystem Q → Type 0
+OneTagOneCopy {Q} s =
+    (founders : Q) (steps : List (Step Q)) (m n u k : ℕ) (x y : NodeState Q) → node_at (run s founders (take m steps)) n ≡ Some x → node_at (run s founders (take u steps)) k ≡ Some y
+    → (key : List ℕ) → tag_of (map.get x.registers key) ≡ tag_of (map.get y.registers key) → map.get x.registers key ≡ map.get y.registers key
+
+-- of two calls of a key, of which the first was answered before the second was made, the second has no lesser tag, and a
+-- greater one where it is a set
+abbrev pub TagsFollowAnswers : {Q : Type 0} → QuorumSystem Q → Type 0
+TagsFollowAnswers {Q} s =
+    (founders : Q) (steps : List (Step Q)) (a b : Mark) → Stands (run s founders steps).marks a → Stands (run s founders steps).marks b
+    → key_of a.op ≡ key_of b.op → answered_before (run s founders steps).history a.id b.id ≡ true
+    → (tag_lt (tag_of b.kept) (tag_of a.kept) ≡ false) × (is_get b.op ≡ false → tag_lt (tag_of a.kept) (tag_of b.kept) ≡ true)

@@ -1,5 +1,11 @@
 //! What holds of every run.
-ghost use Rattle.rambo_run.specs.Claims.{EveryRunIsAtomic, EveryRunAgrees, RepliesAreFresh};
+ghost use Rattle.rambo_run.specs.Claims.{
+  EveryRunIsAtomic,
+  EveryRunAgrees,
+  RepliesAreFresh,
+  OneTagOneCopy,
+  TagsFollowAnswers,
+};
 ghost use Rattle.rambo_run.specs.Configurations.{
   CollectionRepliesAreFresh,
   RemovedPlacesAreCollected,
@@ -8,6 +14,8 @@ ghost use Rattle.rambo_run.specs.Configurations.{
   ToldCollectionsAreWhole,
   DecisionsStand,
   LaterPhasesRead,
+  LaterSetsRise,
+  LaterPhasesMeet,
 };
 ghost use Rattle.rambo_run.specs.Journals.{NodesAreReplayed};
 
@@ -27,7 +35,8 @@ pub fn nodes_agree<Q: Quorums>()
 
 /// Each reply that a phase counts was told after its sender had heard a letter that was sent since the phase began,
 /// and then held all that the phase's node held when it began. Where another node told it, it came in the letter that
-/// was sent then and was delivered since; and the phase's node holds all that its sender then held.
+/// was sent then and was delivered since; and the phase's node holds all that its sender then held. The phase began with
+/// the map that its node had there, whose floor is its lowest place, and its sender told of no place above it.
 pub fn replies_are_fresh<Q: Quorums>()
     ensures fresh { RepliesAreFresh Q.system }
 {}
@@ -40,13 +49,15 @@ pub fn nodes_are_replayed<Q: Quorums>()
 
 /// Each reply that an open collection counts was told after its sender had heard a letter that was sent since the
 /// present question began, and then held all that the collecting node held when it began to ask. Where another node told
-/// it, it came in the letter that was sent then and was delivered since.
+/// it, it came in the letter that was sent then and was delivered since. The question was opened, or turned, there.
 pub fn collection_replies_are_fresh<Q: Quorums>()
     ensures fresh { CollectionRepliesAreFresh Q.system }
 {}
 
 /// A place that a node's map has removed was collected before: a quorum of the place's configuration told the collecting
-/// node of the next place, and a quorum of the next place's configuration then came to hold all that they had told.
+/// node of the next place, and a quorum of the next place's configuration then came to hold all that they had told. Steps
+/// of that node opened the collection, turned it to its second quorum and ended it, the last one before the place was seen
+/// as removed.
 pub fn removed_places_are_collected<Q: Quorums>()
     ensures collected { RemovedPlacesAreCollected Q.system }
 {}
@@ -61,6 +72,28 @@ pub fn collections_never_fall<Q: Quorums>()
 /// tag that was propagated, once it is met.
 pub fn later_phases_read<Q: Quorums>()
     ensures read { LaterPhasesRead Q.system }
+{}
+
+/// A set whose query begins after a call's propagation was met, on the same key, takes a greater tag than the one that was
+/// propagated, by the step that advances its query.
+pub fn later_sets_rise<Q: Quorums>()
+    ensures raised { LaterSetsRise Q.system }
+{}
+
+/// A phase that begins after a call's propagation was met, and is met, has a place in common with it or lies above it.
+pub fn later_phases_meet<Q: Quorums>()
+    ensures met { LaterPhasesMeet Q.system }
+{}
+
+/// What two nodes hold of a key, at one moment of a run or at two, is the same if its tag is.
+pub fn one_tag_one_copy<Q: Quorums>()
+    ensures copy { OneTagOneCopy Q.system }
+{}
+
+/// Of two calls of a key, of which the first was answered before the second was made, the second has no lesser tag, and a
+/// greater one where it is a set.
+pub fn tags_follow_answers<Q: Quorums>()
+    ensures follow { TagsFollowAnswers Q.system }
 {}
 
 /// A place that a node's map has removed was told to be collected, by the advance of a collection in an earlier step.

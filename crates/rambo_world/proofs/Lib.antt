@@ -19,3 +19,4 @@ mod Cutting
 mod Meeting
 mod Letterless
 mod Passing
+mod Fitting

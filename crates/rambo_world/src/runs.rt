@@ -1,6 +1,5 @@
 //! Whole runs.
 ghost use Rattle.std.specs.Prelude.{◌≡◌, List, ℕ, None, IfOk, IfErr, OnOk};
-ghost use Rattle.rambo_names.specs.Quorums.{majorities};
 ghost use Rattle.rambo_names.specs.Refusals.{least, IsRefusal};
 ghost use Rattle.rambo_atomic.specs.Proper.{IsProper};
 ghost use Rattle.rambo_sequence.specs.Sequences.{sequence_in};
@@ -10,13 +9,13 @@ ghost use Rattle.rambo_world.specs.Worlds.{EventsFit, founding_causes};
 
 use crate::running::Running;
 use crate::state::State;
-use rambo_names::{Majority, Quorums, Refusal};
+use rambo_names::{Quorums, Refusal};
 use rambo_run::{Outcome, Step};
 use rambo_tag::{Registers, Replica};
 use std::alloc::Global;
 use std::hash::{BuildHasherDefault, FoldHasher};
 
-/// What steps make of the world of these founders, with majority quorums. A step that is refused is noted with its
+/// What steps make of the world of these founders. A step that is refused is noted with its
 /// refusal, and the run goes on.
 ///
 /// The answered operations of each key, with some sets that weren't answered, stand in one sequence that the outcome
@@ -25,16 +24,16 @@ use std::hash::{BuildHasherDefault, FoldHasher};
 /// and Shvartsman, "RAMBO", DISC 2002). No two nodes hold different configurations at one place.
 ///
 /// Refused are 18 where there is no founder, 22 where memory runs out.
-pub fn run(
+pub fn run<Q: Quorums>(
     alloc: Global,
-    founders: Majority,
-    steps: &[Step<Majority>],
-) -> Result<Outcome<Majority>, Refusal>
-    ensures founded { OnOk result (least (founding_causes majorities founders) ≡ None) }
-    ensures outcome { IfOk result (λ o. o ≡ outcome_of majorities founders steps.now) }
+    founders: Q,
+    steps: &[Step<Q>],
+) -> Result<Outcome<Q>, Refusal>
+    ensures founded { OnOk result (least (founding_causes Q.system founders) ≡ None) }
+    ensures outcome { IfOk result (λ o. o ≡ outcome_of Q.system founders steps.now) }
     ensures proper { IfOk result (λ o. (key : List ℕ) → IsProper o.history key (sequence_in o.sequences key)) }
-    ensures agreed { Agrees majorities founders steps.now }
-    ensures refused { IfErr result (IsRefusal (least (founding_causes majorities founders))) }
+    ensures agreed { Agrees Q.system founders steps.now }
+    ensures refused { IfErr result (IsRefusal (least (founding_causes Q.system founders))) }
 {
     let replica = Registers::new(alloc, BuildHasherDefault::<FoldHasher>::new());
     Running::new(alloc, founders, &replica)?.finish(alloc, steps)

@@ -1,4 +1,4 @@
-use Rattle.rambo_run.proofs.CollectionClaims.{later_phases_read}
+use Rattle.rambo_run.proofs.LaterClaims.{later_phases_read}
 use Rattle.rambo_run.proofs.laws.later_phases_read.Goals as goal
 
 pub returns : goal.returns
