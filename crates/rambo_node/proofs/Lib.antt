@@ -6,3 +6,4 @@ pub mod Fitting
 pub mod Sizes
 mod Own
 pub mod Telling
+pub mod Short

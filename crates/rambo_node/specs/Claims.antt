@@ -8,6 +8,7 @@ use Rattle.rambo_tag.specs.Copies.{Copies, joined}
 use Rattle.rambo_tag.specs.Tags.{greater}
 use Rattle.rambo_gossip.specs.declared.letter.Letter.{Letter}
 use Rattle.rambo_gossip.specs.Letters.{letter_with}
+use Rattle.rambo_gossip.specs.Short.{IsShort}
 use Rattle.rambo_node.specs.declared.change.Change.{Change}
 use Rattle.rambo_node.specs.Changes.{causes}
 use Rattle.rambo_node.specs.Hearing.{heard_letter}
@@ -46,3 +47,9 @@ ShortLettersAreHeardAlike Q = (x : NodeState Q) (l : Letter Q) (a b : Copies) �
 
 abbrev pub LettersAreHeardByKey : Type 0 → Type 0
 LettersAreHeardByKey Q = (x : NodeState Q) (l : Letter Q) (a b : Copies) → MergeAlike x.registers a b → HeardAlike x l a b
+
+-- and what is short for a whole letter, where the node holds what it leaves out, is heard as that one
+abbrev pub ShortIsHeardAsWhole : Type 0 → Type 0
+ShortIsHeardAsWhole Q =
+    (x : NodeState Q) (l whole : Letter Q) → IsShort l whole x.registers
+    → (heard_letter x l ≡ heard_letter x whole) × (hear_causes x l.kind ≡ hear_causes x whole.kind)

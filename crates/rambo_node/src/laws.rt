@@ -1,5 +1,5 @@
 //! What holds of every change.
-ghost use Rattle.rambo_node.specs.Claims.{CausesRise, FirstIsLeast, ShortLettersAreHeardAlike, LettersAreHeardByKey};
+ghost use Rattle.rambo_node.specs.Claims.{CausesRise, FirstIsLeast, ShortLettersAreHeardAlike, LettersAreHeardByKey, ShortIsHeardAsWhole};
 
 use rambo_names::Quorums;
 
@@ -11,8 +11,10 @@ pub fn causes_rise<Q: Quorums>()
 {}
 
 /// A letter with other copies is heard alike where they come to the same in the registers of its addressee:
-/// as a whole, or key by key. It may leave out what the addressee already holds.
+/// as a whole, or key by key. It may leave out what the addressee already holds: what is short for a whole letter
+/// is heard as that one.
 pub fn short_letters_are_heard_alike<Q: Quorums>()
     ensures joined { ShortLettersAreHeardAlike Q }
     ensures keys { LettersAreHeardByKey Q }
+    ensures short { ShortIsHeardAsWhole Q }
 {}

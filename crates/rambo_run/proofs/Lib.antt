@@ -41,5 +41,9 @@ pub mod Replays
 pub mod LaterClaims
 pub mod TagClaims
 pub mod Fitting
+pub mod GoingOn
+pub mod Legal
+pub mod Actors
+pub mod Growing
 mod Rows
 mod ChangeRows

@@ -6,3 +6,5 @@ pub mod Claims
 pub mod Configurations
 pub mod Ongoing
 pub mod Told
+pub mod Legal
+pub mod Actors

@@ -18,6 +18,7 @@ ghost use Rattle.rambo_run.specs.Configurations.{
   LaterPhasesMeet,
 };
 ghost use Rattle.rambo_run.specs.Journals.{NodesAreReplayed};
+ghost use Rattle.rambo_run.specs.Legal.{RunsGoOn, OthersStay, BeginningsHold, CopiesAreKept};
 
 use rambo_names::Quorums;
 
@@ -111,4 +112,14 @@ pub fn told_collections_are_whole<Q: Quorums>()
 /// node holds another one there (`nodes_agree`).
 pub fn decisions_stand<Q: Quorums>()
     ensures stand { DecisionsStand Q.system }
+{}
+
+/// A run goes on by one step more that isn't refused: the world is then what that step makes of it, and a list of which
+/// no step is refused stays such a list. A step leaves each node as it is that it doesn't mean. Of a longer run, letters,
+/// calls and answers go on from those of its beginning, and each node holds at least the copies that it held there.
+pub fn runs_go_on<Q: Quorums>()
+    ensures more { RunsGoOn Q.system }
+    ensures others { OthersStay Q }
+    ensures beginnings { BeginningsHold Q.system }
+    ensures kept { CopiesAreKept Q.system }
 {}

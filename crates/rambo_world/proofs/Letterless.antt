@@ -26,7 +26,8 @@ use Rattle.rambo_run.specs.Runs.{after, run, run_from, unless_refused}
 use Rattle.rambo_world.specs.Worlds.{EventFits, sends}
 use Rattle.rambo_world.specs.Direct.{without_letters, passed, pass_refusal, first_of, IsReachedBarLetters}
 use Rattle.rambo_world.proofs.Changing.{quiet_made}
-use Rattle.rambo_world.proofs.Longer.{after-refused, run_none, events_fit_run}
+use Rattle.rambo_run.proofs.GoingOn.{after-refused, run_none}
+use Rattle.rambo_run.proofs.Legal.{events_fit_run}
 use Rattle.rambo_world.proofs.Reached.{run-after}
 use Rattle.rambo_world.proofs.Turns.{step_turn, step_refusal, step_fits, deliver_refusal}
 

@@ -1,14 +1,10 @@
 -- Runs of one step more, and what they give
-use Rattle.std.proofs.Common.{◌≡◌, ◌+◌, ◌≤◌, ◌<◌, take, get_or, slice_get, ℕ, zero, suc, inl, inr, arith, List, [], ◌∷◌, ◌++◌, length, None, Some, Result, Ok, Err, IfOk, refl, sym, ap, ◌∙◌, subst}
-use Rattle.std.proofs.lemmas.Bool.{false≢true}
-use Rattle.std.proofs.lemmas.List.{same_from_push, length-append, take_more, take_all, take-append-le}
-use Rattle.std.proofs.lemmas.Option.{slice_get_within}
-use Rattle.std.specs.Option.{is_some}
+use Rattle.std.proofs.Common.{◌≡◌, ◌+◌, ◌<◌, take, get_or, ℕ, arith, List, [], ◌∷◌, ◌++◌, length, None, Some, Result, Ok, Err, IfOk, refl, sym, ap, ◌∙◌, subst}
+use Rattle.std.proofs.lemmas.List.{take_more}
 use Rattle.rambo_names.specs.declared.refusal.Refusal.{Refusal}
 use Rattle.rambo_names.specs.Quorums.{QuorumSystem, IsSound}
 use Rattle.rambo_atomic.specs.Proper.{IsProper}
 use Rattle.rambo_atomic.specs.declared.event.Event.{Event}
-use Rattle.rambo_atomic.specs.Faults.{fault_of}
 use Rattle.rambo_sequence.specs.Sequences.{sequence_in, sequences_of}
 use Rattle.rambo_sequence.proofs.Outcomes.{sequence_in-sequences_of}
 use Rattle.rambo_node.specs.declared.effect.Effect.{Effect}
@@ -16,40 +12,15 @@ use Rattle.rambo_run.specs.declared.step.Step.{Step}
 use Rattle.rambo_run.specs.Worlds.{WorldState, first_world}
 use Rattle.rambo_run.specs.Steps.{Turn, refusal, turn}
 use Rattle.rambo_sequence.specs.Sequences.{SequenceOf}
-use Rattle.rambo_run.specs.Runs.{MapOf, maps_of, after, unless_refused, run_from, run, result_of, results_from, outcome_at, outcome_of, OutcomeState}
+use Rattle.rambo_run.specs.Runs.{MapOf, maps_of, after, run_from, run, result_of, results_from, outcome_at, outcome_of, OutcomeState}
 use Rattle.rambo_run.proofs.Runs.{run_from-more}
-use Rattle.rambo_run.proofs.Fitting.{events_fit}
+use Rattle.rambo_run.proofs.GoingOn.{run_is, run-more}
 use Rattle.rambo_run.proofs.EveryRun.{is_atomic}
 use Rattle.rambo_run.specs.Ongoing.{RunningOf}
-use Rattle.rambo_world.specs.Worlds.{EventsFit, AreAccepted}
-use Rattle.rambo_letters.proofs.Lists.{some_is}
 
 pub results_from-none : {Q : Type 0} (s : QuorumSystem Q) (w : WorldState Q) → results_from s w [] ≡ []
 unfolding results_from
 results_from-none s w = refl
-
-pub run_is : {Q : Type 0} (s : QuorumSystem Q) (founders : Q) (sts : List (Step Q)) → run s founders sts ≡ run_from s (first_world s founders) sts
-unfolding run
-run_is s founders sts = refl
-
-pub run_none : {Q : Type 0} (s : QuorumSystem Q) (founders : Q) → run s founders [] ≡ first_world s founders
-unfolding run run_from
-run_none s founders = refl
-
--- a step that isn't refused
-pub after-taken : {Q : Type 0} (s : QuorumSystem Q) (w : WorldState Q) (st : Step Q) → refusal s w st ≡ None → after s w st ≡ (turn w st).world
-unfolding after
-after-taken s w st e = λ i. unless_refused (e i) w (turn w st).world
-
--- and one that is
-pub after-refused : {Q : Type 0} (s : QuorumSystem Q) (w : WorldState Q) (st : Step Q) (r : Refusal) → refusal s w st ≡ Some r → after s w st ≡ w
-unfolding after
-after-refused s w st r e = λ i. unless_refused (e i) w (turn w st).world
-
-pub run-more : {Q : Type 0} (s : QuorumSystem Q) (founders : Q) (sts : List (Step Q)) (st : Step Q) → refusal s (run s founders sts) st ≡ None → run s founders (sts ++ st ∷ []) ≡ (turn (run s founders sts) st).world
-run-more s founders sts st e =
-    run_is s founders (sts ++ st ∷ []) ∙ run_from-more s (first_world s founders) sts st
-    ∙ ap (λ w. after s w st) (sym (run_is s founders sts)) ∙ after-taken s (run s founders sts) st e
 
 -- a step of a world that steps made
 pub kept_run : {Q : Type 0} (s : QuorumSystem Q) (founders : Q) (old : List (Step Q)) (st : Step Q) (w new : WorldState Q) (e : Effect Q) (steps : List (Step Q))
@@ -59,41 +30,6 @@ kept_run s founders old st w new e steps is accepted done more =
     ∙ ap (λ w. (turn w st).world) is
     ∙ sym (run-more s founders old st (subst (λ w. refusal s w st ≡ None) is accepted))
     ∙ ap (run s founders) (sym more)
-
--- each item of a list, and of one more
-push_places : {X : Type 0} (P : ℕ → X → Type 0) (xs : List X) (x : X) → ((place : ℕ) (y : X) → slice_get xs place ≡ Some y → P place y) → P (length xs) x
-    → (place : ℕ) (y : X) → slice_get (xs ++ x ∷ []) place ≡ Some y → P place y
-push_places P [] x all last zero y e = subst (P zero) (some_is x y e) last
-push_places P [] x all last (suc place) y e = absurd (false≢true (ap is_some e))
-push_places P (z ∷ xs) x all last zero y e = all zero y e
-push_places P (z ∷ xs) x all last (suc place) y e = push_places (λ p. P (suc p)) xs x (λ p w f. all (suc p) w f) last place y e
-
-pub accepted_none : {Q : Type 0} (s : QuorumSystem Q) (founders : Q) → AreAccepted s founders []
-accepted_none s founders place st e = absurd (false≢true (ap is_some e))
-
--- the accepted steps, and one more
-pub accepted_more : {Q : Type 0} (s : QuorumSystem Q) (founders : Q) (old : List (Step Q)) (st : Step Q) (w : WorldState Q) (steps : List (Step Q))
-    → w ≡ run s founders old → AreAccepted s founders old → refusal s w st ≡ None → steps ≡ old ++ st ∷ [] → AreAccepted s founders steps
-accepted_more s founders old st w steps is all accepted more =
-    let still : (n : ℕ) → n ≤ length old → take n (old ++ st ∷ []) ≡ take n old = λ n within. take-append-le n old (st ∷ []) within in
-    let whole : run s founders (take (length old) (old ++ st ∷ [])) ≡ w = ap (run s founders) (still (length old) (omega arith) ∙ take_all (length old) old (omega arith)) ∙ sym is in
-    subst (AreAccepted s founders) (sym more)
-    (push_places (λ place y. refusal s (run s founders (take place (old ++ st ∷ []))) y ≡ None) old st
-    (λ place y found. let below = slice_get_within old place y found in ap (λ l. refusal s (run s founders l) y) (still place (omega (arith, below))) ∙ all place y found)
-    (ap (λ w. refusal s w st) whole ∙ accepted))
-
--- a list is no longer list
-no_more : {X A : Type 0} (h : List A) (e : A) → h ≡ h ++ e ∷ [] → X
-no_more h e is = absurd (let l : length h ≡ length h + 1 = ap length is ∙ length-append h (e ∷ []) in omega (arith, l))
-
--- what a run puts at the end of the history fits there
-pub events_fit_run : {Q : Type 0} (s : QuorumSystem Q) (founders : Q) (ss : List (Step Q)) → EventsFit s (run s founders ss)
-events_fit_run {Q} s founders ss st e accepted grown =
-    let w = run s founders ss in
-    elim (events_fit s founders ss st) [
-      | inl same ↦ no_more w.history e (sym same ∙ grown)
-      | inr f ↦ subst (λ e. fault_of w.history e ≡ None) (same_from_push w.history w.history f.event e (sym f.history ∙ grown)).1 f.fault
-    ]
 
 -- the outcome of a run
 pub outcome_is : {Q : Type 0} (s : QuorumSystem Q) (founders : Q) (ss : List (Step Q)) (first w : WorldState Q) (effects : List (Result (Effect Q) Refusal))

@@ -31,7 +31,7 @@ use Rattle.rambo_world.specs.Deliveries.{world_of, IsDelivered}
 use Rattle.rambo_world.specs.Direct.{without_letters, passed, first_of, brought_from}
 use Rattle.rambo_world.proofs.Deliveries.{sent_causes, delivered_moved, moved_state, kept_raised, deliver_world}
 use Rattle.rambo_world.proofs.Letterless.{run_two}
-use Rattle.rambo_world.proofs.Longer.{after-taken}
+use Rattle.rambo_run.proofs.GoingOn.{after-taken}
 use Rattle.rambo_world.proofs.Sendings.{name_of, outline_sent, kept_sent, send_world}
 use Rattle.rambo_world.proofs.Stepping.{kept_stays, letters_stay}
 use Rattle.rambo_world.proofs.Turns.{there, kept_there, deliver_refusal}

@@ -10,9 +10,10 @@ use Rattle.rambo_run.specs.Worlds.{WorldState, first_world}
 use Rattle.rambo_run.specs.Runs.{OutcomeState, after, outcome_at, results_from, run, run_from}
 use Rattle.rambo_run.proofs.EveryRun.{agrees, is_atomic}
 use Rattle.rambo_run.specs.Ongoing.{RunningOf, IsReached, AgreesSoFar}
-use Rattle.rambo_world.specs.Worlds.{EventsFit}
+use Rattle.rambo_run.specs.Legal.{EventsFit}
 use Rattle.rambo_run.proofs.Runs.{run_from-more}
-use Rattle.rambo_world.proofs.Longer.{run_is, run_none, events_fit_run}
+use Rattle.rambo_run.proofs.GoingOn.{run_is, run_none}
+use Rattle.rambo_run.proofs.Legal.{events_fit_run}
 
 -- the run of one step more
 pub run-after : {Q : Type 0} (s : QuorumSystem Q) (founders : Q) (sts : List (Step Q)) (st : Step Q) → run s founders (sts ++ st ∷ []) ≡ after s (run s founders sts) st

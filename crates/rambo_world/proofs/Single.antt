@@ -20,7 +20,7 @@ use Rattle.rambo_run.specs.Steps.{Turn, causes_at, refusal, turn, turn_at, turn_
 use Rattle.rambo_run.specs.Worlds.{WorldState, node_at}
 use Rattle.rambo_run.specs.Told.{went_on}
 use Rattle.rambo_run.specs.Ongoing.{RunningOf}
-use Rattle.rambo_world.proofs.Longer.{after-taken, after-refused}
+use Rattle.rambo_run.proofs.GoingOn.{after-taken, after-refused}
 use Rattle.rambo_world.proofs.Turns.{there, step_refusal, step_turn}
 
 module _ {Q : Type 0} (s : QuorumSystem Q) (w : WorldState Q) (st : Step Q) where

@@ -14,7 +14,8 @@ use Rattle.rambo_run.specs.declared.step.Step.TheVariants as step
 use Rattle.rambo_run.specs.Worlds.{WorldState, node_at, letter_at}
 use Rattle.rambo_run.specs.Steps.{meant, causes, causes_at, causes_of, delivery, refusal, turn, turn_at, turn_of, with_event}
 use Rattle.rambo_world.specs.Kept.{KeptNode, state_of, kept_at, state_at}
-use Rattle.rambo_world.specs.Worlds.{EventsFit, EventFits}
+use Rattle.rambo_run.specs.Legal.{EventsFit}
+use Rattle.rambo_world.specs.Worlds.{EventFits}
 use Rattle.rambo_letters.proofs.Lists.{some_is}
 use Rattle.rambo_world.proofs.Growth.{state_at-kept}
 

@@ -1,5 +1,5 @@
 -- A world, by its founders and its steps
-use Rattle.std.specs.Prelude.{◌≡◌, ℕ, Bool, true, false, List, [], ◌∷◌, ◌++◌, take, None, Some, nat_eq, slice_get}
+use Rattle.std.specs.Prelude.{◌≡◌, ℕ, Bool, true, false, List, [], ◌∷◌, None, Some, nat_eq}
 use Rattle.rambo_names.specs.declared.refusal.Refusal.TheVariants.{EmptyMembers}
 use Rattle.rambo_names.specs.Names.{count_of}
 use Rattle.rambo_names.specs.Quorums.{QuorumSystem}
@@ -12,7 +12,6 @@ use Rattle.rambo_node.specs.Changes.{made_by}
 use Rattle.rambo_node.specs.Nodes.{NodeState}
 use Rattle.rambo_run.specs.declared.step.Step.{Step}
 use Rattle.rambo_run.specs.Worlds.{WorldState, node_at}
-use Rattle.rambo_run.specs.Steps.{refusal, turn}
 use Rattle.rambo_run.specs.Runs.{run}
 
 -- founders, and the accepted steps
@@ -23,14 +22,6 @@ pub record WorldOf (Q : Type 0) : Type 0 where
 -- the state that they make
 abbrev pub state : {Q : Type 0} → QuorumSystem Q → WorldOf Q → WorldState Q
 state s w = run s w.founders w.steps
-
--- none of these steps is refused in the world that the steps before it make
-abbrev pub AreAccepted : {Q : Type 0} → QuorumSystem Q → Q → List (Step Q) → Type 0
-AreAccepted {Q} s founders steps = (place : ℕ) (st : Step Q) → slice_get steps place ≡ Some st → refusal s (run s founders (take place steps)) st ≡ None
-
--- what a step that isn't refused puts at the end of the history can stand there
-abbrev pub EventsFit : {Q : Type 0} → QuorumSystem Q → WorldState Q → Type 0
-EventsFit {Q} s w = (st : Step Q) (e : Event) → refusal s w st ≡ None → (turn w st).world.history ≡ w.history ++ e ∷ [] → fault_of w.history e ≡ None
 
 -- the event of a change of a node, if it has one, can stand at the history's end
 abbrev pub EventFits : {Q : Type 0} → WorldState Q → ℕ → Change Q → Type 0

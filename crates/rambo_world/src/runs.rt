@@ -5,7 +5,8 @@ ghost use Rattle.rambo_atomic.specs.Proper.{IsProper};
 ghost use Rattle.rambo_sequence.specs.Sequences.{sequence_in};
 ghost use Rattle.rambo_run.specs.Claims.{Agrees};
 ghost use Rattle.rambo_run.specs.Runs.{outcome_at, outcome_of, results_from, run_from};
-ghost use Rattle.rambo_world.specs.Worlds.{EventsFit, founding_causes};
+ghost use Rattle.rambo_run.specs.Legal.{EventsFit};
+ghost use Rattle.rambo_world.specs.Worlds.{founding_causes};
 
 use crate::running::Running;
 use crate::state::State;
@@ -24,11 +25,7 @@ use std::hash::{BuildHasherDefault, FoldHasher};
 /// and Shvartsman, "RAMBO", DISC 2002). No two nodes hold different configurations at one place.
 ///
 /// Refused are 18 where there is no founder, 22 where memory runs out.
-pub fn run<Q: Quorums>(
-    alloc: Global,
-    founders: Q,
-    steps: &[Step<Q>],
-) -> Result<Outcome<Q>, Refusal>
+pub fn run<Q: Quorums>(alloc: Global, founders: Q, steps: &[Step<Q>]) -> Result<Outcome<Q>, Refusal>
     ensures founded { OnOk result (least (founding_causes Q.system founders) ≡ None) }
     ensures outcome { IfOk result (λ o. o ≡ outcome_of Q.system founders steps.now) }
     ensures proper { IfOk result (λ o. (key : List ℕ) → IsProper o.history key (sequence_in o.sequences key)) }

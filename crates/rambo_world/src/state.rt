@@ -5,7 +5,7 @@ ghost use Rattle.rambo_run.specs.Runs.{after, result_of, results_from, run_from,
 ghost use Rattle.rambo_run.specs.Steps.{refusal, turn};
 ghost use Rattle.rambo_run.specs.Worlds.{first_world, node_at};
 ghost use Rattle.rambo_sequence.specs.Sequences.{sequence_of, sequences_of};
-ghost use Rattle.rambo_world.specs.Worlds.{EventsFit};
+ghost use Rattle.rambo_run.specs.Legal.{EventsFit};
 
 use crate::nodes::Nodes;
 use rambo_atomic::{CallId, History};

@@ -7,7 +7,8 @@ ghost use Rattle.rambo_run.specs.Claims.{Agrees};
 ghost use Rattle.rambo_run.specs.Steps.{refusal, turn};
 ghost use Rattle.rambo_run.specs.Worlds.{node_at};
 ghost use Rattle.rambo_sequence.specs.Sequences.{sequence_of};
-ghost use Rattle.rambo_world.specs.Worlds.{WorldOf, AreAccepted, state, founding_causes};
+ghost use Rattle.rambo_world.specs.Worlds.{WorldOf, state, founding_causes};
+ghost use Rattle.rambo_run.specs.Legal.{IsLegal};
 
 use crate::state::State;
 use rambo_atomic::{CallId, History};
@@ -37,7 +38,8 @@ impl<Q: Quorums, S: Replica> Model for World<Q, S> {
     ghost use Rattle.std.specs.Coded.{codes};
     ghost use Rattle.rambo_names.specs.Names.{names_code};
     ghost use Rattle.rambo_run.specs.Runs.{run};
-    ghost use Rattle.rambo_world.specs.Worlds.{WorldOf, AreAccepted};
+    ghost use Rattle.rambo_run.specs.Legal.{IsLegal};
+    ghost use Rattle.rambo_world.specs.Worlds.{WorldOf};
 
     ghost Value = { WorldOf Q };
 
@@ -45,7 +47,7 @@ impl<Q: Quorums, S: Replica> Model for World<Q, S> {
 
     ghost view = { λ w. record { founders = w.founders; steps = w.steps.items } };
 
-    ghost invariant = { λ w. (w.state ≡ run Q.system w.founders w.steps.items) × AreAccepted Q.system w.founders w.steps.items };
+    ghost invariant = { λ w. (w.state ≡ run Q.system w.founders w.steps.items) × IsLegal Q.system w.founders w.steps.items };
 }
 
 impl<Q: Quorums, S: Replica> World<Q, S> {
@@ -85,7 +87,7 @@ impl<Q: Quorums, S: Replica> World<Q, S> {
     /// The accepted steps, the first of them first: none of them is refused where it stands.
     pub fn steps(&self) -> &[Step<Q>]
         ensures steps { result.now ≡ self.now.steps }
-        ensures accepted { AreAccepted Q.system self.now.founders self.now.steps }
+        ensures accepted { IsLegal Q.system self.now.founders self.now.steps }
     {
         self.steps.as_slice()
     }

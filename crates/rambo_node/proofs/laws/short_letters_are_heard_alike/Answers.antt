@@ -1,4 +1,5 @@
 use Rattle.rambo_node.proofs.Telling.{heard_alike, joined_alike}
+use Rattle.rambo_node.proofs.Short.{heard_as_whole}
 use Rattle.rambo_node.proofs.laws.short_letters_are_heard_alike.Goals as goal
 
 pub returns-clause-joined : goal.returns-clause-joined
@@ -6,3 +7,6 @@ returns-clause-joined g c = heard_alike
 
 pub returns-clause-keys : goal.returns-clause-keys
 returns-clause-keys g c x l a b same = heard_alike x l a b (joined_alike x.registers a b same)
+
+pub returns-clause-short : goal.returns-clause-short
+returns-clause-short g c = heard_as_whole

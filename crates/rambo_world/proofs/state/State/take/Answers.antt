@@ -1,7 +1,7 @@
 use Rattle.std.proofs.lemmas.Grind.{common_steps}
 use Rattle.std.proofs.Common.{sym, ap, ◌∙◌, arith}
 use Rattle.rambo_run.specs.Steps.{Turn}
-use Rattle.rambo_world.proofs.Longer.{after-taken, after-refused}
+use Rattle.rambo_run.proofs.GoingOn.{after-taken, after-refused}
 use Rattle.rambo_world.proofs.state.State.take.Goals as goal
 
 pub judge-requires : goal.judge-requires

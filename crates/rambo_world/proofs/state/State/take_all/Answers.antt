@@ -1,7 +1,7 @@
 use Rattle.std.proofs.Common.{◌∙◌, take, sym, ap, subst}
 use Rattle.std.proofs.lemmas.List.{take_all}
 use Rattle.rambo_run.specs.Runs.{results_from, run_from}
-use Rattle.rambo_world.specs.Worlds.{EventsFit}
+use Rattle.rambo_run.specs.Legal.{EventsFit}
 use Rattle.rambo_run.proofs.Runs.{run_from-none}
 use Rattle.rambo_world.proofs.Longer.{results_from-none, next_state, next_results}
 use Rattle.rambo_world.proofs.state.State.take_all.Goals as goal
