@@ -45,5 +45,7 @@ pub mod GoingOn
 pub mod Legal
 pub mod Actors
 pub mod Growing
+pub mod Quiet
+pub mod Causes
 mod Rows
 mod ChangeRows

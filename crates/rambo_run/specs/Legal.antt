@@ -5,9 +5,8 @@ use Rattle.rambo_names.specs.Quorums.{QuorumSystem}
 use Rattle.rambo_atomic.specs.declared.event.Event.{Event}
 use Rattle.rambo_atomic.specs.Faults.{fault_of}
 use Rattle.rambo_tag.specs.Copies.{joined}
-use Rattle.rambo_node.specs.Nodes.{NodeState}
 use Rattle.rambo_run.specs.declared.step.Step.{Step}
-use Rattle.rambo_run.specs.Worlds.{WorldState, node_at}
+use Rattle.rambo_run.specs.Worlds.{WorldState, node_at, held_by}
 use Rattle.rambo_run.specs.Steps.{Meant, meant, refusal, turn}
 use Rattle.rambo_run.specs.Runs.{run}
 
@@ -36,8 +35,8 @@ BeginningsHold {Q} s =
     → IsPrefix (run s founders xs).letters (run s founders ys).letters × IsPrefix (run s founders xs).history (run s founders ys).history
     × (IsLegal s founders ys → IsLegal s founders xs)
 
--- and a node of it holds at least each copy that it held at a beginning
+-- and each node holds at least each copy that it held at a beginning
 abbrev pub CopiesAreKept : {Q : Type 0} → QuorumSystem Q → Type 0
 CopiesAreKept {Q} s =
-    (founders : Q) (xs ys : List (Step Q)) → IsPrefix xs ys → (n : ℕ) (x y : NodeState Q) → node_at (run s founders xs) n ≡ Some x
-    → node_at (run s founders ys) n ≡ Some y → joined y.registers x.registers ≡ y.registers
+    (founders : Q) (xs ys : List (Step Q)) → IsPrefix xs ys → (n : ℕ)
+    → joined (held_by (run s founders ys) n) (held_by (run s founders xs) n) ≡ held_by (run s founders ys) n

@@ -1,5 +1,5 @@
 -- What a step does, and why it is refused: it is a change of one node, from which letters, history and marks follow
-use Rattle.std.specs.Prelude.{ℕ, ◌+◌, ◌-◌, true, List, [], ◌∷◌, ◌++◌, length, Option, None, Some, slice_set}
+use Rattle.std.specs.Prelude.{ℕ, ◌+◌, ◌-◌, Bool, true, false, List, [], ◌∷◌, ◌++◌, length, Option, None, Some, slice_set}
 use Rattle.rambo_names.specs.declared.refusal.Refusal.{Refusal}
 use Rattle.rambo_names.specs.declared.refusal.Refusal.TheVariants.{NotActive, NoSuchLetter}
 use Rattle.rambo_names.specs.Quorums.{QuorumSystem}
@@ -41,6 +41,25 @@ meant w (step.Recon n wish) = Some (record { name = n; change = change.Recon wis
 meant w (step.Rebid n) = Some (record { name = n; change = change.Rebid })
 meant w (step.AdvanceRecon n) = Some (record { name = n; change = change.AdvanceRecon })
 meant w (step.Stop n) = Some (record { name = n; change = change.Stop })
+
+-- the same where these letters were sent: nothing else of a world says what a step means
+abbrev pub meant_in : {Q : Type 0} → List (Letter Q) → Step Q → Option (Meant Q)
+meant_in ls st = meant (record { nodes = []; letters = ls; history = []; marks = [] }) st
+
+-- whether a change sends a letter
+abbrev pub sends : {Q : Type 0} → Change Q → Bool
+sends (change.Join contacts) = false
+sends (change.Call o) = false
+sends (change.Send to) = true
+sends (change.Deliver l) = false
+sends (change.Advance id) = false
+sends (change.Again id) = false
+sends change.Collect = false
+sends change.AdvanceCollect = false
+sends (change.Recon wish) = false
+sends change.Rebid = false
+sends change.AdvanceRecon = false
+sends change.Stop = false
 
 -- there are 64 nodes, so that each name has one
 abbrev pub causes_at : {Q : Type 0} → QuorumSystem Q → Option (NodeState Q) → Change Q → List Cause

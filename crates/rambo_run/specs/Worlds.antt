@@ -1,7 +1,11 @@
 -- All nodes, and all that was ever sent, called and answered
-use Rattle.std.specs.Prelude.{ℕ, zero, suc, List, [], ◌∷◌, Option, None, slice_get}
-use Rattle.rambo_names.specs.Names.{rising}
+use Rattle.std.specs.Prelude.{ℕ, zero, suc, List, [], ◌∷◌, nat_eq, Option, None, Some, slice_get}
+use Rattle.std.specs.FinMap as map
+use Rattle.rambo_names.specs.declared.refusal.Refusal.TheVariants.{EmptyMembers}
+use Rattle.rambo_names.specs.Names.{rising, count_of}
+use Rattle.rambo_names.specs.Refusals.{Cause, cause}
 use Rattle.rambo_names.specs.Quorums.{QuorumSystem}
+use Rattle.rambo_tag.specs.Copies.{Copies}
 use Rattle.rambo_atomic.specs.declared.event.Event.{Event}
 use Rattle.rambo_gossip.specs.declared.letter.Letter.{Letter}
 use Rattle.rambo_node.specs.Nodes.{NodeState, first_node}
@@ -20,6 +24,14 @@ abbrev pub node_at : {Q : Type 0} → WorldState Q → ℕ → Option (NodeState
 node_at w zero = None
 node_at w (suc i) = slice_get w.nodes i
 
+abbrev pub copies_of : {Q : Type 0} → Option (NodeState Q) → Copies
+copies_of None = map.empty
+copies_of (Some x) = x.registers
+
+-- the copies that the node of a name holds
+abbrev pub held_by : {Q : Type 0} → WorldState Q → ℕ → Copies
+held_by w n = copies_of (node_at w n)
+
 abbrev pub letter_at : {Q : Type 0} → List (Letter Q) → ℕ → Option (Letter Q)
 letter_at ls zero = None
 letter_at ls (suc i) = slice_get ls i
@@ -31,3 +43,7 @@ first_nodes s founders (n ∷ ns) = first_node s founders n ∷ first_nodes s fo
 -- 64 nodes that hold the founders at place 0
 unfoldable pub first_world : {Q : Type 0} → QuorumSystem Q → Q → WorldState Q
 first_world s founders = record { nodes = first_nodes s founders (rising 64 1); letters = []; history = []; marks = [] }
+
+-- why founders are refused
+abbrev pub founding_causes : {Q : Type 0} → QuorumSystem Q → Q → List Cause
+founding_causes s founders = cause EmptyMembers (nat_eq (count_of (s.members founders)) 0) ∷ []

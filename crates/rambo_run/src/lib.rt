@@ -1,11 +1,13 @@
 //! Steps, worlds and whole runs, and what holds of every run.
 #![tactic(auto)]
 
+mod founding;
 mod laws;
 mod outcome;
 mod run;
 mod step;
 
+pub use founding::may_found;
 pub use laws::{
     collection_replies_are_fresh, collections_never_fall, decisions_stand,
     given_sequences_are_proper, later_phases_meet, later_phases_read, later_sets_rise, nodes_agree,

@@ -23,9 +23,10 @@ use Rattle.rambo_run.specs.Worlds.{WorldState, first_world, node_at, letter_at}
 use Rattle.rambo_run.proofs.NodeLists.{node_named}
 use Rattle.rambo_run.specs.Steps.{Turn, Meant, meant, causes, causes_at, causes_of, delivery, refusal, turn, turn_at, turn_of, with_letter}
 use Rattle.rambo_run.specs.Runs.{after, run, run_from, unless_refused}
-use Rattle.rambo_world.specs.Worlds.{EventFits, sends}
+use Rattle.rambo_run.specs.Steps.{sends}
+use Rattle.rambo_world.specs.Worlds.{EventFits}
 use Rattle.rambo_world.specs.Direct.{without_letters, passed, pass_refusal, first_of, IsReachedBarLetters}
-use Rattle.rambo_world.proofs.Changing.{quiet_made}
+use Rattle.rambo_run.proofs.Quiet.{quiet_made}
 use Rattle.rambo_run.proofs.GoingOn.{after-refused, run_none}
 use Rattle.rambo_run.proofs.Legal.{events_fit_run}
 use Rattle.rambo_world.proofs.Reached.{run-after}

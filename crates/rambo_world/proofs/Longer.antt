@@ -1,5 +1,5 @@
 -- Runs of one step more, and what they give
-use Rattle.std.proofs.Common.{◌≡◌, ◌+◌, ◌<◌, take, get_or, ℕ, arith, List, [], ◌∷◌, ◌++◌, length, None, Some, Result, Ok, Err, IfOk, refl, sym, ap, ◌∙◌, subst}
+use Rattle.std.proofs.Common.{◌≡◌, ◌+◌, ◌<◌, take, get_or, ℕ, List, [], ◌∷◌, ◌++◌, length, None, Result, Ok, Err, IfOk, refl, sym, ap, ◌∙◌, subst}
 use Rattle.std.proofs.lemmas.List.{take_more}
 use Rattle.rambo_names.specs.declared.refusal.Refusal.{Refusal}
 use Rattle.rambo_names.specs.Quorums.{QuorumSystem, IsSound}

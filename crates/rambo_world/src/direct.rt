@@ -6,14 +6,14 @@ ghost use Rattle.rambo_run.specs.Steps.{refusal};
 ghost use Rattle.rambo_run.specs.Worlds.{first_world};
 ghost use Rattle.rambo_run.specs.declared.step.Step.TheVariants as step;
 ghost use Rattle.rambo_run.specs.Told.{called, advanced};
-ghost use Rattle.rambo_world.specs.Worlds.{founding_causes};
+ghost use Rattle.rambo_run.specs.Worlds.{founding_causes};
 ghost use Rattle.rambo_world.specs.Direct.{passed, pass_refusal, told_refusal, IsReachedBarLetters};
 
 use crate::running::answer_got;
 use crate::state::State;
-use crate::world::may_found;
 use rambo_atomic::{Answer, CallId, History, Op};
 use rambo_names::{Name, Quorums, Refusal};
+use rambo_run::may_found;
 use rambo_tag::Replica;
 use std::alloc::Global;
 use std::marker::Model;

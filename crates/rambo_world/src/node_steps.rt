@@ -3,10 +3,10 @@ ghost use Rattle.std.specs.Prelude.{◌≡◌, ◌<◌, ◌++◌, ◌∷◌, [],
 ghost use Rattle.std.specs.Vec.{vec_capacity, vec_len};
 ghost use Rattle.rambo_names.specs.Refusals.{least};
 ghost use Rattle.rambo_atomic.specs.Faults.{fault_of};
-ghost use Rattle.rambo_run.specs.Steps.{causes_at, turn_at, with_event, with_mark};
+ghost use Rattle.rambo_run.specs.Steps.{causes_at, sends, turn_at, with_event, with_mark};
 ghost use Rattle.rambo_run.specs.Worlds.{node_at};
 ghost use Rattle.rambo_world.specs.Logging.{keeps_copies};
-ghost use Rattle.rambo_world.specs.Worlds.{EventFits, sends};
+ghost use Rattle.rambo_world.specs.Worlds.{EventFits};
 
 use crate::state::State;
 use rambo_atomic::{CallId, Event, History, Op};

@@ -7,15 +7,14 @@ ghost use Rattle.rambo_run.specs.Runs.{results_from, run_from, outcome_at};
 ghost use Rattle.rambo_run.specs.Worlds.{first_world};
 ghost use Rattle.rambo_node.specs.Changes.{answer_in};
 ghost use Rattle.rambo_run.specs.Ongoing.{AgreesSoFar};
-ghost use Rattle.rambo_world.specs.Worlds.{founding_causes};
+ghost use Rattle.rambo_run.specs.Worlds.{founding_causes};
 
 use crate::runs::outcome;
 use crate::state::State;
-use crate::world::may_found;
 use rambo_atomic::{Answer, CallId, History, Op};
 use rambo_names::{Name, Quorums, Refusal};
 use rambo_node::Effect;
-use rambo_run::{NodeMap, Outcome, Run, Step};
+use rambo_run::{NodeMap, Outcome, Run, Step, may_found};
 use rambo_sequence::KeySequence;
 use rambo_tag::Replica;
 use std::alloc::Global;

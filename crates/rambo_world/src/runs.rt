@@ -6,7 +6,7 @@ ghost use Rattle.rambo_sequence.specs.Sequences.{sequence_in};
 ghost use Rattle.rambo_run.specs.Claims.{Agrees};
 ghost use Rattle.rambo_run.specs.Runs.{outcome_at, outcome_of, results_from, run_from};
 ghost use Rattle.rambo_run.specs.Legal.{EventsFit};
-ghost use Rattle.rambo_world.specs.Worlds.{founding_causes};
+ghost use Rattle.rambo_run.specs.Worlds.{founding_causes};
 
 use crate::running::Running;
 use crate::state::State;

@@ -5,9 +5,9 @@ ghost use Rattle.rambo_atomic.specs.Proper.{IsProper};
 ghost use Rattle.rambo_node.specs.Nodes.{NodeState};
 ghost use Rattle.rambo_run.specs.Claims.{Agrees};
 ghost use Rattle.rambo_run.specs.Steps.{refusal, turn};
-ghost use Rattle.rambo_run.specs.Worlds.{node_at};
 ghost use Rattle.rambo_sequence.specs.Sequences.{sequence_of};
-ghost use Rattle.rambo_world.specs.Worlds.{WorldOf, state, founding_causes};
+ghost use Rattle.rambo_run.specs.Worlds.{node_at, founding_causes};
+ghost use Rattle.rambo_world.specs.Worlds.{WorldOf, state};
 ghost use Rattle.rambo_run.specs.Legal.{IsLegal};
 
 use crate::state::State;
@@ -15,7 +15,7 @@ use rambo_atomic::{CallId, History};
 use rambo_config_map::ConfigMap;
 use rambo_names::{Name, Quorums, Refusal};
 use rambo_node::Effect;
-use rambo_run::Step;
+use rambo_run::{Step, may_found};
 use rambo_tag::Replica;
 use std::alloc::Global;
 use std::marker::Model;
@@ -121,15 +121,4 @@ impl<Q: Quorums, S: Replica> World<Q, S> {
     {
         self.state.map(name)
     }
-}
-
-// Whether there is a founder.
-pub(crate) fn may_found<Q: Quorums>(founders: Q) -> Result<(), Refusal>
-    ensures ok { OnOk result (least (founding_causes Q.system founders) ≡ None) }
-    ensures refused { IfErr result (λ r. least (founding_causes Q.system founders) ≡ Some r) }
-{
-    if founders.members().count() == 0 {
-        return Err(Refusal::EmptyMembers);
-    }
-    Ok(())
 }

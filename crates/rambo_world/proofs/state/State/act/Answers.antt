@@ -6,7 +6,7 @@ use Rattle.rambo_run.specs.declared.step.Step.TheVariants as step
 use Rattle.rambo_run.specs.Steps.{Meant, meant, refusal, turn}
 use Rattle.rambo_run.specs.Worlds.{WorldState}
 use Rattle.rambo_world.specs.Logging.{keeps_copies}
-use Rattle.rambo_world.specs.Worlds.{sends}
+use Rattle.rambo_run.specs.Steps.{sends}
 use Rattle.rambo_names.proofs.Sizes.{up_fits, back_fits, variant_fits}
 use Rattle.rambo_world.proofs.Turns.{step_refusal, step_turn, step_fits}
 use Rattle.rambo_world.proofs.state.State.act.Given.{Over}
