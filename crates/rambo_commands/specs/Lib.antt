@@ -1,0 +1,4 @@
+pub mod Mistakes
+pub mod Requests
+pub mod Administration
+pub mod Replies
