@@ -24,11 +24,13 @@ judged (Ok asked) = asked
 judged (Err mistake) = wrong mistake
 
 -- the word spells this number, or this set
-abbrev pub IsNumber : List ℕ → ℕ → Type 0
-IsNumber word n = (n < 2 ^ 64) × (word ≡ decimal n)
+pub record IsNumber (word : List ℕ) (n : ℕ) : Type 0 where
+  pub small : n < 2 ^ 64
+  pub spelt : word ≡ decimal n
 
-abbrev pub IsSet : List ℕ → NameSet → Type 0
-IsSet word s = AreNames s × (word ≡ set_text s)
+pub record IsSet (word : List ℕ) (s : NameSet) : Type 0 where
+  pub names : AreNames s
+  pub spelt : word ≡ set_text s
 
 -- what is made of the name of this number, which is refused where it is none
 abbrev pub IsNamed : (ℕ → ServerRequest) → ℕ → ServerRequest → Type 0
