@@ -1,2 +1,3 @@
 pub mod Shapes
 pub mod Asked
+pub mod OneRequest
