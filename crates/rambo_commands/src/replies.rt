@@ -1,5 +1,5 @@
 //! Replies.
-ghost use Rattle.std.specs.Prelude.{◌≡◌, ◌++◌, ◌∷◌, List, ℕ, map, IfOk, IfErr, OnOk, OnErr};
+ghost use Rattle.std.specs.Prelude.{◌≡◌, ◌++◌, List, ℕ, map, IfOk, IfErr, OnOk, OnErr};
 ghost use Rattle.rambo_names.specs.Signs.{set_text};
 ghost use Rattle.rambo_text.specs.Words.{more_words};
 ghost use Rattle.rambo_resp.specs.Replies.{reply_spelling};

@@ -6,7 +6,7 @@ use crate::administration::administration;
 use crate::mistake::Mistake;
 use crate::request::Request;
 use crate::words::is_word;
-use rambo_names::{Bytes, Members, Name, Refusal};
+use rambo_names::{Members, Name, Refusal};
 use rambo_resp::Command;
 use std::alloc::Global;
 
@@ -42,13 +42,10 @@ impl ServerRequest {
         ensures refused { IfErr result (λ r. r ≡ Refusal.OutOfMemory) }
     {
         match command.items() {
-            [name, words @ ..] => {
-                if is_word(name.as_slice(), b"RAMBO") {
-                    return told(alloc, administration(words));
-                }
-                Ok(ServerRequest::Common(Request::of(alloc, command)?))
+            [name, words @ ..] if is_word(name.as_slice(), b"RAMBO") => {
+                told(alloc, administration(words))
             }
-            [] => Ok(ServerRequest::Common(Request::of(alloc, command)?)),
+            _ => Ok(ServerRequest::Common(Request::of(alloc, command)?)),
         }
     }
 }
