@@ -1,8 +1,9 @@
-//! What a command asks for.
+//! What a command of any client asks for.
 ghost use Rattle.std.specs.Prelude.{◌≡◌, IfOk, IfErr};
-ghost use Rattle.std.specs.Str.{str_eq_ignore_ascii_case};
-ghost use Rattle.rambo_client.specs.Requests as spec;
+ghost use Rattle.rambo_commands.specs.Requests as spec;
 
+use crate::mistake::Mistake;
+use crate::words::is_word;
 use rambo_atomic::Op;
 use rambo_names::{Bytes, Refusal};
 use rambo_resp::{Command, Reply};
@@ -30,7 +31,7 @@ impl Request {
     {
         match command.items() {
             [name, words @ ..] => named(alloc, name.as_slice(), words),
-            [] => fails(alloc, b"ERR unknown command"),
+            [] => fails(alloc, Mistake::UnknownCommand),
         }
     }
 }
@@ -47,15 +48,8 @@ fn named(alloc: Global, name: &[u8], words: &[Bytes]) -> Result<Request, Refusal
     } else if is_word(name, b"SET") {
         set(alloc, words)
     } else {
-        fails(alloc, b"ERR unknown command")
+        fails(alloc, Mistake::UnknownCommand)
     }
-}
-
-// Whether two words have the same letters, small or capital.
-fn is_word(name: &[u8], word: &[u8]) -> bool
-    ensures { result ≡ str_eq_ignore_ascii_case name.now word.now }
-{
-    name.eq_ignore_ascii_case(word)
 }
 
 // What `PING` asks for.
@@ -66,7 +60,7 @@ fn ping(alloc: Global, words: &[Bytes]) -> Result<Request, Refusal>
     match words {
         [] => Ok(Request::Says(Reply::Pong)),
         [word] => Ok(Request::Says(Reply::Bulk(word.clone()?))),
-        _ => wrong_count(alloc),
+        _ => fails(alloc, Mistake::WrongCount),
     }
 }
 
@@ -77,7 +71,7 @@ fn get(alloc: Global, words: &[Bytes]) -> Result<Request, Refusal>
 {
     match words {
         [key] => asks(alloc, Op::Get(key.clone()?)),
-        _ => wrong_count(alloc),
+        _ => fails(alloc, Mistake::WrongCount),
     }
 }
 
@@ -88,7 +82,7 @@ fn set(alloc: Global, words: &[Bytes]) -> Result<Request, Refusal>
 {
     match words {
         [key, value] => { asks(alloc, Op::Set(key.clone()?, value.clone()?)) }
-        _ => wrong_count(alloc),
+        _ => fails(alloc, Mistake::WrongCount),
     }
 }
 
@@ -98,22 +92,15 @@ fn asks(alloc: Global, op: Op) -> Result<Request, Refusal>
     ensures refused { IfErr result (λ r. r ≡ Refusal.OutOfMemory) }
 {
     if op.key().len() > LONGEST_KEY {
-        return fails(alloc, b"ERR refused 19 KeyTooLong");
+        return fails(alloc, Mistake::Refused(Refusal::KeyTooLong));
     }
     Ok(Request::Does(op))
 }
 
-fn wrong_count(alloc: Global) -> Result<Request, Refusal>
-    ensures ok { IfOk result (λ q. q ≡ spec.wrong_count) }
+// A request that is answered by the error that tells a mistake.
+fn fails(alloc: Global, mistake: Mistake) -> Result<Request, Refusal>
+    ensures ok { IfOk result (λ q. q ≡ spec.fails mistake) }
     ensures refused { IfErr result (λ r. r ≡ Refusal.OutOfMemory) }
 {
-    fails(alloc, b"ERR wrong number of arguments")
-}
-
-// A request that is answered by an error of these words.
-fn fails(alloc: Global, words: &[u8]) -> Result<Request, Refusal>
-    ensures ok { IfOk result (λ q. q ≡ spec.fails words.now) }
-    ensures refused { IfErr result (λ r. r ≡ Refusal.OutOfMemory) }
-{
-    Ok(Request::Says(Reply::Error(Bytes::from_slice(alloc, words)?)))
+    Ok(Request::Says(mistake.reply(alloc)?))
 }
