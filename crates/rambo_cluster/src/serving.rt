@@ -1,0 +1,203 @@
+//! Serving clients over sockets.
+ghost use Rattle.std.specs.Prelude.{◌≡◌, Some, IfOk};
+ghost use Rattle.rambo_post.specs.Legal.{IsLegal};
+
+use crate::connection::{Flow, Session};
+use crate::fault::ServeFault;
+use crate::hub::Hub;
+use crate::options::Options;
+use crossbeam_channel::{Receiver, bounded};
+use rambo_atomic::Wrapped;
+use rambo_names::{Majority, Name, Quorums};
+use rambo_post::{Actor, Gate, Pass, Post, Terms};
+use rambo_roll::Opened;
+use rambo_run::Step;
+use rambo_tag::Registers;
+use std::alloc::Global;
+use std::hash::RandomState;
+use std::marker::Brand;
+use std::net::{Net, SocketAddr, TcpListener, TcpStream};
+use std::random::RandomSource;
+use std::sync::Wait;
+use std::thread;
+use std::thread::Threads;
+use std::time::{Clock, Duration};
+
+type Copies = Registers<RandomState>;
+
+// So many sockets wait for a client worker.
+const WAITING: usize = 32;
+
+/// Serves clients until one asks for the end, and gives all steps.
+pub fn serve<G: Gate, R>(
+    rt: &R,
+    alloc: Global,
+    listener: &TcpListener,
+    options: &Options<Majority>,
+    gate: &G,
+) -> Result<Vec<Step<Majority>>, ServeFault>
+where
+    R: Net<Listener = TcpListener, Stream = TcpStream>
+        + Threads
+        + Wait
+        + Clock
+        + RandomSource
+        + Sync,
+{
+    let opened = Opened::new(alloc)?;
+    serve_as::<Brand, G, R>(
+        rt,
+        alloc,
+        opened,
+        listener,
+        options,
+        options.founders,
+        options.steps,
+        gate,
+    )
+}
+
+fn serve_as<J: Terms<Majority> + Send + Sync, G: Gate, R>(
+    rt: &R,
+    alloc: Global,
+    opened: Opened<Step<Majority>, Actor>,
+    listener: &TcpListener,
+    options: &Options<Majority>,
+    founders: Majority,
+    steps: usize,
+    gate: &G,
+) -> Result<Vec<Step<Majority>>, ServeFault>
+where
+    R: Net<Listener = TcpListener, Stream = TcpStream>
+        + Threads
+        + Wait
+        + Clock
+        + RandomSource
+        + Sync,
+    requires name { opened ≡ J.table }
+    requires founders { J.founders ≡ Some founders }
+    requires capacity { steps ≡ J.capacity }
+{
+    let own = listener.local_addr()?;
+    let copies = Copies::new(alloc, RandomState::new(rt)?);
+    let post = Post::<J, Majority, Copies>::with_mail(
+        alloc,
+        opened,
+        founders,
+        steps,
+        &copies,
+        options.lose,
+        options.twice,
+    )?;
+    let mut passes = Vec::new(alloc);
+    for _ in 0..options.clients {
+        passes.push(post.pass(rt, alloc)?)?;
+    }
+    let hub = Hub::new(alloc, post, gate, passes.len())?;
+    run(rt, alloc, &hub, listener, own, &mut passes, founders)?;
+    let Hub { post, .. } = hub;
+    Ok(post.close(passes))
+}
+
+// Runs all threads until the end.
+fn run<J: Terms<Majority> + Send + Sync, G: Gate, R>(
+    rt: &R,
+    alloc: Global,
+    hub: &Hub<'_, J, Majority, Copies, G>,
+    listener: &TcpListener,
+    own: SocketAddr,
+    passes: &mut Vec<Pass<J, Majority>>,
+    founders: Majority,
+) -> Result<(), ServeFault>
+where
+    R: Net<Listener = TcpListener, Stream = TcpStream> + Threads + Wait + Clock + Sync,
+{
+    let Some(first) = founders.members().iter().next() else {
+        return Ok(());
+    };
+    let (to, from) = bounded(alloc, WAITING)?;
+    let streams = &from;
+    thread::scope(thread::scope_env(), rt, |scope| {
+        for number in 1..65u64 {
+            if let Ok(name) = Name::new(number) {
+                let _ = scope.spawn(move || hub.run_worker(rt, name));
+            }
+        }
+        let mut place = 0usize;
+        for pass in passes.iter_mut() {
+            let _ = scope.spawn(move || serve_streams(
+                rt, alloc, hub, streams, own, pass, place, first,
+            ));
+            place = place.wrapping_add(1);
+        }
+        for stream in listener.incoming() {
+            if hub.is_closing() {
+                break;
+            }
+            match stream {
+                Ok(stream) => {
+                    if to.send(rt, stream).is_err() {
+                        break;
+                    }
+                }
+                Err(_) => thread::sleep(rt, Duration::from_millis(10)),
+            }
+        }
+        drop(to);
+    });
+    Ok(())
+}
+
+// The work of a client worker: it serves one connection after the other.
+fn serve_streams<J: Terms<Majority>, G: Gate, R>(
+    rt: &R,
+    alloc: Global,
+    hub: &Hub<'_, J, Majority, Copies, G>,
+    streams: &Receiver<TcpStream>,
+    own: SocketAddr,
+    pass: &mut Pass<J, Majority>,
+    place: usize,
+    first: Name,
+)
+where
+    R: Net<Listener = TcpListener, Stream = TcpStream> + Wait + Clock,
+{
+    for _ in rt.forever() {
+        let Ok(stream) = streams.recv(rt) else {
+            return;
+        };
+        let mut session = Session {
+            rt,
+            alloc,
+            hub,
+            pass: &mut *pass,
+            place,
+            name: first,
+        };
+        if serve_stream(&mut session, &stream) == Flow::EndsAll {
+            hub.close(rt);
+            // This ends the wait for the next socket.
+            let _ = TcpStream::connect(rt, own);
+        }
+    }
+}
+
+// Serves one connection, unless the server ends.
+fn serve_stream<J: Terms<Majority>, G: Gate, R: Wait + Clock>(
+    session: &mut Session<'_, '_, J, Copies, G, R>,
+    stream: &TcpStream,
+) -> Flow {
+    let Ok(door) = stream.try_clone() else {
+        return Flow::Ends;
+    };
+    let _ = stream.set_nodelay(true);
+    let hub = session.hub;
+    hub.doors.put(session.rt, session.place, Some(door));
+    let flow = if hub.is_closing() {
+        Flow::Ends
+    } else {
+        session.talk(&mut Wrapped::new(stream), &mut Wrapped::new(stream))
+    };
+    hub.doors.put(session.rt, session.place, None);
+    flow
+}
