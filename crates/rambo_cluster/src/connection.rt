@@ -1,17 +1,17 @@
 //! One connection.
+ghost use Rattle.std.specs.Prelude.{◌≤◌, length};
 
 use crate::hub::Hub;
 use bytes::BytesMut;
-use rambo_atomic::{Sink, Source, write_all};
+use rambo_atomic::{Op, Sink, Source, write_all};
 use rambo_commands::{
     Request, ServerRequest, append_refusal, append_reply, fault_reply, map_reply, telling,
 };
 use rambo_config_map::ConfigMap;
-use rambo_names::{Majority, Members, Name, Quorums, Refusal};
+use rambo_names::{Majority, Name, Refusal};
 use rambo_post::{Gate, Pass, Terms};
 use rambo_resp::{Command, Decoder, Fault, Reply};
 use rambo_run::Step;
-use rambo_tag::Replica;
 use std::alloc::{AllocError, Global};
 use std::sync::Wait;
 use std::time::Clock;
@@ -32,16 +32,17 @@ pub(crate) enum Flow {
 
 /// Who serves a connection: a client's place and pass, and the node that it uses.
 #[derive(Drop)]
-pub(crate) struct Session<'h, 'g, J: Terms<Majority>, S: Replica, G: Gate, R> {
+pub(crate) struct Session<'h, J: Terms<Majority>, G: Gate, R> {
     pub(crate) rt: &'h R,
     pub(crate) alloc: Global,
-    pub(crate) hub: &'h Hub<'g, J, Majority, S, G>,
+    pub(crate) gate: &'h G,
+    pub(crate) hub: &'h Hub<J>,
     pub(crate) pass: &'h mut Pass<J, Majority>,
-    pub(crate) place: usize,
+    pub(crate) place: u32,
     pub(crate) name: Name,
 }
 
-impl<'h, 'g, J: Terms<Majority>, S: Replica, G: Gate, R: Wait + Clock> Session<'h, 'g, J, S, G, R> {
+impl<'h, J: Terms<Majority>, G: Gate, R: Wait + Clock> Session<'h, J, G, R> {
     /// Answers the commands of a source into a sink, until one of them ends.
     pub(crate) fn talk<I: Source, O: Sink>(&mut self, reader: &mut I, writer: &mut O) -> Flow {
         match self.talk_on(reader, writer) {
@@ -60,9 +61,7 @@ impl<'h, 'g, J: Terms<Majority>, S: Replica, G: Gate, R: Wait + Clock> Session<'
         let mut decoder = Decoder::new(self.alloc);
         let mut out = BytesMut::new(self.alloc);
         for _ in self.rt.forever() {
-            let Ok(count) = reader.read(piece.as_mut_slice()) else {
-                return Ok(Flow::Ends);
-            };
+            let count = read_some(reader, piece.as_mut_slice());
             if count == 0 {
                 return Ok(Flow::Ends);
             }
@@ -98,58 +97,96 @@ impl<'h, 'g, J: Terms<Majority>, S: Replica, G: Gate, R: Wait + Clock> Session<'
         Flow::Ends
     }
 
-    // Answers a command.
+    // Answers a command: by a refusal, where it is refused.
     fn answer(&mut self, command: &Command, out: &mut BytesMut) -> Flow {
-        let (written, flow) = match self.obey(command) {
-            Ok((Some(reply), flow)) => (append_reply(&reply, out), flow),
-            Ok((None, flow)) => (Ok(()), flow),
-            Err(refusal) => (append_refusal(refusal, out), Flow::GoesOn),
-        };
-        if written.is_err() && flow == Flow::GoesOn {
-            return Flow::Ends;
+        match self.obey(command, out) {
+            Ok(flow) => flow,
+            Err(refusal) => told(append_refusal(refusal, out)),
         }
-        flow
     }
 
-    fn obey(&mut self, command: &Command) -> Result<(Option<Reply>, Flow), Refusal> {
-        match ServerRequest::of(self.alloc, command)? {
-            ServerRequest::Common(Request::Says(reply)) => Ok(goes_on(reply)),
-            ServerRequest::Common(Request::Does(op)) => {
-                match self
-                    .hub
-                    .operate(self.rt, self.pass, self.place, self.name, op)
-                {
-                    Some(answer) => Ok(goes_on(telling(answer?))),
-                    None => Ok((None, Flow::Ends)),
-                }
-            }
+    // Does what a command asks for, and appends the reply to it.
+    fn obey(&mut self, command: &Command, out: &mut BytesMut) -> Result<Flow, Refusal> {
+        let request = ServerRequest::of(self.alloc, command)?;
+        match &request {
+            ServerRequest::Common(common) => self.answer_common(common, out),
             ServerRequest::Use(name) => {
-                self.name = name;
-                Ok(goes_on(Reply::Ok))
+                self.name = *name;
+                append(&Reply::Ok, out)
             }
-            ServerRequest::Join(name, contacts) => self.change(name, Step::Join(name, contacts)),
+            ServerRequest::Join(name, contacts) => {
+                self.change(*name, Step::Join(*name, *contacts), out)
+            }
             ServerRequest::Recon(wish) => {
-                self.change(self.name, Step::Recon(self.name, Majority::of(wish)))
+                self.change(self.name, Step::Recon(self.name, Majority::of(*wish)), out)
             }
-            ServerRequest::Collect => self.change(self.name, Step::Collect(self.name)),
-            ServerRequest::Stop(name) => self.change(name, Step::Stop(name)),
-            ServerRequest::Config => {
-                let map = self.hub.post.map(self.rt, self.name);
-                Ok(goes_on(map_told(self.alloc, &map)?))
+            ServerRequest::Collect => self.change(self.name, Step::Collect(self.name), out),
+            ServerRequest::Stop(name) => self.change(*name, Step::Stop(*name), out),
+            ServerRequest::Config => self.tell_map(out),
+            ServerRequest::Shutdown => {
+                let _ = append_reply(&Reply::Ok, out);
+                Ok(Flow::EndsAll)
             }
-            ServerRequest::Shutdown => Ok((Some(Reply::Ok), Flow::EndsAll)),
         }
     }
 
-    fn change(&mut self, name: Name, step: Step<Majority>) -> Result<(Option<Reply>, Flow), Refusal> {
+    // Does what any client may ask for.
+    fn answer_common(&mut self, common: &Request, out: &mut BytesMut) -> Result<Flow, Refusal> {
+        match common {
+            Request::Says(reply) => append(reply, out),
+            Request::Does(op) => self.operate(op, out),
+        }
+    }
+
+    fn operate(&mut self, op: &Op, out: &mut BytesMut) -> Result<Flow, Refusal> {
+        let op = op.clone()?;
+        let answer = self
+            .hub
+            .operate(self.rt, self.gate, self.pass, self.place, self.name, op)?;
+        match answer {
+            Some(answer) => append(&telling(answer), out),
+            None => Ok(Flow::Ends),
+        }
+    }
+
+    fn change(
+        &mut self,
+        name: Name,
+        step: Step<Majority>,
+        out: &mut BytesMut,
+    ) -> Result<Flow, Refusal> {
         self.hub.change(self.rt, self.pass, name, step)?;
-        Ok(goes_on(Reply::Ok))
+        append(&Reply::Ok, out)
+    }
+
+    fn tell_map(&mut self, out: &mut BytesMut) -> Result<Flow, Refusal> {
+        let map = self.hub.post.map(self.rt, self.name);
+        append(&map_told(self.alloc, &map)?, out)
     }
 }
 
-// A reply after which more commands are read.
-fn goes_on(reply: Reply) -> (Option<Reply>, Flow) {
-    (Some(reply), Flow::GoesOn)
+// Reads what there is: so many bytes, none where the source is at its end or fails.
+fn read_some<I: Source>(reader: &mut I, piece: &mut [u8]) -> usize
+    ensures { result ≤ length piece.new }
+{
+    if piece.is_empty() {
+        return 0;
+    }
+    reader.read(piece).unwrap_or(0)
+}
+
+// Appends a reply after which more commands are read.
+fn append(reply: &Reply, out: &mut BytesMut) -> Result<Flow, Refusal> {
+    append_reply(reply, out)?;
+    Ok(Flow::GoesOn)
+}
+
+// More commands are read if this was told.
+fn told(appended: Result<(), Refusal>) -> Flow {
+    match appended {
+        Ok(()) => Flow::GoesOn,
+        Err(_) => Flow::Ends,
+    }
 }
 
 // Appends the reply to a fault of the input.

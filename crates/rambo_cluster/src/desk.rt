@@ -11,7 +11,7 @@ const ANSWERED: u64 = 2;
 struct Open {
     number: u64,
     // The place of its client, once that told of it.
-    client: Option<usize>,
+    client: Option<u32>,
     advances: u64,
     // Whether others were asked for its present phase.
     asked: bool,
@@ -36,8 +36,8 @@ pub(crate) struct Desk {
     began: bool,
     // It is time to ask all.
     again: bool,
-    /// How often it was time to ask all.
-    pub(crate) missed: u64,
+    // How often it was time to ask all.
+    missed: u64,
 }
 
 impl Desk {
@@ -75,7 +75,7 @@ impl Desk {
     }
 
     /// A client at this place waits for a call.
-    pub(crate) fn await_call(&mut self, number: u64, client: usize) -> Result<(), Refusal> {
+    pub(crate) fn await_call(&mut self, number: u64, client: u32) -> Result<(), Refusal> {
         let place = self.noted(number)?;
         if let Some(open) = self.calls.get_mut(place) {
             open.client = Some(client);
@@ -93,7 +93,7 @@ impl Desk {
     }
 
     /// A call advanced. The place of its client, if it is answered.
-    pub(crate) fn advance(&mut self, number: u64) -> Option<usize> {
+    pub(crate) fn advance(&mut self, number: u64) -> Option<u32> {
         let Ok(place) = self.noted(number) else {
             return None;
         };
@@ -141,8 +141,8 @@ impl Desk {
         false
     }
 
-    /// Whom the node asks now. What is open then counts as asked.
-    pub(crate) fn ask(&mut self) -> Asks {
+    /// Whom the node asks now, and how often it asked all. What is open then counts as asked.
+    pub(crate) fn ask(&mut self) -> (Asks, u64) {
         let asks = self.asks();
         if asks != Asks::Nobody {
             self.began = false;
@@ -151,7 +151,7 @@ impl Desk {
                 open.asked = true;
             }
         }
-        asks
+        (asks, self.missed)
     }
 
     fn asks(&self) -> Asks {
@@ -169,7 +169,7 @@ impl Desk {
         let mut places = 0u64;
         for open in self.calls.as_slice() {
             if let Some(client) = open.client {
-                places |= 1u64.checked_shl(client as u32).unwrap_or(0);
+                places |= 1u64.checked_shl(client).unwrap_or(0);
             }
         }
         places

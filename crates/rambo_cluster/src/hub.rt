@@ -4,18 +4,23 @@ use crate::bell::Bell;
 use crate::doors::Doors;
 use crate::fault::ServeFault;
 use crate::rooms::Rooms;
-use rambo_names::{Name, Quorums};
-use rambo_post::{Gate, Post, Terms};
-use rambo_tag::Replica;
+use rambo_names::{Majority, Name};
+use rambo_post::{Post, Terms};
+use rambo_tag::Registers;
 use std::alloc::Global;
+use std::hash::RandomState;
 use std::sync::Wait;
 use std::sync::atomic::{AtomicBool, AtomicU64, Ordering};
 
+/// The copies of a node: keys that a client chose make no look-up slow.
+pub(crate) type Copies = Registers<RandomState>;
+
 /// What all threads of a server share: the post, and what tells them when to look at it.
 #[derive(Drop)]
-pub(crate) struct Hub<'g, J: Terms<Q>, Q: Quorums, S: Replica, G: Gate> {
-    pub(crate) post: Post<J, Q, S>,
-    pub(crate) gate: &'g G,
+pub(crate) struct Hub<J: Terms<Majority>> {
+    pub(crate) post: Post<J, Majority, Copies>,
+    /// The node that a client uses at first.
+    pub(crate) first: Name,
     pub(crate) rooms: Rooms,
     /// Each client waits for its bell.
     pub(crate) bells: Vec<Bell>,
@@ -28,20 +33,20 @@ pub(crate) struct Hub<'g, J: Terms<Q>, Q: Quorums, S: Replica, G: Gate> {
     pub(crate) is_full: AtomicBool,
 }
 
-impl<'g, J: Terms<Q>, Q: Quorums, S: Replica, G: Gate> Hub<'g, J, Q, S, G> {
+impl<J: Terms<Majority>> Hub<J> {
     pub(crate) fn new(
         alloc: Global,
-        post: Post<J, Q, S>,
-        gate: &'g G,
+        post: Post<J, Majority, Copies>,
+        first: Name,
         clients: usize,
-    ) -> Result<Hub<'g, J, Q, S, G>, ServeFault> {
+    ) -> Result<Hub<J>, ServeFault> {
         let mut bells = Vec::new(alloc);
         for _ in 0..clients {
             bells.push(Bell::new())?;
         }
         Ok(Hub {
             post,
-            gate,
+            first,
             rooms: Rooms::new(alloc)?,
             bells,
             doors: Doors::new(alloc, clients)?,
@@ -64,10 +69,12 @@ impl<'g, J: Terms<Q>, Q: Quorums, S: Replica, G: Gate> Hub<'g, J, Q, S, G> {
 
     /// Wakes the clients at these places.
     pub(crate) fn ring_clients<R: Wait>(&self, rt: &R, places: u64) {
-        for place in 0..self.bells.len() {
-            if places.checked_shr(place as u32).unwrap_or(0) & 1 == 1 {
-                self.bells[place].ring(rt);
+        let mut rest = places;
+        for bell in self.bells.as_slice() {
+            if rest & 1 == 1 {
+                bell.ring(rt);
             }
+            rest >>= 1;
         }
     }
 

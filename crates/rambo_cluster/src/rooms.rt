@@ -1,4 +1,5 @@
 //! What threads share of a node.
+ghost use Rattle.std.specs.Prelude.{◌≡◌, vec_len};
 
 use crate::bell::Bell;
 use crate::desk::Desk;
@@ -28,11 +29,9 @@ pub(crate) struct Rooms {
 }
 
 impl Rooms {
-    ghost use Rattle.std.specs.Prelude.{vec_len};
-
     pub(crate) fn new(alloc: Global) -> Result<Rooms, Refusal> {
         let mut rooms = Vec::new(alloc);
-        for _ in 0..NAMES {
+        for number in 0..NAMES {
             rooms.push(Room {
                 desk: Mutex::new(Desk::new(alloc)),
                 bell: Bell::new(),

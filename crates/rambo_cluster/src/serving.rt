@@ -1,18 +1,18 @@
 //! Serving clients over sockets.
-ghost use Rattle.std.specs.Prelude.{◌≡◌, Some, IfOk};
-ghost use Rattle.rambo_post.specs.Legal.{IsLegal};
+ghost use Rattle.std.specs.Prelude.{◌≡◌, ◌≤◌, Some, length, IfOk};
+ghost use Rattle.rambo_names.specs.Quorums.{majorities};
+ghost use Rattle.rambo_run.specs.Legal.{IsLegal};
 
 use crate::connection::{Flow, Session};
 use crate::fault::ServeFault;
-use crate::hub::Hub;
+use crate::hub::{Copies, Hub};
 use crate::options::Options;
 use crossbeam_channel::{Receiver, bounded};
 use rambo_atomic::Wrapped;
-use rambo_names::{Majority, Name, Quorums};
-use rambo_post::{Actor, Gate, Pass, Post, Terms};
+use rambo_names::{Majority, Name, Quorums, Refusal};
+use rambo_post::{Actor, Closed, Gate, Pass, Post, Terms};
 use rambo_roll::Opened;
 use rambo_run::Step;
-use rambo_tag::Registers;
 use std::alloc::Global;
 use std::hash::RandomState;
 use std::marker::Brand;
@@ -22,8 +22,6 @@ use std::sync::Wait;
 use std::thread;
 use std::thread::Threads;
 use std::time::{Clock, Duration};
-
-type Copies = Registers<RandomState>;
 
 // So many sockets wait for a client worker.
 const WAITING: usize = 32;
@@ -35,7 +33,7 @@ pub fn serve<G: Gate, R>(
     listener: &TcpListener,
     options: &Options<Majority>,
     gate: &G,
-) -> Result<Vec<Step<Majority>>, ServeFault>
+) -> Result<Closed<Majority>, ServeFault>
 where
     R: Net<Listener = TcpListener, Stream = TcpStream>
         + Threads
@@ -43,6 +41,8 @@ where
         + Clock
         + RandomSource
         + Sync,
+    ensures legal { IfOk result (λ c. IsLegal majorities options.now.founders c.steps.items) }
+    ensures fits { IfOk result (λ c. length c.steps.items ≤ options.now.steps) }
 {
     let opened = Opened::new(alloc)?;
     serve_as::<Brand, G, R>(
@@ -66,7 +66,7 @@ fn serve_as<J: Terms<Majority> + Send + Sync, G: Gate, R>(
     founders: Majority,
     steps: usize,
     gate: &G,
-) -> Result<Vec<Step<Majority>>, ServeFault>
+) -> Result<Closed<Majority>, ServeFault>
 where
     R: Net<Listener = TcpListener, Stream = TcpStream>
         + Threads
@@ -77,8 +77,11 @@ where
     requires name { opened ≡ J.table }
     requires founders { J.founders ≡ Some founders }
     requires capacity { steps ≡ J.capacity }
+    ensures legal { IfOk result (λ c. IsLegal majorities founders c.steps.items) }
+    ensures fits { IfOk result (λ c. length c.steps.items ≤ steps) }
 {
     let own = listener.local_addr()?;
+    let first = lowest(founders)?;
     let copies = Copies::new(alloc, RandomState::new(rt)?);
     let post = Post::<J, Majority, Copies>::with_mail(
         alloc,
@@ -93,40 +96,43 @@ where
     for _ in 0..options.clients {
         passes.push(post.pass(rt, alloc)?)?;
     }
-    let hub = Hub::new(alloc, post, gate, passes.len())?;
-    run(rt, alloc, &hub, listener, own, &mut passes, founders)?;
+    let hub = Hub::new(alloc, post, first, passes.len())?;
+    run(rt, gate, alloc, &hub, listener, own, &mut passes)?;
     let Hub { post, .. } = hub;
     Ok(post.close(passes))
+}
+
+// The lowest founder.
+fn lowest(founders: Majority) -> Result<Name, Refusal> {
+    match founders.members().iter().next() {
+        Some(name) => Ok(name),
+        None => Err(Refusal::EmptyMembers),
+    }
 }
 
 // Runs all threads until the end.
 fn run<J: Terms<Majority> + Send + Sync, G: Gate, R>(
     rt: &R,
+    gate: &G,
     alloc: Global,
-    hub: &Hub<'_, J, Majority, Copies, G>,
+    hub: &Hub<J>,
     listener: &TcpListener,
     own: SocketAddr,
     passes: &mut Vec<Pass<J, Majority>>,
-    founders: Majority,
 ) -> Result<(), ServeFault>
 where
     R: Net<Listener = TcpListener, Stream = TcpStream> + Threads + Wait + Clock + Sync,
 {
-    let Some(first) = founders.members().iter().next() else {
-        return Ok(());
-    };
     let (to, from) = bounded(alloc, WAITING)?;
     let streams = &from;
     thread::scope(thread::scope_env(), rt, |scope| {
         for number in 1..65u64 {
-            if let Ok(name) = Name::new(number) {
-                let _ = scope.spawn(move || hub.run_worker(rt, name));
-            }
+            let _ = scope.spawn(move || hub.run_worker(rt, gate, number));
         }
-        let mut place = 0usize;
+        let mut place = 0u32;
         for pass in passes.iter_mut() {
             let _ = scope.spawn(move || serve_streams(
-                rt, alloc, hub, streams, own, pass, place, first,
+                rt, gate, alloc, hub, streams, own, pass, place,
             ));
             place = place.wrapping_add(1);
         }
@@ -151,13 +157,13 @@ where
 // The work of a client worker: it serves one connection after the other.
 fn serve_streams<J: Terms<Majority>, G: Gate, R>(
     rt: &R,
+    gate: &G,
     alloc: Global,
-    hub: &Hub<'_, J, Majority, Copies, G>,
+    hub: &Hub<J>,
     streams: &Receiver<TcpStream>,
     own: SocketAddr,
     pass: &mut Pass<J, Majority>,
-    place: usize,
-    first: Name,
+    place: u32,
 )
 where
     R: Net<Listener = TcpListener, Stream = TcpStream> + Wait + Clock,
@@ -168,11 +174,12 @@ where
         };
         let mut session = Session {
             rt,
+            gate,
             alloc,
             hub,
             pass: &mut *pass,
             place,
-            name: first,
+            name: hub.first,
         };
         if serve_stream(&mut session, &stream) == Flow::EndsAll {
             hub.close(rt);
@@ -184,7 +191,7 @@ where
 
 // Serves one connection, unless the server ends.
 fn serve_stream<J: Terms<Majority>, G: Gate, R: Wait + Clock>(
-    session: &mut Session<'_, '_, J, Copies, G, R>,
+    session: &mut Session<'_, J, G, R>,
     stream: &TcpStream,
 ) -> Flow {
     let Ok(door) = stream.try_clone() else {
@@ -192,12 +199,13 @@ fn serve_stream<J: Terms<Majority>, G: Gate, R: Wait + Clock>(
     };
     let _ = stream.set_nodelay(true);
     let hub = session.hub;
-    hub.doors.put(session.rt, session.place, Some(door));
+    hub.doors
+        .put(session.rt, session.place as usize, Some(door));
     let flow = if hub.is_closing() {
         Flow::Ends
     } else {
         session.talk(&mut Wrapped::new(stream), &mut Wrapped::new(stream))
     };
-    hub.doors.put(session.rt, session.place, None);
+    hub.doors.put(session.rt, session.place as usize, None);
     flow
 }

@@ -4,28 +4,27 @@ use crate::desk::Asks;
 use crate::hub::Hub;
 use crate::quorums::quorum_behind;
 use crate::rooms::bit;
-use rambo_names::{Members, Name, Quorums, Refusal};
+use rambo_names::{Majority, Members, Name, Refusal};
 use rambo_post::{Gate, Terms, Turn};
 use rambo_run::Step;
-use rambo_tag::Replica;
 use std::sync::Wait;
 use std::sync::atomic::Ordering;
 
-impl<'g, J: Terms<Q>, Q: Quorums, S: Replica, G: Gate> Hub<'g, J, Q, S, G> {
+impl<J: Terms<Majority>> Hub<J> {
     /// There is something to do at a node.
     pub(crate) fn point_at(&self, name: Name) {
         self.pending.fetch_or(bit(name), Ordering::SeqCst);
     }
 
     /// Takes the turns that there are, at each node where nobody else is, until there are none, or until this says so.
-    pub(crate) fn work<R: Wait, F: Fn() -> bool>(&self, rt: &R, is_over: F)
+    pub(crate) fn work<R: Wait, G: Gate, F: Fn() -> bool>(&self, rt: &R, gate: &G, is_over: F)
         requires { F.IsAlwaysCallable is_over }
     {
         for _ in rt.forever() {
             let Some(name) = self.claim() else {
                 return;
             };
-            self.visit(rt, name);
+            self.visit(rt, gate, name);
             self.visited.fetch_and(!bit(name), Ordering::SeqCst);
             if is_over() {
                 return;
@@ -45,10 +44,10 @@ impl<'g, J: Terms<Q>, Q: Quorums, S: Replica, G: Gate> Hub<'g, J, Q, S, G> {
     }
 
     // Takes the turns of a node, and then writes to whom it owes a letter, and to whom it asks.
-    fn visit<R: Wait>(&self, rt: &R, name: Name) {
+    fn visit<R: Wait, G: Gate>(&self, rt: &R, gate: &G, name: Name) {
         self.pending.fetch_and(!bit(name), Ordering::SeqCst);
         let owes = self.rooms.of(name).owes.swap(0, Ordering::SeqCst);
-        if let Err(refusal) = self.take_turns(rt, name) {
+        if let Err(refusal) = self.take_turns(rt, gate, name) {
             self.rooms.of(name).owes.fetch_or(owes, Ordering::SeqCst);
             if refusal == Refusal::HistoryFull {
                 self.fill(rt);
@@ -63,9 +62,9 @@ impl<'g, J: Terms<Q>, Q: Quorums, S: Replica, G: Gate> Hub<'g, J, Q, S, G> {
         }
     }
 
-    fn take_turns<R: Wait>(&self, rt: &R, name: Name) -> Result<(), Refusal> {
+    fn take_turns<R: Wait, G: Gate>(&self, rt: &R, gate: &G, name: Name) -> Result<(), Refusal> {
         for _ in rt.forever() {
-            match self.post.turn(rt, name, self.gate)? {
+            match self.post.turn(rt, name, gate)? {
                 Turn::Did(step) => self.note(rt, name, &step),
                 Turn::Nothing => return Ok(()),
             }
@@ -74,12 +73,12 @@ impl<'g, J: Terms<Q>, Q: Quorums, S: Replica, G: Gate> Hub<'g, J, Q, S, G> {
     }
 
     // What a turn did is noted, and who waited for it wakes.
-    fn note<R: Wait>(&self, rt: &R, name: Name, step: &Step<Q>) {
+    fn note<R: Wait>(&self, rt: &R, name: Name, step: &Step<Majority>) {
         match step {
             Step::Advance(id) => {
                 let client = self.rooms.of(name).desk.lock(rt).advance(id.number);
                 if let Some(client) = client {
-                    if let Some(bell) = self.bells.get(client) {
+                    if let Some(bell) = self.bells.get(client as usize) {
                         bell.ring(rt);
                     }
                 }
@@ -93,16 +92,18 @@ impl<'g, J: Terms<Q>, Q: Quorums, S: Replica, G: Gate> Hub<'g, J, Q, S, G> {
 
     // Whom a node asks now.
     fn asked<R: Wait>(&self, rt: &R, name: Name) -> Members {
-        let (asks, missed) = {
-            let mut desk = self.rooms.of(name).desk.lock(rt);
-            let asks = desk.ask();
-            (asks, desk.missed)
-        };
+        let (asks, missed) = self.rooms.of(name).desk.lock(rt).ask();
         match asks {
             Asks::Nobody => Members::empty(),
-            Asks::Quorum => quorum_behind(&self.post.map(rt, name), name, missed),
+            Asks::Quorum => self.quorum(rt, name, missed),
             Asks::All => self.post.wanted(rt, name),
         }
+    }
+
+    // Names that make a quorum of each active configuration of a node's map, together with it.
+    fn quorum<R: Wait>(&self, rt: &R, name: Name, further: u64) -> Members {
+        let map = self.post.map(rt, name);
+        quorum_behind(&map, name, further)
     }
 
     // Writes a letter. One that asks is owed an answer.

@@ -1,16 +1,21 @@
 //! The workers of the nodes.
 
 use crate::hub::Hub;
-use rambo_names::{Name, Quorums};
+use rambo_names::{Majority, Members, Name};
 use rambo_post::{Gate, Terms};
-use rambo_tag::Replica;
 use std::sync::Wait;
 use std::time::Clock;
 
-impl<'g, J: Terms<Q>, Q: Quorums, S: Replica, G: Gate> Hub<'g, J, Q, S, G> {
-    /// The work of a node's worker: it sleeps while there is nothing to do, and else sees to it that letters are sent again
-    /// while the node waits.
-    pub(crate) fn run_worker<R: Wait + Clock>(&self, rt: &R, name: Name) {
+impl<J: Terms<Majority>> Hub<J> {
+    /// The work of the worker of a node, by its number: it sleeps while there is nothing to do, and else sees to it that
+    /// letters are sent again while the node waits.
+    pub(crate) fn run_worker<R: Wait + Clock, G: Gate>(&self, rt: &R, gate: &G, number: u64) {
+        if let Ok(name) = Name::new(number) {
+            self.run_worker_of(rt, gate, name);
+        }
+    }
+
+    fn run_worker_of<R: Wait + Clock, G: Gate>(&self, rt: &R, gate: &G, name: Name) {
         let mut is_waiting = false;
         for _ in rt.forever() {
             let rang = self.sleep(rt, name, is_waiting);
@@ -21,11 +26,8 @@ impl<'g, J: Terms<Q>, Q: Quorums, S: Replica, G: Gate> Hub<'g, J, Q, S, G> {
                 self.rooms.of(name).desk.lock(rt).remind();
             }
             self.point_at(name);
-            self.work(rt, || self.is_closing());
-            is_waiting = !self
-                .post
-                .wanted(rt, name)
-                .is_subset(rambo_names::Members::empty());
+            self.work(rt, gate, || self.is_closing());
+            is_waiting = !self.post.wanted(rt, name).is_subset(Members::empty());
         }
     }
 
