@@ -1,5 +1,6 @@
 //! Serving clients over sockets.
-ghost use Rattle.std.specs.Prelude.{◌≡◌, ◌≤◌, Some, length, IfOk};
+ghost use Rattle.std.specs.Prelude.{◌≡◌, ◌≤◌, Some, length, IfOk, All};
+ghost use mathlib.Core.List.{IsPrefix};
 ghost use Rattle.rambo_names.specs.Quorums.{majorities};
 ghost use Rattle.rambo_run.specs.Legal.{IsLegal};
 
@@ -92,14 +93,39 @@ where
         options.lose,
         options.twice,
     )?;
-    let mut passes = Vec::new(alloc);
-    for _ in 0..options.clients {
-        passes.push(post.pass(rt, alloc)?)?;
-    }
+    let mut passes = passes_of(rt, alloc, &post, options.clients)?;
     let hub = Hub::new(alloc, post, first, passes.len())?;
     run(rt, gate, alloc, &hub, listener, own, &mut passes)?;
+    Ok(end(hub, passes, founders))
+}
+
+// So many passes.
+fn passes_of<J: Terms<Majority>, R: Wait>(
+    rt: &R,
+    alloc: Global,
+    post: &Post<J, Majority, Copies>,
+    count: usize,
+) -> Result<Vec<Pass<J, Majority>>, ServeFault> {
+    let mut passes = Vec::new(alloc);
+    for _ in 0..count {
+        passes.push(post.pass(rt, alloc)?)?;
+    }
+    Ok(passes)
+}
+
+// All steps, once no thread works any more: what the pass of each client has seen begins them.
+fn end<J: Terms<Majority>>(
+    hub: Hub<J>,
+    passes: Vec<Pass<J, Majority>>,
+    founders: Majority,
+) -> Closed<Majority>
+    requires { J.founders ≡ Some founders }
+    ensures legal { IsLegal majorities founders result.steps.items }
+    ensures fits { length result.steps.items ≤ J.capacity }
+    ensures begins { All (λ p. IsPrefix p.seen result.steps.items) passes.items }
+{
     let Hub { post, .. } = hub;
-    Ok(post.close(passes))
+    post.close(passes)
 }
 
 // The lowest founder.

@@ -1,4 +1,4 @@
-use Rattle.rambo_cluster.proofs.Fitting.{letter_fits}
+use Rattle.rambo_post.proofs.Fitting.{letter_fits}
 use Rattle.rambo_cluster.proofs.rambo_post++letter++SharedLetter+Destruct.drop.Goals as goal
 
 pub drop-requires-room-T-Destruct : goal.drop-requires-room-T-Destruct
