@@ -8,10 +8,10 @@ use Rattle.rambo_atomic.specs.declared.event.Event.{Event}
 use Rattle.rambo_atomic.specs.declared.event.Event.TheVariants as event
 use Rattle.rambo_resp.specs.declared.reply.Reply.{Reply}
 use Rattle.rambo_resp.specs.Replies.{reply_spelling}
-use Rattle.rambo_client.specs.declared.request.Request.{Request}
-use Rattle.rambo_client.specs.declared.request.Request.TheVariants.{Says, Does}
+use Rattle.rambo_commands.specs.declared.request.Request.{Request}
+use Rattle.rambo_commands.specs.declared.request.Request.TheVariants.{Says, Does}
 use Rattle.rambo_client.specs.Maps.{Map, no_values, after, answer_of}
-use Rattle.rambo_client.specs.Requests.{request_of}
+use Rattle.rambo_commands.specs.Requests.{request_of}
 use Rattle.rambo_client.specs.Replies.{reply_to, after_one, after_all, replies, requests}
 use Rattle.rambo_client.specs.Calls.{id_at, Calls, IsHistory, BeginsHistory, IsOfRun}
 use Rattle.rambo_client.proofs.Right.{right}

@@ -14,8 +14,8 @@ use Rattle.rambo_atomic.specs.Histories.{call_in, answer_in, answered_before}
 use Rattle.rambo_atomic.specs.Proper.{after_op}
 use Rattle.rambo_atomic.proofs.LookUps.{either, call_in-append}
 use Rattle.rambo_atomic.proofs.Pushes.{same_call-path, same_call-refl}
-use Rattle.rambo_client.specs.declared.request.Request.{Request}
-use Rattle.rambo_client.specs.declared.request.Request.TheVariants.{Says, Does}
+use Rattle.rambo_commands.specs.declared.request.Request.{Request}
+use Rattle.rambo_commands.specs.declared.request.Request.TheVariants.{Says, Does}
 use Rattle.rambo_client.specs.Maps.{Map, after, answer_of}
 use Rattle.rambo_client.specs.Replies.{after_all}
 use Rattle.rambo_client.specs.Calls.{id_at, Calls}

@@ -17,7 +17,7 @@ use Rattle.rambo_atomic.specs.Proper.{Stands, IsProper, after_op, held_after}
 use Rattle.rambo_atomic.proofs.LookUps.{either, call_in-append, answer_in-append}
 use Rattle.rambo_atomic.proofs.Pushes.{same_call-refl}
 use Rattle.rambo_atomic.proofs.Splits.{stands-here, stands-later, stands-cases}
-use Rattle.rambo_client.specs.declared.request.Request.{Request}
+use Rattle.rambo_commands.specs.declared.request.Request.{Request}
 use Rattle.rambo_client.specs.Maps.{no_values, answer_of}
 use Rattle.rambo_client.specs.Replies.{after_all}
 use Rattle.rambo_client.specs.Calls.{IsHistory}

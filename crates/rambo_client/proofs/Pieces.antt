@@ -11,10 +11,11 @@ use Rattle.rambo_resp.specs.Streams.{Ending, open_at, faulty, Reads}
 use Rattle.rambo_resp.specs.declared.fault.Fault.{Fault}
 use Rattle.rambo_resp.specs.Replies.{reply_spelling}
 use Rattle.rambo_resp.proofs.Unique.{commands_stay, each_is_read}
-use Rattle.rambo_client.specs.declared.request.Request.{Request}
+use Rattle.rambo_commands.specs.declared.request.Request.{Request}
 use Rattle.rambo_client.specs.Maps.{Map, no_values}
-use Rattle.rambo_client.specs.Requests.{request_of}
-use Rattle.rambo_client.specs.Replies.{reply_to, after_all, replies, requests, text_of, last_reply, fault_reply}
+use Rattle.rambo_commands.specs.Requests.{request_of}
+use Rattle.rambo_commands.specs.Replies.{fault_reply}
+use Rattle.rambo_client.specs.Replies.{reply_to, after_all, replies, requests, text_of, last_reply}
 use Rattle.rambo_client.specs.Calls.{IsHistory, BeginsHistory}
 use Rattle.rambo_client.specs.Talks.{IsTalk, Answers, BreaksOff, IsOver, Served, Stopped, ServesAt, StopsAt, fault_in, is_faulty}
 use Rattle.rambo_client.proofs.Gains.{after_all-append, replies-append, requests-append, begins-more, begins-whole, begins-kept}

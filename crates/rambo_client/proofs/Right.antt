@@ -10,7 +10,7 @@ use Rattle.rambo_atomic.specs.declared.event.Event.TheVariants as event
 use Rattle.rambo_run.specs.Runs.{run}
 use Rattle.rambo_run.proofs.EveryRun.{is_atomic}
 use Rattle.rambo_sequence.specs.Sequences.{sequence_of}
-use Rattle.rambo_client.specs.declared.request.Request.{Request}
+use Rattle.rambo_commands.specs.declared.request.Request.{Request}
 use Rattle.rambo_client.specs.Maps.{answer_of, no_values}
 use Rattle.rambo_client.specs.Replies.{after_all}
 use Rattle.rambo_client.specs.Calls.{IsHistory, IsOfRun}

@@ -8,8 +8,8 @@ use Rattle.rambo_names.specs.Names.{NameSet, names}
 use Rattle.rambo_names.specs.Quorums.{majorities}
 use Rattle.rambo_run.specs.declared.step.Step.{Step}
 use Rattle.rambo_run.specs.Runs.{run}
-use Rattle.rambo_client.specs.declared.request.Request.{Request}
-use Rattle.rambo_client.specs.declared.request.Request.TheVariants.{Says, Does}
+use Rattle.rambo_commands.specs.declared.request.Request.{Request}
+use Rattle.rambo_commands.specs.declared.request.Request.TheVariants.{Says, Does}
 use Rattle.rambo_client.specs.Maps.{Map, no_values, after, answer_of}
 
 abbrev pub id_at : ℕ → ℕ → CallId

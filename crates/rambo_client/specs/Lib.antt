@@ -1,5 +1,4 @@
 pub mod Maps
-pub mod Requests
 pub mod Replies
 pub mod Calls
 pub mod Talks

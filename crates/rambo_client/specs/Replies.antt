@@ -1,23 +1,13 @@
 -- What an ordinary map replies to requests, one after another
-use Rattle.std.specs.Prelude.{ℕ, List, [], ◌∷◌, ◌++◌, map, codes, decimal}
-use Rattle.rambo_atomic.specs.declared.operation.Answer.{Answer}
-use Rattle.rambo_atomic.specs.declared.operation.Answer.TheVariants as answer
+use Rattle.std.specs.Prelude.{ℕ, List, [], ◌∷◌, ◌++◌, map}
 use Rattle.rambo_resp.specs.declared.reply.Reply.{Reply}
-use Rattle.rambo_resp.specs.declared.reply.Reply.TheVariants as reply
-use Rattle.rambo_resp.specs.Faults.{number_of}
 use Rattle.rambo_resp.specs.Replies.{reply_spelling}
 use Rattle.rambo_resp.specs.Streams.{Ending, open_at, faulty}
-use Rattle.rambo_resp.specs.declared.fault.Fault.{Fault}
-use Rattle.rambo_client.specs.declared.request.Request.{Request}
-use Rattle.rambo_client.specs.declared.request.Request.TheVariants.{Says, Does}
+use Rattle.rambo_commands.specs.declared.request.Request.{Request}
+use Rattle.rambo_commands.specs.declared.request.Request.TheVariants.{Says, Does}
 use Rattle.rambo_client.specs.Maps.{Map, no_values, after, answer_of}
-use Rattle.rambo_client.specs.Requests.{request_of}
-
--- the reply that tells an answer
-abbrev pub telling : Answer → Reply
-telling answer.Ok = reply.Ok
-telling answer.Nil = reply.Nil
-telling (answer.Value value) = reply.Bulk value
+use Rattle.rambo_commands.specs.Requests.{request_of}
+use Rattle.rambo_commands.specs.Replies.{telling, fault_reply}
 
 abbrev pub reply_to : Map → Request → Reply
 reply_to m (Says r) = r
@@ -41,10 +31,7 @@ replies m (q ∷ qs) = reply_spelling (reply_to m q) ++ replies (after_one m q) 
 abbrev pub requests : List (List (List ℕ)) → List Request
 requests commands = map request_of commands
 
--- the reply to a fault of the stream
-abbrev pub fault_reply : Fault → Reply
-fault_reply fault = reply.Error (codes "ERR protocol fault P" ++ decimal (number_of fault))
-
+-- the reply to the fault of the stream, if it has one
 abbrev pub last_reply : Ending → List ℕ
 last_reply (open_at bytes place) = []
 last_reply (faulty fault) = reply_spelling (fault_reply fault)

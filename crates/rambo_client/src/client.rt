@@ -2,8 +2,8 @@
 ghost use Rattle.std.specs.Prelude.{◌≡◌, ◌++◌, ◌∷◌, [], ℕ, List, IfOk, OnOk, OnErr, IfNone, IfSome};
 ghost use Rattle.rambo_names.specs.Names.{names};
 ghost use Rattle.rambo_atomic.specs.declared.event.Event.TheVariants as event;
-ghost use Rattle.rambo_client.specs.declared.request.Request.{Request as AnyRequest};
-ghost use Rattle.rambo_client.specs.declared.request.Request.TheVariants.{Does};
+ghost use Rattle.rambo_commands.specs.declared.request.Request.{Request as AnyRequest};
+ghost use Rattle.rambo_commands.specs.declared.request.Request.TheVariants.{Does};
 ghost use Rattle.rambo_client.specs.Calls.{lowest, answered, IsHistory, BeginsHistory, IsOfRun};
 ghost use Rattle.rambo_client.specs.Maps.{no_values, answer_of};
 ghost use Rattle.rambo_client.specs.Replies.{after_all};

@@ -9,7 +9,6 @@
 mod client;
 mod cluster;
 mod fault;
-mod request;
 mod serving;
 
 pub use client::Client;

@@ -3,23 +3,23 @@ ghost use Rattle.std.specs.Prelude.{◌≡◌, ◌<◌, ◌++◌, ◌∷◌, [],
 ghost use Rattle.rambo_resp.specs.Decoders.{HasTaken};
 ghost use Rattle.rambo_resp.specs.Replies.{reply_spelling};
 ghost use Rattle.rambo_resp.specs.Streams.{open_at};
-ghost use Rattle.rambo_client.specs.declared.request.Request.{Request as AnyRequest};
+ghost use Rattle.rambo_commands.specs.declared.request.Request.{Request as AnyRequest};
+ghost use Rattle.rambo_commands.specs.Requests.{request_of};
+ghost use Rattle.rambo_commands.specs.Replies as replying;
 ghost use Rattle.rambo_client.specs.Calls.{IsHistory, BeginsHistory};
 ghost use Rattle.rambo_client.specs.Faults.{reads_failed, writes_failed};
 ghost use Rattle.rambo_client.specs.Maps.{no_values};
-ghost use Rattle.rambo_client.specs.Replies.{telling, reply_to, after_all, replies, requests, fault_reply};
-ghost use Rattle.rambo_client.specs.Requests.{request_of};
+ghost use Rattle.rambo_client.specs.Replies.{reply_to, after_all, replies, requests};
 ghost use Rattle.rambo_client.specs.Talks.{Answers, BreaksOff, IsTalk, ServesAt, StopsAt, fault_in, is_faulty};
 
 use crate::client::Client;
 use crate::cluster::Cluster;
 use crate::fault::LocalFault;
-use crate::request::Request;
 use bytes::BytesMut;
-use itoa::Buffer;
-use rambo_atomic::{Answer, Sink, Source, write_all};
-use rambo_names::{Bytes, Refusal};
-use rambo_resp::{Command, Decoder, Fault, Reply, write_reply};
+use rambo_atomic::{Sink, Source, write_all};
+use rambo_commands::{Request, append_reply, fault_reply, telling};
+use rambo_names::Refusal;
+use rambo_resp::{Command, Decoder, Fault, Reply};
 use std::alloc::Global;
 
 /// How many bytes are asked for at once.
@@ -189,7 +189,8 @@ fn answer<By, C: Cluster<By>>(
     ensures refused { IfErr result (λ f. f ≡ LocalFault.Memory) }
 {
     let reply = reply_of(client, alloc, cluster, command)?;
-    write(&reply, out)
+    append_reply(&reply, out)?;
+    Ok(())
 }
 
 // Carries out a command, and gives the reply to it.
@@ -210,38 +211,17 @@ fn reply_of<By, C: Cluster<By>>(
         Request::Says(reply) => Ok(reply),
         Request::Does(op) => {
             let answer = client.operate(cluster, op)?;
-            Ok(told(answer))
+            Ok(telling(answer))
         }
-    }
-}
-
-// The reply that tells an answer.
-fn told(answer: Answer) -> Reply
-    ensures { result ≡ telling answer }
-{
-    match answer {
-        Answer::Ok => Reply::Ok,
-        Answer::Nil => Reply::Nil,
-        Answer::Value(value) => Reply::Bulk(value),
     }
 }
 
 // Appends the reply to a fault of the input.
 fn write_fault(alloc: Global, fault: Fault, out: &mut BytesMut) -> Result<(), LocalFault>
-    ensures ok { OnOk result (out.new.items ≡ out.old.items ++ reply_spelling (fault_reply fault)) }
+    ensures ok { OnOk result (out.new.items ≡ out.old.items ++ reply_spelling (replying.fault_reply fault)) }
     ensures refused { IfErr result (λ f. f ≡ LocalFault.Memory) }
 {
-    let mut buffer = Buffer::new();
-    let mut words = Vec::new(alloc);
-    words.extend_from_slice(b"ERR protocol fault P")?;
-    words.extend_from_slice(buffer.format(fault.number()).as_bytes())?;
-    write(&Reply::Error(Bytes::from_vec(words)?), out)
-}
-
-// Appends a reply.
-fn write(reply: &Reply, out: &mut BytesMut) -> Result<(), LocalFault>
-    ensures ok { OnOk result (out.new.items ≡ out.old.items ++ reply_spelling reply.now) }
-    ensures refused { IfErr result (λ f. f ≡ LocalFault.Memory) }
-{
-    write_reply(reply, out).map_err(|_| LocalFault::Memory)
+    let reply = fault_reply(alloc, fault)?;
+    append_reply(&reply, out)?;
+    Ok(())
 }

@@ -1,5 +1,5 @@
 use Rattle.std.proofs.Common.{◌∷◌, [], sym, ◌∙◌}
-use Rattle.rambo_client.specs.Requests.{request_of}
+use Rattle.rambo_commands.specs.Requests.{request_of}
 use Rattle.rambo_names.proofs.Errors.{on_err}
 use Rattle.rambo_client.proofs.Gains.{begins-kept, says-kept}
 use Rattle.rambo_client.proofs.serving.reply_of.Goals as goal

@@ -1,6 +1,6 @@
 use Rattle.std.proofs.Common.{◌∷◌, [], ◌∙◌}
 use Rattle.std.proofs.lemmas.Result.{IfOk-weaker}
-use Rattle.rambo_client.specs.declared.request.Request.TheVariants.{Does}
+use Rattle.rambo_commands.specs.declared.request.Request.TheVariants.{Does}
 use Rattle.rambo_names.proofs.Errors.{on_err}
 use Rattle.rambo_client.proofs.Gains.{answered_right, called_begins, begins-kept, on_err-weaker, on_ok-from, if_ok-and}
 use Rattle.rambo_client.proofs.client.Client.operate.Goals as goal

@@ -1,0 +1,23 @@
+//! What a command of a client asks for, and how it is answered, whoever serves it.
+//!
+//! - `Request`: what each client may ask for: a reply, or an operation of the store.
+//! - `ServerRequest`: what a client of a server may ask for, which may also change the members and end the server.
+//! - `telling`, `refusal_reply`, `fault_reply`, `map_reply`: the reply to an answer, a refusal and a fault, and the one
+//!   that tells a map.
+//! - `append_reply`, `append_refusal`: replies put behind others.
+//! - `one_request`: a law of commands.
+#![tactic(auto)]
+
+mod administration;
+mod arguments;
+mod laws;
+mod mistake;
+mod replies;
+mod request;
+mod server_request;
+mod words;
+
+pub use laws::one_request;
+pub use replies::{append_refusal, append_reply, fault_reply, map_reply, refusal_reply, telling};
+pub use request::Request;
+pub use server_request::ServerRequest;

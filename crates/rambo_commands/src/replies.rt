@@ -1,0 +1,130 @@
+//! Replies.
+ghost use Rattle.std.specs.Prelude.{◌≡◌, ◌++◌, List, ℕ, map, IfOk, IfErr, OnOk, OnErr};
+ghost use Rattle.rambo_names.specs.Signs.{set_text};
+ghost use Rattle.rambo_text.specs.Words.{more_words};
+ghost use Rattle.rambo_resp.specs.Replies.{reply_spelling};
+ghost use Rattle.rambo_commands.specs.Replies as spec;
+ghost use Rattle.rambo_commands.specs.Mistakes.{refused_words};
+
+use bytes::BytesMut;
+use itoa::Buffer;
+use rambo_atomic::Answer;
+use rambo_names::{Bytes, Quorums, Refusal, write_set};
+use rambo_resp::{Fault, Reply, write_reply};
+use rambo_text::write_num;
+use std::alloc::Global;
+
+/// The reply that tells an answer.
+pub fn telling(answer: Answer) -> Reply
+    ensures { result ≡ spec.telling answer }
+{
+    match answer {
+        Answer::Ok => Reply::Ok,
+        Answer::Nil => Reply::Nil,
+        Answer::Value(value) => Reply::Bulk(value),
+    }
+}
+
+/// The error that tells a refusal by its number and its word, as `ERR refused 19 KeyTooLong`.
+///
+/// `OutOfMemory` where there is no room for its words.
+pub fn refusal_reply(alloc: Global, refusal: Refusal) -> Result<Reply, Refusal>
+    ensures ok { IfOk result (λ r. r ≡ spec.refusal_reply refusal) }
+    ensures refused { IfErr result (λ r. r ≡ Refusal.OutOfMemory) }
+{
+    let mut words = BytesMut::new(alloc);
+    append_refused(refusal, &mut words)?;
+    Ok(Reply::Error(Bytes::from_slice(alloc, words.as_slice())?))
+}
+
+/// The error that tells a fault of a stream by its number, as `ERR protocol fault P2`.
+///
+/// `OutOfMemory` where there is no room for its words.
+pub fn fault_reply(alloc: Global, fault: Fault) -> Result<Reply, Refusal>
+    ensures ok { IfOk result (λ r. r ≡ spec.fault_reply fault) }
+    ensures refused { IfErr result (λ r. r ≡ Refusal.OutOfMemory) }
+{
+    let mut words = Vec::new(alloc);
+    words.extend_from_slice(b"ERR protocol fault P")?;
+    write_num(fault.number(), &mut words)?;
+    Ok(Reply::Error(Bytes::from_vec(words)?))
+}
+
+/// The bulk that tells a map by its lowest active place and the configurations from there on, as `0 1,2,3 2,3,4`. Of a
+/// configuration the members are told.
+///
+/// `OutOfMemory` where there is no room for it.
+pub fn map_reply<Q: Quorums>(alloc: Global, floor: u64, configs: &[Q]) -> Result<Reply, Refusal>
+    ensures ok { IfOk result (λ r. r ≡ spec.map_reply floor (map Q.system.members configs.now)) }
+    ensures refused { IfErr result (λ r. r ≡ Refusal.OutOfMemory) }
+{
+    let mut text = Vec::new(alloc);
+    write_num(floor, &mut text)?;
+    append_configs(configs, &mut text)?;
+    Ok(Reply::Bulk(Bytes::from_vec(text)?))
+}
+
+// Appends each configuration behind a space, or after a refusal some bytes.
+fn append_configs<Q: Quorums>(configs: &[Q], text: &mut Vec<u8>) -> Result<(), Refusal>
+    ensures ok { OnOk result (text.new.items ≡ text.old.items ++ more_words (map set_text (map Q.system.members configs.now))) }
+    ensures refused { IfErr result (λ r. r ≡ Refusal.OutOfMemory) }
+{
+    for config in configs {
+        text.push(b' ')?;
+        write_set(&config.members(), text)?;
+    }
+    Ok(())
+}
+
+/// Appends the one spelling of a reply.
+///
+/// `OutOfMemory` where the buffer can't grow; it is then as before.
+pub fn append_reply(reply: &Reply, out: &mut BytesMut) -> Result<(), Refusal>
+    ensures ok { OnOk result (out.new.items ≡ out.old.items ++ reply_spelling reply.now) }
+    ensures err { OnErr result (out.new.items ≡ out.old.items) }
+    ensures refused { IfErr result (λ r. r ≡ Refusal.OutOfMemory) }
+{
+    write_reply(reply, out).map_err(|_| Refusal::OutOfMemory)
+}
+
+/// Appends the spelling of the error that tells a refusal. Where the buffer has room for it no memory is taken.
+///
+/// `OutOfMemory` where the buffer can't grow; it is then as before.
+pub fn append_refusal(refusal: Refusal, out: &mut BytesMut) -> Result<(), Refusal>
+    ensures ok { OnOk result (out.new.items ≡ out.old.items ++ reply_spelling (spec.refusal_reply refusal)) }
+    ensures err { OnErr result (out.new.items ≡ out.old.items) }
+    ensures refused { IfErr result (λ r. r ≡ Refusal.OutOfMemory) }
+{
+    let before = out.len();
+    let written = append_refusal_line(refusal, out);
+    if written.is_err() {
+        out.truncate(before);
+    }
+    written
+}
+
+// Appends the line that tells a refusal, or after one some front of it.
+fn append_refusal_line(refusal: Refusal, out: &mut BytesMut) -> Result<(), Refusal>
+    ensures ok { OnOk result (out.new.items ≡ out.old.items ++ reply_spelling (spec.refusal_reply refusal)) }
+    ensures err { OnErr result ((more : List ℕ) × (out.new.items ≡ out.old.items ++ more)) }
+    ensures refused { IfErr result (λ r. r ≡ Refusal.OutOfMemory) }
+{
+    out.extend_from_slice(b"-")?;
+    append_refused(refusal, out)?;
+    out.extend_from_slice(b"\r\n")?;
+    Ok(())
+}
+
+// Appends the words that tell a refusal, or after one some front of them.
+fn append_refused(refusal: Refusal, out: &mut BytesMut) -> Result<(), Refusal>
+    ensures ok { OnOk result (out.new.items ≡ out.old.items ++ refused_words refusal) }
+    ensures err { OnErr result ((more : List ℕ) × (out.new.items ≡ out.old.items ++ more)) }
+    ensures refused { IfErr result (λ r. r ≡ Refusal.OutOfMemory) }
+{
+    let mut buffer = Buffer::new();
+    out.extend_from_slice(b"ERR refused ")?;
+    out.extend_from_slice(buffer.format(refusal.number()).as_bytes())?;
+    out.extend_from_slice(b" ")?;
+    out.extend_from_slice(refusal.word().as_bytes())?;
+    Ok(())
+}

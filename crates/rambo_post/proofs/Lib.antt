@@ -1,0 +1,16 @@
+pub mod Fitting
+pub mod Idle
+pub mod Standing
+pub mod Judging
+pub mod Commits
+pub mod Refused
+pub mod Firsts
+pub mod Acts
+pub mod Trays
+pub mod Mails
+pub mod Means
+pub mod Picks
+pub mod Turned
+pub mod Taken
+pub mod Found
+pub mod Told

@@ -1,0 +1,36 @@
+-- A letter more in a tray
+use Rattle.std.proofs.Common.{◌≡◌, ℕ, List, [], ◌∷◌, ◌++◌, Option, Some, All, sym, ap, ◌∙◌, subst, inl, inr}
+use Rattle.std.proofs.lemmas.List.Elements.{All-push}
+use Rattle.rambo_names.specs.Quorums.{QuorumSystem}
+use Rattle.rambo_atomic.specs.declared.event.Event.{Event}
+use Rattle.rambo_gossip.specs.declared.letter.Letter.{Letter}
+use Rattle.rambo_node.specs.Nodes.{NodeState}
+use Rattle.rambo_run.specs.declared.step.Step.{Step}
+use Rattle.rambo_run.specs.Worlds.{letter_at}
+use Rattle.rambo_run.specs.Runs.{run}
+use Rattle.rambo_run.proofs.Lists.{none-some, some_inj}
+use Rattle.rambo_post.specs.declared.keeper.Mail.{Mail}
+use Rattle.rambo_post.specs.Kept.{StandsFor, IsMailOf, IsKeeper, IsBook}
+use Rattle.rambo_post.proofs.Standing.{letters_paired, goes_alike}
+
+pub tray_more : {Q : Type 0} {s : QuorumSystem Q} {agreed : Option Q} {most : ℕ} {rolled : List (Step Q)} {f : Q} {steps : List (Step Q)} {letters : List (Letter Q)} {history : List Event} {capacity : ℕ}
+    {holds name : ℕ} {node : NodeState Q} {tray : List (Mail Q)} {seen : List (Step Q)}
+    → IsBook s agreed most rolled f steps letters history capacity → IsKeeper s agreed holds name node tray seen → seen ≡ steps
+    → (number : ℕ) (l : Letter Q) (longer : List (Mail Q)) → letter_at letters number ≡ Some l → l.addressee ≡ name → longer ≡ tray ++ record { number = number; letter = l } ∷ []
+    → IsKeeper s agreed holds name node longer seen
+tray_more {s = s} {f = f} {steps = steps} {letters = letters} {name = name} {tray = tray} {seen = seen} b k same number l longer there own e = record {
+  named = k.named;
+  replays = k.replays;
+  mail = λ g is.
+      let w = run s f steps in
+      let here : IsMailOf w name (record { number = number; letter = l }) = elim (letters_paired w letters b.sent number) [
+        | inl n ↦ absurd (none-some l (sym n.0 ∙ there))
+        | inr p ↦ (
+            let is_l : p.0 ≡ l = some_inj p.0 l (sym p.2 ∙ there) in
+            (p.1, p.3, subst (λ l. StandsFor w l p.1) is_l p.4, sym (goes_alike p.0 p.1 _ p.4) ∙ ap (λ (l : Letter _). l.addressee) is_l ∙ own)
+            )
+      ] in
+      let now : run s f steps ≡ run s g seen = ap (λ h. run s h steps) (some_inj f g (sym b.founded ∙ is)) ∙ ap (run s g) (sym same) in
+      subst (All (IsMailOf (run s g seen) name)) (sym e)
+      (All-push (IsMailOf (run s g seen) name) tray (record { number = number; letter = l }) (k.mail g is) (subst (λ w. IsMailOf w name (record { number = number; letter = l })) now here));
+}

@@ -1,0 +1,11 @@
+use Rattle.rambo_names.proofs.Sizes.{up_fits, back_fits, next}
+use Rattle.rambo_post.proofs.deeds.Worker.first.Goals as goal
+
+pub heard_first-requires : goal.heard_first-requires
+heard_first-requires g c = back_fits _ _ _ (next _ _ _ _ (up_fits _ _ _ c.requires-raw.1.1))
+
+pub moved_first-requires : goal.moved_first-requires
+moved_first-requires g c = back_fits _ _ _ (next _ _ _ _ (up_fits _ _ _ c.requires-raw.1.1))
+
+pub turned_first-requires : goal.turned_first-requires
+turned_first-requires g c = c.requires-raw.1.1

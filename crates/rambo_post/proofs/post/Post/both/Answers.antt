@@ -1,0 +1,23 @@
+use Rattle.std.proofs.Common.{ap, ◌∙◌, subst}
+use Rattle.rambo_names.proofs.Sizes.{up_fits, back_fits, variant_fits}
+use Rattle.std.specs.Sync.Mutex.{mutex_guard_value}
+use Rattle.rambo_post.specs.Kept.{KeeperView, IsServedBy, state}
+use Rattle.rambo_post.proofs.post.Post.both.Goals as goal
+
+pub loop-init : goal.loop-init
+loop-init g c = tt
+
+pub loop-preserved : goal.loop-preserved
+loop-preserved g c = tt
+
+pub name-requires : goal.name-requires
+name-requires g c = back_fits _ _ _ (up_fits _ _ _ (back_fits _ _ _ (up_fits _ _ _ (variant_fits _ _ _ _ (back_fits _ _ _ (up_fits _ _ _ c.requires-raw.1.1.1.1.0))))))
+
+pub drop-keeper-requires-room-T-Destruct : goal.drop-keeper-requires-room-T-Destruct
+drop-keeper-requires-room-T-Destruct g c κs within = back_fits _ _ _ (up_fits _ _ _ (back_fits _ _ _ (up_fits _ _ _ (variant_fits _ _ _ _ (back_fits _ _ _ (up_fits _ _ _ c.requires-raw.1.1.1.1.0))))))
+
+pub returns-then-serves : goal.returns-then-serves
+returns-then-serves g c =
+    let s = g.Q.Quorums.system in
+    subst (IsServedBy (state s (mutex_guard_value c.lock-book.result)) c.args.step.now) (c.name.ensures ∙ ap (λ (k : KeeperView _). k.name) c.deref-in-loop-2.ensures)
+    (subst (λ b. IsServedBy (state s b) c.args.step.now c.name.result) c.deref-in-loop.ensures (c.serves.ensures c.if-serves.true))

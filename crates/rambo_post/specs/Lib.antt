@@ -1,0 +1,4 @@
+pub mod Deeds
+pub mod Kept
+pub mod Passes
+pub mod Turns

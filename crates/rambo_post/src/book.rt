@@ -1,0 +1,114 @@
+//! The list of all steps, with the letters and the history that they gave.
+ghost use Rattle.std.specs.Prelude.{◌≡◌, ◌<◌, ◌≤◌, [], length, Some, true};
+ghost use Rattle.rambo_post.specs.Kept.{AreSent, IsServedBy, state};
+ghost use Rattle.rambo_run.specs.Runs.{run};
+ghost use Rattle.rambo_run.specs.Legal.{IsLegal};
+
+use crate::deeds::named_by;
+use crate::keeper::Actor;
+use crate::letter::SharedLetter;
+use crate::terms::Terms;
+use crate::waiting::Mails;
+use rambo_atomic::{Event, History};
+use rambo_names::{Name, Quorums};
+use rambo_roll::Roll;
+use rambo_run::Step;
+use std::alloc::Global;
+use std::marker::Model;
+
+/// All steps, as many as its capacity at most.
+#[derive(Drop)]
+pub struct Book<J: Terms<Q>, Q: Quorums> {
+    pub(crate) roll: Roll<J, Step<Q>, Actor>,
+    pub(crate) founders: Q,
+    pub(crate) steps: Vec<Step<Q>>,
+    pub(crate) letters: Vec<SharedLetter<Q>>,
+    pub(crate) history: History,
+    pub(crate) mails: Mails,
+    pub(crate) capacity: usize,
+}
+
+impl<J: Terms<Q>, Q: Quorums> Model for Book<J, Q> {
+    ghost use Rattle.std.specs.Coded.{codes};
+    ghost use Rattle.rambo_names.specs.Names.{names_code};
+    ghost use Rattle.rambo_post.specs.Kept.{BookView, IsBook};
+
+    ghost Value = { BookView Q };
+
+    ghost coded = { Prim.hlevel (codes, names_code, Q.code) };
+
+    ghost view = { λ b. record { founders = b.founders; steps = b.steps.items; capacity = b.capacity } };
+
+    ghost invariant = { λ b. IsBook Q.system J.founders J.capacity b.roll.1 b.founders b.steps.items b.letters.items b.history.events b.capacity };
+}
+
+impl<J: Terms<Q>, Q: Quorums> Book<J, Q> {
+    /// The book of no step.
+    pub(crate) fn new(
+        alloc: Global,
+        founders: Q,
+        capacity: usize,
+        roll: Roll<J, Step<Q>, Actor>,
+        mails: Mails,
+    ) -> Book<J, Q>
+        requires roll { roll.1 ≡ [] }
+        requires founders { J.founders ≡ Some founders }
+        requires capacity { capacity ≡ J.capacity }
+        ensures { result ≡ record { founders = founders; steps = []; capacity = capacity } }
+    {
+        Book {
+            roll,
+            founders,
+            steps: Vec::new(alloc),
+            letters: Vec::new(alloc),
+            history: History::new(alloc),
+            mails,
+            capacity,
+        }
+    }
+
+    /// Of whose keeper a step is, by its place among the 64: any one for a letter that was never sent.
+    pub(crate) fn place_of(&self, step: &Step<Q>) -> usize
+        ensures { result < 64 }
+    {
+        match named_by(self.letters.as_slice(), step) {
+            Some(name) => name.number() as usize - 1,
+            None => 0,
+        }
+    }
+
+    /// Whether a step is of the node of this name, or of none.
+    pub(crate) fn serves(&self, step: &Step<Q>, name: Name) -> bool
+        ensures { result ≡ true → IsServedBy (state Q.system self.now) step.now name }
+    {
+        match named_by(self.letters.as_slice(), step) {
+            Some(own) => own == name,
+            None => true,
+        }
+    }
+
+    /// What holds of every book: its terms, and that none of its steps was refused in its turn.
+    pub fn facts(&self)
+        ensures founders { J.founders ≡ Some self.now.founders }
+        ensures capacity { self.now.capacity ≡ J.capacity }
+        ensures fits { length self.now.steps ≤ self.now.capacity }
+        ensures legal { IsLegal Q.system self.now.founders self.now.steps }
+    {
+        let _ = &self.steps;
+    }
+
+    /// The letters that were sent, as they are kept: each stands for that of its number in the run of the steps, and may
+    /// leave out copies that its addressee holds there.
+    pub fn letters(&self) -> &[SharedLetter<Q>]
+        ensures { AreSent (state Q.system self.now) result.now }
+    {
+        self.letters.as_slice()
+    }
+
+    /// The calls and answers, in order.
+    pub fn history(&self) -> &[Event]
+        ensures { result.now ≡ (run Q.system self.now.founders self.now.steps).history }
+    {
+        self.history.events()
+    }
+}

@@ -1,0 +1,369 @@
+//! The locks.
+ghost use Rattle.std.specs.Prelude.{◌≡◌, ◌<◌, ◌≤◌, ◌⊎◌, [], None, Some, true, false, length, vec_len, IsOk, OnOk, OnErr, IfOk, IfErr, All};
+ghost use Rattle.std.specs.FinMap as map;
+ghost use Rattle.std.specs.FinSet as set;
+ghost use Rattle.rambo_names.specs.Refusals.{least, IsRefusal};
+ghost use Rattle.rambo_run.specs.Worlds.{founding_causes};
+ghost use Rattle.std.specs.Sync.Mutex.{mutex_guard_value};
+ghost use mathlib.Core.List.{IsPrefix};
+ghost use Rattle.rambo_run.specs.Runs.{run};
+ghost use Rattle.rambo_run.specs.Steps.{refusal};
+ghost use Rattle.rambo_post.specs.Kept.{IsServedBy, Told, state};
+ghost use Rattle.rambo_run.specs.Legal.{IsLegal};
+ghost use Rattle.rambo_atomic.specs.Histories.{answer_in};
+ghost use Rattle.rambo_post.specs.Passes.{Acted, IsNoted, WhyNot};
+
+use crate::answer::take_in;
+use crate::book::Book;
+use crate::gate::Gate;
+use crate::keeper::{Actor, Keeper};
+use crate::pass::{Pass, act_in, call_in, close_in, meet_in};
+use crate::sending::send_in;
+use crate::terms::Terms;
+use crate::turn::{Turn, turn_in};
+use crate::waiting::{Mails, bit_of};
+use rambo_atomic::{Answer, CallId, Op};
+use rambo_config_map::ConfigMap;
+use rambo_names::{Members, Name, Quorums, Refusal};
+use rambo_node::Effect;
+use rambo_roll::Opened;
+use rambo_run::{Step, may_found};
+use rambo_tag::Replica;
+use std::alloc::Global;
+use std::sync::atomic::{AtomicU64, Ordering};
+use std::sync::{Mutex, MutexGuard, Wait};
+
+/// What a post leaves when it is closed.
+#[derive(Drop)]
+pub struct Closed<Q: Quorums> {
+    /// All steps that were done, in their order.
+    pub steps: Vec<Step<Q>>,
+    /// One order of the calls of all keys. It isn't given yet.
+    pub order: Option<Vec<CallId>>,
+}
+
+/// A lock for each keeper, and one for the book: a keeper's is taken before the book's, and no thread holds two keepers'.
+///
+/// What one list of steps promises holds of all that clients see, since each pass is a beginning of the book's steps.
+#[derive(Drop)]
+pub struct Post<J: Terms<Q>, Q: Quorums, S: Replica> {
+    // A bit for each name with something to do, as the book last knew. A hint: nothing rests on it.
+    ready: AtomicU64,
+    pub(crate) keepers: Vec<Mutex<Keeper<J, Q, S>>>,
+    pub(crate) book: Mutex<Book<J, Q>>,
+    // Never filled: it tells the prover that a keeper has a size, which it doesn't see behind a `Vec`.
+    spare: Option<Mutex<Keeper<J, Q, S>>>,
+    ghost names: { vec_len keepers ≡ 64 },
+}
+
+impl<J: Terms<Q>, Q: Quorums, S: Replica> Post<J, Q, S> {
+    /// A post of these founders, whose nodes have done nothing, with room for so many steps. Each node's copies are made by
+    /// `fresh` of the replica.
+    ///
+    /// `EmptyMembers` where there is no founder; `OutOfMemory` where there is no room for it.
+    pub fn new(
+        alloc: Global,
+        opened: Opened<Step<Q>, Actor>,
+        founders: Q,
+        capacity: usize,
+        replica: &S,
+    ) -> Result<Post<J, Q, S>, Refusal>
+        requires name { opened ≡ J.table }
+        requires founders { J.founders ≡ Some founders }
+        requires capacity { capacity ≡ J.capacity }
+        ensures founded { OnOk result (least (founding_causes Q.system founders) ≡ None) }
+        ensures refused { IfErr result (IsRefusal (least (founding_causes Q.system founders))) }
+    {
+        Post::with_mail(alloc, opened, founders, capacity, replica, 0, 0)
+    }
+
+    /// The same, but each letter whose number `lose` divides goes to no tray, and each other whose number `twice` divides
+    /// goes there twice. 0 divides none.
+    pub fn with_mail(
+        alloc: Global,
+        opened: Opened<Step<Q>, Actor>,
+        founders: Q,
+        capacity: usize,
+        replica: &S,
+        lose: u64,
+        twice: u64,
+    ) -> Result<Post<J, Q, S>, Refusal>
+        requires name { opened ≡ J.table }
+        requires founders { J.founders ≡ Some founders }
+        requires capacity { capacity ≡ J.capacity }
+        ensures founded { OnOk result (least (founding_causes Q.system founders) ≡ None) }
+        ensures refused { IfErr result (IsRefusal (least (founding_causes Q.system founders))) }
+    {
+        may_found(founders)?;
+        let mails = Mails::new(alloc, lose, twice)?;
+        let mut roll = opened.named::<J>();
+        // Nobody has the name 0.
+        let _ = roll.keeper();
+        let mut keepers = Vec::new(alloc);
+        keepers.reserve(64)?;
+        for place in 0..64u64 {
+            let name = Name::new(place + 1)?;
+            let Ok(registers) = replica.fresh() else {
+                return Err(Refusal::OutOfMemory);
+            };
+            let keeper = Keeper::new(alloc, name, founders, registers, roll.keeper());
+            keepers.push(Mutex::new(keeper))?;
+        }
+        Ok(Post {
+            ready: AtomicU64::new(0),
+            keepers,
+            book: Mutex::new(Book::new(alloc, founders, capacity, roll, mails)),
+            spare: None,
+        })
+    }
+
+    /// A pass that has seen nothing and made no call. It takes no memory.
+    ///
+    /// `NoPassLeft` where 32 were given.
+    pub fn pass<R: Wait>(&self, rt: &R, alloc: Global) -> Result<Pass<J, Q>, Refusal>
+        ensures { IfOk result (λ p. p ≡ record { seen = []; mine = [] }) }
+    {
+        self.book.lock(rt).new_pass(alloc)
+    }
+
+    /// Makes a call at a node for a client: its id. The client has then seen all steps up to it, and it stands last.
+    ///
+    /// Refused is what the rules of a call say, by the least number; else 23 where the book is full; else 22 where there is no
+    /// room. After 22 the pass is as before; after another number its calls are, and the cause holds in the run of what it
+    /// has then seen.
+    pub fn call<R: Wait>(
+        &self,
+        rt: &R,
+        pass: &mut Pass<J, Q>,
+        name: Name,
+        op: Op,
+    ) -> Result<CallId, Refusal>
+        ensures acted { IfOk result (λ id. (f : Q) → J.founders ≡ Some f → Acted Q.system f pass.old pass.new (Step.Call name op) (Effect.Called id)) }
+        ensures begins { IsPrefix pass.old.seen pass.new.seen }
+        ensures err { OnErr result (pass.new.mine ≡ pass.old.mine) }
+        ensures memory { IfErr result (λ r. r ≡ Refusal.OutOfMemory → pass.new ≡ pass.old) }
+        ensures cause { IfErr result (λ r. (f : Q) → J.founders ≡ Some f → (r ≡ Refusal.OutOfMemory) ⊎ Told (refusal Q.system (run Q.system f pass.new.seen) (Step.Call name op)) (length pass.new.seen) J.capacity r) }
+    {
+        let mut keeper = self.keeper_of(rt, name);
+        let mut book = self.book.lock(rt);
+        let id = call_in(&mut book, &mut keeper, pass, name, op);
+        self.tell(&book);
+        id
+    }
+
+    /// Does a step for a client: what it did. The client has then seen all steps up to it, and it stands last.
+    ///
+    /// Refused is what the rules of the step's kind say, by the least number; else 23 where the book is full; else 22 where
+    /// there is no room. After 22 the pass is as before; after another number its calls are, and the cause holds in the run
+    /// of what it has then seen.
+    pub fn act<R: Wait>(
+        &self,
+        rt: &R,
+        pass: &mut Pass<J, Q>,
+        step: Step<Q>,
+    ) -> Result<Effect<Q>, Refusal>
+        ensures acted { IfOk result (λ e. (f : Q) → J.founders ≡ Some f → Acted Q.system f pass.old pass.new step e) }
+        ensures begins { IsPrefix pass.old.seen pass.new.seen }
+        ensures err { OnErr result (pass.new.mine ≡ pass.old.mine) }
+        ensures memory { IfErr result (λ r. r ≡ Refusal.OutOfMemory → pass.new ≡ pass.old) }
+        ensures cause { IfErr result (λ r. (f : Q) → J.founders ≡ Some f → (r ≡ Refusal.OutOfMemory) ⊎ Told (refusal Q.system (run Q.system f pass.new.seen) step) (length pass.new.seen) J.capacity r) }
+    {
+        let (mut keeper, mut book) = self.both(rt, &step);
+        let done = act_in(&mut book, &mut keeper, pass, step);
+        self.tell(&book);
+        done
+    }
+
+    /// Sends a letter from one node to another: its number.
+    ///
+    /// Refused is what the rules of a send say, by the least number; else 23 where the book is full; else 22 where there is no
+    /// room.
+    pub fn send<R: Wait>(&self, rt: &R, from: Name, to: Name) -> Result<u64, Refusal> {
+        let mut keeper = self.keeper_of(rt, from);
+        let mut book = self.book.lock(rt);
+        let number = send_in(&mut book, &mut keeper, from, to);
+        self.tell(&book);
+        number
+    }
+
+    /// To whom a worker of this name writes: while its node is joining or has a call, a collection or an attempt open, all
+    /// that it knows; else those whose marked letters it heard since this was last asked. Itself is never among them.
+    pub fn wanted<R: Wait>(&self, rt: &R, name: Name) -> Members
+        ensures { set.contains result name ≡ false }
+    {
+        self.all_wanted(rt, name).without(name)
+    }
+
+    // The same, with itself perhaps.
+    fn all_wanted<R: Wait>(&self, rt: &R, name: Name) -> Members {
+        let keeper = self.keeper_of(rt, name);
+        if keeper.is_open() {
+            return keeper.known();
+        }
+        self.book.lock(rt).take_heard(name)
+    }
+
+    /// Whether a name may have something to do: a letter that waits, or a step of its own that may go on. It may be out of
+    /// date.
+    pub fn is_ready(&self, name: Name) -> bool {
+        self.ready.load(Ordering::SeqCst) & bit_of(name) != 0
+    }
+
+    // Keeps what the book knows of names with something to do.
+    fn tell(&self, book: &Book<J, Q>) {
+        self.ready.store(book.ready(), Ordering::SeqCst);
+    }
+
+    // Takes the lock of the keeper that may do the step, and then the book's.
+    fn both<'a, R: Wait>(
+        &'a self,
+        rt: &R,
+        step: &Step<Q>,
+    ) -> (MutexGuard<'a, Keeper<J, Q, S>>, MutexGuard<'a, Book<J, Q>>)
+        ensures { IsServedBy (state Q.system (mutex_guard_value result.1)) step.now (mutex_guard_value result.0).name }
+    {
+        for _ in rt.forever() {
+            let place = self.book.lock(rt).place_of(step);
+            let keeper = self.keepers[place].lock(rt);
+            let book = self.book.lock(rt);
+            if book.serves(step, keeper.name()) {
+                return (keeper, book);
+            }
+        }
+        unreachable!()
+    }
+
+    // Takes the lock of the keeper of this name.
+    fn keeper_of<'a, R: Wait>(&'a self, rt: &R, name: Name) -> MutexGuard<'a, Keeper<J, Q, S>>
+        ensures { (mutex_guard_value result).name ≡ name }
+    {
+        let place = place_of(name);
+        for _ in rt.forever() {
+            let keeper = self.keepers[place].lock(rt);
+            if keeper.name() == name {
+                return keeper;
+            }
+        }
+        unreachable!()
+    }
+
+    /// The answer of a call of this client, who has then seen all steps. None where they have no answer of it yet.
+    ///
+    /// `NoSuchCall` where the call isn't this client's; `Stopped` where it has no answer and its node has stopped;
+    /// `OutOfMemory` where the answer can't be shared. After 22 and 7 the pass is as before, after 4 its calls are.
+    pub fn take_answer<R: Wait>(
+        &self,
+        rt: &R,
+        pass: &mut Pass<J, Q>,
+        id: CallId,
+    ) -> Result<Option<Answer>, Refusal>
+        ensures begins { OnOk result (IsPrefix pass.old.seen pass.new.seen) }
+        ensures legal { OnOk result ((f : Q) → J.founders ≡ Some f → IsLegal Q.system f pass.new.seen) }
+        ensures answer { IfOk result (λ a. (f : Q) → J.founders ≡ Some f → a ≡ answer_in (run Q.system f pass.new.seen).history id) }
+        ensures mine { IfOk result (λ a. IsNoted pass.old.mine id a pass.new.mine) }
+        ensures err { OnErr result (pass.new.mine ≡ pass.old.mine) }
+        ensures cause { IfErr result (λ r. (f : Q) → J.founders ≡ Some f → WhyNot Q.system f pass.old pass.new id r) }
+    {
+        let mut keeper = self.keeper_of(rt, id.name);
+        let mut book = self.book.lock(rt);
+        take_in(&mut book, &mut keeper, pass, id)
+    }
+
+    /// The node of this name takes its mail, and does what it then picks.
+    ///
+    /// The gate is told when its keeper's lock is held, and when both locks are free again, whatever the turn answers. Refused
+    /// is 23 where the book is full, 22 where there is no room; the letters that it took stay in its tray.
+    pub fn turn<R: Wait, G: Gate>(&self, rt: &R, name: Name, gate: &G) -> Result<Turn<Q>, Refusal> {
+        let done = self.turn_held(rt, name, gate);
+        gate.ended(name);
+        done
+    }
+
+    // What it does with the locks held.
+    fn turn_held<R: Wait, G: Gate>(
+        &self,
+        rt: &R,
+        name: Name,
+        gate: &G,
+    ) -> Result<Turn<Q>, Refusal> {
+        let mut keeper = self.keeper_of(rt, name);
+        gate.working(name);
+        let mut book = self.book.lock(rt);
+        let done = turn_in(&mut book, &mut keeper);
+        self.tell(&book);
+        done
+    }
+
+    /// The same where the keeper's lock is free; None where it isn't, or the moment is a bad one.
+    pub fn try_turn<R: Wait, G: Gate>(
+        &self,
+        rt: &R,
+        name: Name,
+        gate: &G,
+    ) -> Result<Option<Turn<Q>>, Refusal> {
+        let done = self.try_turn_held(rt, name, gate);
+        gate.ended(name);
+        done
+    }
+
+    // What it does with the locks held.
+    fn try_turn_held<R: Wait, G: Gate>(
+        &self,
+        rt: &R,
+        name: Name,
+        gate: &G,
+    ) -> Result<Option<Turn<Q>>, Refusal> {
+        let Some(mut keeper) = self.keepers[place_of(name)].try_lock() else {
+            return Ok(None);
+        };
+        gate.working(name);
+        let mut book = self.book.lock(rt);
+        let done = turn_in(&mut book, &mut keeper);
+        self.tell(&book);
+        Ok(Some(done?))
+    }
+
+    /// The map of the node of this name. It takes no memory.
+    pub fn map<R: Wait>(&self, rt: &R, name: Name) -> ConfigMap<Q> {
+        self.keeper_of(rt, name).map()
+    }
+
+    /// Two clients meet: both have then seen what the one had that had seen more, which what the other had seen begins. So
+    /// what either calls later stands behind all that both had seen.
+    pub fn meet<R: Wait>(
+        &self,
+        rt: &R,
+        one: &mut Pass<J, Q>,
+        other: &mut Pass<J, Q>,
+    ) -> Result<(), Refusal>
+        ensures ok { IsOk result }
+        ensures same { (one.new.seen ≡ other.new.seen) × (one.new.mine ≡ one.old.mine) × (other.new.mine ≡ other.old.mine) }
+        ensures longer { ((one.new.seen ≡ one.old.seen) × IsPrefix other.old.seen one.old.seen) ⊎ ((one.new.seen ≡ other.old.seen) × IsPrefix one.old.seen other.old.seen) }
+    {
+        meet_in(&mut self.book.lock(rt), one, other);
+        Ok(())
+    }
+
+    /// All steps: none was refused in its turn, and what each client has seen begins them. It takes no memory.
+    pub fn close(self, passes: Vec<Pass<J, Q>>) -> Closed<Q>
+        ensures legal { (f : Q) → J.founders ≡ Some f → IsLegal Q.system f result.steps.items }
+        ensures fits { length result.steps.items ≤ J.capacity }
+        ensures begins { All (λ p. IsPrefix p.seen result.steps.items) passes.items }
+    {
+        let Post {
+            ready: _,
+            keepers: _keepers,
+            book,
+            spare: _spare,
+        } = self;
+        let steps = close_in(book.into_inner(), passes);
+        Closed { steps, order: None }
+    }
+}
+
+// The place of a name among the 64.
+fn place_of(name: Name) -> usize
+    ensures { result < 64 }
+{
+    name.number() as usize - 1
+}
