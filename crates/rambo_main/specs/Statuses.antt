@@ -16,9 +16,8 @@ use Rattle.rambo_client.specs.declared.fault.LocalFault.TheVariants as local
 use Rattle.rambo_client.specs.Talks.{Served, Stopped}
 use Rattle.rambo_command_line.specs.Lines.{rambo, founders_or, IsFounders, IsServing}
 use Rattle.rambo_command_line.specs.declared.serving.Serving.{Serving}
-use Rattle.rambo_run.specs.declared.step.Step.{Step}
 use Rattle.rambo_serving.specs.declared.ending.Ending.{Ending}
-use Rattle.rambo_serving.specs.Endings as endings
+use Rattle.rambo_main.specs.Servers as servers
 use Rattle.rambo_telling.specs.Telling.{Stream, IsFine, Takes, Tells, GivesUp, EndsAs, fault_line, status_of, stream}
 
 -- A command ended by a fault: one call of the reader failed after Read and one of the writer after Write, and none else;
@@ -130,16 +129,16 @@ LocalTo words status read write told =
     (EndsBy Memory status read write told × Keeps write.old write.new)
     ⊎ ((founders : Option NameSet) × IsFounders (founders_or (codes "1") words) founders × LocalEnds founders status read write told)
 
--- how serving many clients ends
-abbrev pub ServeEnds : {E : Type 0} → (E → Option (List ℕ)) → (E → ℕ) → (NameSet → Serving → List (Step NameSet) → Type 0) → Serving → Option NameSet → Ending → Stream → E → E → Type 0
-ServeEnds taken failures MayGive s (Some founders) e write old new = endings.ServesTo taken failures s.port (MayGive founders s) founders e write old new
-ServeEnds taken failures MayGive s None e write old new = IsRefused e.status write (stream taken failures old new) × (e.trace ≡ None)
+-- how serving many clients ends, where there are founders
+abbrev pub ServeEnds : {E : Type 0} → (E → Option (List ℕ)) → (E → ℕ) → Serving → Option NameSet → Ending → Stream → E → E → Type 0
+ServeEnds taken failures s (Some founders) e write old new = servers.ServesTo taken failures s founders e write old new
+ServeEnds taken failures s None e write old new = IsRefused e.status write (stream taken failures old new) × (e.trace ≡ None)
 
 -- how words end that ask for it, unless there was no room to read them
-abbrev pub ServeTo : {E : Type 0} → (E → Option (List ℕ)) → (E → ℕ) → (NameSet → Serving → List (Step NameSet) → Type 0) → List Text → Ending → Stream → E → E → Type 0
-ServeTo taken failures MayGive words e write old new =
+abbrev pub ServeTo : {E : Type 0} → (E → Option (List ℕ)) → (E → ℕ) → List Text → Ending → Stream → E → E → Type 0
+ServeTo taken failures words e write old new =
     (GivesUp e.status write (stream taken failures old new) × (e.trace ≡ None))
-    ⊎ ((s : Serving) × IsServing words s × ServeEnds taken failures MayGive s s.founders e write old new)
+    ⊎ ((s : Serving) × IsServing words s × ServeEnds taken failures s s.founders e write old new)
 
 -- how a command of words that ask for no task ends
 abbrev pub AnswersTo : List Text → ℕ → Stream → Stream → Type 0

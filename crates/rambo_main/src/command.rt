@@ -1,8 +1,7 @@
-//! The program's work over any streams, and over anything that serves clients.
-ghost use Rattle.std.specs.Prelude.{◌≡◌, ◌≤◌, ◌⊎◌, None, IfSome, map};
+//! The program's work over any streams.
+ghost use Rattle.std.specs.Prelude.{◌≡◌, ◌≤◌, ◌⊎◌, None, map};
 ghost use Rattle.rambo_names.specs.Names.{count_of};
 ghost use Rattle.rambo_command_line.specs.Lines.{Asks, AsksLocal, AsksServe};
-ghost use Rattle.rambo_serving.specs.Servers.{IsInRange};
 ghost use Rattle.clap.specs.Words.{kind_of};
 ghost use Rattle.rambo_telling.specs.Telling.{EndsAs, GivesUp, Tells, stream};
 ghost use Rattle.rambo_main.specs.Statuses.{
@@ -18,6 +17,7 @@ ghost use Rattle.rambo_main.specs.Statuses.{
 };
 ghost use Rattle.rambo_command_line.specs.declared.line.Task.{Task as AnyTask};
 
+use crate::loopback::serve_clients;
 use clap::Error;
 use clap::error::ErrorKind;
 use rambo_atomic::{Sink, Source};
@@ -27,16 +27,21 @@ use rambo_direct::local;
 use rambo_names::{Majority, Members};
 use rambo_outcome::check_text;
 use rambo_replay::replay;
-use rambo_serving::{Ending, Server, serve_clients};
+use rambo_serving::Ending;
 use rambo_telling::{DONE, answer, tell, tell_bad_founders};
 use rambo_text::ReplayFault;
 use std::alloc::Global;
 use std::convert::AsStr;
+use std::net::{Net, TcpListener, TcpStream};
+use std::random::RandomSource;
+use std::sync::Wait;
+use std::thread::Threads;
+use std::time::Clock;
 
 /// The exit status of a check that said no of some key.
 const SAID_NO: u8 = 3;
 
-/// Does what the words behind the program's name ask for, and answers how that ended.
+/// Does what the words behind the program's name ask for, and answers how that ended. Sockets and threads are the host's.
 ///
 /// - 0: done. Of words that ask for no task, help or the version was written.
 /// - 1: the reader, the writer or the server failed or memory ran out.
@@ -45,14 +50,21 @@ const SAID_NO: u8 = 3;
 ///
 /// After 1 and 2 the cause was told to `errors`, as far as these took it. A failure of `errors` themselves changes no
 /// status: there is nowhere left to tell it.
-pub fn command<S: AsStr, V: Server, R: Source, W: Sink, E: Sink>(
+pub fn command<S: AsStr, H, R: Source, W: Sink, E: Sink>(
+    host: &H,
     alloc: Global,
     words: &[S],
-    server: &V,
     reader: &mut R,
     writer: &mut W,
     errors: &mut E,
 ) -> Ending
+where
+    H: Net<Listener = TcpListener, Stream = TcpStream>
+        + Threads
+        + Wait
+        + Clock
+        + RandomSource
+        + Sync,
     ensures replay { Asks (map S.text words.now) Task.Replay
         → ReplaysTo result.status (stream R.left R.failures reader.old reader.new)
         (stream W.taken W.failures writer.old writer.new)
@@ -66,7 +78,7 @@ pub fn command<S: AsStr, V: Server, R: Source, W: Sink, E: Sink>(
         (stream W.taken W.failures writer.old writer.new)
         (stream E.taken E.failures errors.old errors.new) }
     ensures serve { AsksServe (map S.text words.now)
-        → ServeTo E.taken E.failures (V.may_give server.now) (map S.text words.now) result
+        → ServeTo E.taken E.failures (map S.text words.now) result
         (stream W.taken W.failures writer.old writer.new) errors.old errors.new × (reader.new ≡ reader.old) }
     ensures other { ((t : AnyTask) → ¬ (Asks (map S.text words.now) t))
         → AnswersTo (map S.text words.now) result.status (stream W.taken W.failures writer.old writer.new)
@@ -80,26 +92,31 @@ pub fn command<S: AsStr, V: Server, R: Source, W: Sink, E: Sink>(
         Ok(Task::Check) => checked(alloc, reader, writer, errors),
         Ok(Task::Local(Some(founders))) => served(alloc, founders, reader, writer, errors),
         Ok(Task::Local(None)) => rejected(errors),
-        Ok(Task::Serve(serving)) => serve(alloc, server, &serving, writer, errors),
+        Ok(Task::Serve(serving)) => serve(host, alloc, &serving, writer, errors),
         Err(error) => shown(alloc, &error, writer, errors),
     }
 }
 
-// Many clients are served by a server, where there are founders.
-fn serve<V: Server, W: Sink, E: Sink>(
+// Many clients are served, where there are founders.
+fn serve<H, W: Sink, E: Sink>(
+    host: &H,
     alloc: Global,
-    server: &V,
     serving: &Serving,
     writer: &mut W,
     errors: &mut E,
 ) -> Ending
-    requires founders { IfSome serving.now.founders (λ founders. 1 ≤ count_of founders) }
-    requires range { IsInRange serving.now }
-    ensures { ServeEnds E.taken E.failures (V.may_give server.now) serving.now serving.now.founders result
+where
+    H: Net<Listener = TcpListener, Stream = TcpStream>
+        + Threads
+        + Wait
+        + Clock
+        + RandomSource
+        + Sync,
+    ensures { ServeEnds E.taken E.failures serving.now serving.now.founders result
         (stream W.taken W.failures writer.old writer.new) errors.old errors.new }
 {
     match serving.founders {
-        Some(founders) => serve_clients(alloc, server, founders, serving, writer, errors),
+        Some(founders) => serve_clients(host, alloc, founders, serving, writer, errors),
         None => rejected(errors),
     }
 }

@@ -7,7 +7,6 @@ mod loopback;
 
 use command::command;
 use log::info;
-use loopback::Loopback;
 use rambo_atomic::Wrapped;
 use rambo_serving::Ending;
 use rambo_telling::{tell, tell_no_text};
@@ -23,9 +22,9 @@ fn main(rt: HostRuntime) -> ExitCode {
             let mut reader = Wrapped::new(rt.stdin());
             let mut writer = Wrapped::new(rt.stdout());
             command(
+                &rt,
                 rt.alloc(),
                 words.as_slice(),
-                &Loopback { rt: &rt },
                 &mut reader,
                 &mut writer,
                 &mut errors,

@@ -1,14 +1,11 @@
-//! Clients are served, and the trace of it all is written.
+//! What a server leaves.
 //!
-//! - `Server`: what serves them, the sockets of this machine or a stand-in.
-//! - `serve_clients`: tells the port, serves, and writes the trace then.
+//! - `write_steps`: the trace of its steps is written, and how that ends.
 //! - `Ending`: how a command ended.
 #![tactic(auto)]
 
 mod ending;
-mod server;
-mod serving;
+mod tracing;
 
 pub use ending::Ending;
-pub use server::{Server, ServerFault};
-pub use serving::serve_clients;
+pub use tracing::write_steps;
