@@ -19,7 +19,11 @@ use Rattle.clap.specs.declared.error.kind.ErrorKind.{ErrorKind}
 use Rattle.clap.specs.declared.error.kind.ErrorKind.TheVariants.{UnknownArgument, InvalidSubcommand, OutOfMemory}
 use Rattle.clap.proofs.OnLiterals.{clap_on_literals}
 use Rattle.clap.proofs.WalkLemmas.{first_value-rows, walk_stopped}
-use Rattle.rambo_command_line.specs.Lines.{AsksByName, AsksLocal, founders_word, plain as plain_shape, rambo}
+use Rattle.rambo_command_line.proofs.NoKinds.{first_none, second_none, some_kind}
+use Rattle.rambo_command_line.specs.declared.line.Task.{Task as AnyTask}
+use Rattle.rambo_command_line.specs.declared.line.Task.TheVariants as line
+use Rattle.rambo_command_line.specs.Lines as lines
+use Rattle.rambo_command_line.specs.Lines.{AsksByName, AsksFor, named, plain as plain_shape, rambo, word_behind}
 
 -- the tasks that have no arguments
 pub data Task : Type 0 where
@@ -35,23 +39,6 @@ Asks words t = AsksByName words (name_of t)
 
 abbrev subcommand : Task → Shape
 subcommand t = plain_shape (name_of t)
-
--- ---- lists of kinds
-
-abbrev is_none : Kinds → Bool
-is_none [] = true
-is_none (k ∷ ks) = false
-
-some_kind : (k : ErrorKind) (ks : Kinds) → k ∷ ks ≡ [] → ⊥
-some_kind k ks e = true≢false (sym (ap is_none e))
-
-first_none : (a b : Kinds) → or_else a b ≡ [] → a ≡ []
-first_none [] b e = refl
-first_none (k ∷ ks) b e = absurd (some_kind _ _ e)
-
-second_none : (a b : Kinds) → or_else a b ≡ [] → b ≡ []
-second_none [] b e = e
-second_none (k ∷ ks) b e = absurd (some_kind _ _ e)
 
 stray_at : (is_leaf : Bool) → cond is_leaf (UnknownArgument ∷ []) (UnknownArgument ∷ InvalidSubcommand ∷ []) ≡ [] → ⊥
 stray_at true e = some_kind _ _ e
@@ -230,25 +217,36 @@ local_named words =
     subst (λ (w : Walk). option_map (λ p. p.0) (entered (built rambo) w.stopped) ≡ Some (codes "local"))
     (walk_stopped top.rules names (walk_from nothing_held) (codes "local") [] words) refl
 
--- the first word is one of the four names, or none
-abbrev Found : List Text → Type 0
-Found words = ((t : Task) × Asks words t) ⊎ (option_map (λ p. p.0) (subcommand_of rambo words) ≡ Some (codes "local"))
+-- and those behind `serve`
+pub serve_named : (words : List Text) → option_map (λ p. p.0) (subcommand_of rambo (codes "serve" ∷ words)) ≡ Some (codes "serve")
+unfolding walked
+serve_named words =
+    subst (λ (w : Walk). option_map (λ p. p.0) (entered (built rambo) w.stopped) ≡ Some (codes "serve"))
+    (walk_stopped top.rules names (walk_from nothing_held) (codes "serve") [] words) refl
 
-first_at : (r c l h : Bool) (word : Text) (words : List Text) → bytes_eq (codes "replay") word ≡ r → bytes_eq (codes "check") word ≡ c → bytes_eq (codes "local") word ≡ l → bytes_eq (codes "help") word ≡ h
-    → fault_of rambo (word ∷ words) ≡ [] → Found (word ∷ words)
-first_at true c l h word words is_r is_c is_l is_h e = inl (Replay, named_at Replay word words ((bytes_eq-Decides (codes "replay") word).0 is_r) e)
-first_at false true l h word words is_r is_c is_l is_h e = inl (Check, named_at Check word words ((bytes_eq-Decides (codes "check") word).0 is_c) e)
-first_at false false true h word words is_r is_c is_l is_h e =
-    inr (subst (λ (w : Text). option_map (λ p. p.0) (subcommand_of rambo (w ∷ words)) ≡ Some (codes "local")) ((bytes_eq-Decides (codes "local") word).0 is_l) (local_named words))
-first_at false false false true word words is_r is_c is_l is_h e =
+-- the first word is one of the five names, or none
+abbrev Found : List Text → Type 0
+Found words = ((t : Task) × Asks words t) ⊎ (named words ≡ Some (codes "local")) ⊎ (named words ≡ Some (codes "serve"))
+
+first_at : (r c l s h : Bool) (word : Text) (words : List Text) → bytes_eq (codes "replay") word ≡ r → bytes_eq (codes "check") word ≡ c → bytes_eq (codes "local") word ≡ l
+    → bytes_eq (codes "serve") word ≡ s → bytes_eq (codes "help") word ≡ h → fault_of rambo (word ∷ words) ≡ [] → Found (word ∷ words)
+first_at true c l s h word words is_r is_c is_l is_s is_h e = inl (Replay, named_at Replay word words ((bytes_eq-Decides (codes "replay") word).0 is_r) e)
+first_at false true l s h word words is_r is_c is_l is_s is_h e = inl (Check, named_at Check word words ((bytes_eq-Decides (codes "check") word).0 is_c) e)
+first_at false false true s h word words is_r is_c is_l is_s is_h e =
+    inr (inl (subst (λ (w : Text). named (w ∷ words) ≡ Some (codes "local")) ((bytes_eq-Decides (codes "local") word).0 is_l) (local_named words)))
+first_at false false false true h word words is_r is_c is_l is_s is_h e =
+    inr (inr (subst (λ (w : Text). named (w ∷ words) ≡ Some (codes "serve")) ((bytes_eq-Decides (codes "serve") word).0 is_s) (serve_named words)))
+first_at false false false false true word words is_r is_c is_l is_s is_h e =
     absurd (help_fails words (subst (λ (w : Text). fault_of rambo (w ∷ words) ≡ []) (sym ((bytes_eq-Decides (codes "help") word).0 is_h)) e))
-first_at false false false false word words is_r is_c is_l is_h e =
-    let unmet : subcommand_met names idle word ≡ None = rw (is_r, is_c, is_l, is_h) refl in
+first_at false false false false false word words is_r is_c is_l is_s is_h e =
+    let unmet : subcommand_met names idle word ≡ None = rw (is_r, is_c, is_l, is_s, is_h) refl in
     absurd (other_at (bytes_eq word (codes "--")) word words refl unmet e)
 
 pub faultless_asks : (words : List Text) → fault_of rambo words ≡ [] → Found words
 faultless_asks [] e = absurd (no_words_fail e)
-faultless_asks (word ∷ words) e = first_at (bytes_eq (codes "replay") word) (bytes_eq (codes "check") word) (bytes_eq (codes "local") word) (bytes_eq (codes "help") word) word words refl refl refl refl e
+faultless_asks (word ∷ words) e =
+    first_at (bytes_eq (codes "replay") word) (bytes_eq (codes "check") word) (bytes_eq (codes "local") word) (bytes_eq (codes "serve") word) (bytes_eq (codes "help") word)
+    word words refl refl refl refl refl e
 
 -- ---- words that ask for a task
 
@@ -270,9 +268,31 @@ memory_alone : (e : Error) → HasKind [] e → kind_of e ≡ OutOfMemory
 memory_alone e (inl is) = is
 memory_alone e (inr among) = absurd among
 
-pub asks_named : (words : List Text) (t : Task) → Asks words t → option_map (λ p. p.0) (subcommand_of rambo words) ≡ Some (name_of t)
+pub asks_named : (words : List Text) (t : Task) → Asks words t → named words ≡ Some (name_of t)
 asks_named words t (inl is) = subst (λ (ws : List Text). option_map (λ p. p.0) (subcommand_of rambo ws) ≡ Some (name_of t)) (sym is) (at_literal t).1
 asks_named words t (inr is) = subst (λ (ws : List Text). option_map (λ p. p.0) (subcommand_of rambo ws) ≡ Some (name_of t)) (sym is) (at_marked t).1
+
+-- no words are taken for commands of two names
+pub not_both : (words : List Text) (a b : Text) → bytes_eq a b ≡ false → named words ≡ Some a → named words ≡ Some b → ⊥
+not_both words a b apart is also =
+    let same : a ≡ b = ap (λ (o : Option Text). unwrap_or o a) (sym is ∙ also) in
+    true≢false (sym ((bytes_eq-Decides a b).1 same) ∙ apart)
+
+pub task_faultless : (words : List Text) (t : AnyTask) → lines.Asks words t → fault_of rambo words ≡ []
+task_faultless words line.Replay asks = asks_faultless words Replay asks
+task_faultless words line.Check asks = asks_faultless words Check asks
+task_faultless words (line.Local founders) asks = asks.0.0
+task_faultless words (line.Serve serving) asks = asks.0.0
+
+pub task_named : (words : List Text) (t : AnyTask) → lines.Asks words t → named words ≡ Some (lines.name_of t)
+task_named words line.Replay asks = asks_named words Replay asks
+task_named words line.Check asks = asks_named words Check asks
+task_named words (line.Local founders) asks = asks.0.1
+task_named words (line.Serve serving) asks = asks.0.1
+
+-- words that ask for a task ask for none of another name
+pub one_task : (words : List Text) (t : AnyTask) (name : Text) → bytes_eq (lines.name_of t) name ≡ false → lines.Asks words t → named words ≡ Some name → ⊥
+one_task words t name apart asks = not_both words (lines.name_of t) name apart (task_named words t asks)
 
 pub rambo_is_free : is_simple_and_free rambo ≡ true
 unfolding clap_on_literals
@@ -288,14 +308,6 @@ rows_read : (f : List Row → Option Text) (o : Option (Text × List Row)) → o
 rows_read f None = refl
 rows_read f (Some p) = refl
 
-replay_at : (words : List Text) (t : Task) → Asks words t → option_map (λ p. p.0) (subcommand_of rambo words) ≡ Some (codes "replay") → Asks words Replay
-replay_at words Replay asks is = asks
-replay_at words Check asks is = absurd (true≢false (ap (λ (o : Option Text). option_map_or (bytes_eq (codes "replay")) o true) (sym is ∙ asks_named words Check asks)))
-
-check_at : (words : List Text) (t : Task) → Asks words t → ¬ (option_map (λ p. p.0) (subcommand_of rambo words) ≡ Some (codes "replay")) → Asks words Check
-check_at words Replay asks is_not = absurd (is_not (asks_named words Replay asks))
-check_at words Check asks is_not = asks
-
 rambo_is_simple : is_simple rambo ≡ true
 unfolding clap_on_literals
 rambo_is_simple = refl
@@ -308,43 +320,55 @@ module _ (words : List Text) (m : ArgMatches) (faultless : fault_of rambo words 
   rows_are : subcommand_rows_of m ≡ subcommand_of rambo words
   rows_are = (matches rambo_is_simple).1
 
-  -- what stands behind `--founders`
-  pub word_is : (local : ArgMatches) → option_map (λ p. p.1) (subcommand_rows_of m) ≡ Some (rows_of (found_of local))
-      → founders_word words ≡ unwrap_or (first_value (found_of local) (codes "founders")) (codes "1")
-  word_is local e =
-      ap (λ o. unwrap_or (option_and_then (λ p. first_of (codes "founders") p.1) o) (codes "1")) (sym rows_are)
-      ∙ ap (λ o. unwrap_or o (codes "1"))
-      (rows_read (first_of (codes "founders")) (subcommand_rows_of m) ∙ ap (option_and_then (first_of (codes "founders"))) e ∙ sym (first_value-rows (found_of local) (codes "founders")))
+  -- what stands behind an option
+  pub word_is : (option : Text) (sub : ArgMatches) → option_map (λ p. p.1) (subcommand_rows_of m) ≡ Some (rows_of (found_of sub))
+      → word_behind option words ≡ first_value (found_of sub) option
+  word_is option sub e =
+      ap (option_and_then (λ p. first_of option p.1)) (sym rows_are)
+      ∙ rows_read (first_of option) (subcommand_rows_of m) ∙ ap (option_and_then (first_of option)) e ∙ sym (first_value-rows (found_of sub) option)
 
-  named : option_map (λ p. p.0) (subcommand_of rambo words) ≡ subcommand_name_of m
-  named = ap (option_map (λ p. p.0)) (sym rows_are) ∙ name_read (λ p. p.0) _ (out-ArgMatches m).subcommand
+  named_is : named words ≡ subcommand_name_of m
+  named_is = ap (option_map (λ p. p.0)) (sym rows_are) ∙ name_read (λ p. p.0) _ (out-ArgMatches m).subcommand
+
+  pub met_named : (name : Text) → subcommand_name_of m ≡ Some name → AsksFor name words
+  met_named name met = (faultless, named_is ∙ met)
+
+  -- the rows of the command that a parse met
+  pub rows_met : (name : Text) (sub : ArgMatches) → subcommand_name_of m ≡ Some name → option_map (λ p. p.1) (subcommand_rows_of m) ≡ Some (rows_of (found_of sub))
+      → subcommand_of rambo words ≡ Some (name, rows_of (found_of sub))
+  rows_met name sub met rows = sym rows_are ∙ both _ (name_read (λ p. p.0) _ (out-ArgMatches m).subcommand ∙ met) rows
+    where
+      both : (o : Option (Text × List Row)) → option_map (λ p. p.0) o ≡ Some name → option_map (λ p. p.1) o ≡ Some (rows_of (found_of sub)) → o ≡ Some (name, rows_of (found_of sub))
+      both None is also = absurd (true≢false (ap (λ (o : Option Text). option_map_or (λ t. false) o true) is))
+      both (Some p) is also =
+          ap₂ (λ (n : Text) (rs : List Row). Some (n, rs)) (ap (λ (o : Option Text). unwrap_or o name) is) (ap (λ (o : Option (List Row)). unwrap_or o p.1) also)
+
+  by_name : (name : Text) (t : Task) → Asks words t → named words ≡ Some name → bytes_eq (name_of t) name ≡ false → ⊥
+  by_name name t asks is apart = not_both words (name_of t) name apart (asks_named words t asks) is
 
   pub met_replay : subcommand_name_of m ≡ Some (codes "replay") → AsksByName words (codes "replay")
-  met_replay met = elim (faultless_asks words faultless) [
-    | inl asks ↦ replay_at words asks.0 asks.1 (named ∙ met)
-    | inr local ↦ absurd (true≢false (ap (λ (o : Option Text). option_map_or (bytes_eq (codes "local")) o true) (sym local ∙ named ∙ met)))
-  ]
+  met_replay met = at (faultless_asks words faultless)
+    where
+      at : Found words → AsksByName words (codes "replay")
+      at (inl (Replay, asks)) = asks
+      at (inl (Check, asks)) = absurd (by_name (codes "replay") Check asks (named_is ∙ met) refl)
+      at (inr (inl local)) = absurd (not_both words (codes "local") (codes "replay") refl local (named_is ∙ met))
+      at (inr (inr serve)) = absurd (not_both words (codes "serve") (codes "replay") refl serve (named_is ∙ met))
 
-  pub met_check : ¬ (subcommand_name_of m ≡ Some (codes "replay")) → ¬ (subcommand_name_of m ≡ Some (codes "local")) → AsksByName words (codes "check")
-  met_check unmet not_local = elim (faultless_asks words faultless) [
-    | inl asks ↦ check_at words asks.0 asks.1 (λ met. unmet (sym named ∙ met))
-    | inr local ↦ absurd (not_local (sym named ∙ local))
-  ]
+  pub met_check : ¬ (subcommand_name_of m ≡ Some (codes "replay")) → ¬ (subcommand_name_of m ≡ Some (codes "local")) → ¬ (subcommand_name_of m ≡ Some (codes "serve"))
+      → AsksByName words (codes "check")
+  met_check unmet not_local not_serve = at (faultless_asks words faultless)
+    where
+      at : Found words → AsksByName words (codes "check")
+      at (inl (Replay, asks)) = absurd (unmet (sym named_is ∙ asks_named words Replay asks))
+      at (inl (Check, asks)) = asks
+      at (inr (inl local)) = absurd (not_local (sym named_is ∙ local))
+      at (inr (inr serve)) = absurd (not_serve (sym named_is ∙ serve))
 
-  pub met_local : subcommand_name_of m ≡ Some (codes "local") → AsksLocal words
-  met_local met = (faultless, named ∙ met)
+-- the kind of an error that words give in which there is no fault
+pub faultless_memory : (words : List Text) (e : Error) → fault_of rambo words ≡ [] → HasKind (fault_of rambo words) e → kind_of e ≡ OutOfMemory
+faultless_memory words e fine kind = memory_alone e (subst (λ (kinds : Kinds). HasKind kinds e) fine kind)
 
--- the kind of an error that such words give
-pub asks_memory : (words : List Text) (name : Text) (e : Error) → (name ≡ codes "replay") ⊎ (name ≡ codes "check") → AsksByName words name → HasKind (fault_of rambo words) e → kind_of e ≡ OutOfMemory
-asks_memory words name e (inl is) asks kind = memory_alone e (subst (λ (kinds : Kinds). HasKind kinds e) (asks_faultless words Replay (subst (AsksByName words) is asks)) kind)
-asks_memory words name e (inr is) asks kind = memory_alone e (subst (λ (kinds : Kinds). HasKind kinds e) (asks_faultless words Check (subst (AsksByName words) is asks)) kind)
-
-pub local_memory : (words : List Text) (e : Error) → AsksLocal words → HasKind (fault_of rambo words) e → kind_of e ≡ OutOfMemory
-local_memory words e asks kind = memory_alone e (subst (λ (kinds : Kinds). HasKind kinds e) asks.0 kind)
-
--- no words ask for two of them
-pub replay_or_local : (words : List Text) → AsksByName words (codes "replay") → AsksLocal words → ⊥
-replay_or_local words asks local = true≢false (ap (λ (o : Option Text). option_map_or (bytes_eq (codes "local")) o true) (sym local.1 ∙ asks_named words Replay asks))
-
-pub check_or_local : (words : List Text) → AsksByName words (codes "check") → AsksLocal words → ⊥
-check_or_local words asks local = true≢false (ap (λ (o : Option Text). option_map_or (bytes_eq (codes "local")) o true) (sym local.1 ∙ asks_named words Check asks))
+-- an error of a parse has one of the kinds of its words
+pub kinds_as : (a : App) (words : List Text) (e : Error) → a ≡ rambo → (is_simple_and_free a ≡ true → HasKind (fault_of a words) e) → HasKind (fault_of rambo words) e
+kinds_as a words e is kinds = subst (λ (b : App). HasKind (fault_of b words) e) is (kinds (ap is_simple_and_free is ∙ rambo_is_free))

@@ -1,23 +1,30 @@
 -- Command lines
 use Rattle.std.specs.Prelude.{◌≡◌, ◌≢◌, ◌⊎◌, ◌≤◌, ℕ, true, false, List, [], ◌∷◌, Option, None, Some, option_map, codes}
-use Rattle.std.specs.Option.{option_and_then, unwrap_or}
+use Rattle.std.specs.Option.{option_and_then, option_map_or, unwrap_or}
+use Rattle.std.specs.Str.Parse.{digits_value, without_leading_plus}
 use Rattle.clap.specs.declared.builder.action.ArgAction.TheVariants.{Set}
 use Rattle.clap.specs.declared.builder.command.Command.{Command}
+use Rattle.clap.specs.declared.builder.value_parser.ValueParser.TheVariants.{Unsigned}
 use Rattle.clap.specs.declared.builder.command.Command.TheViews.{out-Command}
 use Rattle.clap.specs.Words.{App, Rule, Shape, fault_of, first_of, new_app, new_rule, shape_of, subcommand_of, with_rule, with_subcommand}
 use Rattle.rambo_names.specs.Names.{NameSet, count_of}
 use Rattle.rambo_names.specs.Signs.{set_text}
 use Rattle.rambo_command_line.specs.declared.line.Task.{Task}
-use Rattle.rambo_command_line.specs.declared.line.Task.TheVariants.{Replay, Check, Local}
+use Rattle.rambo_command_line.specs.declared.line.Task.TheVariants.{Replay, Check, Local, Serve}
+use Rattle.rambo_command_line.specs.declared.serving.Serving.{Serving}
 
 -- the word for a task
 abbrev pub name_of : Task → List ℕ
 name_of Replay = codes "replay"
 name_of Check = codes "check"
 name_of (Local founders) = codes "local"
+name_of (Serve serving) = codes "serve"
 
--- the program as clap reads it: three commands, of which one is wanted, behind no name. Two have no arguments, and one has
--- an option with a value
+abbrev pub serve_name : List ℕ
+serve_name = codes "serve"
+
+-- the program as clap reads it: four commands, of which one is wanted, behind no name. Two have no arguments, and two have
+-- options with values
 abbrev pub program : App
 program = record {
   top = record (new_app (codes "rambo")).top { has_version = true; no_binary_name = true; subcommand_required = true };
@@ -37,28 +44,87 @@ with_founders = (with_rule (new_app (codes "local")) founders_rule).top
 abbrev pub IsLocal : Command → Type 0
 IsLocal c = (shape_of c ≡ with_founders) × ((out-Command c).has_globals ≡ false)
 
-abbrev pub rambo : App
-rambo = with_subcommand (with_subcommand (with_subcommand program (plain (codes "replay"))) (plain (codes "check"))) with_founders
+-- the option of a number from the least to the most
+abbrev pub number_rule : List ℕ → ℕ → ℕ → Rule
+number_rule option least most =
+    record (new_rule option) { long = Some option; action = Some Set; value_names = 1; parser = Some (Unsigned least most) }
 
--- what stands behind `--founders`, or `1` where that isn't there
-abbrev pub founders_word : List (List ℕ) → List ℕ
-founders_word words = unwrap_or (option_and_then (λ p. first_of (codes "founders") p.1) (subcommand_of rambo words)) (codes "1")
+-- the command that serves many clients, with what tells where and how many
+abbrev pub with_network : App
+with_network =
+    with_rule (with_rule (with_rule (with_rule (new_app serve_name)
+    (number_rule (codes "port") 0 65535)) founders_rule) (number_rule (codes "clients") 1 32)) (number_rule (codes "steps") 1 1000000)
+
+-- and with what befalls its letters
+abbrev pub with_options : Shape
+with_options =
+    (with_rule (with_rule with_network (number_rule (codes "lose") 0 18446744073709551615))
+    (number_rule (codes "twice") 0 18446744073709551615)).top
+
+-- a command that has these, and no argument that others share
+abbrev pub IsServe : Command → Type 0
+IsServe c = (shape_of c ≡ with_options) × ((out-Command c).has_globals ≡ false)
+
+abbrev pub rambo : App
+rambo =
+    with_subcommand (with_subcommand (with_subcommand (with_subcommand program (plain (codes "replay"))) (plain (codes "check"))) with_founders)
+    with_options
+
+-- the name of the command that the words are taken for
+abbrev pub named : List (List ℕ) → Option (List ℕ)
+named words = option_map (λ p. p.0) (subcommand_of rambo words)
+
+-- what stands behind an option of that command, where it is there
+abbrev pub word_behind : List ℕ → List (List ℕ) → Option (List ℕ)
+word_behind option words = option_and_then (λ p. first_of option p.1) (subcommand_of rambo words)
+
+-- what stands behind `--founders`, or these where that isn't there
+abbrev pub founders_or : List ℕ → List (List ℕ) → List ℕ
+founders_or others words = unwrap_or (word_behind (codes "founders") words) others
 
 -- the word is the sign of a set of founders, or of none, or no sign of a set
 abbrev pub IsFounders : List ℕ → Option NameSet → Type 0
 IsFounders word (Some founders) = (word ≡ set_text founders) × (1 ≤ count_of founders)
 IsFounders word None = (word ≡ codes "-") ⊎ ((s : NameSet) → word ≢ set_text s)
 
+-- the number that a word spells, before which a plus may stand
+abbrev pub number_of : List ℕ → ℕ
+number_of word = digits_value 10 (without_leading_plus word)
+
+-- n is the number behind an option, or the other one where that isn't there, and lies in a range
+pub record IsNumberBehind (option : List ℕ) (other least most : ℕ) (words : List (List ℕ)) (n : ℕ) : Type 0 where
+  pub number : n ≡ option_map_or number_of (word_behind option words) other
+  pub from : least ≤ n
+  pub to : n ≤ most
+
+-- what words ask of a server
+pub record IsServing (words : List (List ℕ)) (s : Serving) : Type 0 where
+  pub port : IsNumberBehind (codes "port") 0 0 65535 words s.port
+  pub founders : IsFounders (founders_or (codes "1,2,3") words) s.founders
+  pub clients : IsNumberBehind (codes "clients") 8 1 32 words s.clients
+  pub steps : IsNumberBehind (codes "steps") 100000 1 1000000 words s.steps
+  pub lose : IsNumberBehind (codes "lose") 0 0 18446744073709551615 words s.lose
+  pub twice : IsNumberBehind (codes "twice") 0 0 18446744073709551615 words s.twice
+
 -- words that ask for a task by its name alone, behind which the mark of the last option may stand
 abbrev pub AsksByName : List (List ℕ) → List ℕ → Type 0
 AsksByName words name = (words ≡ name ∷ []) ⊎ (words ≡ name ∷ codes "--" ∷ [])
 
--- words that ask for a client to be served: clap takes them, and the command that it reads in them is `local`
+-- words that clap takes for a command
+abbrev pub AsksFor : List ℕ → List (List ℕ) → Type 0
+AsksFor name words = (fault_of rambo words ≡ []) × (named words ≡ Some name)
+
+-- words that ask for a client to be served
 abbrev pub AsksLocal : List (List ℕ) → Type 0
-AsksLocal words = (fault_of rambo words ≡ []) × (option_map (λ p. p.0) (subcommand_of rambo words) ≡ Some (codes "local"))
+AsksLocal = AsksFor (codes "local")
+
+-- words that ask for many clients to be served
+abbrev pub AsksServe : List (List ℕ) → Type 0
+AsksServe = AsksFor serve_name
 
 -- the words ask for a task
 abbrev pub Asks : List (List ℕ) → Task → Type 0
 Asks words Replay = AsksByName words (codes "replay")
 Asks words Check = AsksByName words (codes "check")
-Asks words (Local founders) = AsksLocal words × IsFounders (founders_word words) founders
+Asks words (Local founders) = AsksLocal words × IsFounders (founders_or (codes "1") words) founders
+Asks words (Serve serving) = AsksServe words × IsServing words serving

@@ -2,5 +2,8 @@
 #![tactic(auto)]
 
 mod line;
+mod parts;
+mod serving;
 
 pub use line::{Task, task_of};
+pub use serving::Serving;

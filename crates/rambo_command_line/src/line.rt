@@ -1,33 +1,26 @@
 //! The command line.
-ghost use Rattle.std.specs.Prelude.{◌≡◌, ℕ, List, [], map, IfOk, IfErr, false};
-ghost use Rattle.clap.specs.declared.builder.command.Command.TheViews.{out-Command as fields_of};
-ghost use Rattle.clap.specs.Words.{
-  HasKind,
-  HasMatchesOf,
-  app_of,
-  fault_of,
-  new_app,
-  rule_of,
-  with_subcommand,
-};
+ghost use Rattle.std.specs.Prelude.{◌≡◌, ℕ, List, [], map, IfOk, IfErr};
+ghost use Rattle.clap.specs.Words.{HasKind, HasMatchesOf, app_of, fault_of, with_subcommand};
 ghost use Rattle.rambo_command_line.specs.Lines.{
   Asks,
-  IsFounders,
   IsLocal,
-  founders_rule,
   program as program_app,
   rambo,
   with_founders,
+  with_options,
 };
 
-use clap::{Arg, ArgAction, ArgMatches, Command, Error};
-use rambo_names::{Members, read_set};
+use crate::parts::{bare_command, founders_of, founders_option};
+use crate::serving::{Serving, serve_command, serving_in};
+use clap::{ArgMatches, Command, Error};
+use rambo_names::Members;
 use std::alloc::{AllocError, Global};
 use std::convert::AsStr;
 
 const STATUSES: &str = "Exit statuses:
   0  done
-  1  a stream failed or memory ran out (fault read, fault write, fault memory)
+  1  a stream or socket failed or memory ran out (fault read, fault write,
+     fault socket, fault memory)
   2  the command line or the input is faulty
   3  check said no of some key";
 
@@ -145,6 +138,8 @@ pub enum Task {
     /// A client is served by a store of these founders, of which there is one at least; none where a word is no sign of
     /// such a set.
     Local(Option<Members>),
+    /// Many clients are served, on a port of this machine.
+    Serve(Serving),
 }
 
 /// What the words behind the program's name ask for.
@@ -168,6 +163,9 @@ fn task_in(matches: &ArgMatches<'_>) -> Task
         let word = local.get_str("founders").unwrap_or(FOUNDERS);
         return Task::Local(founders_of(word));
     }
+    if let Some(serve) = matches.subcommand_matches("serve") {
+        return Task::Serve(serving_in(serve));
+    }
     if matches.subcommand_matches("replay").is_some() {
         Task::Replay
     } else {
@@ -175,27 +173,18 @@ fn task_in(matches: &ArgMatches<'_>) -> Task
     }
 }
 
-// The founders that a word tells, where it is the sign of some.
-fn founders_of(word: &str) -> Option<Members>
-    ensures { IsFounders word.now result }
-{
-    let founders = read_set(word.as_bytes())?;
-    if founders.count() == 0 {
-        return None;
-    }
-    Some(founders)
-}
-
-// The program and its three commands.
+// The program and its four commands.
 fn rambo_command<'a>(alloc: Global) -> Result<Command<'a>, AllocError>
     ensures { IfOk result (λ c. app_of c ≡ rambo) }
 {
-    text_commands(alloc)?.subcommand(local_command(alloc)?)
+    text_commands(alloc)?
+        .subcommand(local_command(alloc)?)?
+        .subcommand(serve_command(alloc)?)
 }
 
 // The program and those of its commands that read a text.
 fn text_commands<'a>(alloc: Global) -> Result<Command<'a>, AllocError>
-    ensures { IfOk result (λ c. with_subcommand (app_of c) with_founders ≡ rambo) }
+    ensures { IfOk result (λ c. with_subcommand (with_subcommand (app_of c) with_founders) with_options ≡ rambo) }
 {
     program(alloc)?
         .subcommand(bare_command(
@@ -219,7 +208,7 @@ fn program<'a>(alloc: Global) -> Result<Command<'a>, AllocError>
     bare_command(
         alloc,
         "rambo",
-        "Runs scripts of a replicated key-value store, checks what they give, and serves one client",
+        "Runs scripts of a replicated key-value store, checks what they give, and serves clients",
         STATUSES,
     )
     .version("0.1.0")
@@ -238,25 +227,8 @@ fn local_command<'a>(alloc: Global) -> Result<Command<'a>, AllocError>
         "Serves one client in RESP2: commands on standard input, replies on standard output",
         COMMANDS,
     )
-    .arg(founders_option(alloc))
-}
-
-// The option that tells the founders.
-fn founders_option<'a>(alloc: Global) -> Arg<'a>
-    ensures rule { rule_of result ≡ founders_rule }
-    ensures own { result.global ≡ false }
-{
-    Arg::new(alloc, "founders")
-        .long("founders")
-        .action(ArgAction::Set)
-        .value_name("SET")
-        .help("The nodes of the store, names in rising order with commas between [default: 1]")
-}
-
-// A command that has neither arguments nor commands, of a name, with what its help says of it before and after its words.
-fn bare_command<'a>(alloc: Global, name: &'a str, about: &'a str, help: &'a str) -> Command<'a>
-    ensures app { app_of result ≡ new_app name.now }
-    ensures local { (fields_of result).has_globals ≡ false }
-{
-    Command::new(alloc, name).about(about).after_help(help)
+    .arg(founders_option(
+        alloc,
+        "The nodes of the store, names in rising order with commas between [default: 1]",
+    ))
 }

@@ -1,1 +1,2 @@
+pub mod Servers
 pub mod Statuses

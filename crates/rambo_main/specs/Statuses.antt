@@ -14,8 +14,11 @@ use Rattle.rambo_names.specs.Names.{NameSet}
 use Rattle.rambo_client.specs.declared.fault.LocalFault.{LocalFault}
 use Rattle.rambo_client.specs.declared.fault.LocalFault.TheVariants as local
 use Rattle.rambo_client.specs.Talks.{Served, Stopped}
-use Rattle.rambo_command_line.specs.Lines.{rambo, founders_word, IsFounders}
-use Rattle.rambo_telling.specs.Telling.{Stream, IsFine, Takes, Tells, GivesUp, EndsAs, fault_line, status_of}
+use Rattle.rambo_command_line.specs.Lines.{rambo, founders_or, IsFounders, IsServing}
+use Rattle.rambo_command_line.specs.declared.serving.Serving.{Serving}
+use Rattle.rambo_serving.specs.declared.ending.Ending.{Ending}
+use Rattle.rambo_main.specs.Servers as servers
+use Rattle.rambo_telling.specs.Telling.{Stream, IsFine, Takes, Tells, GivesUp, EndsAs, fault_line, status_of, stream}
 
 -- A command ended by a fault: one call of the reader failed after Read and one of the writer after Write, and none else;
 -- and the line of the fault was told. So want of memory alone, told as Memory or as the fault of a line that was being
@@ -102,12 +105,19 @@ ServesTo status read write told =
     IsServed status read write
     ⊎ ((f : LocalFault) × EndsBy (of_local f) status read write told × Stopped read.old read.new write.old write.new)
 
--- founders that are none: nothing was read or written
-pub record IsRejected (status : ℕ) (read write told : Stream) : Type 0 where
+-- the line that tells of founders that are none
+abbrev pub bad_founders : List ℕ
+bad_founders = codes "bad founders" ++ 10 ∷ []
+
+-- founders that are none: nothing was written
+pub record IsRefused (status : ℕ) (write told : Stream) : Type 0 where
   pub status_is : status ≡ 2
-  pub unread : (read.new ≡ read.old) × IsFine read
   pub unwritten : Takes [] write
-  pub line : Tells (codes "bad founders" ++ 10 ∷ []) told
+  pub line : Tells bad_founders told
+
+-- and nothing was read
+abbrev pub IsRejected : ℕ → Stream → Stream → Stream → Type 0
+IsRejected status read write told = IsRefused status write told × (read.new ≡ read.old) × IsFine read
 
 abbrev pub LocalEnds : Option NameSet → ℕ → Stream → Stream → Stream → Type 0
 LocalEnds (Some founders) status read write told = ServesTo status read write told
@@ -117,7 +127,18 @@ LocalEnds None status read write told = IsRejected status read write told
 abbrev pub LocalTo : List Text → ℕ → Stream → Stream → Stream → Type 0
 LocalTo words status read write told =
     (EndsBy Memory status read write told × Keeps write.old write.new)
-    ⊎ ((founders : Option NameSet) × IsFounders (founders_word words) founders × LocalEnds founders status read write told)
+    ⊎ ((founders : Option NameSet) × IsFounders (founders_or (codes "1") words) founders × LocalEnds founders status read write told)
+
+-- how serving many clients ends, where there are founders
+abbrev pub ServeEnds : {E : Type 0} → (E → Option (List ℕ)) → (E → ℕ) → Serving → Option NameSet → Ending → Stream → E → E → Type 0
+ServeEnds taken failures s (Some founders) e write old new = servers.ServesTo taken failures s founders e write old new
+ServeEnds taken failures s None e write old new = IsRefused e.status write (stream taken failures old new) × (e.trace ≡ None)
+
+-- how words end that ask for it, unless there was no room to read them
+abbrev pub ServeTo : {E : Type 0} → (E → Option (List ℕ)) → (E → ℕ) → List Text → Ending → Stream → E → E → Type 0
+ServeTo taken failures words e write old new =
+    (GivesUp e.status write (stream taken failures old new) × (e.trace ≡ None))
+    ⊎ ((s : Serving) × IsServing words s × ServeEnds taken failures s s.founders e write old new)
 
 -- how a command of words that ask for no task ends
 abbrev pub AnswersTo : List Text → ℕ → Stream → Stream → Type 0

@@ -1,66 +1,148 @@
 //! The program's work over any streams.
-ghost use Rattle.std.specs.Prelude.{◌≡◌, ◌≤◌, ◌⊎◌, map};
+ghost use Rattle.std.specs.Prelude.{◌≡◌, ◌≤◌, ◌⊎◌, None, map};
 ghost use Rattle.rambo_names.specs.Names.{count_of};
-ghost use Rattle.rambo_command_line.specs.Lines.{Asks, AsksLocal};
-ghost use Rattle.rambo_telling.specs.Telling.{stream};
-ghost use Rattle.rambo_main.specs.Statuses.{AnswersTo, ChecksTo, LocalTo, ReplaysTo, ServesTo, of_local};
+ghost use Rattle.rambo_command_line.specs.Lines.{Asks, AsksLocal, AsksServe};
+ghost use Rattle.clap.specs.Words.{kind_of};
+ghost use Rattle.rambo_telling.specs.Telling.{EndsAs, GivesUp, Tells, stream};
+ghost use Rattle.rambo_main.specs.Statuses.{
+  AnswersTo,
+  ChecksTo,
+  LocalTo,
+  ReplaysTo,
+  ServeEnds,
+  ServeTo,
+  ServesTo,
+  bad_founders,
+  of_local,
+};
 ghost use Rattle.rambo_command_line.specs.declared.line.Task.{Task as AnyTask};
 
+use crate::loopback::serve_clients;
+use clap::Error;
+use clap::error::ErrorKind;
 use rambo_atomic::{Sink, Source};
 use rambo_client::LocalFault;
-use rambo_command_line::{Task, task_of};
+use rambo_command_line::{Serving, Task, task_of};
 use rambo_direct::local;
 use rambo_names::{Majority, Members};
 use rambo_outcome::check_text;
 use rambo_replay::replay;
+use rambo_serving::Ending;
 use rambo_telling::{DONE, answer, tell, tell_bad_founders};
 use rambo_text::ReplayFault;
 use std::alloc::Global;
 use std::convert::AsStr;
+use std::net::{Net, TcpListener, TcpStream};
+use std::random::RandomSource;
+use std::sync::Wait;
+use std::thread::Threads;
+use std::time::Clock;
 
 /// The exit status of a check that said no of some key.
 const SAID_NO: u8 = 3;
 
-/// Does what the words behind the program's name ask for, and answers the exit status.
+/// Does what the words behind the program's name ask for, and answers how that ended. Sockets and threads are the host's.
 ///
 /// - 0: done. Of words that ask for no task, help or the version was written.
-/// - 1: the reader or the writer failed or memory ran out.
+/// - 1: the reader, the writer or the server failed or memory ran out.
 /// - 2: the words ask for nothing that there is, the founders are none, or the input is faulty.
 /// - 3: the check said no of some key.
 ///
 /// After 1 and 2 the cause was told to `errors`, as far as these took it. A failure of `errors` themselves changes no
 /// status: there is nowhere left to tell it.
-pub fn command<S: AsStr, R: Source, W: Sink, E: Sink>(
+pub fn command<S: AsStr, H, R: Source, W: Sink, E: Sink>(
+    host: &H,
     alloc: Global,
     words: &[S],
     reader: &mut R,
     writer: &mut W,
     errors: &mut E,
-) -> u8
+) -> Ending
+where
+    H: Net<Listener = TcpListener, Stream = TcpStream>
+        + Threads
+        + Wait
+        + Clock
+        + RandomSource
+        + Sync,
     ensures replay { Asks (map S.text words.now) Task.Replay
-        → ReplaysTo result (stream R.left R.failures reader.old reader.new)
+        → ReplaysTo result.status (stream R.left R.failures reader.old reader.new)
         (stream W.taken W.failures writer.old writer.new)
         (stream E.taken E.failures errors.old errors.new) }
     ensures check { Asks (map S.text words.now) Task.Check
-        → ChecksTo result (stream R.left R.failures reader.old reader.new)
+        → ChecksTo result.status (stream R.left R.failures reader.old reader.new)
         (stream W.taken W.failures writer.old writer.new)
         (stream E.taken E.failures errors.old errors.new) }
     ensures local { AsksLocal (map S.text words.now)
-        → LocalTo (map S.text words.now) result (stream R.left R.failures reader.old reader.new)
+        → LocalTo (map S.text words.now) result.status (stream R.left R.failures reader.old reader.new)
         (stream W.taken W.failures writer.old writer.new)
         (stream E.taken E.failures errors.old errors.new) }
+    ensures serve { AsksServe (map S.text words.now)
+        → ServeTo E.taken E.failures (map S.text words.now) result
+        (stream W.taken W.failures writer.old writer.new) errors.old errors.new × (reader.new ≡ reader.old) }
     ensures other { ((t : AnyTask) → ¬ (Asks (map S.text words.now) t))
-        → AnswersTo (map S.text words.now) result (stream W.taken W.failures writer.old writer.new)
+        → AnswersTo (map S.text words.now) result.status (stream W.taken W.failures writer.old writer.new)
         (stream E.taken E.failures errors.old errors.new) × (reader.new ≡ reader.old) }
-    ensures quiet { (result ≡ 0) ⊎ (result ≡ 3) → errors.new ≡ errors.old }
+    ensures quiet { ¬ (AsksServe (map S.text words.now)) → (result.status ≡ 0) ⊎ (result.status ≡ 3)
+        → errors.new ≡ errors.old }
+    ensures untraced { ¬ (AsksServe (map S.text words.now)) → result.trace ≡ None }
 {
     match task_of(alloc, words) {
         Ok(Task::Replay) => replayed(alloc, reader, writer, errors),
         Ok(Task::Check) => checked(alloc, reader, writer, errors),
         Ok(Task::Local(Some(founders))) => served(alloc, founders, reader, writer, errors),
-        Ok(Task::Local(None)) => tell_bad_founders(errors),
-        Err(error) => answer(alloc, &error, writer, errors),
+        Ok(Task::Local(None)) => rejected(errors),
+        Ok(Task::Serve(serving)) => serve(host, alloc, &serving, writer, errors),
+        Err(error) => shown(alloc, &error, writer, errors),
     }
+}
+
+// Many clients are served, where there are founders.
+fn serve<H, W: Sink, E: Sink>(
+    host: &H,
+    alloc: Global,
+    serving: &Serving,
+    writer: &mut W,
+    errors: &mut E,
+) -> Ending
+where
+    H: Net<Listener = TcpListener, Stream = TcpStream>
+        + Threads
+        + Wait
+        + Clock
+        + RandomSource
+        + Sync,
+    ensures { ServeEnds E.taken E.failures serving.now serving.now.founders result
+        (stream W.taken W.failures writer.old writer.new) errors.old errors.new }
+{
+    match serving.founders {
+        Some(founders) => serve_clients(host, alloc, founders, serving, writer, errors),
+        None => rejected(errors),
+    }
+}
+
+// Founders that are none are told.
+fn rejected<E: Sink>(errors: &mut E) -> Ending
+    ensures status { result.status ≡ 2 }
+    ensures line { Tells bad_founders (stream E.taken E.failures errors.old errors.new) }
+    ensures untraced { result.trace ≡ None }
+{
+    Ending::of(tell_bad_founders(errors))
+}
+
+// What clap answers in place of a task is shown.
+fn shown<W: Sink, E: Sink>(alloc: Global, error: &Error, writer: &mut W, errors: &mut E) -> Ending
+    ensures ends { GivesUp result.status (stream W.taken W.failures writer.old writer.new)
+        (stream E.taken E.failures errors.old errors.new)
+        ⊎ EndsAs (kind_of error.now) result.status (stream W.taken W.failures writer.old writer.new)
+        (stream E.taken E.failures errors.old errors.new) }
+    ensures memory { kind_of error.now ≡ ErrorKind.OutOfMemory
+        → GivesUp result.status (stream W.taken W.failures writer.old writer.new)
+        (stream E.taken E.failures errors.old errors.new) }
+    ensures quiet { (result.status ≡ 0) ⊎ (result.status ≡ 3) → errors.new ≡ errors.old }
+    ensures untraced { result.trace ≡ None }
+{
+    Ending::of(answer(alloc, error, writer, errors))
 }
 
 // From a script to the text of what its run gives.
@@ -69,15 +151,16 @@ fn replayed<R: Source, W: Sink, E: Sink>(
     reader: &mut R,
     writer: &mut W,
     errors: &mut E,
-) -> u8
-    ensures ends { ReplaysTo result (stream R.left R.failures reader.old reader.new)
+) -> Ending
+    ensures ends { ReplaysTo result.status (stream R.left R.failures reader.old reader.new)
         (stream W.taken W.failures writer.old writer.new)
         (stream E.taken E.failures errors.old errors.new) }
-    ensures quiet { (result ≡ 0) ⊎ (result ≡ 3) → errors.new ≡ errors.old }
+    ensures quiet { (result.status ≡ 0) ⊎ (result.status ≡ 3) → errors.new ≡ errors.old }
+    ensures untraced { result.trace ≡ None }
 {
     match replay(alloc, reader, writer) {
-        Ok(()) => DONE,
-        Err(fault) => tell(fault, errors),
+        Ok(()) => Ending::of(DONE),
+        Err(fault) => Ending::of(tell(fault, errors)),
     }
 }
 
@@ -87,16 +170,17 @@ fn checked<R: Source, W: Sink, E: Sink>(
     reader: &mut R,
     writer: &mut W,
     errors: &mut E,
-) -> u8
-    ensures ends { ChecksTo result (stream R.left R.failures reader.old reader.new)
+) -> Ending
+    ensures ends { ChecksTo result.status (stream R.left R.failures reader.old reader.new)
         (stream W.taken W.failures writer.old writer.new)
         (stream E.taken E.failures errors.old errors.new) }
-    ensures quiet { (result ≡ 0) ⊎ (result ≡ 3) → errors.new ≡ errors.old }
+    ensures quiet { (result.status ≡ 0) ⊎ (result.status ≡ 3) → errors.new ≡ errors.old }
+    ensures untraced { result.trace ≡ None }
 {
     match check_text(alloc, reader, writer) {
-        Ok(true) => DONE,
-        Ok(false) => SAID_NO,
-        Err(fault) => tell(fault, errors),
+        Ok(true) => Ending::of(DONE),
+        Ok(false) => Ending::of(SAID_NO),
+        Err(fault) => Ending::of(tell(fault, errors)),
     }
 }
 
@@ -107,17 +191,18 @@ fn served<R: Source, W: Sink, E: Sink>(
     reader: &mut R,
     writer: &mut W,
     errors: &mut E,
-) -> u8
+) -> Ending
     requires { 1 ≤ count_of founders }
-    ensures ends { ServesTo result (stream R.left R.failures reader.old reader.new)
+    ensures ends { ServesTo result.status (stream R.left R.failures reader.old reader.new)
         (stream W.taken W.failures writer.old writer.new)
         (stream E.taken E.failures errors.old errors.new) }
-    ensures quiet { (result ≡ 0) ⊎ (result ≡ 3) → errors.new ≡ errors.old }
+    ensures quiet { (result.status ≡ 0) ⊎ (result.status ≡ 3) → errors.new ≡ errors.old }
+    ensures untraced { result.trace ≡ None }
 {
     if let Err(fault) = local(alloc, Majority::of(founders), reader, writer) {
-        return tell(told_as(fault), errors);
+        return Ending::of(tell(told_as(fault), errors));
     }
-    DONE
+    Ending::of(DONE)
 }
 
 // The same fault, in the words of a replay.

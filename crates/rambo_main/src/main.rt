@@ -1,11 +1,14 @@
-//! The program `rambo`: from scripts to outcome texts, from outcome texts to verdicts, and from a client's commands to
-//! replies.
+//! The program `rambo`: from scripts to outcome texts, from outcome texts to verdicts, and from the commands of one
+//! client or of many to replies.
 #![tactic(auto)]
 
 mod command;
+mod loopback;
 
 use command::command;
+use log::info;
 use rambo_atomic::Wrapped;
+use rambo_serving::Ending;
 use rambo_telling::{tell, tell_no_text};
 use rambo_text::ReplayFault;
 use std::io;
@@ -14,11 +17,12 @@ use std::process::ExitCode;
 
 fn main(rt: HostRuntime) -> ExitCode {
     let mut errors = Wrapped::new(rt.stderr());
-    let status = match words(&rt) {
+    let ending = match words(&rt) {
         Ok(words) => {
             let mut reader = Wrapped::new(rt.stdin());
             let mut writer = Wrapped::new(rt.stdout());
             command(
+                &rt,
                 rt.alloc(),
                 words.as_slice(),
                 &mut reader,
@@ -26,10 +30,15 @@ fn main(rt: HostRuntime) -> ExitCode {
                 &mut errors,
             )
         }
-        Err(fault) if fault.kind() == ErrorKind::InvalidData => tell_no_text(&mut errors),
-        Err(_) => tell(ReplayFault::Memory, &mut errors),
+        Err(fault) if fault.kind() == ErrorKind::InvalidData => {
+            Ending::of(tell_no_text(&mut errors))
+        }
+        Err(_) => Ending::of(tell(ReplayFault::Memory, &mut errors)),
     };
-    ExitCode::from(status)
+    if let Some(steps) = ending.trace {
+        info!(&rt; "the trace has {steps} steps");
+    }
+    ExitCode::from(ending.status)
 }
 
 // The words behind the program's name.

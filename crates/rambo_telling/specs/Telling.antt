@@ -1,5 +1,5 @@
 -- What is told to the user, and the exit status
-use Rattle.std.specs.Prelude.{◌≡◌, ◌⊎◌, ℕ, List, [], ◌∷◌, ◌++◌, Option, codes}
+use Rattle.std.specs.Prelude.{◌≡◌, ◌⊎◌, ℕ, List, [], ◌∷◌, ◌++◌, Option, codes, decimal}
 use Rattle.std.specs.Io.KnownBytes.{Appends}
 use Rattle.clap.specs.declared.error.kind.ErrorKind.{ErrorKind}
 use Rattle.clap.specs.declared.error.kind.ErrorKind.TheVariants.{DisplayHelp, DisplayVersion}
@@ -44,6 +44,14 @@ fault_line (Script f) = told f ++ 10 ∷ []
 fault_line Read = codes "fault read" ++ 10 ∷ []
 fault_line Write = codes "fault write" ++ 10 ∷ []
 fault_line Memory = codes "fault memory" ++ 10 ∷ []
+
+-- the line that tells that a socket failed
+abbrev pub socket_line : List ℕ
+socket_line = codes "fault socket" ++ 10 ∷ []
+
+-- the line that tells on which port a server listens
+abbrev pub listening_line : ℕ → List ℕ
+listening_line port = codes "listening " ++ decimal port ++ 10 ∷ []
 
 -- the status after a fault
 abbrev pub status_of : ReplayFault → ℕ

@@ -2,7 +2,18 @@
 ghost use Rattle.std.specs.Prelude.{◌≡◌, ◌⊎◌, ◌++◌, [], ◌∷◌, codes, OnOk, OnErr};
 ghost use Rattle.clap.specs.Words.{kind_of};
 ghost use Rattle.rambo_text.specs.Faults.{told};
-ghost use Rattle.rambo_telling.specs.Telling.{Breaks, EndsAs, GivesUp, Takes, Tells, fault_line, status_of, stream};
+ghost use Rattle.rambo_telling.specs.Telling.{
+  Breaks,
+  EndsAs,
+  GivesUp,
+  Takes,
+  Tells,
+  fault_line,
+  listening_line,
+  socket_line,
+  status_of,
+  stream,
+};
 
 use clap::Error;
 use clap::error::ErrorKind;
@@ -117,4 +128,32 @@ pub fn tell_bad_founders<E: Sink>(errors: &mut E) -> u8
 {
     let _ = write_all(errors, b"bad founders\n");
     FAULTY
+}
+
+/// Tells that a socket failed, and answers the exit status for it.
+pub fn tell_socket<E: Sink>(errors: &mut E) -> u8
+    ensures status { result ≡ 1 }
+    ensures line { Tells socket_line (stream E.taken E.failures errors.old errors.new) }
+{
+    let _ = write_all(errors, b"fault socket\n");
+    FAILED
+}
+
+/// Tells on which port a server listens, as far as `errors` takes it.
+pub fn tell_listening<E: Sink>(port: u16, errors: &mut E)
+    ensures line { Tells (listening_line port) (stream E.taken E.failures errors.old errors.new) }
+{
+    let _ = write_listening(port, errors);
+}
+
+// Writes on which port a server listens. It takes no memory.
+fn write_listening<E: Sink>(port: u16, errors: &mut E) -> Result<(), StreamFault>
+    ensures ok { OnOk result (Takes (listening_line port) (stream E.taken E.failures errors.old errors.new)) }
+    ensures err { OnErr result (Breaks (listening_line port) (stream E.taken E.failures errors.old errors.new)) }
+{
+    let mut buffer = Buffer::new();
+    write_all(errors, b"listening ")?;
+    write_all(errors, buffer.format(port).as_bytes())?;
+    write_all(errors, b"\n")?;
+    Ok(())
 }

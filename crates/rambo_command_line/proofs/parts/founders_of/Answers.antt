@@ -1,6 +1,6 @@
 use Rattle.std.proofs.Common.{inl, sym, ◌∙◌}
 use Rattle.rambo_command_line.proofs.NoNames.{no_names_text}
-use Rattle.rambo_command_line.proofs.line.founders_of.Goals as goal
+use Rattle.rambo_command_line.proofs.parts.founders_of.Goals as goal
 
 pub returns-then-count-eq0 : goal.returns-then-count-eq0
 returns-then-count-eq0 c =

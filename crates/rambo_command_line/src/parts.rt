@@ -1,0 +1,46 @@
+//! What the commands are made of, and what the words of a set tell.
+ghost use Rattle.std.specs.Prelude.{◌≡◌, false};
+ghost use Rattle.clap.specs.declared.builder.command.Command.TheViews.{out-Command as fields_of};
+ghost use Rattle.clap.specs.Words.{app_of, new_app, rule_of};
+ghost use Rattle.rambo_command_line.specs.Lines.{IsFounders, founders_rule};
+
+use clap::{Arg, ArgAction, Command};
+use rambo_names::{Members, read_set};
+use std::alloc::Global;
+
+/// A command that has neither arguments nor commands, of a name, with what its help says of it before and after its
+/// words.
+pub(crate) fn bare_command<'a>(
+    alloc: Global,
+    name: &'a str,
+    about: &'a str,
+    help: &'a str,
+) -> Command<'a>
+    ensures app { app_of result ≡ new_app name.now }
+    ensures local { (fields_of result).has_globals ≡ false }
+{
+    Command::new(alloc, name).about(about).after_help(help)
+}
+
+/// The option that tells the founders, with what its help says.
+pub(crate) fn founders_option<'a>(alloc: Global, help: &'a str) -> Arg<'a>
+    ensures rule { rule_of result ≡ founders_rule }
+    ensures own { result.global ≡ false }
+{
+    Arg::new(alloc, "founders")
+        .long("founders")
+        .action(ArgAction::Set)
+        .value_name("SET")
+        .help(help)
+}
+
+/// The founders that a word tells, where it is the sign of some.
+pub(crate) fn founders_of(word: &str) -> Option<Members>
+    ensures { IsFounders word.now result }
+{
+    let founders = read_set(word.as_bytes())?;
+    if founders.count() == 0 {
+        return None;
+    }
+    Some(founders)
+}

@@ -1,0 +1,183 @@
+//! What `serve` is asked for.
+ghost use Rattle.std.specs.Prelude.{◌≡◌, ◌<◌, ◌≤◌, ◌^◌, ℕ, List, Some, None, IfOk, false, codes};
+ghost use Rattle.std.specs.Str.Parse.{IsNumeral, without_leading_plus};
+ghost use Rattle.clap.specs.declared.builder.command.Command.TheViews.{out-Command as fields_of};
+ghost use Rattle.clap.specs.Words.{app_of, found_of, one_text, rows_of, rule_of, shape_of, subcommand_of, with_rule};
+ghost use Rattle.rambo_command_line.specs.Lines.{
+  AsksServe,
+  IsServe,
+  IsServing,
+  number_of,
+  number_rule,
+  rambo,
+  serve_name,
+  with_network,
+};
+
+use crate::parts::{bare_command, founders_of, founders_option};
+use clap::builder::ValueParser;
+use clap::{Arg, ArgAction, ArgMatches, Command};
+use rambo_names::Members;
+use std::alloc::{AllocError, Global};
+
+const SERVER: &str = "The port is told on standard error, as listening 7379. Clients send RESP2
+commands, as redis clients do. Keys have at most 256 bytes, values 4,096.
+
+  PING, PING WORD, GET KEY, SET KEY VALUE
+  RAMBO USE NAME       this connection asks this node from now on; at first it
+                       asks the lowest founder
+  RAMBO JOIN NAME SET  this node begins to join, by way of these contacts
+  RAMBO RECON SET      the connection's node begins to have this set chosen as
+                       next members
+  RAMBO COLLECT        it begins to remove its oldest set of members
+  RAMBO CONFIG         replies how many sets it has removed, and those it has
+  RAMBO STOP NAME      this node stops for good
+  RAMBO SHUTDOWN       the server ends
+
+A NAME is a node, 1 to 64. A SET is names in rising order with commas between.
+
+What happens is kept in a book of steps. The default 100,000 steps hold some
+9,000 gets and sets; where the book is full each command is refused 23. At the
+end the book is written to standard output, as a script: replay gives the
+answers that the clients got.
+
+Example:
+  rambo serve --port 7379 >trace &
+  sleep 1
+  redis-cli -p 7379 set k v
+  redis-cli -p 7379 get k
+  redis-cli -p 7379 rambo shutdown
+  wait
+  rambo replay <trace
+
+Exit statuses:
+  0  done
+  1  a socket or stream failed or memory ran out (fault socket, fault write,
+     fault memory)
+  2  the command line is faulty, or the founders are none (bad founders)";
+
+/// The founders of a server where no others are told.
+const FOUNDERS: &str = "1,2,3";
+
+/// How a server is asked to serve.
+#[derive(Clone, Copy, Debug)]
+pub struct Serving {
+    /// The port that it listens on; where it is 0 the system chooses one.
+    pub port: u16,
+    /// The founders, of which there is one at least; none where a word is no sign of such a set.
+    pub founders: Option<Members>,
+    /// How many clients it serves at once, 1 to 32.
+    pub clients: u64,
+    /// How many steps its book holds, 1 to 1,000,000.
+    pub steps: u64,
+    /// A letter is lost where this divides its number; 0 loses none.
+    pub lose: u64,
+    /// A letter that isn't lost comes twice where this divides its number; 0 doubles none.
+    pub twice: u64,
+}
+
+/// What the words behind `serve` tell, which a parse without a fault met.
+pub(crate) fn serving_in(matches: &ArgMatches<'_>) -> Serving
+    ensures { (words : List (List ℕ)) → AsksServe words
+        → subcommand_of rambo words ≡ Some (serve_name, rows_of (found_of matches.now))
+        → IsServing words result }
+{
+    Serving {
+        port: port_in(matches),
+        founders: founders_of(matches.get_str("founders").unwrap_or(FOUNDERS)),
+        clients: number_in(matches, "clients", 8),
+        steps: number_in(matches, "steps", 100_000),
+        lose: number_in(matches, "lose", 0),
+        twice: number_in(matches, "twice", 0),
+    }
+}
+
+// The port, or 0 where none is told.
+fn port_in(matches: &ArgMatches<'_>) -> u16
+    ensures none { one_text (found_of matches.now) (codes "port") ≡ None → result ≡ 0 }
+    ensures some { (word : List ℕ) → one_text (found_of matches.now) (codes "port") ≡ Some word
+        → IsNumeral 10 (without_leading_plus word) → number_of word < 2 ^ 16 → result ≡ number_of word }
+{
+    matches.get_one::<u16>("port").unwrap_or(0)
+}
+
+// The number behind an option, or the default where it has none.
+fn number_in(matches: &ArgMatches<'_>, option: &str, default: u64) -> u64
+    ensures none { one_text (found_of matches.now) option.now ≡ None → result ≡ default }
+    ensures some { (word : List ℕ) → one_text (found_of matches.now) option.now ≡ Some word
+        → IsNumeral 10 (without_leading_plus word) → number_of word < 2 ^ 64 → result ≡ number_of word }
+{
+    matches.get_one::<u64>(option).unwrap_or(default)
+}
+
+/// The command that serves many clients.
+pub(crate) fn serve_command<'a>(alloc: Global) -> Result<Command<'a>, AllocError>
+    ensures { IfOk result IsServe }
+{
+    network_command(alloc)?
+        .arg(number_option(
+            alloc,
+            "lose",
+            0,
+            u64::MAX,
+            "Letters whose number this divides are lost; 0 loses none [default: 0]",
+        ))?
+        .arg(number_option(
+            alloc,
+            "twice",
+            0,
+            u64::MAX,
+            "Other letters whose number this divides come twice; 0 doubles none [default: 0]",
+        ))
+}
+
+// The same, still without what befalls its letters.
+fn network_command<'a>(alloc: Global) -> Result<Command<'a>, AllocError>
+    ensures app { IfOk result (λ c. app_of c ≡ with_network) }
+    ensures local { IfOk result (λ c. (fields_of c).has_globals ≡ false) }
+{
+    bare_command(
+        alloc,
+        "serve",
+        "Serves many clients in RESP2 on a port of this machine, and writes the trace of it all",
+        SERVER,
+    )
+    .arg(number_option(
+        alloc,
+        "port",
+        0,
+        65_535,
+        "The port of 127.0.0.1 to listen on; 0 lets the system choose [default: 0]",
+    ))?
+    .arg(founders_option(
+        alloc,
+        "The first nodes of the store, names in rising order with commas between [default: 1,2,3]",
+    ))?
+    .arg(number_option(
+        alloc,
+        "clients",
+        1,
+        32,
+        "How many clients are served at once, 1 to 32; others wait [default: 8]",
+    ))?
+    .arg(number_option(
+        alloc,
+        "steps",
+        1,
+        1_000_000,
+        "How many steps the book holds, 1 to 1000000 [default: 100000]",
+    ))
+}
+
+// An option that tells a number from the least to the most, with what its help says.
+fn number_option<'a>(alloc: Global, name: &'a str, least: u64, most: u64, help: &'a str) -> Arg<'a>
+    ensures rule { rule_of result ≡ number_rule name.now least most }
+    ensures own { result.global ≡ false }
+{
+    Arg::new(alloc, name)
+        .long(name)
+        .action(ArgAction::Set)
+        .value_name("NUMBER")
+        .value_parser(ValueParser::unsigned(least, most))
+        .help(help)
+}

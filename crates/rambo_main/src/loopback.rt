@@ -1,0 +1,120 @@
+//! Many clients are served, on the sockets of this machine.
+ghost use Rattle.std.specs.Prelude.{◌≡◌, IfOk};
+ghost use Rattle.rambo_telling.specs.Telling.{stream};
+ghost use Rattle.rambo_serving.specs.Endings.{Fails};
+ghost use Rattle.rambo_main.specs.Servers.{GivesTo, ListensOn, ServesTo, server_line};
+
+use rambo_atomic::Sink;
+use rambo_cluster::{Options, ServeFault, serve};
+use rambo_command_line::Serving;
+use rambo_names::{Majority, Members};
+use rambo_post::NoGate;
+use rambo_serving::{Ending, write_steps};
+use rambo_telling::{tell, tell_listening, tell_socket};
+use rambo_text::ReplayFault;
+use std::alloc::Global;
+use std::io;
+use std::net::{Ipv4Addr, Net, TcpListener, TcpStream};
+use std::random::RandomSource;
+use std::sync::Wait;
+use std::thread::Threads;
+use std::time::Clock;
+
+/// Serves clients of a store of these founders on a port of 127.0.0.1, as it is asked, until one of them ends that; then
+/// the trace of it all is written.
+///
+/// Once it listens, its port is told to `errors`. The status is 0 where the trace was written whole, and else 1, behind
+/// the line of the fault. After a fault of the writer, or want of memory, a beginning of the trace may be written.
+pub(crate) fn serve_clients<R, W: Sink, E: Sink>(
+    rt: &R,
+    alloc: Global,
+    founders: Members,
+    serving: &Serving,
+    writer: &mut W,
+    errors: &mut E,
+) -> Ending
+where
+    R: Net<Listener = TcpListener, Stream = TcpStream>
+        + Threads
+        + Wait
+        + Clock
+        + RandomSource
+        + Sync,
+    ensures { ServesTo E.taken E.failures serving.now founders result
+        (stream W.taken W.failures writer.old writer.new) errors.old errors.new }
+{
+    match bound(rt, serving.port) {
+        Ok((listener, port)) => {
+            tell_listening(port, errors);
+            served(rt, alloc, &listener, founders, serving, writer, errors)
+        }
+        Err(_) => unserved(ServeFault::Socket, errors),
+    }
+}
+
+// The same on a listener whose port is told.
+fn served<R, W: Sink, E: Sink>(
+    rt: &R,
+    alloc: Global,
+    listener: &TcpListener,
+    founders: Members,
+    serving: &Serving,
+    writer: &mut W,
+    errors: &mut E,
+) -> Ending
+where
+    R: Net<Listener = TcpListener, Stream = TcpStream>
+        + Threads
+        + Wait
+        + Clock
+        + RandomSource
+        + Sync,
+    ensures { GivesTo serving.now founders result (stream W.taken W.failures writer.old writer.new)
+        (stream E.taken E.failures errors.old errors.new) }
+{
+    match serve(rt, alloc, listener, &options_of(founders, serving), &NoGate) {
+        Ok(closed) => write_steps(alloc, founders, closed.steps.as_slice(), writer, errors),
+        Err(fault) => unserved(fault, errors),
+    }
+}
+
+// What a server of these founders is started with.
+fn options_of(founders: Members, serving: &Serving) -> Options<Majority>
+    ensures founders { result.founders ≡ founders }
+    ensures clients { result.clients ≡ serving.now.clients }
+    ensures steps { result.steps ≡ serving.now.steps }
+    ensures lose { result.lose ≡ serving.now.lose }
+    ensures twice { result.twice ≡ serving.now.twice }
+{
+    Options {
+        founders: Majority::of(founders),
+        clients: serving.clients as usize,
+        steps: serving.steps as usize,
+        lose: serving.lose,
+        twice: serving.twice,
+    }
+}
+
+// Tells why nothing was served.
+fn unserved<E: Sink>(fault: ServeFault, errors: &mut E) -> Ending
+    ensures { Fails (server_line fault) result (stream E.taken E.failures errors.old errors.new) }
+{
+    match fault {
+        ServeFault::Socket => Ending::of(tell_socket(errors)),
+        ServeFault::Memory => Ending::of(tell(ReplayFault::Memory, errors)),
+    }
+}
+
+// A listener on a port of 127.0.0.1, or where it is 0 on one that the system chooses, and the port.
+fn bound<R>(rt: &R, port: u16) -> io::Result<(TcpListener, u16)>
+where
+    R: Net<Listener = TcpListener, Stream = TcpStream>,
+    ensures { IfOk result (λ made. ListensOn port made.1) }
+{
+    let listener = TcpListener::bind(rt, (Ipv4Addr::LOCALHOST, port))?;
+    if port != 0 {
+        return Ok((listener, port));
+    }
+    let port = listener.local_addr()?.port();
+    Ok((listener, port))
+}

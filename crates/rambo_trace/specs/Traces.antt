@@ -1,0 +1,14 @@
+-- The text of a trace
+use Rattle.std.specs.Prelude.{◌≡◌, ℕ, List, ◌++◌, Option}
+use Rattle.std.specs.Io.KnownBytes.{Appends}
+use Rattle.rambo_names.specs.Names.{NameSet}
+use Rattle.rambo_run.specs.declared.step.Step.{Step}
+use Rattle.rambo_lines.specs.Scripts.{script_text}
+
+-- it is the script of the founders and the steps
+abbrev pub trace_text : NameSet → List (Step NameSet) → List ℕ
+trace_text founders steps = script_text (record { founders = founders; steps = steps })
+
+-- a front of what waits was written, and the rest still waits
+abbrev pub Moves : Option (List ℕ) → Option (List ℕ) → List ℕ → List ℕ → Type 0
+Moves old new waits left = (front : List ℕ) × (waits ≡ front ++ left) × Appends old new front

@@ -1,0 +1,74 @@
+//! Writing the script of a run as it is spelt.
+ghost use Rattle.std.specs.Prelude.{◌≡◌, ◌⊎◌, ◌++◌, ◌∷◌, [], Ok, OnOk, OnErr, IfOk, IfErr};
+ghost use Rattle.std.specs.Io.KnownBytes.{Appends};
+ghost use Rattle.rambo_atomic.specs.Streams.{Begins, counted};
+ghost use Rattle.rambo_atomic.specs.declared.whole.StreamFault.TheVariants as fault;
+ghost use Rattle.rambo_lines.specs.Scripts.{founders_line};
+ghost use Rattle.rambo_trace.specs.Traces.{Moves, trace_text};
+
+use rambo_atomic::{Sink, StreamFault, write_all};
+use rambo_lines::step_text;
+use rambo_names::{Majority, Members, Refusal, write_set};
+use rambo_run::Step;
+use std::alloc::Global;
+
+/// Once a piece of the text has so many bytes it is written.
+const PIECE: usize = 64 * 1024;
+
+/// Writes the script of these founders and steps, piece by piece.
+///
+/// `Write` where the writer fails, and `Memory` where there is no room for a line; after both a beginning of the script
+/// was written.
+pub fn write_trace<W: Sink>(
+    alloc: Global,
+    founders: Members,
+    steps: &[Step<Majority>],
+    writer: &mut W,
+) -> Result<(), StreamFault>
+    ensures ok { OnOk result (Appends (W.taken writer.old) (W.taken writer.new) (trace_text founders steps.now)) }
+    ensures err { OnErr result (Begins (W.taken writer.old) (W.taken writer.new) (trace_text founders steps.now)) }
+    ensures fine { OnOk result (W.failures writer.new ≡ W.failures writer.old) }
+    ensures fault { IfErr result (λ f. ((f ≡ fault.Write) × (W.failures writer.new ≡ counted (W.failures writer.old)))
+        ⊎ ((f ≡ fault.Memory) × (W.failures writer.new ≡ W.failures writer.old))) }
+{
+    let mut piece = Vec::new(alloc);
+    in_memory(founders_text(founders, &mut piece))?;
+    for step in steps {
+        in_memory(step_text(step, &mut piece))?;
+        write_if_long(&mut piece, writer)?;
+    }
+    write_all(writer, piece.as_slice())
+}
+
+// Writes a piece that has grown long, and empties it then.
+fn write_if_long<W: Sink>(piece: &mut Vec<u8>, writer: &mut W) -> Result<(), StreamFault>
+    ensures ok { OnOk result (Moves (W.taken writer.old) (W.taken writer.new) piece.old.items piece.new.items) }
+    ensures err { OnErr result (Begins (W.taken writer.old) (W.taken writer.new) piece.old.items) }
+    ensures fine { OnOk result (W.failures writer.new ≡ W.failures writer.old) }
+    ensures fault { IfErr result (λ f. (f ≡ fault.Write) × (W.failures writer.new ≡ counted (W.failures writer.old))) }
+{
+    if piece.len() < PIECE {
+        return Ok(());
+    }
+    write_all(writer, piece.as_slice())?;
+    piece.clear();
+    Ok(())
+}
+
+// Appends the first line, which tells the founders.
+fn founders_text(founders: Members, out: &mut Vec<u8>) -> Result<(), Refusal>
+    ensures ok { OnOk result (out.new.items ≡ out.old.items ++ founders_line founders ++ 10 ∷ []) }
+{
+    out.extend_from_slice(b"founders ")?;
+    write_set(&founders, out)?;
+    out.push(b'\n')?;
+    Ok(())
+}
+
+// What was asked for, where there was room for it.
+fn in_memory<T>(told: Result<T, Refusal>) -> Result<T, StreamFault>
+    ensures ok { IfOk result (λ x. told ≡ Ok x) }
+    ensures fault { IfErr result (λ f. f ≡ fault.Memory) }
+{
+    told.map_err(|_| StreamFault::Memory)
+}
