@@ -1,5 +1,5 @@
 -- The book and the keepers before any step, and whom a step is for
-use Rattle.std.proofs.Common.{◌≡◌, ℕ, List, [], length, Option, None, Some, All, slice_get, refl, sym, ap, ◌∙◌, subst, arith}
+use Rattle.std.proofs.Common.{◌≡◌, ℕ, zero, suc, List, [], length, Option, None, Some, All, slice_get, refl, sym, ap, ◌∙◌, subst, arith}
 use Rattle.rambo_names.specs.Names.{IsName}
 use Rattle.rambo_names.specs.Quorums.{QuorumSystem}
 use Rattle.rambo_atomic.specs.declared.event.Event.{Event}
@@ -10,7 +10,7 @@ use Rattle.rambo_run.specs.Worlds.{WorldState, node_at, first_world}
 use Rattle.rambo_run.specs.Steps.{meant_in}
 use Rattle.rambo_run.specs.Runs.{run}
 use Rattle.rambo_run.proofs.FirstWorlds.{first_named}
-use Rattle.rambo_run.proofs.Lists.{none-some, some_inj}
+use Rattle.rambo_run.proofs.Lists.{none-some, some_inj, there_below}
 use Rattle.rambo_post.specs.declared.keeper.Mail.{Mail}
 use Rattle.rambo_run.specs.Legal.{IsLegal}
 use Rattle.rambo_post.specs.Deeds.{name_in}
@@ -57,3 +57,8 @@ serving w ls st own name sent is same m e = some_inj m.name name (sym (ap Some (
 
 pub unserved : {Q : Type 0} (w : WorldState Q) (ls : List (Letter Q)) (st : Step Q) (name : ℕ) → AreSent w ls → None ≡ name_in (meant_in ls st) → IsServedBy w st name
 unserved w ls st name sent is m e = absurd (none-some m.name (is ∙ same_name w ls st sent ∙ ap name_in e))
+
+-- who has a node in a run has a name
+pub is_named : {Q : Type 0} (w : WorldState Q) (n : ℕ) (x : NodeState Q) → length w.nodes ≡ 64 → node_at w n ≡ Some x → IsName n
+is_named w zero x l e = absurd (none-some x e)
+is_named w (suc i) x l e = (omega arith, omega (arith, l, there_below w.nodes i x e))

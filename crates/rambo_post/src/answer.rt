@@ -72,8 +72,8 @@ pub fn has_stopped<J: Terms<Q>, Q: Quorums, S: Replica>(
     ensures node { node_at (state Q.system book.old) keeper.old.name ≡ Some keeper.old.node }
     ensures stopped { result ≡ is_stopped keeper.old.node.status }
 {
-    book.roll.agree(&mut keeper.holder);
-    keeper.worker.has_stopped()
+    book.agree(keeper);
+    keeper.has_stopped()
 }
 
 /// The answer of a call of this client, who has then seen all steps.

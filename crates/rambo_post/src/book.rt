@@ -1,11 +1,14 @@
 //! The list of all steps, with the letters and the history that they gave.
 ghost use Rattle.std.specs.Prelude.{◌≡◌, ◌<◌, ◌≤◌, [], length, Some, true};
 ghost use Rattle.rambo_post.specs.Kept.{AreSent, IsServedBy, state};
+ghost use Rattle.rambo_roll.specs.Rolls.{Idle};
+ghost use Rattle.rambo_run.specs.Actors.{actor};
 ghost use Rattle.rambo_run.specs.Runs.{run};
+ghost use Rattle.rambo_run.specs.Worlds.{node_at};
 ghost use Rattle.rambo_run.specs.Legal.{IsLegal};
 
 use crate::deeds::named_by;
-use crate::keeper::Actor;
+use crate::keeper::{Actor, Keeper};
 use crate::letter::SharedLetter;
 use crate::terms::Terms;
 use crate::waiting::Mails;
@@ -13,6 +16,7 @@ use rambo_atomic::{Event, History};
 use rambo_names::{Name, Quorums};
 use rambo_roll::Roll;
 use rambo_run::Step;
+use rambo_tag::Replica;
 use std::alloc::Global;
 use std::marker::Model;
 
@@ -95,6 +99,16 @@ impl<J: Terms<Q>, Q: Quorums> Book<J, Q> {
         ensures legal { IsLegal Q.system self.now.founders self.now.steps }
     {
         let _ = &self.steps;
+    }
+
+    /// What a keeper has seen begins the steps, and none of the rest is of its name: so its node is the one that the steps
+    /// give, whatever happened before. Both are as before, and it takes no memory.
+    pub fn agree<S: Replica>(&mut self, keeper: &mut Keeper<J, Q, S>)
+        ensures same { (self.new ≡ self.old) × (keeper.new ≡ keeper.old) }
+        ensures idle { Idle actor keeper.old.name keeper.old.seen self.old.steps }
+        ensures node { node_at (state Q.system self.old) keeper.old.name ≡ Some keeper.old.node }
+    {
+        self.roll.agree(&mut keeper.holder);
     }
 
     /// The letters that were sent, as they are kept: each stands for that of its number in the run of the steps, and may

@@ -3,6 +3,9 @@ ghost use Rattle.std.specs.Prelude.{◌≡◌, [], Some, All};
 ghost use Rattle.std.specs.FinMap as map;
 ghost use Rattle.rambo_names.specs.Names.{IsName};
 ghost use Rattle.rambo_joiner.specs.Statuses.{is_stopped};
+ghost use Rattle.rambo_node.specs.Changes.{replayed};
+ghost use Rattle.rambo_node.specs.Nodes.{first_node};
+ghost use Rattle.rambo_run.specs.Journals.{journal};
 ghost use Rattle.rambo_run.specs.Runs.{run};
 ghost use Rattle.rambo_run.specs.Worlds.{node_at};
 ghost use Rattle.rambo_post.specs.Kept.{IsMailOf};
@@ -96,6 +99,7 @@ impl<J: Terms<Q>, Q: Quorums, S: Replica> Keeper<J, Q, S> {
     /// replay of its own changes in that run; and each letter of its tray stands for one that was sent to it there.
     pub fn facts(&self)
         ensures node { (f : Q) → J.founders ≡ Some f → node_at (run Q.system f self.now.seen) self.now.name ≡ Some self.now.node }
+        ensures replay { (f : Q) → J.founders ≡ Some f → self.now.node ≡ replayed (first_node Q.system f self.now.name) (journal Q.system f self.now.name self.now.seen) }
         ensures tray { (f : Q) → J.founders ≡ Some f → All (IsMailOf (run Q.system f self.now.seen) self.now.name) self.now.tray }
     {
         let _ = &self.worker;

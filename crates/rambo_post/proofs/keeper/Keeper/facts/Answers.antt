@@ -1,7 +1,11 @@
-use Rattle.std.proofs.Common.{◌≡◌, Some, All, subst}
+use Rattle.std.proofs.Common.{◌≡◌, Some, All, sym, ◌∙◌, subst}
 use Rattle.rambo_run.specs.Runs.{run}
 use Rattle.rambo_run.specs.Worlds.{node_at}
 use Rattle.rambo_post.specs.Kept.{KeeperView, IsMailOf}
+use Rattle.rambo_run.proofs.Lists.{some_inj}
+use Rattle.rambo_run.proofs.NodeLists.{nodes_count}
+use Rattle.rambo_run.proofs.Replays.{replays}
+use Rattle.rambo_post.proofs.Firsts.{is_named}
 use Rattle.rambo_post.proofs.keeper.Keeper.facts.Goals as goal
 
 pub returns-clause-node : goal.returns-clause-node
@@ -9,3 +13,10 @@ returns-clause-node g c = λ f e. subst (λ (v : KeeperView _). node_at (run g.Q
 
 pub returns-clause-tray : goal.returns-clause-tray
 returns-clause-tray g c = λ f e. subst (λ (v : KeeperView _). All (IsMailOf (run g.Q.Quorums.system f v.seen) v.name) v.tray) c.self.view_is (c.self.invariant.mail f e)
+
+pub returns-clause-replay : goal.returns-clause-replay
+returns-clause-replay g c = λ f e.
+    let s = g.Q.Quorums.system in
+    let v = c.args.self.now in
+    let here = returns-clause-node g c f e in
+    some_inj v.node _ (sym here ∙ replays s f v.seen v.name (is_named (run s f v.seen) v.name v.node (nodes_count s f v.seen) here))
