@@ -1,0 +1,121 @@
+//! What a client has the nodes do.
+
+use crate::bell::Bell;
+use crate::hub::Hub;
+use rambo_atomic::{Answer, CallId, Op};
+use rambo_names::{Majority, Name, Refusal};
+use rambo_post::{Gate, Pass, Terms};
+use rambo_run::Step;
+use std::sync::Wait;
+use std::time::Clock;
+
+impl<J: Terms<Majority>> Hub<J> {
+    /// Calls for an operation at a node and waits for its answer. None where the server ends before.
+    pub(crate) fn operate<R: Wait + Clock, G: Gate>(
+        &self,
+        rt: &R,
+        gate: &G,
+        pass: &mut Pass<J, Majority>,
+        place: u32,
+        name: Name,
+        op: Op,
+    ) -> Result<Option<Answer>, Refusal> {
+        let number = self.post.call(rt, pass, name, op)?.number;
+        self.await_call(rt, name, number, place)?;
+        let answer = self.wait_at(rt, gate, pass, place, name, number);
+        self.forget(rt, name, number);
+        self.hand_over(rt);
+        answer
+    }
+
+    // A client waits for a call from now on.
+    fn await_call<R: Wait>(
+        &self,
+        rt: &R,
+        name: Name,
+        number: u64,
+        place: u32,
+    ) -> Result<(), Refusal> {
+        let mut desk = self.rooms.of(name).desk.lock(rt);
+        desk.await_call(number, place)
+    }
+
+    // Nobody waits for a call any more.
+    fn forget<R: Wait>(&self, rt: &R, name: Name, number: u64) {
+        let mut desk = self.rooms.of(name).desk.lock(rt);
+        desk.forget(number);
+    }
+
+    fn wait_at<R: Wait + Clock, G: Gate>(
+        &self,
+        rt: &R,
+        gate: &G,
+        pass: &mut Pass<J, Majority>,
+        place: u32,
+        name: Name,
+        number: u64,
+    ) -> Result<Option<Answer>, Refusal> {
+        match self.bells.get(place as usize) {
+            Some(bell) => self.finish(rt, gate, pass, bell, name, number),
+            None => Ok(None),
+        }
+    }
+
+    // Works until a call is answered, and sleeps where others are at it.
+    fn finish<R: Wait + Clock, G: Gate>(
+        &self,
+        rt: &R,
+        gate: &G,
+        pass: &mut Pass<J, Majority>,
+        bell: &Bell,
+        name: Name,
+        number: u64,
+    ) -> Result<Option<Answer>, Refusal> {
+        for _ in rt.forever() {
+            self.point_at(name);
+            self.work(rt, gate, || bell.has_rung(rt));
+            let is_over = self.is_full() || self.is_closing();
+            if let Some(answer) = self.post.take_answer(rt, pass, CallId { name, number })? {
+                return Ok(Some(answer));
+            }
+            if is_over {
+                return self.unanswered();
+            }
+            if !bell.wait_briefly(rt) {
+                self.remind(rt, name, number);
+            }
+        }
+        Ok(None)
+    }
+
+    // What a client is told whose call gets no answer any more: nothing where the server ends.
+    fn unanswered(&self) -> Result<Option<Answer>, Refusal> {
+        if self.is_closing() {
+            return Ok(None);
+        }
+        Err(Refusal::HistoryFull)
+    }
+
+    // The oldest call that is waited for too long has its node ask all.
+    fn remind<R: Wait>(&self, rt: &R, name: Name, number: u64) {
+        let mut desk = self.rooms.of(name).desk.lock(rt);
+        if desk.is_oldest(number) {
+            desk.remind();
+        }
+    }
+
+    /// Has a node take a step that a client asks for, and has its worker go on with it.
+    pub(crate) fn change<R: Wait>(
+        &self,
+        rt: &R,
+        pass: &mut Pass<J, Majority>,
+        name: Name,
+        step: Step<Majority>,
+    ) -> Result<(), Refusal> {
+        let _effect = self.post.act(rt, pass, step)?;
+        self.rooms.of(name).desk.lock(rt).remind();
+        self.rooms.of(name).bell.ring(rt);
+        self.ring_waiting(rt, name);
+        Ok(())
+    }
+}

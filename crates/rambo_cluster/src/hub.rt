@@ -1,0 +1,105 @@
+//! What all threads of a server share.
+
+use crate::bell::Bell;
+use crate::doors::Doors;
+use crate::fault::ServeFault;
+use crate::rooms::Rooms;
+use rambo_names::{Majority, Name};
+use rambo_post::{Post, Terms};
+use rambo_tag::Registers;
+use std::alloc::Global;
+use std::hash::RandomState;
+use std::sync::Wait;
+use std::sync::atomic::{AtomicBool, AtomicU64, Ordering};
+
+/// The copies of a node: keys that a client chose make no look-up slow.
+pub(crate) type Copies = Registers<RandomState>;
+
+/// What all threads of a server share: the post, and what tells them when to look at it.
+#[derive(Drop)]
+pub(crate) struct Hub<J: Terms<Majority>> {
+    pub(crate) post: Post<J, Majority, Copies>,
+    /// The node that a client uses at first.
+    pub(crate) first: Name,
+    pub(crate) rooms: Rooms,
+    /// Each client waits for its bell.
+    pub(crate) bells: Vec<Bell>,
+    pub(crate) doors: Doors,
+    /// The names at whose nodes there is something to do, by bits.
+    pub(crate) pending: AtomicU64,
+    /// The names at whose nodes somebody is.
+    pub(crate) visited: AtomicU64,
+    pub(crate) is_closing: AtomicBool,
+    pub(crate) is_full: AtomicBool,
+}
+
+impl<J: Terms<Majority>> Hub<J> {
+    pub(crate) fn new(
+        alloc: Global,
+        post: Post<J, Majority, Copies>,
+        first: Name,
+        clients: usize,
+    ) -> Result<Hub<J>, ServeFault> {
+        let mut bells = Vec::new(alloc);
+        for _ in 0..clients {
+            bells.push(Bell::new())?;
+        }
+        Ok(Hub {
+            post,
+            first,
+            rooms: Rooms::new(alloc)?,
+            bells,
+            doors: Doors::new(alloc, clients)?,
+            pending: AtomicU64::new(0),
+            visited: AtomicU64::new(0),
+            is_closing: AtomicBool::new(false),
+            is_full: AtomicBool::new(false),
+        })
+    }
+
+    /// Whether the server ends.
+    pub(crate) fn is_closing(&self) -> bool {
+        self.is_closing.load(Ordering::SeqCst)
+    }
+
+    /// Whether the book is full.
+    pub(crate) fn is_full(&self) -> bool {
+        self.is_full.load(Ordering::SeqCst)
+    }
+
+    /// Wakes the clients at these places.
+    pub(crate) fn ring_clients<R: Wait>(&self, rt: &R, places: u64) {
+        let mut rest = places;
+        for bell in self.bells.as_slice() {
+            if rest & 1 == 1 {
+                bell.ring(rt);
+            }
+            rest >>= 1;
+        }
+    }
+
+    /// Wakes the clients that wait at a node.
+    pub(crate) fn ring_waiting<R: Wait>(&self, rt: &R, name: Name) {
+        let waiting = self.rooms.of(name).desk.lock(rt).waiting();
+        self.ring_clients(rt, waiting);
+    }
+
+    /// The book is full: who waits is told.
+    pub(crate) fn fill<R: Wait>(&self, rt: &R) {
+        if !self.is_full.swap(true, Ordering::SeqCst) {
+            self.ring_clients(rt, u64::MAX);
+        }
+    }
+
+    /// Ends the server: nothing more is read, and all that sleep wake.
+    pub(crate) fn close<R: Wait>(&self, rt: &R) {
+        self.is_closing.store(true, Ordering::SeqCst);
+        self.ring_clients(rt, u64::MAX);
+        for number in 1..65u64 {
+            if let Ok(name) = Name::new(number) {
+                self.rooms.of(name).bell.ring(rt);
+            }
+        }
+        self.doors.shut(rt);
+    }
+}

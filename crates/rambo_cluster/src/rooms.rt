@@ -1,0 +1,53 @@
+//! What threads share of a node.
+ghost use Rattle.std.specs.Prelude.{◌≡◌, vec_len};
+
+use crate::bell::Bell;
+use crate::desk::Desk;
+use rambo_names::{Name, Refusal};
+use std::alloc::Global;
+use std::sync::Mutex;
+use std::sync::atomic::{AtomicU64, Ordering};
+
+// So many names there are.
+const NAMES: u64 = 64;
+
+/// What threads share of a node beside its keeper.
+#[derive(Drop)]
+pub(crate) struct Room {
+    pub(crate) desk: Mutex<Desk>,
+    /// Its worker waits for this.
+    pub(crate) bell: Bell,
+    /// Whom it owes a letter, by bits.
+    pub(crate) owes: AtomicU64,
+}
+
+/// A room for each name.
+#[derive(Drop)]
+pub(crate) struct Rooms {
+    rooms: Vec<Room>,
+    ghost all: { vec_len rooms ≡ 64 },
+}
+
+impl Rooms {
+    pub(crate) fn new(alloc: Global) -> Result<Rooms, Refusal> {
+        let mut rooms = Vec::new(alloc);
+        for number in 0..NAMES {
+            rooms.push(Room {
+                desk: Mutex::new(Desk::new(alloc)),
+                bell: Bell::new(),
+                owes: AtomicU64::new(0),
+            })?;
+        }
+        Ok(Rooms { rooms })
+    }
+
+    /// The room of a name.
+    pub(crate) fn of(&self, name: Name) -> &Room {
+        &self.rooms[name.number() as usize - 1]
+    }
+}
+
+/// The bit of a name.
+pub(crate) fn bit(name: Name) -> u64 {
+    1 << (name.number() - 1)
+}

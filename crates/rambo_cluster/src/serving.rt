@@ -1,0 +1,237 @@
+//! Serving clients over sockets.
+ghost use Rattle.std.specs.Prelude.{◌≡◌, ◌≤◌, Some, length, IfOk, All};
+ghost use mathlib.Core.List.{IsPrefix};
+ghost use Rattle.rambo_names.specs.Quorums.{majorities};
+ghost use Rattle.rambo_run.specs.Legal.{IsLegal};
+
+use crate::connection::{Flow, Session};
+use crate::fault::ServeFault;
+use crate::hub::{Copies, Hub};
+use crate::options::Options;
+use crossbeam_channel::{Receiver, bounded};
+use rambo_atomic::Wrapped;
+use rambo_names::{Majority, Name, Quorums, Refusal};
+use rambo_post::{Actor, Closed, Gate, Pass, Post, Terms};
+use rambo_roll::Opened;
+use rambo_run::Step;
+use std::alloc::Global;
+use std::hash::RandomState;
+use std::marker::Brand;
+use std::net::{Net, SocketAddr, TcpListener, TcpStream};
+use std::random::RandomSource;
+use std::sync::Wait;
+use std::thread;
+use std::thread::Threads;
+use std::time::{Clock, Duration};
+
+// So many sockets wait for a client worker.
+const WAITING: usize = 32;
+
+/// Serves clients until one asks for the end, and gives all steps.
+pub fn serve<G: Gate, R>(
+    rt: &R,
+    alloc: Global,
+    listener: &TcpListener,
+    options: &Options<Majority>,
+    gate: &G,
+) -> Result<Closed<Majority>, ServeFault>
+where
+    R: Net<Listener = TcpListener, Stream = TcpStream>
+        + Threads
+        + Wait
+        + Clock
+        + RandomSource
+        + Sync,
+    ensures legal { IfOk result (λ c. IsLegal majorities options.now.founders c.steps.items) }
+    ensures fits { IfOk result (λ c. length c.steps.items ≤ options.now.steps) }
+{
+    let opened = Opened::new(alloc)?;
+    serve_as::<Brand, G, R>(
+        rt,
+        alloc,
+        opened,
+        listener,
+        options,
+        options.founders,
+        options.steps,
+        gate,
+    )
+}
+
+fn serve_as<J: Terms<Majority> + Send + Sync, G: Gate, R>(
+    rt: &R,
+    alloc: Global,
+    opened: Opened<Step<Majority>, Actor>,
+    listener: &TcpListener,
+    options: &Options<Majority>,
+    founders: Majority,
+    steps: usize,
+    gate: &G,
+) -> Result<Closed<Majority>, ServeFault>
+where
+    R: Net<Listener = TcpListener, Stream = TcpStream>
+        + Threads
+        + Wait
+        + Clock
+        + RandomSource
+        + Sync,
+    requires name { opened ≡ J.table }
+    requires founders { J.founders ≡ Some founders }
+    requires capacity { steps ≡ J.capacity }
+    ensures legal { IfOk result (λ c. IsLegal majorities founders c.steps.items) }
+    ensures fits { IfOk result (λ c. length c.steps.items ≤ steps) }
+{
+    let own = listener.local_addr()?;
+    let first = lowest(founders)?;
+    let copies = Copies::new(alloc, RandomState::new(rt)?);
+    let post = Post::<J, Majority, Copies>::with_mail(
+        alloc,
+        opened,
+        founders,
+        steps,
+        &copies,
+        options.lose,
+        options.twice,
+    )?;
+    let mut passes = passes_of(rt, alloc, &post, options.clients)?;
+    let hub = Hub::new(alloc, post, first, passes.len())?;
+    run(rt, gate, alloc, &hub, listener, own, &mut passes)?;
+    Ok(end(hub, passes, founders))
+}
+
+// So many passes.
+fn passes_of<J: Terms<Majority>, R: Wait>(
+    rt: &R,
+    alloc: Global,
+    post: &Post<J, Majority, Copies>,
+    count: usize,
+) -> Result<Vec<Pass<J, Majority>>, ServeFault> {
+    let mut passes = Vec::new(alloc);
+    for _ in 0..count {
+        passes.push(post.pass(rt, alloc)?)?;
+    }
+    Ok(passes)
+}
+
+// All steps, once no thread works any more: what the pass of each client has seen begins them.
+fn end<J: Terms<Majority>>(
+    hub: Hub<J>,
+    passes: Vec<Pass<J, Majority>>,
+    founders: Majority,
+) -> Closed<Majority>
+    requires { J.founders ≡ Some founders }
+    ensures legal { IsLegal majorities founders result.steps.items }
+    ensures fits { length result.steps.items ≤ J.capacity }
+    ensures begins { All (λ p. IsPrefix p.seen result.steps.items) passes.items }
+{
+    let Hub { post, .. } = hub;
+    post.close(passes)
+}
+
+// The lowest founder.
+fn lowest(founders: Majority) -> Result<Name, Refusal> {
+    match founders.members().iter().next() {
+        Some(name) => Ok(name),
+        None => Err(Refusal::EmptyMembers),
+    }
+}
+
+// Runs all threads until the end.
+fn run<J: Terms<Majority> + Send + Sync, G: Gate, R>(
+    rt: &R,
+    gate: &G,
+    alloc: Global,
+    hub: &Hub<J>,
+    listener: &TcpListener,
+    own: SocketAddr,
+    passes: &mut Vec<Pass<J, Majority>>,
+) -> Result<(), ServeFault>
+where
+    R: Net<Listener = TcpListener, Stream = TcpStream> + Threads + Wait + Clock + Sync,
+{
+    let (to, from) = bounded(alloc, WAITING)?;
+    let streams = &from;
+    thread::scope(thread::scope_env(), rt, |scope| {
+        for number in 1..65u64 {
+            let _ = scope.spawn(move || hub.run_worker(rt, gate, number));
+        }
+        let mut place = 0u32;
+        for pass in passes.iter_mut() {
+            let _ = scope.spawn(move || serve_streams(
+                rt, gate, alloc, hub, streams, own, pass, place,
+            ));
+            place = place.wrapping_add(1);
+        }
+        for stream in listener.incoming() {
+            if hub.is_closing() {
+                break;
+            }
+            match stream {
+                Ok(stream) => {
+                    if to.send(rt, stream).is_err() {
+                        break;
+                    }
+                }
+                Err(_) => thread::sleep(rt, Duration::from_millis(10)),
+            }
+        }
+        drop(to);
+    });
+    Ok(())
+}
+
+// The work of a client worker: it serves one connection after the other.
+fn serve_streams<J: Terms<Majority>, G: Gate, R>(
+    rt: &R,
+    gate: &G,
+    alloc: Global,
+    hub: &Hub<J>,
+    streams: &Receiver<TcpStream>,
+    own: SocketAddr,
+    pass: &mut Pass<J, Majority>,
+    place: u32,
+)
+where
+    R: Net<Listener = TcpListener, Stream = TcpStream> + Wait + Clock,
+{
+    for _ in rt.forever() {
+        let Ok(stream) = streams.recv(rt) else {
+            return;
+        };
+        let mut session = Session {
+            rt,
+            gate,
+            alloc,
+            hub,
+            pass: &mut *pass,
+            place,
+            name: hub.first,
+        };
+        if serve_stream(&mut session, &stream) == Flow::EndsAll {
+            hub.close(rt);
+            // This ends the wait for the next socket.
+            let _ = TcpStream::connect(rt, own);
+        }
+    }
+}
+
+// Serves one connection, unless the server ends.
+fn serve_stream<J: Terms<Majority>, G: Gate, R: Wait + Clock>(
+    session: &mut Session<'_, J, G, R>,
+    stream: &TcpStream,
+) -> Flow {
+    let Ok(door) = stream.try_clone() else {
+        return Flow::Ends;
+    };
+    let _ = stream.set_nodelay(true);
+    let hub = session.hub;
+    hub.doors
+        .put(session.rt, session.place as usize, Some(door));
+    let flow = if hub.is_closing() {
+        Flow::Ends
+    } else {
+        session.talk(&mut Wrapped::new(stream), &mut Wrapped::new(stream))
+    };
+    hub.doors.put(session.rt, session.place as usize, None);
+    flow
+}

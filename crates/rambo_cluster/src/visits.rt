@@ -1,0 +1,143 @@
+//! What a thread does at the nodes.
+
+use crate::desk::Asks;
+use crate::hub::Hub;
+use crate::quorums::quorum_behind;
+use crate::rooms::bit;
+use rambo_names::{Majority, Members, Name, Refusal};
+use rambo_post::{Gate, Terms, Turn};
+use rambo_run::Step;
+use std::sync::Wait;
+use std::sync::atomic::Ordering;
+
+impl<J: Terms<Majority>> Hub<J> {
+    /// There is something to do at a node.
+    pub(crate) fn point_at(&self, name: Name) {
+        self.pending.fetch_or(bit(name), Ordering::SeqCst);
+    }
+
+    /// Takes the turns that there are, at each node where nobody else is, until there are none, or until this says so.
+    pub(crate) fn work<R: Wait, G: Gate, F: Fn() -> bool>(&self, rt: &R, gate: &G, is_over: F)
+        requires { F.IsAlwaysCallable is_over }
+    {
+        for _ in rt.forever() {
+            let Some(name) = self.claim() else {
+                return;
+            };
+            self.visit(rt, gate, name);
+            self.visited.fetch_and(!bit(name), Ordering::SeqCst);
+            if is_over() {
+                return;
+            }
+        }
+    }
+
+    // A node where there is something to do and nobody else is.
+    fn claim(&self) -> Option<Name> {
+        let free = self.pending.load(Ordering::SeqCst) & !self.visited.load(Ordering::SeqCst);
+        for name in names_in(free).iter() {
+            if self.visited.fetch_or(bit(name), Ordering::SeqCst) & bit(name) == 0 {
+                return Some(name);
+            }
+        }
+        None
+    }
+
+    // Takes the turns of a node, and then writes to whom it owes a letter, and to whom it asks.
+    fn visit<R: Wait, G: Gate>(&self, rt: &R, gate: &G, name: Name) {
+        self.pending.fetch_and(!bit(name), Ordering::SeqCst);
+        let owes = self.rooms.of(name).owes.swap(0, Ordering::SeqCst);
+        if let Err(refusal) = self.take_turns(rt, gate, name) {
+            self.rooms.of(name).owes.fetch_or(owes, Ordering::SeqCst);
+            if refusal == Refusal::HistoryFull {
+                self.fill(rt);
+            }
+            return;
+        }
+        let asked = self.asked(rt, name);
+        for to in names_in(owes).union(asked).iter() {
+            if self.write(rt, name, to, asked.has(to)) == Err(Refusal::HistoryFull) {
+                self.fill(rt);
+            }
+        }
+    }
+
+    fn take_turns<R: Wait, G: Gate>(&self, rt: &R, gate: &G, name: Name) -> Result<(), Refusal> {
+        for _ in rt.forever() {
+            match self.post.turn(rt, name, gate)? {
+                Turn::Did(step) => self.note(rt, name, &step),
+                Turn::Nothing => return Ok(()),
+            }
+        }
+        Ok(())
+    }
+
+    // What a turn did is noted, and who waited for it wakes.
+    fn note<R: Wait>(&self, rt: &R, name: Name, step: &Step<Majority>) {
+        match step {
+            Step::Advance(id) => {
+                let client = self.rooms.of(name).desk.lock(rt).advance(id.number);
+                if let Some(client) = client {
+                    if let Some(bell) = self.bells.get(client as usize) {
+                        bell.ring(rt);
+                    }
+                }
+            }
+            Step::AdvanceCollect(_) | Step::AdvanceRecon(_) => {
+                self.rooms.of(name).desk.lock(rt).begin();
+            }
+            _ => {}
+        }
+    }
+
+    // Whom a node asks now.
+    fn asked<R: Wait>(&self, rt: &R, name: Name) -> Members {
+        let (asks, missed) = self.rooms.of(name).desk.lock(rt).ask();
+        match asks {
+            Asks::Nobody => Members::empty(),
+            Asks::Quorum => self.quorum(rt, name, missed),
+            Asks::All => self.post.wanted(rt, name),
+        }
+    }
+
+    // Names that make a quorum of each active configuration of a node's map, together with it.
+    fn quorum<R: Wait>(&self, rt: &R, name: Name, further: u64) -> Members {
+        let map = self.post.map(rt, name);
+        quorum_behind(&map, name, further)
+    }
+
+    // Writes a letter. One that asks is owed an answer.
+    fn write<R: Wait>(&self, rt: &R, from: Name, to: Name, asks: bool) -> Result<(), Refusal> {
+        self.post.send(rt, from, to)?;
+        if asks {
+            self.rooms.of(to).owes.fetch_or(bit(from), Ordering::SeqCst);
+        }
+        self.point_at(to);
+        Ok(())
+    }
+
+    /// Leaves to a worker what there is to do.
+    pub(crate) fn hand_over<R: Wait>(&self, rt: &R) {
+        let free = self.pending.load(Ordering::SeqCst) & !self.visited.load(Ordering::SeqCst);
+        if let Some(name) = names_in(free).iter().next() {
+            self.rooms.of(name).bell.ring(rt);
+        }
+    }
+}
+
+// The names of these bits.
+fn names_in(bits: u64) -> Members {
+    let mut names = Members::empty();
+    let mut rest = bits;
+    for _ in 0..64 {
+        if rest == 0 {
+            return names;
+        }
+        let place = u64::from(rest.trailing_zeros());
+        rest &= rest.wrapping_sub(1);
+        if let Ok(name) = Name::new(place.wrapping_add(1)) {
+            names = names.with(name);
+        }
+    }
+    names
+}
