@@ -8,7 +8,7 @@ use crate::connection::{Flow, Session};
 use crate::fault::ServeFault;
 use crate::hub::{Copies, Hub};
 use crate::options::Options;
-use crossbeam_channel::{Receiver, bounded};
+use crossbeam_channel::{Receiver, Sender, bounded};
 use rambo_atomic::Wrapped;
 use rambo_names::{Majority, Name, Quorums, Refusal};
 use rambo_post::{Actor, Closed, Gate, Pass, Post, Terms};
@@ -27,7 +27,17 @@ use std::time::{Clock, Duration};
 // So many sockets wait for a client worker.
 const WAITING: usize = 32;
 
-/// Serves clients until one asks for the end, and gives all steps.
+// So many milliseconds pass before a socket that failed is tried again, and so often one of our own is tried.
+const PAUSE: u64 = 10;
+
+const TRIES: u64 = 1000;
+
+/// Serves clients over the sockets of a listener until one asks for the end, and gives all steps: each in its turn was not
+/// refused, and there are as many as the options allow at most. The founders have members, there is room for 1 to 32
+/// clients, and for 1 to 1,000,000 steps.
+///
+/// A socket that fails ends its own connection alone. `Socket` where the listener has no address or the system gives no
+/// random numbers, `Memory` where there is no room for the nodes or a thread; then nobody was served.
 pub fn serve<G: Gate, R>(
     rt: &R,
     alloc: Global,
@@ -137,6 +147,8 @@ fn lowest(founders: Majority) -> Result<Name, Refusal> {
 }
 
 // Runs all threads until the end.
+//
+// `Memory` where there is no room for a thread or for the channel; the others have then ended.
 fn run<J: Terms<Majority> + Send + Sync, G: Gate, R>(
     rt: &R,
     gate: &G,
@@ -151,33 +163,69 @@ where
 {
     let (to, from) = bounded(alloc, WAITING)?;
     let streams = &from;
-    thread::scope(thread::scope_env(), rt, |scope| {
+    let all_run = thread::scope(thread::scope_env(), rt, |scope| {
+        let mut all_run = true;
         for number in 1..65u64 {
-            let _ = scope.spawn(move || hub.run_worker(rt, gate, number));
+            let worker = scope.spawn(move || hub.run_worker(rt, gate, number));
+            all_run &= worker.is_ok();
         }
         let mut place = 0u32;
         for pass in passes.iter_mut() {
-            let _ = scope.spawn(move || serve_streams(
+            let worker = scope.spawn(move || serve_streams(
                 rt, gate, alloc, hub, streams, own, pass, place,
             ));
+            all_run &= worker.is_ok();
             place = place.wrapping_add(1);
         }
-        for stream in listener.incoming() {
-            if hub.is_closing() {
-                break;
-            }
-            match stream {
-                Ok(stream) => {
-                    if to.send(rt, stream).is_err() {
-                        break;
-                    }
-                }
-                Err(_) => thread::sleep(rt, Duration::from_millis(10)),
-            }
+        if all_run {
+            accept_all(rt, hub, listener, &to);
+        } else {
+            hub.close(rt);
         }
         drop(to);
+        all_run
     });
-    Ok(())
+    if all_run {
+        Ok(())
+    } else {
+        Err(ServeFault::Memory)
+    }
+}
+
+// Hands each socket that comes to the client workers, until the server ends.
+fn accept_all<J: Terms<Majority>, R: Wait + Clock>(
+    rt: &R,
+    hub: &Hub<J>,
+    listener: &TcpListener,
+    to: &Sender<TcpStream>,
+) {
+    for _ in rt.forever() {
+        let accepted = listener.accept();
+        if hub.is_closing() {
+            return;
+        }
+        match accepted {
+            Ok((stream, _)) => {
+                if to.send(rt, stream).is_err() {
+                    return;
+                }
+            }
+            Err(_) => thread::sleep(rt, Duration::from_millis(PAUSE)),
+        }
+    }
+}
+
+// Ends the wait for the next socket, by a socket of our own.
+fn wake_acceptor<R>(rt: &R, own: SocketAddr)
+where
+    R: Net<Listener = TcpListener, Stream = TcpStream> + Clock,
+{
+    for _ in 0..TRIES {
+        if TcpStream::connect(rt, own).is_ok() {
+            return;
+        }
+        thread::sleep(rt, Duration::from_millis(PAUSE));
+    }
 }
 
 // The work of a client worker: it serves one connection after the other.
@@ -209,8 +257,7 @@ where
         };
         if serve_stream(&mut session, &stream) == Flow::EndsAll {
             hub.close(rt);
-            // This ends the wait for the next socket.
-            let _ = TcpStream::connect(rt, own);
+            wake_acceptor(rt, own);
         }
     }
 }
