@@ -20,24 +20,26 @@ impl<J: Terms<Majority>> Hub<J> {
         name: Name,
         op: Op,
     ) -> Result<Option<Answer>, Refusal> {
-        let number = self.post.call(rt, pass, name, op)?.number;
-        self.await_call(rt, name, number, place)?;
+        let number = self.call(rt, pass, place, name, op)?;
         let answer = self.wait_at(rt, gate, pass, place, name, number);
         self.forget(rt, name, number);
         self.hand_over(rt);
         answer
     }
 
-    // A client waits for a call from now on.
-    fn await_call<R: Wait>(
+    // Calls, and notes who waits. The desk is held meanwhile, so that no advance of the call is noted before.
+    fn call<R: Wait>(
         &self,
         rt: &R,
-        name: Name,
-        number: u64,
+        pass: &mut Pass<J, Majority>,
         place: u32,
-    ) -> Result<(), Refusal> {
+        name: Name,
+        op: Op,
+    ) -> Result<u64, Refusal> {
         let mut desk = self.rooms.of(name).desk.lock(rt);
-        desk.await_call(number, place)
+        let number = self.post.call(rt, pass, name, op)?.number;
+        desk.await_call(number, place)?;
+        Ok(number)
     }
 
     // Nobody waits for a call any more.

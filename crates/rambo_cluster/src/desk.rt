@@ -6,12 +6,12 @@ use std::alloc::Global;
 // A call takes its second phase where it advances first, and is answered where it advances again.
 const ANSWERED: u64 = 2;
 
-/// A call that is open, or was answered before its client told of it.
+/// A call that a client waits for.
 #[derive(Drop)]
 struct Open {
     number: u64,
-    // The place of its client, once that told of it.
-    client: Option<u32>,
+    // The place of its client.
+    client: u32,
     advances: u64,
     // Whether others were asked for its present phase.
     asked: bool,
@@ -59,27 +59,14 @@ impl Desk {
         None
     }
 
-    // The place of a call, which is noted where it wasn't.
-    fn noted(&mut self, number: u64) -> Result<usize, Refusal> {
-        if let Some(place) = self.place_of(number) {
-            return Ok(place);
-        }
-        let place = self.calls.len();
+    /// A client at this place waits for a call.
+    pub(crate) fn await_call(&mut self, number: u64, client: u32) -> Result<(), Refusal> {
         self.calls.push(Open {
             number,
-            client: None,
+            client,
             advances: 0,
             asked: false,
         })?;
-        Ok(place)
-    }
-
-    /// A client at this place waits for a call.
-    pub(crate) fn await_call(&mut self, number: u64, client: u32) -> Result<(), Refusal> {
-        let place = self.noted(number)?;
-        if let Some(open) = self.calls.get_mut(place) {
-            open.client = Some(client);
-        }
         Ok(())
     }
 
@@ -92,9 +79,9 @@ impl Desk {
         }
     }
 
-    /// A call advanced. The place of its client, if it is answered.
+    /// A call advanced. The place of its client, if it is answered and not forgotten.
     pub(crate) fn advance(&mut self, number: u64) -> Option<u32> {
-        let Ok(place) = self.noted(number) else {
+        let Some(place) = self.place_of(number) else {
             return None;
         };
         let Some(open) = self.calls.get_mut(place) else {
@@ -106,10 +93,8 @@ impl Desk {
             return None;
         }
         let client = open.client;
-        if client.is_some() {
-            self.forget(number);
-        }
-        client
+        self.forget(number);
+        Some(client)
     }
 
     /// A collection or an attempt went on.
@@ -168,9 +153,7 @@ impl Desk {
     pub(crate) fn waiting(&self) -> u64 {
         let mut places = 0u64;
         for open in self.calls.as_slice() {
-            if let Some(client) = open.client {
-                places |= 1u64.checked_shl(client).unwrap_or(0);
-            }
+            places |= 1u64.checked_shl(open.client).unwrap_or(0);
         }
         places
     }
