@@ -92,9 +92,10 @@ impl Desk {
         }
     }
 
-    /// A call advanced. The place of its client, if it is answered.
+    /// A call advanced. The place of its client, if it is answered. One for which nobody waits is left alone: its client may
+    /// have its answer already, or tell of the call later, and then looks for the answer itself.
     pub(crate) fn advance(&mut self, number: u64) -> Option<u32> {
-        let Ok(place) = self.noted(number) else {
+        let Some(place) = self.place_of(number) else {
             return None;
         };
         let Some(open) = self.calls.get_mut(place) else {
