@@ -84,10 +84,7 @@ impl Weighted {
         ensures total { result ≡ total self.now }
         ensures bound { result ≤ 960 }
     {
-        self.ones.count()
-            + 2 * self.twos.count()
-            + 4 * self.fours.count()
-            + 8 * self.eights.count()
+        self.ones.count() + 2 * self.twos.count() + 4 * self.fours.count() + 8 * self.eights.count()
     }
 
     // What those weigh that are in a set.
