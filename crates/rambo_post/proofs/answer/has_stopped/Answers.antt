@@ -1,6 +1,3 @@
-use Rattle.std.proofs.Common.{sym, ap, ◌∙◌}
-use Rattle.rambo_joiner.specs.Statuses.{is_stopped}
-use Rattle.rambo_post.specs.Kept.{KeeperView}
 use Rattle.rambo_post.proofs.answer.has_stopped.Goals as goal
 
 pub agree-requires : goal.agree-requires
