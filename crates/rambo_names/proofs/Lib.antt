@@ -2,8 +2,8 @@ pub mod Leading
 pub mod Numerals
 pub mod MaskNames
 pub mod MaskSteps
-pub mod NameTexts
-pub mod NameInserts
+pub mod ConfTexts
+pub mod ConfOnce
 pub mod ReadSteps
 pub mod Sizes
 pub mod Errors

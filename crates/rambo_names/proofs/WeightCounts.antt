@@ -1,5 +1,5 @@
 -- Weights by counts of the digits
-use Rattle.std.proofs.Common.{◌≡◌, ℕ, ◌+◌, ◌*◌, ◌≤◌, ◌<◌, Bool, true, false, cond, ◌&&◌, List, [], ◌∷◌, refl, sym, ap, ◌∙◌, arith}
+use Rattle.std.proofs.Common.{◌≡◌, ℕ, ◌+◌, ◌*◌, Bool, true, false, cond, ◌&&◌, List, [], ◌∷◌, refl, sym, ap, ◌∙◌, arith}
 use Rattle.std.specs.Prelude.{nat_lt}
 use Rattle.std.specs.Cmp.{nat_cmp_total}
 use Rattle.std.specs.Ordering.{nat_cmp}

@@ -1,10 +1,10 @@
 -- How much room the values of a type take at most
-use Rattle.std.specs.Prelude.{◌≡◌, ℕ, ◌+◌, ◌-◌, ◌*◌, ◌%◌, ◌≤◌, ◌<◌, ◌^◌, max}
-use Rattle.std.proofs.Common.{arith, sym, subst, ap, zero, suc}
+use Rattle.std.specs.Prelude.{ℕ, ◌+◌, ◌-◌, ◌*◌, ◌%◌, ◌≤◌, ◌<◌, ◌^◌, max}
+use Rattle.std.proofs.Common.{arith, zero, suc}
 use Rattle.std.proofs.Math.Nat.{max-le, mod-le}
 use mir.Syntax.{Width, w8, w16, w32, w64, w128, Ty, ty_int, ty_bool, ty_float, ty_ptr, ty_ref, ty_array, ty_unit, ty_struct, ty_enum, ty_param, ty_const, ty_array_p, ty_named, Tys, tnil, tcons, Tyss, ttnil, ttcons}
 use mir.Val.{bytes, width_of}
-use prog.Memory.{size, align, aligns, alignss, end_of, endss, pad, up}
+use prog.Memory.{size, align, aligns, alignss, end_of, endss, up}
 use denote.RattleType.{RattleType}
 use denote.Param.{layout}
 

@@ -1,7 +1,8 @@
--- How numbers and sets of names are spelt
-use Rattle.std.specs.Prelude.{◌≡◌, Bool, true, false, not, ◌&&◌, ◌||◌, ◌==◌, ℕ, List, [], ◌∷◌, ◌++◌, length, decimal}
+-- How numbers, sets of names and configurations are spelt
+use Rattle.std.specs.Prelude.{◌≡◌, Bool, true, false, not, ◌&&◌, ◌||◌, ◌==◌, ℕ, ◌≤◌, nat_eq, if◌then◌else◌, List, [], ◌∷◌, ◌++◌, length, map, decimal}
 use Rattle.std.specs.Char.{is_ascii_digit}
-use Rattle.rambo_names.specs.Names.{NameSet, names}
+use Rattle.rambo_names.specs.Names.{NameSet, AreNames, names}
+use Rattle.rambo_names.specs.Weights.{Weights, weight_of, members_of, evenly}
 
 -- whether a number may start so: with no sign, and with a zero only where it is all
 abbrev pub starts_plainly : List ℕ → Bool
@@ -18,36 +19,54 @@ pub record BeginsWith (line sign rest : List ℕ) : Type 0 where
   pub whole : line ≡ sign ++ rest
   pub ends : IsNumberEnd rest
 
--- further names, each behind a comma
-abbrev pub more_names : List ℕ → List ℕ
-more_names [] = []
-more_names (n ∷ ns) = (44 ∷ decimal n) ++ more_names ns
+-- further words, each behind a comma
+abbrev pub behind_commas : List (List ℕ) → List ℕ
+behind_commas [] = []
+behind_commas (w ∷ ws) = (44 ∷ w) ++ behind_commas ws
 
--- a list of names, joined by commas, or a dash for none
-abbrev pub names_text : List ℕ → List ℕ
-names_text [] = 45 ∷ []
-names_text (n ∷ ns) = decimal n ++ more_names ns
+-- words joined by commas, or a dash for none
+abbrev pub joined : List (List ℕ) → List ℕ
+joined [] = 45 ∷ []
+joined (w ∷ ws) = w ++ behind_commas ws
 
--- the one spelling of a set
+-- the one spelling of a set: its names
 abbrev pub set_text : NameSet → List ℕ
-set_text s = names_text (names s)
+set_text s = joined (map decimal (names s))
 
--- what stands before a name: a comma, unless it is the first
+-- a weight stands behind a colon, but 1 isn't written
+abbrev pub weight_text : ℕ → List ℕ
+weight_text w = if nat_eq w 1 then [] else 58 ∷ decimal w
+
+-- a member: its name and its weight
+abbrev pub member_text : ℕ → ℕ → List ℕ
+member_text n w = decimal n ++ weight_text w
+
+-- the one spelling of a configuration: its members
+abbrev pub conf_text : Weights → List ℕ
+conf_text c = joined (map (λ n. member_text n (weight_of c n)) (names (members_of c)))
+
+-- a weight that a member may have
+abbrev pub IsWeight : ℕ → Type 0
+IsWeight w = (1 ≤ w) × (w ≤ 15)
+
+-- a configuration whose members are names
+abbrev pub IsConf : Weights → Type 0
+IsConf c = AreNames (members_of c)
+
+-- what stands before a member: a comma, unless it is the first
 abbrev pub before : Bool → List ℕ
 before true = []
 before false = 44 ∷ []
 
--- a name ends where the text does, or at a comma
+-- a member ends where the text does, or at a comma
 abbrev pub IsEnd : List ℕ → Type 0
 IsEnd [] = Unit {0}
 IsEnd (b ∷ bs) = b ≡ 44
 
--- the text of the names that are still to come
-abbrev pub rest_text : Bool → List ℕ → List ℕ
-rest_text true ns = names_text ns
-rest_text false ns = more_names ns
+-- a text is that of one configuration at most
+abbrev pub OneConf : Type 0
+OneConf = (c d : Weights) → IsConf c → IsConf d → conf_text c ≡ conf_text d → c ≡ d
 
--- the text of the names that have come
-abbrev pub front_text : Bool → List ℕ → List ℕ
-front_text true ns = []
-front_text false ns = names_text ns
+-- where all members have weight 1 the text is that of their set
+abbrev pub EvenIsSet : Type 0
+EvenIsSet = (s : NameSet) → conf_text (evenly s) ≡ set_text s

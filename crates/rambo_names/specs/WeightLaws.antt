@@ -1,14 +1,13 @@
 -- Weighted majorities keep the laws of quorums
 use Rattle.std.specs.Prelude.{◌≡◌, ℕ, ◌+◌, ◌*◌, ◌<◌, ◌≤◌, Bool, true, false, cond, ◌&&◌, ◌||◌, nat_lt, List, [], ◌∷◌}
-use Rattle.std.proofs.Common.{refl, sym, ap, ◌∙◌, arith, true≢false, zero, suc}
+use Rattle.std.proofs.Common.{refl, sym, ◌∙◌, arith, true≢false, zero, suc}
 use Rattle.std.proofs.lemmas.Bool.Decides.{nat_tests}
 use Rattle.std.specs.Cmp.{nat_cmp_total}
-use Rattle.std.specs.Ordering.{nat_cmp}
-use Rattle.std.specs.FinSet.{contains, empty, union, is_subset, contains-union, contains-empty, is_subset-contains}
-use Rattle.rambo_names.specs.Names.{NameSet, same_names, rising, how_many, count_of}
-use Rattle.rambo_names.specs.Quorums.{IsSound, is_majority}
+use Rattle.std.specs.FinSet.{contains, union, is_subset, contains-union, is_subset-contains}
+use Rattle.rambo_names.specs.Names.{NameSet, same_names, rising}
+use Rattle.rambo_names.specs.Quorums.{IsSound}
 use Rattle.rambo_names.specs.Same.{same_names-path}
-use Rattle.rambo_names.specs.Weights.{Weights, weight_of, members_of, weight_among, total, held, outweighs, weighted_majorities, evenly}
+use Rattle.rambo_names.specs.Weights.{Weights, weight_of, members_of, weight_among, total, held, outweighs, weighted_majorities}
 
 lt-test : (a b : ℕ) → a < b → nat_lt a b ≡ true
 lt-test a b e = grind (arith, nat_tests)
@@ -90,7 +89,7 @@ pub weighted_sound : IsSound weighted_majorities
 weighted_sound = record { share = weighted_share; grow = weighted_grow }
 
 -- equal weights are identical
-abbrev same_weights : Weights → Weights → Bool
+abbrev pub same_weights : Weights → Weights → Bool
 same_weights a b = same_names a.ones b.ones && (same_names a.twos b.twos && (same_names a.fours b.fours && same_names a.eights b.eights))
 
 pub same_weights-path : (a b : Weights) → same_weights a b ≡ true → a ≡ b

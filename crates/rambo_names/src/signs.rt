@@ -1,13 +1,7 @@
-//! How numbers and sets of names are written in texts.
-ghost use Rattle.std.specs.Prelude.{◌≡◌, ◌≢◌, ◌++◌, ℕ, List, ◌<◌, ◌≤◌, ◌^◌, length, take, drop, decimal, IfSome, IfNone, OnOk, OnErr, IfErr};
+//! How numbers are written in texts.
+ghost use Rattle.std.specs.Prelude.{◌≡◌, ◌≢◌, ℕ, List, ◌<◌, ◌≤◌, ◌^◌, length, take, drop, decimal, IfSome, IfNone};
 ghost use Rattle.std.specs.Str.Parse.{AllDigits, digits_value};
-ghost use Rattle.rambo_names.specs.Names.{NameSet};
-ghost use Rattle.rambo_names.specs.Signs.{set_text, starts_plainly, IsNumberEnd, BeginsWith};
-
-use crate::members::Members;
-use crate::refusal::Refusal;
-use itoa::Buffer;
-use std::alloc::{AllocError, Allocator};
+ghost use Rattle.rambo_names.specs.Signs.{starts_plainly, IsNumberEnd, BeginsWith};
 
 /// The number that the bytes spell in plain decimal: 0 to 2^64 - 1, with no sign and no zero in front.
 ///
@@ -65,42 +59,4 @@ fn starts_plainly(bytes: &[u8]) -> bool
         None => false,
         Some((first, rest)) => *first != b'+' && (*first != b'0' || rest.is_empty()),
     }
-}
-
-/// Appends the one spelling of a set: `-` where it is empty, else its names in plain decimal, in rising
-/// order, joined by commas.
-///
-/// `OutOfMemory` where the text can't grow; it is then as before.
-pub fn write_set<A: Allocator>(members: &Members, out: &mut Vec<u8, A>) -> Result<(), Refusal>
-    ensures ok { OnOk result (out.new.items ≡ out.old.items ++ set_text members.now) }
-    ensures err { OnErr result (out.new.items ≡ out.old.items) }
-    ensures refused { IfErr result (λ r. r ≡ Refusal.OutOfMemory) }
-{
-    let before = out.len();
-    let written = append_set(members, out);
-    if written.is_err() {
-        out.truncate(before);
-    }
-    written
-}
-
-// Appends the text of a set, or after a refusal some front of it.
-fn append_set<A: Allocator>(members: &Members, out: &mut Vec<u8, A>) -> Result<(), Refusal>
-    ensures ok { OnOk result (out.new.items ≡ out.old.items ++ set_text members.now) }
-    ensures err { OnErr result ((more : List ℕ) × (out.new.items ≡ out.old.items ++ more)) }
-    ensures refused { IfErr result (λ r. r ≡ Refusal.OutOfMemory) }
-{
-    let mut first = true;
-    for name in members.iter() {
-        if !first {
-            out.push(b',')?;
-        }
-        first = false;
-        let mut buffer = Buffer::new();
-        out.extend_from_slice(buffer.format(name.number()).as_bytes())?;
-    }
-    if first {
-        out.push(b'-')?;
-    }
-    Ok(())
 }

@@ -72,11 +72,19 @@ impl Weighted {
         if weight < 1 || 15 < weight || !self.members().has(name) {
             return false;
         }
+        self.put(name, weight);
+        true
+    }
+
+    // Gives a name this weight, 0 to 15, whether it is a member or not.
+    pub(crate) fn put(&mut self, name: Name, weight: u8)
+        requires { weight ≤ 15 }
+        ensures { (n : ℕ) → weight_of self.new n ≡ (if nat_eq n name then weight else weight_of self.old n) }
+    {
         self.ones = with_digit(self.ones, name, weight & 1 != 0);
         self.twos = with_digit(self.twos, name, weight & 2 != 0);
         self.fours = with_digit(self.fours, name, weight & 4 != 0);
         self.eights = with_digit(self.eights, name, weight & 8 != 0);
-        true
     }
 
     // What all members weigh.
