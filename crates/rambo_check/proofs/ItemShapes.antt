@@ -4,8 +4,10 @@ use Rattle.std.specs.List.{AllByRecursion}
 use Rattle.std.specs.Str.{bytes_eq}
 use Rattle.std.proofs.lemmas.Fmt.{decimal_injective}
 use Rattle.std.proofs.lemmas.List.Elements.{recursion_from_All}
-use Rattle.rambo_names.specs.Names.{IsName, NameSet}
-use Rattle.rambo_names.specs.Signs.{set_text}
+use Rattle.rambo_names.specs.Names.{IsName}
+use Rattle.rambo_names.specs.Signs.{conf_text, IsConf}
+use Rattle.rambo_names.specs.Weights.{Weights}
+use Rattle.rambo_names.proofs.ConfOnce.{one_conf_is}
 use Rattle.rambo_atomic.specs.declared.operation.Op.{Op}
 use Rattle.rambo_atomic.specs.declared.operation.Op.TheVariants as op
 use Rattle.rambo_atomic.specs.declared.operation.Answer.{Answer}
@@ -14,12 +16,12 @@ use Rattle.rambo_atomic.specs.declared.event.CallId.{CallId}
 use Rattle.rambo_atomic.specs.declared.event.Event.{Event}
 use Rattle.rambo_atomic.specs.declared.event.Event.TheVariants as event
 use Rattle.rambo_text.specs.declared.fault.Fault.{Fault}
-use Rattle.rambo_text.specs.Forms.{Form, Num, Name, Set, Call, Hex, Standing, AreSpelt, IsBadWord}
-use Rattle.rambo_text.specs.Signs.{call_text, hex_text, standing_text, IsCall, AreNames}
+use Rattle.rambo_text.specs.Forms.{Form, Num, Name, Conf, Call, Hex, Standing, AreSpelt, IsBadWord}
+use Rattle.rambo_text.specs.Signs.{call_text, hex_text, standing_text, IsCall}
 use Rattle.rambo_text.specs.Words.{Lacks, AreWords, words_text}
-use Rattle.rambo_text.proofs.Alike.{same_set_text, same_hex, same_id}
+use Rattle.rambo_text.proofs.Alike.{same_hex, same_id}
 use Rattle.rambo_text.proofs.Lacking.{lacks-decimal}
-use Rattle.rambo_text.proofs.Plain.{lacks-set, lacks-hex, lacks-call, lacks-tested, lacks-words}
+use Rattle.rambo_text.proofs.Plain.{lacks-conf, lacks-hex, lacks-call, lacks-tested, lacks-words}
 use Rattle.rambo_text.proofs.Standings.{lacks-standing, same_standing}
 use Rattle.rambo_text.proofs.WordSplits.{same_words}
 use Rattle.rambo_check.specs.EvidenceStates.{EvidenceState, with_item, IsBadItem}
@@ -27,7 +29,7 @@ use Rattle.rambo_check.specs.Items.{IsItem, IsEvent, IsOp, IsAnswer}
 use Rattle.rambo_check.specs.Laws.{HasNames}
 use Rattle.rambo_check.specs.Lines.{Item, Happened, Collected, Settled, Refused, Ordered, Mapped, op_words, answer_words, item_words}
 use Rattle.rambo_check.specs.Plans.{Forms, each, plan, IsPlanFault}
-use Rattle.rambo_check.proofs.Rows.{AllSpelt, calls_spelt, sets_spelt}
+use Rattle.rambo_check.proofs.Rows.{AllSpelt, calls_spelt, confs_spelt}
 
 -- the words of an item lack what stands between words and lines
 lacks-op : (b : ℕ) (o : Op) → b < 44 → AllByRecursion (Lacks b) (op_words o)
@@ -43,9 +45,9 @@ lacks-calls : (b : ℕ) (cs : List CallId) → b < 44 → AllByRecursion IsCall 
 lacks-calls b [] low all = tt
 lacks-calls b (c ∷ cs) low all = (lacks-call b c low all.0, lacks-calls b cs low all.1)
 
-lacks-sets : (b : ℕ) (ss : List NameSet) → b < 44 → AllByRecursion (Lacks b) (map set_text ss)
-lacks-sets b [] low = tt
-lacks-sets b (s ∷ ss) low = (lacks-set b s low, lacks-sets b ss low)
+lacks-confs : (b : ℕ) (ss : List Weights) → b < 44 → AllByRecursion (Lacks b) (map conf_text ss)
+lacks-confs b [] low = tt
+lacks-confs b (s ∷ ss) low = (lacks-conf b s low, lacks-confs b ss low)
 
 lacks-name : (b n : ℕ) → b < 44 → IsName n → Lacks b (decimal n)
 lacks-name b n low is = lacks-decimal b n (omega arith) (omega arith)
@@ -55,23 +57,23 @@ lacks-item b (Happened (event.Call c o)) low is = (lacks-tested b (codes "call")
 lacks-item b (Happened (event.Answer c a)) low is = (lacks-tested b (codes "answer") low refl, (lacks-call b c low is.0, lacks-answer b a low))
 lacks-item b (Collected name place) low is =
     (lacks-tested b (codes "collected") low refl, (lacks-name b name low is.0, (lacks-decimal b place (omega arith) is.1, tt)))
-lacks-item b (Settled name place members) low is =
-    (lacks-tested b (codes "decided") low refl, (lacks-name b name low is.0, (lacks-decimal b place (omega arith) is.1, (lacks-standing b members low, tt))))
+lacks-item b (Settled name place conf) low is =
+    (lacks-tested b (codes "decided") low refl, (lacks-name b name low is.0, (lacks-decimal b place (omega arith) is.1, (lacks-standing b conf low, tt))))
 lacks-item b (Refused step number) low is =
     (lacks-tested b (codes "refused") low refl, (lacks-decimal b step (omega arith) is.0, (lacks-decimal b number (omega arith) is.1, tt)))
 lacks-item b (Ordered s) low is =
     (lacks-tested b (codes "sequence") low refl, (lacks-hex b s.key low, lacks-calls b s.calls low (recursion_from_All IsCall s.calls is.1)))
-lacks-item b (Mapped name floor sets) low is =
-    (lacks-tested b (codes "map") low refl, (lacks-name b name low is.0, (lacks-decimal b floor (omega arith) is.1, lacks-sets b sets low)))
+lacks-item b (Mapped name floor confs) low is =
+    (lacks-tested b (codes "map") low refl, (lacks-name b name low is.0, (lacks-decimal b floor (omega arith) is.1, lacks-confs b confs low)))
 
 some_words : (i : Item) → item_words i ≢ []
 some_words (Happened (event.Call c o)) e = cc
 some_words (Happened (event.Answer c a)) e = cc
 some_words (Collected name place) e = cc
-some_words (Settled name place members) e = cc
+some_words (Settled name place conf) e = cc
 some_words (Refused step number) e = cc
 some_words (Ordered s) e = cc
-some_words (Mapped name floor sets) e = cc
+some_words (Mapped name floor confs) e = cc
 
 -- an item's line, without its line feed
 abbrev pub line_of : Item → List ℕ
@@ -90,26 +92,26 @@ words_by_line i j a b e = same_words (line_of j) (item_words i) (item_words j) (
 abbrev pub kept_of : Item → Item
 kept_of (Happened e) = Happened e
 kept_of (Collected name place) = Refused 0 0
-kept_of (Settled name place members) = Refused 0 0
+kept_of (Settled name place conf) = Refused 0 0
 kept_of (Refused step number) = Refused 0 0
 kept_of (Ordered s) = Ordered s
-kept_of (Mapped name floor sets) = Refused 0 0
+kept_of (Mapped name floor confs) = Refused 0 0
 
 with_kept : (s : EvidenceState) (i : Item) → with_item s i ≡ with_item s (kept_of i)
 with_kept s (Happened e) = refl
 with_kept s (Collected name place) = refl
-with_kept s (Settled name place members) = refl
+with_kept s (Settled name place conf) = refl
 with_kept s (Refused step number) = refl
 with_kept s (Ordered o) = refl
-with_kept s (Mapped name floor sets) = refl
+with_kept s (Mapped name floor confs) = refl
 
 bad_kept : (s : EvidenceState) (i : Item) → (IsBadItem s i → IsBadItem s (kept_of i)) × (IsBadItem s (kept_of i) → IsBadItem s i)
 bad_kept s (Happened e) = (λ b. b, λ b. b)
 bad_kept s (Collected name place) = (λ b. b, λ b. b)
-bad_kept s (Settled name place members) = (λ b. b, λ b. b)
+bad_kept s (Settled name place conf) = (λ b. b, λ b. b)
 bad_kept s (Refused step number) = (λ b. b, λ b. b)
 bad_kept s (Ordered o) = (λ b. b, λ b. b)
-bad_kept s (Mapped name floor sets) = (λ b. b, λ b. b)
+bad_kept s (Mapped name floor confs) = (λ b. b, λ b. b)
 
 -- the kind of an item is known by its first word
 abbrev kind_of_words : List (List ℕ) → ℕ
@@ -129,19 +131,19 @@ event_kind (event.Answer c a) = 1
 abbrev kind_of : Item → ℕ
 kind_of (Happened e) = event_kind e
 kind_of (Collected name place) = 2
-kind_of (Settled name place members) = 3
+kind_of (Settled name place conf) = 3
 kind_of (Refused step number) = 4
 kind_of (Ordered s) = 5
-kind_of (Mapped name floor sets) = 6
+kind_of (Mapped name floor confs) = 6
 
 kind_by_words : (i : Item) → kind_of_words (item_words i) ≡ kind_of i
 kind_by_words (Happened (event.Call c o)) = refl
 kind_by_words (Happened (event.Answer c a)) = refl
 kind_by_words (Collected name place) = refl
-kind_by_words (Settled name place members) = refl
+kind_by_words (Settled name place conf) = refl
 kind_by_words (Refused step number) = refl
 kind_by_words (Ordered s) = refl
-kind_by_words (Mapped name floor sets) = refl
+kind_by_words (Mapped name floor confs) = refl
 
 low_kind : (e : Event) → event_kind e < 2
 low_kind (event.Call c o) = omega arith
@@ -176,11 +178,11 @@ same_calls [] (d ∷ ds) a b e = cc
 same_calls (c ∷ cs) [] a b e = cc
 same_calls (c ∷ cs) (d ∷ ds) a b e = (λ i. same_id c d a.0 b.0 (cc) i ∷ same_calls cs ds a.1 b.1 (cc) i)
 
-same_sets : (ss ts : List NameSet) → AllByRecursion AreNames ss → AllByRecursion AreNames ts → map set_text ss ≡ map set_text ts → ss ≡ ts
-same_sets [] [] a b e = refl
-same_sets [] (t ∷ ts) a b e = cc
-same_sets (s ∷ ss) [] a b e = cc
-same_sets (s ∷ ss) (t ∷ ts) a b e = (λ i. same_set_text s t a.0 b.0 (cc) i ∷ same_sets ss ts a.1 b.1 (cc) i)
+same_confs : (ss ts : List Weights) → AllByRecursion IsConf ss → AllByRecursion IsConf ts → map conf_text ss ≡ map conf_text ts → ss ≡ ts
+same_confs [] [] a b e = refl
+same_confs [] (t ∷ ts) a b e = cc
+same_confs (s ∷ ss) [] a b e = cc
+same_confs (s ∷ ss) (t ∷ ts) a b e = (λ i. one_conf_is s t a.0 b.0 (cc) i ∷ same_confs ss ts a.1 b.1 (cc) i)
 
 same_name : (n m : ℕ) → IsName n → IsName m → decimal n ≡ decimal m → n ≡ m
 same_name n m a b e = decimal_injective n m (omega arith) (omega arith) e
@@ -278,7 +280,7 @@ by_kept (Mapped n p ss) (Settled m q v) a b x y k w h = absurd (omega (arith, k)
 by_kept (Mapped n p ss) (Refused m q) a b x y k w h = absurd (omega (arith, k))
 by_kept (Mapped n p ss) (Ordered o) a b x y k w h = absurd (omega (arith, k))
 by_kept (Mapped n p ss) (Mapped m q ts) a b x y k w h =
-    (λ i. Mapped (same_name n m a.0 b.0 (cc) i) (decimal_injective p q a.1 b.1 (cc) i) (same_sets ss ts x y (cc) i))
+    (λ i. Mapped (same_name n m a.0 b.0 (cc) i) (decimal_injective p q a.1 b.1 (cc) i) (same_confs ss ts x y (cc) i))
 
 pub same_item : (i j : Item) → IsItem i → IsItem j → HasNames i → HasNames j → line_of i ≡ line_of j → i ≡ j
 same_item i j a b x y e = let w = words_by_line i j a b e in by_kept i j a b x y (same_kind i j w) w (same_kept i j a b e)
@@ -313,13 +315,13 @@ item_fits (Happened (event.Answer c answer.Nil)) f is bad = fits (Call ∷ []) (
 item_fits (Happened (event.Answer c (answer.Value value))) f is bad =
     fits (Call ∷ Hex ∷ []) (call_text c ∷ hex_text value ∷ []) f ((c, is.0, refl), ((value, is.1, refl), tt)) bad
 item_fits (Collected name place) f is bad = fits (Name ∷ Num ∷ []) (decimal name ∷ decimal place ∷ []) f ((name, is.0, refl), ((place, is.1, refl), tt)) bad
-item_fits (Settled name place members) f is bad =
-    fits (Name ∷ Num ∷ Standing ∷ []) (decimal name ∷ decimal place ∷ standing_text members ∷ []) f ((name, is.0, refl), ((place, is.1, refl), ((members, refl), tt))) bad
+item_fits (Settled name place conf) f is bad =
+    fits (Name ∷ Num ∷ Standing ∷ []) (decimal name ∷ decimal place ∷ standing_text conf ∷ []) f ((name, is.0, refl), ((place, is.1, refl), ((conf, refl), tt))) bad
 item_fits (Refused step number) f is bad = fits (Num ∷ Num ∷ []) (decimal step ∷ decimal number ∷ []) f ((step, is.0, refl), ((number, is.1, refl), tt)) bad
 item_fits (Ordered s) f is bad =
     fits (Hex ∷ each Call (map call_text s.calls)) (hex_text s.key ∷ map call_text s.calls) f
     ((s.key, is.0, refl), each_spelt Call (map call_text s.calls) (calls_spelt s.calls is.1)) bad
 item_fits (Mapped name floor []) f is bad = is.2 refl
 item_fits (Mapped name floor (s ∷ ss)) f is bad =
-    fits (Name ∷ Num ∷ Set ∷ each Set (map set_text ss)) (decimal name ∷ decimal floor ∷ set_text s ∷ map set_text ss) f
-    ((name, is.0, refl), ((floor, is.1, refl), ((s, refl), each_spelt Set (map set_text ss) (sets_spelt ss)))) bad
+    fits (Name ∷ Num ∷ Conf ∷ each Conf (map conf_text ss)) (decimal name ∷ decimal floor ∷ conf_text s ∷ map conf_text ss) f
+    ((name, is.0, refl), ((floor, is.1, refl), ((s, refl), each_spelt Conf (map conf_text ss) (confs_spelt ss)))) bad

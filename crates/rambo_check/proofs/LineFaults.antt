@@ -4,11 +4,11 @@ use Rattle.std.specs.Borrow.{Bor}
 use Rattle.std.specs.Option.{option_copied, is_some}
 use Rattle.std.specs.Str.{bytes_eq}
 use Rattle.std.proofs.lemmas.Slice.Eq.{bytes_eq-Decides}
-use Rattle.rambo_names.specs.Names.{NameSet}
-use Rattle.rambo_names.specs.Signs.{set_text}
+use Rattle.rambo_names.specs.Weights.{Weights}
+use Rattle.rambo_names.specs.Signs.{conf_text}
 use Rattle.rambo_text.specs.declared.fault.Fault.{Fault}
 use Rattle.rambo_text.specs.declared.fault.Fault.TheVariants.{UnknownWord, WrongCount, OutOfMemory}
-use Rattle.rambo_text.specs.Forms.{Form, Num, Name, Set, Call, Hex, IsBadWord}
+use Rattle.rambo_text.specs.Forms.{Form, Num, Name, Conf, Call, Hex, IsBadWord}
 use Rattle.rambo_text.specs.Words.{AreMore, IsFirstWord}
 use Rattle.rambo_text.proofs.WordSplits.{words_joined}
 use Rattle.rambo_check.specs.Plans.{Plan, Forms, each, call_plan, answer_plan, sequence_plan, map_plan, plan, IsPlanFault, IsLineFault, IsFaulty}
@@ -67,22 +67,22 @@ row_bad m more f (inr bad) = elim bad.2 [ inl h ↦ absurd (h.0 (length-each m b
 
 -- the words of a map
 pub map_bad : (start : Option (List ℕ)) (more : Option (Bor (List ℕ))) (n p : List ℕ) (ws : List (List ℕ)) (f : Fault) → is_some more ≡ true
-    → AreMore (option_copied more) ws → AreMore start (n ∷ p ∷ ws) → IsBadWord (Name ∷ Num ∷ each Set ws) (n ∷ p ∷ ws) f → IsFaulty map_plan start f
+    → AreMore (option_copied more) ws → AreMore start (n ∷ p ∷ ws) → IsBadWord (Name ∷ Num ∷ each Conf ws) (n ∷ p ∷ ws) f → IsFaulty map_plan start f
 map_bad start None n p ws f some all whole bad = cc
 map_bad start (Some rest) n p [] f some all whole bad = absurd (all.some refl)
 map_bad start (Some rest) n p (v ∷ vs) f some all whole bad =
-    inr (n ∷ p ∷ v ∷ vs, whole, inr (ap (λ k. suc (suc (suc k))) (length-each Set vs), bad))
+    inr (n ∷ p ∷ v ∷ vs, whole, inr (ap (λ k. suc (suc (suc k))) (length-each Conf vs), bad))
 
 pub map_short : (start : Option (List ℕ)) (more : Option (Bor (List ℕ))) (n p : List ℕ) → is_some more ≡ false
     → ((ws : List (List ℕ)) → AreMore (option_copied more) ws → AreMore start (n ∷ p ∷ ws)) → IsFaulty map_plan start WrongCount
 map_short start None n p none two = inr (n ∷ p ∷ [], two [] refl, inl ((λ e. cc), refl))
 map_short start (Some rest) n p none two = cc
 
--- a map has a set
-pub some_sets : (more : Option (Bor (List ℕ))) (words : List (List ℕ)) → is_some more ≡ true → AreMore (option_copied more) words → words ≢ []
-some_sets None words some all = cc
-some_sets (Some rest) words some all = all.some
+-- a map has a configuration
+pub some_confs : (more : Option (Bor (List ℕ))) (words : List (List ℕ)) → is_some more ≡ true → AreMore (option_copied more) words → words ≢ []
+some_confs None words some all = cc
+some_confs (Some rest) words some all = all.some
 
-pub no_sets : (sets : List NameSet) → map set_text sets ≢ [] → sets ≢ []
-no_sets [] some = λ e. some refl
-no_sets (s ∷ ss) some = λ e. cc
+pub no_confs : (confs : List Weights) → map conf_text confs ≢ [] → confs ≢ []
+no_confs [] some = λ e. some refl
+no_confs (s ∷ ss) some = λ e. cc

@@ -4,10 +4,10 @@ use Rattle.std.specs.Borrow.{Bor}
 use Rattle.std.specs.Option.{option_copied}
 use Rattle.std.specs.List.{AllByRecursion, All}
 use Rattle.std.proofs.lemmas.List.Elements.{recursion_from_All}
-use Rattle.rambo_names.specs.Names.{NameSet}
-use Rattle.rambo_names.specs.Signs.{set_text}
+use Rattle.rambo_names.specs.Weights.{Weights}
+use Rattle.rambo_names.specs.Signs.{conf_text}
 use Rattle.rambo_atomic.specs.declared.event.CallId.{CallId}
-use Rattle.rambo_text.specs.Forms.{Form, Set, Call, IsSpelt, form_fault, IsBadWord}
+use Rattle.rambo_text.specs.Forms.{Form, Conf, Call, IsSpelt, form_fault, IsBadWord}
 use Rattle.rambo_text.specs.Signs.{call_text, IsCall}
 use Rattle.rambo_text.specs.Words.{AreMore, IsFirstWord}
 use Rattle.rambo_check.proofs.LineWords.{more_has_words, some_joined}
@@ -23,9 +23,9 @@ calls_spelt cs all = by_parts cs (recursion_from_All IsCall cs all)
     by_parts [] h = tt
     by_parts (c ∷ cs) h = ((c, h.0, refl), by_parts cs h.1)
 
-pub sets_spelt : (sets : List NameSet) → AllSpelt Set (map set_text sets)
-sets_spelt [] = tt
-sets_spelt (s ∷ ss) = ((s, refl), sets_spelt ss)
+pub confs_spelt : (confs : List Weights) → AllSpelt Conf (map conf_text confs)
+confs_spelt [] = tt
+confs_spelt (s ∷ ss) = ((s, refl), confs_spelt ss)
 
 pub length-each : (m : Form) (words : List (List ℕ)) → length (each m words) ≡ length words
 length-each m [] = refl
@@ -68,7 +68,7 @@ row_fault m good start more rest word others some first all bad words =
     let whole = row_on good start more rest word word others some first refl words behind.0 behind.1 in
     inr (good ++ word ∷ behind.0, whole, inr (length-each m (good ++ word ∷ behind.0), bad_behind m good word behind.0 all bad))
 
--- one set more
-pub sets_on : (sets : List NameSet) (s : NameSet) (ws : List (List ℕ)) → map set_text sets ++ set_text s ∷ ws ≡ map set_text (sets ++ s ∷ []) ++ ws
-sets_on [] s ws = refl
-sets_on (t ∷ ts) s ws = ap (λ vs. set_text t ∷ vs) (sets_on ts s ws)
+-- one configuration more
+pub confs_on : (confs : List Weights) (s : Weights) (ws : List (List ℕ)) → map conf_text confs ++ conf_text s ∷ ws ≡ map conf_text (confs ++ s ∷ []) ++ ws
+confs_on [] s ws = refl
+confs_on (t ∷ ts) s ws = ap (λ vs. conf_text t ∷ vs) (confs_on ts s ws)

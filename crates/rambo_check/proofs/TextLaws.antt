@@ -36,10 +36,10 @@ some_word : (i : Item) → item_words i ≡ [] ∷ [] → ⊥
 some_word (Happened (event.Call c o)) e = cc
 some_word (Happened (event.Answer c a)) e = cc
 some_word (Collected name place) e = cc
-some_word (Settled name place members) e = cc
+some_word (Settled name place conf) e = cc
 some_word (Refused step number) e = cc
 some_word (Ordered s) e = cc
-some_word (Mapped name floor sets) e = cc
+some_word (Mapped name floor confs) e = cc
 
 not_empty : (i : Item) → IsItem i → [] ≡ line_of i → ⊥
 not_empty i is e = some_word i (same_words (line_of i) (item_words i) ([] ∷ []) (item_are_words i is) (record { some = λ n. cc; no_space = (tt, tt); whole = sym e }))

@@ -22,10 +22,10 @@ no_evidence = record { events = []; orders = [] }
 abbrev pub with_item : EvidenceState → Item → EvidenceState
 with_item s (Happened e) = record s { events = s.events ++ e ∷ [] }
 with_item s (Collected name place) = s
-with_item s (Settled name place members) = s
+with_item s (Settled name place conf) = s
 with_item s (Refused step number) = s
 with_item s (Ordered o) = record s { orders = s.orders ++ (o.key, o.calls) ∷ [] }
-with_item s (Mapped name floor sets) = s
+with_item s (Mapped name floor confs) = s
 
 abbrev pub evidence_of : List Item → EvidenceState
 evidence_of items = fold with_item no_evidence items
@@ -34,10 +34,10 @@ evidence_of items = fold with_item no_evidence items
 abbrev pub IsBadItem : EvidenceState → Item → Type 0
 IsBadItem s (Happened e) = IsSome (fault_of s.events e)
 IsBadItem s (Collected name place) = ⊥
-IsBadItem s (Settled name place members) = ⊥
+IsBadItem s (Settled name place conf) = ⊥
 IsBadItem s (Refused step number) = ⊥
 IsBadItem s (Ordered o) = IsSome (lookup (bytes_eq o.key) s.orders)
-IsBadItem s (Mapped name floor sets) = ⊥
+IsBadItem s (Mapped name floor confs) = ⊥
 
 -- each item is in range, and none is bad behind those before it
 pub record AreGood (items : List Item) : Type 0 where

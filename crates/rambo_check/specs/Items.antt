@@ -28,10 +28,10 @@ IsEvent (event.Answer c a) = IsCall c × IsAnswer a
 abbrev pub IsItem : Item → Type 0
 IsItem (Happened e) = IsEvent e
 IsItem (Collected name place) = IsName name × (place < 2 ^ 64)
-IsItem (Settled name place members) = IsName name × (place < 2 ^ 64)
+IsItem (Settled name place conf) = IsName name × (place < 2 ^ 64)
 IsItem (Refused step number) = (step < 2 ^ 64) × (number < 2 ^ 64)
 IsItem (Ordered s) = AreBytes s.key × All IsCall s.calls
-IsItem (Mapped name floor sets) = IsName name × (floor < 2 ^ 64) × (sets ≢ [])
+IsItem (Mapped name floor confs) = IsName name × (floor < 2 ^ 64) × (confs ≢ [])
 
 -- the item's words are this one and those behind it
 abbrev pub IsSpelling : List ℕ → Option (List ℕ) → Item → Type 0
@@ -41,7 +41,7 @@ IsSpelling first more i = IsItem i × (words : List (List ℕ)) × AreMore more 
 abbrev pub IsPassed : Item → Type 0
 IsPassed (Happened e) = ⊥
 IsPassed (Collected name place) = Unit {0}
-IsPassed (Settled name place members) = Unit {0}
+IsPassed (Settled name place conf) = Unit {0}
 IsPassed (Refused step number) = Unit {0}
 IsPassed (Ordered s) = ⊥
-IsPassed (Mapped name floor sets) = Unit {0}
+IsPassed (Mapped name floor confs) = Unit {0}

@@ -3,20 +3,20 @@ use Rattle.std.specs.Prelude.{◌≡◌, ◌≢◌, ℕ, List, IfSome}
 use Rattle.std.specs.List.{AllByRecursion}
 use Rattle.rambo_text.specs.declared.fault.Fault.TheVariants.{OutOfMemory}
 use Rattle.rambo_text.specs.declared.fault.ScriptFault.{ScriptFault}
-use Rattle.rambo_text.specs.Signs.{AreNames}
+use Rattle.rambo_names.specs.Signs.{IsConf}
 use Rattle.rambo_check.specs.Lines.{Item, Happened, Collected, Settled, Refused, Ordered, Mapped}
 use Rattle.rambo_check.specs.Items.{IsItem}
 use Rattle.rambo_check.specs.EvidenceStates.{EvidenceState}
 use Rattle.rambo_check.specs.Texts.{AreLinesOf, IsTold, IsTextFault}
 
--- the sets of a line have names alone
+-- the configurations of a line have names alone
 abbrev pub HasNames : Item → Type 0
 HasNames (Happened e) = Unit {0}
 HasNames (Collected name place) = Unit {0}
-HasNames (Settled name place members) = IfSome members AreNames
+HasNames (Settled name place conf) = IfSome conf IsConf
 HasNames (Refused step number) = Unit {0}
 HasNames (Ordered s) = Unit {0}
-HasNames (Mapped name floor sets) = AllByRecursion AreNames sets
+HasNames (Mapped name floor confs) = AllByRecursion IsConf confs
 
 -- lines that may stand in an outcome text
 pub record AreLines (items : List Item) : Type 0 where

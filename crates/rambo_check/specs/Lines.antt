@@ -1,7 +1,7 @@
 -- Lines of an outcome text
 use Rattle.std.specs.Prelude.{ℕ, List, [], ◌∷◌, ◌++◌, Option, map, codes, decimal}
-use Rattle.rambo_names.specs.Names.{NameSet}
-use Rattle.rambo_names.specs.Signs.{set_text}
+use Rattle.rambo_names.specs.Weights.{Weights}
+use Rattle.rambo_names.specs.Signs.{conf_text}
 use Rattle.rambo_atomic.specs.declared.operation.Op.{Op}
 use Rattle.rambo_atomic.specs.declared.operation.Op.TheVariants as op
 use Rattle.rambo_atomic.specs.declared.operation.Answer.{Answer}
@@ -13,15 +13,15 @@ use Rattle.rambo_text.specs.Signs.{hex_text, call_text, standing_text}
 use Rattle.rambo_text.specs.Words.{words_text}
 
 -- what a line says: that a call was made or answered, that a node's collection of a place ended, that a node's attempt for
--- a place ended, with the members that are now known there or none where the place is removed, that the step of a number
+-- a place ended, with the configuration that is now known there or none where the place is removed, that the step of a number
 -- was refused by a number, in which order a key's calls are put, or which map a node has
 pub data Item : Type 0 where
   Happened : Event → Item
   Collected : ℕ → ℕ → Item
-  Settled : ℕ → ℕ → Option NameSet → Item
+  Settled : ℕ → ℕ → Option Weights → Item
   Refused : ℕ → ℕ → Item
   Ordered : SequenceOf → Item
-  Mapped : ℕ → ℕ → List NameSet → Item
+  Mapped : ℕ → ℕ → List Weights → Item
 
 abbrev pub op_words : Op → List (List ℕ)
 op_words (op.Get key) = codes "get" ∷ hex_text key ∷ []
@@ -37,10 +37,10 @@ abbrev pub item_words : Item → List (List ℕ)
 item_words (Happened (event.Call c o)) = codes "call" ∷ call_text c ∷ op_words o
 item_words (Happened (event.Answer c a)) = codes "answer" ∷ call_text c ∷ answer_words a
 item_words (Collected name place) = codes "collected" ∷ decimal name ∷ decimal place ∷ []
-item_words (Settled name place members) = codes "decided" ∷ decimal name ∷ decimal place ∷ standing_text members ∷ []
+item_words (Settled name place conf) = codes "decided" ∷ decimal name ∷ decimal place ∷ standing_text conf ∷ []
 item_words (Refused step number) = codes "refused" ∷ decimal step ∷ decimal number ∷ []
 item_words (Ordered s) = codes "sequence" ∷ hex_text s.key ∷ map call_text s.calls
-item_words (Mapped name floor sets) = codes "map" ∷ decimal name ∷ decimal floor ∷ map set_text sets
+item_words (Mapped name floor confs) = codes "map" ∷ decimal name ∷ decimal floor ∷ map conf_text confs
 
 -- the line, with its line feed
 abbrev pub item_line : Item → List ℕ

@@ -3,7 +3,7 @@ use Rattle.std.specs.Prelude.{◌≡◌, ◌≢◌, ◌⊎◌, ℕ, if◌then◌
 use Rattle.std.specs.Str.{bytes_eq}
 use Rattle.rambo_text.specs.declared.fault.Fault.{Fault}
 use Rattle.rambo_text.specs.declared.fault.Fault.TheVariants.{UnknownWord, WrongCount, OutOfMemory}
-use Rattle.rambo_text.specs.Forms.{Form, Num, Name, Set, Call, Hex, Standing, IsBadWord}
+use Rattle.rambo_text.specs.Forms.{Form, Num, Name, Conf, Call, Hex, Standing, IsBadWord}
 use Rattle.rambo_text.specs.Words.{AreWords, AreMore}
 
 -- a word that says what the line is has no meaning, or is missing, or else these words have these forms, each its own
@@ -49,7 +49,7 @@ abbrev pub sequence_plan : List (List ℕ) → Plan
 sequence_plan ws = Forms (Hex ∷ each Call (drop 1 ws)) ws
 
 abbrev pub map_plan : List (List ℕ) → Plan
-map_plan ws = Forms (Name ∷ Num ∷ Set ∷ each Set (drop 3 ws)) ws
+map_plan ws = Forms (Name ∷ Num ∷ Conf ∷ each Conf (drop 3 ws)) ws
 
 -- by the first word
 abbrev pub plan : List (List ℕ) → Plan

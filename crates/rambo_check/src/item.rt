@@ -10,7 +10,7 @@ ghost use Rattle.rambo_check.specs.Readings.{IsLineOf};
 
 use crate::kept::Kept;
 use crate::operands::{
-    first_two, read_call_alone, read_call_and_bytes, read_call_and_pair, read_calls, read_sets,
+    first_two, read_call_alone, read_call_and_bytes, read_call_and_pair, read_calls, read_confs,
 };
 use crate::order::Order;
 use rambo_atomic::{Answer, Event, Op};
@@ -131,7 +131,7 @@ fn read_decided(more: Option<&[u8]>) -> Result<(), Fault>
     let Some(_place) = read_num(place) else {
         return Err(Fault::BadNumber);
     };
-    let Some(_members) = read_standing(standing) else {
+    let Some(_conf) = read_standing(standing) else {
         return Err(Fault::BadNumber);
     };
     Ok(())
@@ -182,5 +182,5 @@ fn read_map(more: Option<&[u8]>) -> Result<(), Fault>
     let Some(_floor) = read_num(floor) else {
         return Err(Fault::BadNumber);
     };
-    read_sets(more)
+    read_confs(more)
 }

@@ -1,15 +1,15 @@
 //! Reading the words that follow the first of a line.
 ghost use Rattle.std.specs.Prelude.{◌≡◌, ℕ, ◌<◌, [], ◌∷◌, List, map, All, length, IfOk, IfErr, IfSome, IfNone, OnOk};
 ghost use Rattle.std.specs.Option.{option_copied};
-ghost use Rattle.rambo_names.specs.Names.{NameSet};
-ghost use Rattle.rambo_names.specs.Signs.{set_text};
-ghost use Rattle.rambo_text.specs.Forms.{Num, Name, Set, Call, Hex};
+ghost use Rattle.rambo_names.specs.Weights.{Weights};
+ghost use Rattle.rambo_names.specs.Signs.{conf_text};
+ghost use Rattle.rambo_text.specs.Forms.{Num, Name, Conf, Call, Hex};
 ghost use Rattle.rambo_text.specs.Signs.{call_text, hex_text, IsCall, AreBytes};
 ghost use Rattle.rambo_text.specs.Words.{AreMore};
 ghost use Rattle.rambo_check.specs.Plans.{Forms, each, IsFaulty};
 
 use rambo_atomic::CallId;
-use rambo_names::{Bytes, read_set};
+use rambo_names::{Bytes, read_conf};
 use rambo_text::{Fault, next_word, one_word, read_call, read_hex, two_words};
 use std::alloc::Global;
 
@@ -97,15 +97,15 @@ pub(crate) fn read_calls(alloc: Global, more: Option<&[u8]>) -> Result<Vec<CallI
     Ok(calls)
 }
 
-/// Any number of sets of names.
-pub(crate) fn read_sets(more: Option<&[u8]>) -> Result<(), Fault>
-    ensures sets { OnOk result ((sets : List NameSet) × AreMore (option_copied more.entry) (map set_text sets)) }
-    ensures fault { IfErr result (IsFaulty (λ ws. Forms (each Set ws) ws) (option_copied more.entry)) }
+/// Any number of configurations.
+pub(crate) fn read_confs(more: Option<&[u8]>) -> Result<(), Fault>
+    ensures confs { OnOk result ((confs : List Weights) × AreMore (option_copied more.entry) (map conf_text confs)) }
+    ensures fault { IfErr result (IsFaulty (λ ws. Forms (each Conf ws) ws) (option_copied more.entry)) }
 {
     let mut more = more;
     while let Some(rest) = more {
         let (word, others) = next_word(rest);
-        let Some(_set) = read_set(word) else {
+        let Some(_conf) = read_conf(word) else {
             return Err(Fault::BadNumber);
         };
         more = others;

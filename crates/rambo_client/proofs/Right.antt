@@ -1,7 +1,7 @@
 -- Each answer is an ordinary map's
 use Rattle.std.proofs.Common.{◌≡◌, ℕ, List, [], ◌∷◌, ◌++◌, sym, ◌∙◌}
-use Rattle.rambo_names.specs.Quorums.{majorities}
-use Rattle.rambo_names.specs.Majorities.{majorities_sound}
+use Rattle.rambo_names.specs.Weights.{weighted_majorities}
+use Rattle.rambo_names.specs.WeightLaws.{weighted_sound}
 use Rattle.rambo_atomic.specs.declared.operation.Op.{Op}
 use Rattle.rambo_atomic.specs.declared.operation.Answer.{Answer}
 use Rattle.rambo_atomic.specs.declared.event.CallId.{CallId}
@@ -20,6 +20,6 @@ use Rattle.rambo_client.proofs.Orders.{answer_right}
 pub right : (h : List Event) (name : ℕ) (qs : List Request) (h0 : List Event) (id : CallId) (o : Op) (a : Answer) → IsOfRun h → IsHistory name qs h0
     → h ≡ h0 ++ event.Call id o ∷ event.Answer id a ∷ [] → a ≡ answer_of (after_all no_values qs) o
 right h name qs h0 id o a ran calls is =
-    let w = run majorities ran.0 ran.1 in
-    answer_right name qs h0 id o a w.history calls (sym ran.2 ∙ is) (run_well_formed majorities ran.0 ran.1)
-    (λ key. (sequence_of w.history w.marks key, is_atomic majorities majorities_sound ran.0 ran.1 key))
+    let w = run weighted_majorities ran.0 ran.1 in
+    answer_right name qs h0 id o a w.history calls (sym ran.2 ∙ is) (run_well_formed weighted_majorities ran.0 ran.1)
+    (λ key. (sequence_of w.history w.marks key, is_atomic weighted_majorities weighted_sound ran.0 ran.1 key))

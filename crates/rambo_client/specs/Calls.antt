@@ -5,7 +5,7 @@ use Rattle.rambo_atomic.specs.declared.event.CallId.{CallId}
 use Rattle.rambo_atomic.specs.declared.event.Event.{Event}
 use Rattle.rambo_atomic.specs.declared.event.Event.TheVariants as event
 use Rattle.rambo_names.specs.Names.{NameSet, names}
-use Rattle.rambo_names.specs.Quorums.{majorities}
+use Rattle.rambo_names.specs.Weights.{Weights, weighted_majorities}
 use Rattle.rambo_run.specs.declared.step.Step.{Step}
 use Rattle.rambo_run.specs.Runs.{run}
 use Rattle.rambo_commands.specs.declared.request.Request.{Request}
@@ -32,9 +32,9 @@ IsHistory name qs history = Calls name no_values qs history
 abbrev pub BeginsHistory : ℕ → List Request → List Event → Type 0
 BeginsHistory name qs history = (more : List Event) × Calls name no_values qs (history ++ more)
 
--- a history of some run over majorities
+-- a history of some run over weighted majorities
 abbrev pub IsOfRun : List Event → Type 0
-IsOfRun h = (founders : NameSet) × (steps : List (Step NameSet)) × (h ≡ (run majorities founders steps).history)
+IsOfRun h = (founders : Weights) × (steps : List (Step Weights)) × (h ≡ (run weighted_majorities founders steps).history)
 
 -- the lowest name of a set
 abbrev pub lowest : NameSet → ℕ

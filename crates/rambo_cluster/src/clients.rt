@@ -3,19 +3,19 @@
 use crate::bell::Bell;
 use crate::hub::Hub;
 use rambo_atomic::{Answer, CallId, Op};
-use rambo_names::{Majority, Name, Refusal};
+use rambo_names::{Name, Refusal, Weighted};
 use rambo_post::{Gate, Pass, Terms};
 use rambo_run::Step;
 use std::sync::Wait;
 use std::time::Clock;
 
-impl<J: Terms<Majority>> Hub<J> {
+impl<J: Terms<Weighted>> Hub<J> {
     /// Calls for an operation at a node and waits for its answer. None where the server ends before.
     pub(crate) fn operate<R: Wait + Clock, G: Gate>(
         &self,
         rt: &R,
         gate: &G,
-        pass: &mut Pass<J, Majority>,
+        pass: &mut Pass<J, Weighted>,
         place: u32,
         name: Name,
         op: Op,
@@ -31,7 +31,7 @@ impl<J: Terms<Majority>> Hub<J> {
     fn call<R: Wait>(
         &self,
         rt: &R,
-        pass: &mut Pass<J, Majority>,
+        pass: &mut Pass<J, Weighted>,
         place: u32,
         name: Name,
         op: Op,
@@ -52,7 +52,7 @@ impl<J: Terms<Majority>> Hub<J> {
         &self,
         rt: &R,
         gate: &G,
-        pass: &mut Pass<J, Majority>,
+        pass: &mut Pass<J, Weighted>,
         place: u32,
         name: Name,
         number: u64,
@@ -68,7 +68,7 @@ impl<J: Terms<Majority>> Hub<J> {
         &self,
         rt: &R,
         gate: &G,
-        pass: &mut Pass<J, Majority>,
+        pass: &mut Pass<J, Weighted>,
         bell: &Bell,
         name: Name,
         number: u64,
@@ -110,9 +110,9 @@ impl<J: Terms<Majority>> Hub<J> {
     pub(crate) fn change<R: Wait>(
         &self,
         rt: &R,
-        pass: &mut Pass<J, Majority>,
+        pass: &mut Pass<J, Weighted>,
         name: Name,
-        step: Step<Majority>,
+        step: Step<Weighted>,
     ) -> Result<(), Refusal> {
         let _effect = self.post.act(rt, pass, step)?;
         self.rooms.of(name).desk.lock(rt).remind();

@@ -8,7 +8,7 @@ use rambo_commands::{
     Request, ServerRequest, append_refusal, append_reply, fault_reply, map_reply, telling,
 };
 use rambo_config_map::ConfigMap;
-use rambo_names::{Majority, Name, Refusal};
+use rambo_names::{Name, Refusal, Weighted};
 use rambo_post::{Gate, Pass, Terms};
 use rambo_resp::{Command, Decoder, Fault, Reply};
 use rambo_run::Step;
@@ -32,17 +32,17 @@ pub(crate) enum Flow {
 
 /// Who serves a connection: a client's place and pass, and the node that it uses.
 #[derive(Drop)]
-pub(crate) struct Session<'h, J: Terms<Majority>, G: Gate, R> {
+pub(crate) struct Session<'h, J: Terms<Weighted>, G: Gate, R> {
     pub(crate) rt: &'h R,
     pub(crate) alloc: Global,
     pub(crate) gate: &'h G,
     pub(crate) hub: &'h Hub<J>,
-    pub(crate) pass: &'h mut Pass<J, Majority>,
+    pub(crate) pass: &'h mut Pass<J, Weighted>,
     pub(crate) place: u32,
     pub(crate) name: Name,
 }
 
-impl<'h, J: Terms<Majority>, G: Gate, R: Wait + Clock> Session<'h, J, G, R> {
+impl<'h, J: Terms<Weighted>, G: Gate, R: Wait + Clock> Session<'h, J, G, R> {
     /// Answers the commands of a source into a sink, until one of them ends.
     pub(crate) fn talk<I: Source, O: Sink>(&mut self, reader: &mut I, writer: &mut O) -> Flow {
         match self.talk_on(reader, writer) {
@@ -118,7 +118,7 @@ impl<'h, J: Terms<Majority>, G: Gate, R: Wait + Clock> Session<'h, J, G, R> {
                 self.change(*name, Step::Join(*name, *contacts), out)
             }
             ServerRequest::Recon(wish) => {
-                self.change(self.name, Step::Recon(self.name, Majority::of(*wish)), out)
+                self.change(self.name, Step::Recon(self.name, *wish), out)
             }
             ServerRequest::Collect => self.change(self.name, Step::Collect(self.name), out),
             ServerRequest::Stop(name) => self.change(*name, Step::Stop(*name), out),
@@ -152,7 +152,7 @@ impl<'h, J: Terms<Majority>, G: Gate, R: Wait + Clock> Session<'h, J, G, R> {
     fn change(
         &mut self,
         name: Name,
-        step: Step<Majority>,
+        step: Step<Weighted>,
         out: &mut BytesMut,
     ) -> Result<Flow, Refusal> {
         self.hub.change(self.rt, self.pass, name, step)?;
@@ -194,7 +194,7 @@ fn write_fault(alloc: Global, fault: Fault, out: &mut BytesMut) -> Result<(), Re
     append_reply(&fault_reply(alloc, fault)?, out)
 }
 
-fn map_told(alloc: Global, map: &ConfigMap<Majority>) -> Result<Reply, Refusal> {
+fn map_told(alloc: Global, map: &ConfigMap<Weighted>) -> Result<Reply, Refusal> {
     let mut configs = Vec::new(alloc);
     for place in 0..map.places().len() {
         if let Some(config) = map.places().get(place) {

@@ -4,7 +4,7 @@ use crate::bell::Bell;
 use crate::doors::Doors;
 use crate::fault::ServeFault;
 use crate::rooms::Rooms;
-use rambo_names::{Majority, Name};
+use rambo_names::{Name, Weighted};
 use rambo_post::{Post, Terms};
 use rambo_tag::Registers;
 use std::alloc::Global;
@@ -17,8 +17,8 @@ pub(crate) type Copies = Registers<RandomState>;
 
 /// What all threads of a server share: the post, and what tells them when to look at it.
 #[derive(Drop)]
-pub(crate) struct Hub<J: Terms<Majority>> {
-    pub(crate) post: Post<J, Majority, Copies>,
+pub(crate) struct Hub<J: Terms<Weighted>> {
+    pub(crate) post: Post<J, Weighted, Copies>,
     /// The node that a client uses at first.
     pub(crate) first: Name,
     pub(crate) rooms: Rooms,
@@ -33,10 +33,10 @@ pub(crate) struct Hub<J: Terms<Majority>> {
     pub(crate) is_full: AtomicBool,
 }
 
-impl<J: Terms<Majority>> Hub<J> {
+impl<J: Terms<Weighted>> Hub<J> {
     pub(crate) fn new(
         alloc: Global,
-        post: Post<J, Majority, Copies>,
+        post: Post<J, Weighted, Copies>,
         first: Name,
         clients: usize,
     ) -> Result<Hub<J>, ServeFault> {

@@ -1,7 +1,7 @@
 //! Serving clients over sockets.
 ghost use Rattle.std.specs.Prelude.{◌≡◌, ◌≤◌, Some, length, IfOk, All};
 ghost use mathlib.Core.List.{IsPrefix};
-ghost use Rattle.rambo_names.specs.Quorums.{majorities};
+ghost use Rattle.rambo_names.specs.Weights.{weighted_majorities};
 ghost use Rattle.rambo_run.specs.Legal.{IsLegal};
 
 use crate::connection::{Flow, Session};
@@ -10,7 +10,7 @@ use crate::hub::{Copies, Hub};
 use crate::options::Options;
 use crossbeam_channel::{Receiver, Sender, bounded};
 use rambo_atomic::Wrapped;
-use rambo_names::{Majority, Name, Quorums, Refusal};
+use rambo_names::{Name, Quorums, Refusal, Weighted};
 use rambo_post::{Actor, Closed, Gate, Pass, Post, Terms};
 use rambo_roll::Opened;
 use rambo_run::Step;
@@ -42,9 +42,9 @@ pub fn serve<G: Gate, R>(
     rt: &R,
     alloc: Global,
     listener: &TcpListener,
-    options: &Options<Majority>,
+    options: &Options<Weighted>,
     gate: &G,
-) -> Result<Closed<Majority>, ServeFault>
+) -> Result<Closed<Weighted>, ServeFault>
 where
     R: Net<Listener = TcpListener, Stream = TcpStream>
         + Threads
@@ -52,7 +52,7 @@ where
         + Clock
         + RandomSource
         + Sync,
-    ensures legal { IfOk result (λ c. IsLegal majorities options.now.founders c.steps.items) }
+    ensures legal { IfOk result (λ c. IsLegal weighted_majorities options.now.founders c.steps.items) }
     ensures fits { IfOk result (λ c. length c.steps.items ≤ options.now.steps) }
 {
     let opened = Opened::new(alloc)?;
@@ -68,16 +68,16 @@ where
     )
 }
 
-fn serve_as<J: Terms<Majority> + Send + Sync, G: Gate, R>(
+fn serve_as<J: Terms<Weighted> + Send + Sync, G: Gate, R>(
     rt: &R,
     alloc: Global,
-    opened: Opened<Step<Majority>, Actor>,
+    opened: Opened<Step<Weighted>, Actor>,
     listener: &TcpListener,
-    options: &Options<Majority>,
-    founders: Majority,
+    options: &Options<Weighted>,
+    founders: Weighted,
     steps: usize,
     gate: &G,
-) -> Result<Closed<Majority>, ServeFault>
+) -> Result<Closed<Weighted>, ServeFault>
 where
     R: Net<Listener = TcpListener, Stream = TcpStream>
         + Threads
@@ -88,13 +88,13 @@ where
     requires name { opened ≡ J.table }
     requires founders { J.founders ≡ Some founders }
     requires capacity { steps ≡ J.capacity }
-    ensures legal { IfOk result (λ c. IsLegal majorities founders c.steps.items) }
+    ensures legal { IfOk result (λ c. IsLegal weighted_majorities founders c.steps.items) }
     ensures fits { IfOk result (λ c. length c.steps.items ≤ steps) }
 {
     let own = listener.local_addr()?;
     let first = lowest(founders)?;
     let copies = Copies::new(alloc, RandomState::new(rt)?);
-    let post = Post::<J, Majority, Copies>::with_mail(
+    let post = Post::<J, Weighted, Copies>::with_mail(
         alloc,
         opened,
         founders,
@@ -110,12 +110,12 @@ where
 }
 
 // So many passes.
-fn passes_of<J: Terms<Majority>, R: Wait>(
+fn passes_of<J: Terms<Weighted>, R: Wait>(
     rt: &R,
     alloc: Global,
-    post: &Post<J, Majority, Copies>,
+    post: &Post<J, Weighted, Copies>,
     count: usize,
-) -> Result<Vec<Pass<J, Majority>>, ServeFault> {
+) -> Result<Vec<Pass<J, Weighted>>, ServeFault> {
     let mut passes = Vec::new(alloc);
     for _ in 0..count {
         passes.push(post.pass(rt, alloc)?)?;
@@ -124,13 +124,13 @@ fn passes_of<J: Terms<Majority>, R: Wait>(
 }
 
 // All steps, once no thread works any more: what the pass of each client has seen begins them.
-fn end<J: Terms<Majority>>(
+fn end<J: Terms<Weighted>>(
     hub: Hub<J>,
-    passes: Vec<Pass<J, Majority>>,
-    founders: Majority,
-) -> Closed<Majority>
+    passes: Vec<Pass<J, Weighted>>,
+    founders: Weighted,
+) -> Closed<Weighted>
     requires { J.founders ≡ Some founders }
-    ensures legal { IsLegal majorities founders result.steps.items }
+    ensures legal { IsLegal weighted_majorities founders result.steps.items }
     ensures fits { length result.steps.items ≤ J.capacity }
     ensures begins { All (λ p. IsPrefix p.seen result.steps.items) passes.items }
 {
@@ -139,7 +139,7 @@ fn end<J: Terms<Majority>>(
 }
 
 // The lowest founder.
-fn lowest(founders: Majority) -> Result<Name, Refusal> {
+fn lowest(founders: Weighted) -> Result<Name, Refusal> {
     match founders.members().iter().next() {
         Some(name) => Ok(name),
         None => Err(Refusal::EmptyMembers),
@@ -149,14 +149,14 @@ fn lowest(founders: Majority) -> Result<Name, Refusal> {
 // Runs all threads until the end.
 //
 // `Memory` where there is no room for a thread or for the channel; the others have then ended.
-fn run<J: Terms<Majority> + Send + Sync, G: Gate, R>(
+fn run<J: Terms<Weighted> + Send + Sync, G: Gate, R>(
     rt: &R,
     gate: &G,
     alloc: Global,
     hub: &Hub<J>,
     listener: &TcpListener,
     own: SocketAddr,
-    passes: &mut Vec<Pass<J, Majority>>,
+    passes: &mut Vec<Pass<J, Weighted>>,
 ) -> Result<(), ServeFault>
 where
     R: Net<Listener = TcpListener, Stream = TcpStream> + Threads + Wait + Clock + Sync,
@@ -193,7 +193,7 @@ where
 }
 
 // Hands each socket that comes to the client workers, until the server ends.
-fn accept_all<J: Terms<Majority>, R: Wait + Clock>(
+fn accept_all<J: Terms<Weighted>, R: Wait + Clock>(
     rt: &R,
     hub: &Hub<J>,
     listener: &TcpListener,
@@ -229,14 +229,14 @@ where
 }
 
 // The work of a client worker: it serves one connection after the other.
-fn serve_streams<J: Terms<Majority>, G: Gate, R>(
+fn serve_streams<J: Terms<Weighted>, G: Gate, R>(
     rt: &R,
     gate: &G,
     alloc: Global,
     hub: &Hub<J>,
     streams: &Receiver<TcpStream>,
     own: SocketAddr,
-    pass: &mut Pass<J, Majority>,
+    pass: &mut Pass<J, Weighted>,
     place: u32,
 )
 where
@@ -263,7 +263,7 @@ where
 }
 
 // Serves one connection, unless the server ends.
-fn serve_stream<J: Terms<Majority>, G: Gate, R: Wait + Clock>(
+fn serve_stream<J: Terms<Weighted>, G: Gate, R: Wait + Clock>(
     session: &mut Session<'_, J, G, R>,
     stream: &TcpStream,
 ) -> Flow {

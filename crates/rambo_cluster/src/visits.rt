@@ -4,13 +4,13 @@ use crate::desk::Asks;
 use crate::hub::Hub;
 use crate::quorums::quorum_behind;
 use crate::rooms::bit;
-use rambo_names::{Majority, Members, Name, Refusal};
+use rambo_names::{Members, Name, Refusal, Weighted};
 use rambo_post::{Gate, Terms, Turn};
 use rambo_run::Step;
 use std::sync::Wait;
 use std::sync::atomic::Ordering;
 
-impl<J: Terms<Majority>> Hub<J> {
+impl<J: Terms<Weighted>> Hub<J> {
     /// There is something to do at a node.
     pub(crate) fn point_at(&self, name: Name) {
         self.pending.fetch_or(bit(name), Ordering::SeqCst);
@@ -73,7 +73,7 @@ impl<J: Terms<Majority>> Hub<J> {
     }
 
     // What a turn did is noted, and who waited for it wakes.
-    fn note<R: Wait>(&self, rt: &R, name: Name, step: &Step<Majority>) {
+    fn note<R: Wait>(&self, rt: &R, name: Name, step: &Step<Weighted>) {
         match step {
             Step::Advance(id) => {
                 let client = self.rooms.of(name).desk.lock(rt).advance(id.number);

@@ -1,12 +1,12 @@
 //! The workers of the nodes.
 
 use crate::hub::Hub;
-use rambo_names::{Majority, Members, Name};
+use rambo_names::{Members, Name, Weighted};
 use rambo_post::{Gate, Terms};
 use std::sync::Wait;
 use std::time::Clock;
 
-impl<J: Terms<Majority>> Hub<J> {
+impl<J: Terms<Weighted>> Hub<J> {
     /// The work of the worker of a node, by its number: it sleeps while there is nothing to do, and else sees to it that
     /// letters are sent again while the node waits.
     pub(crate) fn run_worker<R: Wait + Clock, G: Gate>(&self, rt: &R, gate: &G, number: u64) {

@@ -7,8 +7,9 @@ use Rattle.clap.specs.declared.builder.command.Command.{Command}
 use Rattle.clap.specs.declared.builder.value_parser.ValueParser.TheVariants.{Unsigned}
 use Rattle.clap.specs.declared.builder.command.Command.TheViews.{out-Command}
 use Rattle.clap.specs.Words.{App, Rule, Shape, fault_of, first_of, new_app, new_rule, shape_of, subcommand_of, with_rule, with_subcommand}
-use Rattle.rambo_names.specs.Names.{NameSet, count_of}
-use Rattle.rambo_names.specs.Signs.{set_text}
+use Rattle.rambo_names.specs.Names.{count_of}
+use Rattle.rambo_names.specs.Weights.{Weights, members_of}
+use Rattle.rambo_names.specs.Signs.{conf_text}
 use Rattle.rambo_command_line.specs.declared.line.Task.{Task}
 use Rattle.rambo_command_line.specs.declared.line.Task.TheVariants.{Replay, Check, Local, Serve}
 use Rattle.rambo_command_line.specs.declared.serving.Serving.{Serving}
@@ -82,10 +83,10 @@ word_behind option words = option_and_then (λ p. first_of option p.1) (subcomma
 abbrev pub founders_or : List ℕ → List (List ℕ) → List ℕ
 founders_or others words = unwrap_or (word_behind (codes "founders") words) others
 
--- the word is the sign of a set of founders, or of none, or no sign of a set
-abbrev pub IsFounders : List ℕ → Option NameSet → Type 0
-IsFounders word (Some founders) = (word ≡ set_text founders) × (1 ≤ count_of founders)
-IsFounders word None = (word ≡ codes "-") ⊎ ((s : NameSet) → word ≢ set_text s)
+-- the word is the sign of a configuration of founders, or of none, or no sign of a configuration
+abbrev pub IsFounders : List ℕ → Option Weights → Type 0
+IsFounders word (Some founders) = (word ≡ conf_text founders) × (1 ≤ count_of (members_of founders))
+IsFounders word None = (word ≡ codes "-") ⊎ ((c : Weights) → word ≢ conf_text c)
 
 -- the number that a word spells, before which a plus may stand
 abbrev pub number_of : List ℕ → ℕ

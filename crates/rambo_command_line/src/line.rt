@@ -13,7 +13,7 @@ ghost use Rattle.rambo_command_line.specs.Lines.{
 use crate::parts::{bare_command, founders_of, founders_option};
 use crate::serving::{Serving, serve_command, serving_in};
 use clap::{ArgMatches, Command, Error};
-use rambo_names::Members;
+use rambo_names::Weighted;
 use std::alloc::{AllocError, Global};
 use std::convert::AsStr;
 
@@ -27,10 +27,12 @@ const STATUSES: &str = "Exit statuses:
 const SCRIPTS: &str =
     "A script is lines, each a step of its words with one space between. A NAME is a
 node, 1 to 64. A SET is names in rising order with commas between, or - for
-none. A CALL is the name of its node, a dot and its number there, from 1. Keys
-and values are HEX, pairs of digits 0 to 9 and a to f, or - for no bytes.
+none. A CONF is such names with weights, each behind a colon, from 2 to 15; a
+name with none weighs 1. A CALL is the name of its node, a dot and its number
+there, from 1. Keys and values are HEX, pairs of digits 0 to 9 and a to f, or -
+for no bytes.
 
-  founders SET          the first line: the nodes that are active from the start
+  founders CONF         the first line: the nodes that are active from the start
   join NAME SET         an idle node asks to join, by way of these contacts
   get NAME KEY          a client asks a node for the value of a key
   set NAME KEY VALUE    a client asks a node to set a key to a value
@@ -38,7 +40,7 @@ and values are HEX, pairs of digits 0 to 9 and a to f, or - for no bytes.
   deliver NUMBER        a letter comes to its addressee; they count from 1
   advance CALL          a call whose replies suffice goes on, or is answered
   again CALL            a call begins its present phase anew
-  recon NAME SET        a node begins to have this set chosen as next members
+  recon NAME CONF       a node begins to have this chosen as next members
   rebid NAME            the node begins this anew, with a higher ballot
   advance-recon NAME    it goes on where its replies suffice, to the decision
   collect NAME          a node begins to remove its oldest set of members
@@ -49,7 +51,7 @@ The first faulty line is told with its number, as script fault S2 at line 3:
   S1  the first line names no founders
   S2  the first word of a line is none of these
   S3  a line has another number of words than its step has
-  S4  a word is not the number, name, set or call that belongs there
+  S4  a word is not the number, name, set, CONF or call that belongs there
   S5  a word is not the HEX that belongs there
   S6  a line has over 16,384 bytes
   S7  memory ran out while the line was read
@@ -70,11 +72,11 @@ passed over.
   answer CALL nil
   answer CALL value VALUE
   sequence KEY CALL CALL ..
-  decided NAME PLACE SET
+  decided NAME PLACE CONF
   decided NAME PLACE removed
   collected NAME PLACE
   refused STEP REFUSAL
-  map NAME FLOOR SET SET ..
+  map NAME FLOOR CONF CONF ..
 
 For each key the verdict is yes KEY, or no KEY and the least rule that its
 sequence breaks:
@@ -87,7 +89,7 @@ sequence breaks:
 The first faulty line is told with its number, as script fault S2 at line 3:
   S2  the first word of a line is none of these, or the third of a call or answer
   S3  a line has another number of words than its kind has
-  S4  a word is not the number, name, set or call that belongs there
+  S4  a word is not the number, name, set, CONF or call that belongs there
   S5  a word is not the HEX that belongs there
   S7  memory ran out while the line was read
   S8  a call is made twice, an answer has no open call or is not of its kind, or
@@ -136,8 +138,8 @@ pub enum Task {
     /// From an outcome text to a verdict on each key.
     Check,
     /// A client is served by a store of these founders, of which there is one at least; none where a word is no sign of
-    /// such a set.
-    Local(Option<Members>),
+    /// such a configuration.
+    Local(Option<Weighted>),
     /// Many clients are served, on a port of this machine.
     Serve(Serving),
 }
@@ -229,6 +231,6 @@ fn local_command<'a>(alloc: Global) -> Result<Command<'a>, AllocError>
     )
     .arg(founders_option(
         alloc,
-        "The nodes of the store, names in rising order with commas between [default: 1]",
+        "The nodes of the store, names in rising order with commas between, weights behind colons [default: 1]",
     ))
 }

@@ -1,11 +1,11 @@
-//! What the commands are made of, and what the words of a set tell.
+//! What the commands are made of, and what the sign of the founders tells.
 ghost use Rattle.std.specs.Prelude.{◌≡◌, false};
 ghost use Rattle.clap.specs.declared.builder.command.Command.TheViews.{out-Command as fields_of};
 ghost use Rattle.clap.specs.Words.{app_of, new_app, rule_of};
 ghost use Rattle.rambo_command_line.specs.Lines.{IsFounders, founders_rule};
 
 use clap::{Arg, ArgAction, Command};
-use rambo_names::{Members, read_set};
+use rambo_names::{Quorums, Weighted, read_conf};
 use std::alloc::Global;
 
 /// A command that has neither arguments nor commands, of a name, with what its help says of it before and after its
@@ -30,16 +30,16 @@ pub(crate) fn founders_option<'a>(alloc: Global, help: &'a str) -> Arg<'a>
     Arg::new(alloc, "founders")
         .long("founders")
         .action(ArgAction::Set)
-        .value_name("SET")
+        .value_name("CONF")
         .help(help)
 }
 
 /// The founders that a word tells, where it is the sign of some.
-pub(crate) fn founders_of(word: &str) -> Option<Members>
+pub(crate) fn founders_of(word: &str) -> Option<Weighted>
     ensures { IsFounders word.now result }
 {
-    let founders = read_set(word.as_bytes())?;
-    if founders.count() == 0 {
+    let founders = read_conf(word.as_bytes())?;
+    if founders.members().count() == 0 {
         return None;
     }
     Some(founders)

@@ -17,7 +17,7 @@ ghost use Rattle.rambo_command_line.specs.Lines.{
 use crate::parts::{bare_command, founders_of, founders_option};
 use clap::builder::ValueParser;
 use clap::{Arg, ArgAction, ArgMatches, Command};
-use rambo_names::Members;
+use rambo_names::Weighted;
 use std::alloc::{AllocError, Global};
 
 const SERVER: &str = "The port is told on standard error, as listening 7379. Clients send RESP2
@@ -27,14 +27,16 @@ commands, as redis clients do. Keys have at most 256 bytes, values 4,096.
   RAMBO USE NAME       this connection asks this node from now on; at first it
                        asks the lowest founder
   RAMBO JOIN NAME SET  this node begins to join, by way of these contacts
-  RAMBO RECON SET      the connection's node begins to have this set chosen as
-                       next members
+  RAMBO RECON CONF     the connection's node begins to have this chosen as next
+                       members
   RAMBO COLLECT        it begins to remove its oldest set of members
   RAMBO CONFIG         replies how many sets it has removed, and those it has
   RAMBO STOP NAME      this node stops for good
   RAMBO SHUTDOWN       the server ends
 
-A NAME is a node, 1 to 64. A SET is names in rising order with commas between.
+A NAME is a node, 1 to 64. A SET is names in rising order with commas between, a
+CONF such names with weights, each behind a colon, from 2 to 15; a name with
+none weighs 1.
 
 What happens is kept in a book of steps. The default 100,000 steps hold some
 9,000 gets and sets; where the book is full each command is refused 23. At the
@@ -64,8 +66,8 @@ const FOUNDERS: &str = "1,2,3";
 pub struct Serving {
     /// The port that it listens on; where it is 0 the system chooses one.
     pub port: u16,
-    /// The founders, of which there is one at least; none where a word is no sign of such a set.
-    pub founders: Option<Members>,
+    /// The founders, of which there is one at least; none where a word is no sign of such a configuration.
+    pub founders: Option<Weighted>,
     /// How many clients it serves at once, 1 to 32.
     pub clients: u64,
     /// How many steps its book holds, 1 to 1,000,000.
@@ -151,7 +153,7 @@ fn network_command<'a>(alloc: Global) -> Result<Command<'a>, AllocError>
     ))?
     .arg(founders_option(
         alloc,
-        "The first nodes of the store, names in rising order with commas between [default: 1,2,3]",
+        "The first nodes of the store, names in rising order with commas between, weights behind colons [default: 1,2,3]",
     ))?
     .arg(number_option(
         alloc,

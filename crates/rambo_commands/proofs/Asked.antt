@@ -1,6 +1,7 @@
 -- What the words behind an action ask for
 use Rattle.std.proofs.Common.{◌≡◌, ℕ, List, [], ◌∷◌, Result, Ok, Err, IsErrAnd, inl, inr, refl, sym, ap, ◌∙◌, subst}
 use Rattle.rambo_names.specs.Names.{IsName, NameSet}
+use Rattle.rambo_names.specs.Weights.{Weights}
 use Rattle.rambo_names.specs.declared.refusal.Refusal.TheVariants.{NoSuchName}
 use Rattle.rambo_text.specs.Forms.{IsSpelt}
 use Rattle.rambo_text.specs.Forms as form
@@ -8,17 +9,17 @@ use Rattle.rambo_commands.specs.declared.mistake.Mistake.{Mistake}
 use Rattle.rambo_commands.specs.declared.mistake.Mistake.TheVariants.{BadArgument, Refused}
 use Rattle.rambo_commands.specs.declared.server_request.ServerRequest.{ServerRequest}
 use Rattle.rambo_commands.specs.declared.server_request.ServerRequest.TheVariants.{Join, Recon}
-use Rattle.rambo_commands.specs.Administration.{IsNumber, IsSet, Joins, Changes, wrong, judged}
+use Rattle.rambo_commands.specs.Administration.{IsNumber, IsSet, IsOfConf, Joins, Changes, wrong, judged}
 
 -- a mistake that is handed on
 pub judged_wrong : (r : Result ServerRequest Mistake) (m n : Mistake) → IsErrAnd r (λ x. x ≡ m) → m ≡ n → judged r ≡ wrong n
 judged_wrong (Ok asked) m n e is = absurd e
 judged_wrong (Err x) m n e is = ap wrong (e ∙ is)
 
-pub recon_asked : (words : List (List ℕ)) (word : List ℕ) (s : NameSet) → words ≡ word ∷ [] → IsSet word s → Changes words (Recon s)
-recon_asked words word s e is = subst (λ ws. Changes ws (Recon s)) (sym e) (inl (s, is, refl))
+pub recon_asked : (words : List (List ℕ)) (word : List ℕ) (c : Weights) → words ≡ word ∷ [] → IsOfConf word c → Changes words (Recon c)
+recon_asked words word c e is = subst (λ ws. Changes ws (Recon c)) (sym e) (inl (c, is, refl))
 
-pub recon_bad : (words : List (List ℕ)) (word : List ℕ) (asked : ServerRequest) → words ≡ word ∷ [] → ¬ (IsSpelt form.Set word) → asked ≡ wrong BadArgument → Changes words asked
+pub recon_bad : (words : List (List ℕ)) (word : List ℕ) (asked : ServerRequest) → words ≡ word ∷ [] → ¬ (IsSpelt form.Conf word) → asked ≡ wrong BadArgument → Changes words asked
 recon_bad words word asked e bad is = subst (λ ws. Changes ws asked) (sym e) (inr (bad, is))
 
 module _ (words : List (List ℕ)) (word known : List ℕ) (e : words ≡ word ∷ known ∷ []) where

@@ -6,12 +6,13 @@ use Rattle.std.proofs.lemmas.Fmt.{decimal_injective}
 use Rattle.rambo_names.specs.Names.{NameSet}
 use Rattle.rambo_text.specs.Forms.{IsSpelt}
 use Rattle.rambo_text.specs.Forms as form
-use Rattle.rambo_text.proofs.Alike.{same_set_text}
+use Rattle.rambo_names.specs.Weights.{Weights}
+use Rattle.rambo_names.proofs.ConfOnce.{one_conf_is, one_set_is}
 use Rattle.rambo_commands.specs.declared.administration.Action.{Action}
 use Rattle.rambo_commands.specs.declared.administration.Action.TheVariants as action
 use Rattle.rambo_commands.specs.declared.server_request.ServerRequest.{ServerRequest}
 use Rattle.rambo_commands.specs.declared.server_request.ServerRequest.TheVariants.{Common, Join, Recon, Use, Stop, Collect, Config, Shutdown}
-use Rattle.rambo_commands.specs.Administration.{IsNumber, IsSet, IsNamed, ActsOnNode, Joins, Changes, ActsAlone, Acts, ActsIfKnown, Administers, action_of}
+use Rattle.rambo_commands.specs.Administration.{IsNumber, IsSet, IsOfConf, IsNamed, ActsOnNode, Joins, Changes, ActsAlone, Acts, ActsIfKnown, Administers, action_of}
 use Rattle.rambo_commands.specs.Requests.{request_of}
 use Rattle.rambo_commands.specs.Laws.{AsksOnce}
 
@@ -19,7 +20,10 @@ same_number : (word : List ℕ) (n m : ℕ) → IsNumber word n → IsNumber wor
 same_number word n m a b = decimal_injective n m a.small b.small (sym a.spelt ∙ b.spelt)
 
 same_set : (word : List ℕ) (s t : NameSet) → IsSet word s → IsSet word t → s ≡ t
-same_set word s t a b = same_set_text s t a.names b.names (sym a.spelt ∙ b.spelt)
+same_set word s t a b = one_set_is s t a.names b.names (sym a.spelt ∙ b.spelt)
+
+same_conf : (word : List ℕ) (c d : Weights) → IsOfConf word c → IsOfConf word d → c ≡ d
+same_conf word c d a b = one_conf_is c d a.names b.names (sym a.spelt ∙ b.spelt)
 
 is_spelt : (word : List ℕ) (n : ℕ) → IsNumber word n → IsSpelt form.Num word
 is_spelt word n a = (n, a.small, a.spelt)
@@ -53,7 +57,7 @@ one_join (word ∷ known ∷ next ∷ words) a b x y = x ∙ sym y
 
 one_recon : (words : List (List ℕ)) (a b : ServerRequest) → Changes words a → Changes words b → a ≡ b
 one_recon [] a b x y = x ∙ sym y
-one_recon (word ∷ []) a b (inl x) (inl y) = x.2 ∙ ap Recon (same_set word x.0 y.0 x.1 y.1) ∙ sym y.2
+one_recon (word ∷ []) a b (inl x) (inl y) = x.2 ∙ ap Recon (same_conf word x.0 y.0 x.1 y.1) ∙ sym y.2
 one_recon (word ∷ []) a b (inl x) (inr y) = absurd (y.0 (x.0, x.1.spelt))
 one_recon (word ∷ []) a b (inr x) (inl y) = absurd (x.0 (y.0, y.1.spelt))
 one_recon (word ∷ []) a b (inr x) (inr y) = x.1 ∙ sym y.1

@@ -3,7 +3,8 @@ use Rattle.std.specs.Prelude.{◌≡◌, ◌⊎◌, ℕ, ◌<◌, ◌^◌, if◌
 use Rattle.std.specs.Str.{str_eq_ignore_ascii_case}
 use Rattle.rambo_names.specs.declared.refusal.Refusal.TheVariants.{NoSuchName}
 use Rattle.rambo_names.specs.Names.{IsName, NameSet, AreNames}
-use Rattle.rambo_names.specs.Signs.{set_text}
+use Rattle.rambo_names.specs.Signs.{set_text, conf_text, IsConf}
+use Rattle.rambo_names.specs.Weights.{Weights}
 use Rattle.rambo_text.specs.Forms.{IsSpelt}
 use Rattle.rambo_text.specs.Forms as form
 use Rattle.rambo_commands.specs.declared.administration.Action.{Action}
@@ -23,7 +24,7 @@ abbrev pub judged : Result ServerRequest Mistake → ServerRequest
 judged (Ok asked) = asked
 judged (Err mistake) = wrong mistake
 
--- the word spells this number, or this set
+-- the word spells this number, this set, or this configuration
 pub record IsNumber (word : List ℕ) (n : ℕ) : Type 0 where
   pub small : n < 2 ^ 64
   pub spelt : word ≡ decimal n
@@ -31,6 +32,10 @@ pub record IsNumber (word : List ℕ) (n : ℕ) : Type 0 where
 pub record IsSet (word : List ℕ) (s : NameSet) : Type 0 where
   pub names : AreNames s
   pub spelt : word ≡ set_text s
+
+pub record IsOfConf (word : List ℕ) (c : Weights) : Type 0 where
+  pub names : IsConf c
+  pub spelt : word ≡ conf_text c
 
 -- what is made of the name of this number, which is refused where it is none
 abbrev pub IsNamed : (ℕ → ServerRequest) → ℕ → ServerRequest → Type 0
@@ -53,12 +58,12 @@ Joins (word ∷ known ∷ []) asked =
     ⊎ (¬ (IsSpelt form.Num word × IsSpelt form.Set known) × (asked ≡ wrong BadArgument))
 Joins (word ∷ known ∷ next ∷ words) asked = asked ≡ wrong WrongCount
 
--- the word behind `RECON` names members
+-- the word behind `RECON` tells a configuration
 abbrev pub Changes : List (List ℕ) → ServerRequest → Type 0
 Changes [] asked = asked ≡ wrong WrongCount
 Changes (word ∷ []) asked =
-    ((s : NameSet) × IsSet word s × (asked ≡ Recon s))
-    ⊎ (¬ (IsSpelt form.Set word) × (asked ≡ wrong BadArgument))
+    ((c : Weights) × IsOfConf word c × (asked ≡ Recon c))
+    ⊎ (¬ (IsSpelt form.Conf word) × (asked ≡ wrong BadArgument))
 Changes (word ∷ next ∷ words) asked = asked ≡ wrong WrongCount
 
 -- no word is behind the action

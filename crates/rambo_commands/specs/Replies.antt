@@ -1,8 +1,8 @@
 -- What is replied
 use Rattle.std.specs.Prelude.{ℕ, List, ◌∷◌, ◌++◌, map, codes, decimal}
 use Rattle.rambo_names.specs.declared.refusal.Refusal.{Refusal}
-use Rattle.rambo_names.specs.Names.{NameSet}
-use Rattle.rambo_names.specs.Signs.{set_text}
+use Rattle.rambo_names.specs.Weights.{Weights}
+use Rattle.rambo_names.specs.Signs.{conf_text}
 use Rattle.rambo_atomic.specs.declared.operation.Answer.{Answer}
 use Rattle.rambo_atomic.specs.declared.operation.Answer.TheVariants as answer
 use Rattle.rambo_text.specs.Words.{words_text}
@@ -26,9 +26,9 @@ refusal_reply refusal = reply.Error (refused_words refusal)
 abbrev pub fault_reply : Fault → Reply
 fault_reply fault = reply.Error (codes "ERR protocol fault P" ++ decimal (number_of fault))
 
--- the lowest active place of a map and the members of the configurations from there on, as words
-abbrev pub map_text : ℕ → List NameSet → List ℕ
-map_text floor members = words_text (decimal floor ∷ map set_text members)
+-- the lowest active place of a map and the configurations from there on, as words
+abbrev pub map_text : ℕ → List Weights → List ℕ
+map_text floor confs = words_text (decimal floor ∷ map conf_text confs)
 
-abbrev pub map_reply : ℕ → List NameSet → Reply
-map_reply floor members = reply.Bulk (map_text floor members)
+abbrev pub map_reply : ℕ → List Weights → Reply
+map_reply floor confs = reply.Bulk (map_text floor confs)

@@ -3,7 +3,7 @@ ghost use Rattle.std.specs.Prelude.{◌≡◌};
 ghost use Rattle.rambo_commands.specs.Administration as spec;
 ghost use Rattle.rambo_commands.specs.declared.server_request.ServerRequest.TheVariants as asked;
 
-use crate::arguments::{named, number_in, set_in};
+use crate::arguments::{conf_in, named, number_in, set_in};
 use crate::mistake::Mistake;
 use crate::server_request::ServerRequest;
 use crate::words::is_word;
@@ -96,12 +96,12 @@ fn joining(arguments: &[Bytes]) -> Result<ServerRequest, Mistake>
     }
 }
 
-// That a configuration is to be chosen: its members.
+// That a configuration is to be chosen: which one.
 fn changing(arguments: &[Bytes]) -> Result<ServerRequest, Mistake>
     ensures { spec.Changes arguments.now (spec.judged result) }
 {
     match arguments {
-        [word] => Ok(ServerRequest::Recon(set_in(word)?)),
+        [word] => Ok(ServerRequest::Recon(conf_in(word)?)),
         _ => Err(Mistake::WrongCount),
     }
 }

@@ -3,10 +3,10 @@ ghost use Rattle.std.specs.Prelude.{◌≡◌, IfOk, IfErr};
 ghost use Rattle.rambo_names.specs.Names.{IsName};
 ghost use Rattle.rambo_text.specs.Forms.{IsSpelt};
 ghost use Rattle.rambo_text.specs.Forms as form;
-ghost use Rattle.rambo_commands.specs.Administration.{IsNumber, IsSet};
+ghost use Rattle.rambo_commands.specs.Administration.{IsNumber, IsOfConf, IsSet};
 
 use crate::mistake::Mistake;
-use rambo_names::{Bytes, Members, Name, Refusal, read_num, read_set};
+use rambo_names::{Bytes, Members, Name, Refusal, Weighted, read_conf, read_num, read_set};
 
 // The number that a word spells.
 //
@@ -26,6 +26,16 @@ pub(crate) fn set_in(word: &Bytes) -> Result<Members, Mistake>
     ensures bad { IfErr result (λ m. (m ≡ Mistake.BadArgument) × ¬ (IsSpelt form.Set word.now)) }
 {
     read_set(word.as_slice()).ok_or(Mistake::BadArgument)
+}
+
+// The configuration that a word spells.
+//
+// `BadArgument` where it spells none.
+pub(crate) fn conf_in(word: &Bytes) -> Result<Weighted, Mistake>
+    ensures conf { IfOk result (λ c. IsOfConf word.now c) }
+    ensures bad { IfErr result (λ m. (m ≡ Mistake.BadArgument) × ¬ (IsSpelt form.Conf word.now)) }
+{
+    read_conf(word.as_slice()).ok_or(Mistake::BadArgument)
 }
 
 // The name of this number.

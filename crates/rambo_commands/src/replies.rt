@@ -1,6 +1,6 @@
 //! Replies.
 ghost use Rattle.std.specs.Prelude.{◌≡◌, ◌++◌, List, ℕ, map, IfOk, IfErr, OnOk, OnErr};
-ghost use Rattle.rambo_names.specs.Signs.{set_text};
+ghost use Rattle.rambo_names.specs.Signs.{conf_text};
 ghost use Rattle.rambo_text.specs.Words.{more_words};
 ghost use Rattle.rambo_resp.specs.Replies.{reply_spelling};
 ghost use Rattle.rambo_commands.specs.Replies as spec;
@@ -9,7 +9,7 @@ ghost use Rattle.rambo_commands.specs.Mistakes.{refused_words};
 use bytes::BytesMut;
 use itoa::Buffer;
 use rambo_atomic::Answer;
-use rambo_names::{Bytes, Quorums, Refusal, write_set};
+use rambo_names::{Bytes, Refusal, Weighted, write_conf};
 use rambo_resp::{Fault, Reply, write_reply};
 use rambo_text::write_num;
 use std::alloc::Global;
@@ -50,12 +50,11 @@ pub fn fault_reply(alloc: Global, fault: Fault) -> Result<Reply, Refusal>
     Ok(Reply::Error(Bytes::from_vec(words)?))
 }
 
-/// The bulk that tells a map by its lowest active place and the configurations from there on, as `0 1,2,3 2,3,4`. Of a
-/// configuration the members are told.
+/// The bulk that tells a map by its lowest active place and the configurations from there on, as `0 1,2,3 2:2,3,4`.
 ///
 /// `OutOfMemory` where there is no room for it.
-pub fn map_reply<Q: Quorums>(alloc: Global, floor: u64, configs: &[Q]) -> Result<Reply, Refusal>
-    ensures ok { IfOk result (λ r. r ≡ spec.map_reply floor (map Q.system.members configs.now)) }
+pub fn map_reply(alloc: Global, floor: u64, configs: &[Weighted]) -> Result<Reply, Refusal>
+    ensures ok { IfOk result (λ r. r ≡ spec.map_reply floor configs.now) }
     ensures refused { IfErr result (λ r. r ≡ Refusal.OutOfMemory) }
 {
     let mut text = Vec::new(alloc);
@@ -65,13 +64,13 @@ pub fn map_reply<Q: Quorums>(alloc: Global, floor: u64, configs: &[Q]) -> Result
 }
 
 // Appends each configuration behind a space, or after a refusal some bytes.
-fn append_configs<Q: Quorums>(configs: &[Q], text: &mut Vec<u8>) -> Result<(), Refusal>
-    ensures ok { OnOk result (text.new.items ≡ text.old.items ++ more_words (map set_text (map Q.system.members configs.now))) }
+fn append_configs(configs: &[Weighted], text: &mut Vec<u8>) -> Result<(), Refusal>
+    ensures ok { OnOk result (text.new.items ≡ text.old.items ++ more_words (map conf_text configs.now)) }
     ensures refused { IfErr result (λ r. r ≡ Refusal.OutOfMemory) }
 {
     for config in configs {
         text.push(b' ')?;
-        write_set(&config.members(), text)?;
+        write_conf(config, text)?;
     }
     Ok(())
 }

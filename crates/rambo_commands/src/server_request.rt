@@ -6,7 +6,7 @@ use crate::administration::administration;
 use crate::mistake::Mistake;
 use crate::request::Request;
 use crate::words::is_word;
-use rambo_names::{Members, Name, Refusal};
+use rambo_names::{Members, Name, Refusal, Weighted};
 use rambo_resp::Command;
 use std::alloc::Global;
 
@@ -19,8 +19,8 @@ pub enum ServerRequest {
     Use(Name),
     /// That a node joins, which at first knows these nodes and itself.
     Join(Name, Members),
-    /// That the client's node has a configuration of these members chosen. There may be none, which the node refuses.
-    Recon(Members),
+    /// That the client's node has this configuration chosen. It may have no member, which the node refuses.
+    Recon(Weighted),
     /// That the client's node has its lowest active place removed.
     Collect,
     /// That a node stops.

@@ -1,8 +1,9 @@
 -- The history of a run that keeps no letters, after its steps
 use Rattle.std.proofs.Common.{◌≡◌, ℕ, [], ◌∷◌, ◌++◌, Option, None, Some, Result, Ok, Err, IfOk, OnErr, refl, sym, ap, ◌∙◌}
 use Rattle.rambo_names.specs.declared.refusal.Refusal.{Refusal}
-use Rattle.rambo_names.specs.Names.{NameSet}
-use Rattle.rambo_names.specs.Quorums.{QuorumSystem, majorities}
+use Rattle.rambo_names.specs.Weights.{Weights}
+use Rattle.rambo_names.specs.Quorums.{QuorumSystem}
+use Rattle.rambo_names.specs.Weights.{weighted_majorities}
 use Rattle.rambo_atomic.specs.declared.operation.Op.{Op}
 use Rattle.rambo_atomic.specs.declared.operation.Answer.{Answer}
 use Rattle.rambo_atomic.specs.declared.event.CallId.{CallId}
@@ -57,53 +58,53 @@ passed_quiet s w from to =
     quiet_after s sent (step.Deliver 1) (deliver_quiet sent 1) ∙ quiet_after s w (step.Send from to) (send_quiet w from to)
 
 -- a call
-pub call_done : (old new : RunningOf NameSet) (n : ℕ) (o : Op) (r : Result CallId Refusal)
-    → called r ≡ result_of (refusal majorities old.state (step.Call n o)) old.state (step.Call n o)
-    → new ≡ record old { state = after majorities old.state (step.Call n o) }
+pub call_done : (old new : RunningOf Weights) (n : ℕ) (o : Op) (r : Result CallId Refusal)
+    → called r ≡ result_of (refusal weighted_majorities old.state (step.Call n o)) old.state (step.Call n o)
+    → new ≡ record old { state = after weighted_majorities old.state (step.Call n o) }
     → IfOk r (λ id. direct_history new ≡ direct_history old ++ event.Call id o ∷ [])
 call_done old new n o (Ok id) told is =
-    let done = was_done majorities old.state (step.Call n o) (effect.Called id) told in
-    ap direct_history is ∙ ap (λ (w : WorldState NameSet). w.history) done.1 ∙ call_made old.state n o id (sym done.0)
+    let done = was_done weighted_majorities old.state (step.Call n o) (effect.Called id) told in
+    ap direct_history is ∙ ap (λ (w : WorldState Weights). w.history) done.1 ∙ call_made old.state n o id (sym done.0)
 call_done old new n o (Err f) told is = tt
 
-pub call_refused : (old new : RunningOf NameSet) (n : ℕ) (o : Op) (r : Result CallId Refusal)
-    → called r ≡ result_of (refusal majorities old.state (step.Call n o)) old.state (step.Call n o)
-    → new ≡ record old { state = after majorities old.state (step.Call n o) }
+pub call_refused : (old new : RunningOf Weights) (n : ℕ) (o : Op) (r : Result CallId Refusal)
+    → called r ≡ result_of (refusal weighted_majorities old.state (step.Call n o)) old.state (step.Call n o)
+    → new ≡ record old { state = after weighted_majorities old.state (step.Call n o) }
     → OnErr r (direct_history new ≡ direct_history old)
 call_refused old new n o (Ok id) told is = tt
-call_refused old new n o (Err f) told is = ap direct_history is ∙ ap (λ (w : WorldState NameSet). w.history) (was_refused majorities old.state (step.Call n o) f told)
+call_refused old new n o (Err f) told is = ap direct_history is ∙ ap (λ (w : WorldState Weights). w.history) (was_refused weighted_majorities old.state (step.Call n o) f told)
 
 pub call_named : (n : ℕ) (r : Result CallId Refusal) → IfOk r (λ id. id.name ≡ n) → IfOk r (λ id. id ≡ id_at n id.number)
 call_named n (Ok id) e = λ i. id_at (e i) id.number
 call_named n (Err f) e = tt
 
 -- a call that goes on
-adds : (id : CallId) (a : Option Answer) → answered_by {Q = NameSet} id (went_on id a) ≡ answered id a
+adds : (id : CallId) (a : Option Answer) → answered_by {Q = Weights} id (went_on id a) ≡ answered id a
 adds id None = refl
 adds id (Some a) = refl
 
-pub advance_done : (old new : RunningOf NameSet) (id : CallId) (r : Result (Option Answer) Refusal)
-    → advanced id r ≡ result_of (refusal majorities old.state (step.Advance id)) old.state (step.Advance id)
-    → new ≡ record old { state = after majorities old.state (step.Advance id) }
+pub advance_done : (old new : RunningOf Weights) (id : CallId) (r : Result (Option Answer) Refusal)
+    → advanced id r ≡ result_of (refusal weighted_majorities old.state (step.Advance id)) old.state (step.Advance id)
+    → new ≡ record old { state = after weighted_majorities old.state (step.Advance id) }
     → IfOk r (λ a. direct_history new ≡ direct_history old ++ answered id a)
 advance_done old new id (Ok a) told is =
-    let done = was_done majorities old.state (step.Advance id) (went_on id a) told in
-    ap direct_history is ∙ ap (λ (w : WorldState NameSet). w.history) done.1 ∙ advance_told old.state id
+    let done = was_done weighted_majorities old.state (step.Advance id) (went_on id a) told in
+    ap direct_history is ∙ ap (λ (w : WorldState Weights). w.history) done.1 ∙ advance_told old.state id
     ∙ ap (λ e. direct_history old ++ answered_by id e) (sym done.0) ∙ ap (λ l. direct_history old ++ l) (adds id a)
 advance_done old new id (Err f) told is = tt
 
-pub advance_refused : (old new : RunningOf NameSet) (id : CallId) (r : Result (Option Answer) Refusal)
-    → advanced id r ≡ result_of (refusal majorities old.state (step.Advance id)) old.state (step.Advance id)
-    → new ≡ record old { state = after majorities old.state (step.Advance id) }
+pub advance_refused : (old new : RunningOf Weights) (id : CallId) (r : Result (Option Answer) Refusal)
+    → advanced id r ≡ result_of (refusal weighted_majorities old.state (step.Advance id)) old.state (step.Advance id)
+    → new ≡ record old { state = after weighted_majorities old.state (step.Advance id) }
     → OnErr r (direct_history new ≡ direct_history old)
 advance_refused old new id (Ok a) told is = tt
-advance_refused old new id (Err f) told is = ap direct_history is ∙ ap (λ (w : WorldState NameSet). w.history) (was_refused majorities old.state (step.Advance id) f told)
+advance_refused old new id (Err f) told is = ap direct_history is ∙ ap (λ (w : WorldState Weights). w.history) (was_refused weighted_majorities old.state (step.Advance id) f told)
 
 -- the history is that of a run
-pub direct_ran : (d : RunningOf NameSet) → IsReachedBarLetters majorities d.founders d.state → IsOfRun (direct_history d)
-direct_ran d reached = (d.founders, reached.0, ap (λ (w : WorldState NameSet). w.history) reached.1)
+pub direct_ran : (d : RunningOf Weights) → IsReachedBarLetters weighted_majorities d.founders d.state → IsOfRun (direct_history d)
+direct_ran d reached = (d.founders, reached.0, ap (λ (w : WorldState Weights). w.history) reached.1)
 
 -- none of a run just made
-pub first_direct : (founders : NameSet) → (first_world majorities founders).history ≡ []
+pub first_direct : (founders : Weights) → (first_world weighted_majorities founders).history ≡ []
 unfolding first_world
 first_direct founders = refl

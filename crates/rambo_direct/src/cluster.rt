@@ -4,18 +4,18 @@ ghost use Rattle.rambo_direct.specs.Histories.{direct_history};
 
 use rambo_atomic::{Answer, CallId, Op};
 use rambo_client::Cluster;
-use rambo_names::{Majority, Name, Refusal};
+use rambo_names::{Name, Refusal, Weighted};
 use rambo_tag::Registers;
 use rambo_world::Direct;
 use std::hash::{BuildHasherDefault, FoldHasher};
 
-/// Nodes over majorities that hold their copies in hash tables. Their letters come as they are sent, and aren't kept.
-pub(crate) type Majorities = Direct<Majority, Registers<BuildHasherDefault<FoldHasher>>>;
+/// Nodes over weighted majorities that hold their copies in hash tables. Their letters come as they are sent, and aren't kept.
+pub(crate) type WeightedDirect = Direct<Weighted, Registers<BuildHasherDefault<FoldHasher>>>;
 
 /// The same, as a client asks them. (A type of this crate alone: who stands on it needs to know nothing of it.)
 #[derive(Drop)]
 pub(crate) struct Nodes {
-    pub(crate) direct: Majorities,
+    pub(crate) direct: WeightedDirect,
 }
 
 /// That nodes of a run are asked, which hear of each other by letters.
@@ -39,7 +39,7 @@ impl Cluster<ByLetters> for Nodes {
 }
 
 // A letter passes from one node to another.
-fn pass(direct: &mut Majorities, from: Name, to: Name) -> Result<(), Refusal>
+fn pass(direct: &mut WeightedDirect, from: Name, to: Name) -> Result<(), Refusal>
     ensures { direct_history direct.new ≡ direct_history direct.old }
 {
     direct.pass(from, to)?

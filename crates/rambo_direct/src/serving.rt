@@ -1,14 +1,15 @@
 //! Serving a client.
 ghost use Rattle.std.specs.Prelude.{◌≡◌, ◌≤◌, [], IfOk, IfErr, OnOk, OnErr};
 ghost use Rattle.rambo_names.specs.Names.{count_of};
+ghost use Rattle.rambo_names.specs.Weights.{members_of};
 ghost use Rattle.rambo_client.specs.Faults.{reads_failed, writes_failed};
 ghost use Rattle.rambo_client.specs.Talks.{Served, Stopped};
 ghost use Rattle.rambo_direct.specs.Histories.{direct_history};
 
-use crate::cluster::{Majorities, Nodes};
+use crate::cluster::{Nodes, WeightedDirect};
 use rambo_atomic::{Sink, Source};
 use rambo_client::{Client, LocalFault, serve};
-use rambo_names::{Majority, Quorums, Refusal};
+use rambo_names::{Quorums, Refusal, Weighted};
 use rambo_tag::Registers;
 use std::alloc::Global;
 use std::hash::{BuildHasherDefault, FoldHasher};
@@ -23,11 +24,11 @@ use std::hash::{BuildHasherDefault, FoldHasher};
 /// beginning of the replies was written.
 pub fn local<R: Source, W: Sink>(
     alloc: Global,
-    founders: Majority,
+    founders: Weighted,
     reader: &mut R,
     writer: &mut W,
 ) -> Result<(), LocalFault>
-    requires { 1 ≤ count_of founders }
+    requires { 1 ≤ count_of (members_of founders) }
     ensures ok { OnOk result (Served (R.left reader.old) (R.left reader.new) (W.taken writer.old) (W.taken writer.new)) }
     ensures err { OnErr result (Stopped (R.left reader.old) (R.left reader.new) (W.taken writer.old) (W.taken writer.new)) }
     ensures fine_reader { OnOk result (R.failures reader.new ≡ R.failures reader.old) }
@@ -44,11 +45,11 @@ pub fn local<R: Source, W: Sink>(
 
 // The nodes of these founders, before any call.
 // (a function of its own: where a run is made and dropped in one, the prover follows each piece of it on each way)
-fn nodes_of(alloc: Global, founders: Majority) -> Result<Nodes, Refusal>
-    requires { 1 ≤ count_of founders }
+fn nodes_of(alloc: Global, founders: Weighted) -> Result<Nodes, Refusal>
+    requires { 1 ≤ count_of (members_of founders) }
     ensures { IfOk result (λ nodes. direct_history nodes.direct ≡ []) }
 {
     let registers = Registers::new(alloc, BuildHasherDefault::<FoldHasher>::new());
-    let direct = Majorities::new(alloc, founders, &registers)?;
+    let direct = WeightedDirect::new(alloc, founders, &registers)?;
     Ok(Nodes { direct })
 }

@@ -2,13 +2,12 @@
 use Rattle.std.proofs.Common.{◌≡◌, ℕ, suc, ◌+◌, List, [], ◌∷◌, ◌++◌, length, codes, inl, inr, refl, sym, ap, subst, ◌∙◌, arith, append_assoc}
 use Rattle.std.specs.List.{AllByRecursion}
 use Rattle.std.specs.FinSet.{empty}
-use Rattle.rambo_names.specs.Signs.{set_text, names_text}
-use Rattle.rambo_names.proofs.NameInserts.{names-empty}
-use Rattle.rambo_names.specs.Names.{NameSet}
+use Rattle.rambo_names.specs.Weights.{Weights, evenly}
+use Rattle.rambo_names.proofs.ConfTexts.{empty_text}
 use Rattle.rambo_run.specs.declared.step.Step.{Step}
 use Rattle.rambo_text.specs.declared.fault.Fault.{Fault}
 use Rattle.rambo_text.specs.declared.fault.ScriptFault.{ScriptFault}
-use Rattle.rambo_text.specs.Forms.{Form, Set, IsBadWord}
+use Rattle.rambo_text.specs.Forms.{Form, Conf, IsBadWord}
 use Rattle.rambo_text.specs.Words.{IsFirstLine}
 use Rattle.rambo_text.proofs.WordSplits.{cut, no_cut, same_words}
 use Rattle.rambo_lines.specs.StepLines.{forms_of, step_line}
@@ -42,13 +41,10 @@ no_step_once words f g (inr a) (inr b) =
     let others : b.1 ≡ a.1 = cc in
     same_unfit (forms_of a.0) a.1 f g a.3 (subst (λ k. AreUnfit (forms_of k) a.1 g) kinds (subst (λ o. AreUnfit (forms_of b.0) o g) others b.3))
 
-dash_is_set : codes "-" ≡ set_text empty
-dash_is_set = ap names_text (sym names-empty)
-
-dash_fits : (others : List (List ℕ)) (f : Fault) → others ≡ codes "-" ∷ [] → AreUnfit (Set ∷ []) others f → ⊥
+dash_fits : (others : List (List ℕ)) (f : Fault) → others ≡ codes "-" ∷ [] → AreUnfit (Conf ∷ []) others f → ⊥
 dash_fits others f is (inl many) = many.0 (ap length is)
 dash_fits others f is (inr bad) =
-    not_bad (Set ∷ []) (codes "-" ∷ []) f ((empty, dash_is_set), tt) (subst (λ o. IsBadWord (Set ∷ []) o f) is bad.1)
+    not_bad (Conf ∷ []) (codes "-" ∷ []) f ((evenly empty, sym empty_text), tt) (subst (λ o. IsBadWord (Conf ∷ []) o f) is bad.1)
 
 -- what words that are no founders are told to be
 no_founders_once : (words : List (List ℕ)) (f g : Fault) → TellNoFounders words f → TellNoFounders words g → f ≡ g
@@ -59,7 +55,7 @@ no_founders_once words f g (inr (inl a)) (inl b) = absurd (b.0 a.0 a.1)
 no_founders_once words f g (inr (inl a)) (inr (inl b)) =
     let both = sym b.1 ∙ a.1 in
     let others : b.0 ≡ a.0 = cc in
-    same_unfit (Set ∷ []) a.0 f g a.2 (subst (λ o. AreUnfit (Set ∷ []) o g) others b.2)
+    same_unfit (Conf ∷ []) a.0 f g a.2 (subst (λ o. AreUnfit (Conf ∷ []) o g) others b.2)
 no_founders_once words f g (inr (inl a)) (inr (inr b)) = absurd (let both = sym a.1 ∙ b.0 in dash_fits a.0 f (cc) a.2)
 no_founders_once words f g (inr (inr a)) (inl b) = absurd (b.0 (codes "-" ∷ []) a.0)
 no_founders_once words f g (inr (inr a)) (inr (inl b)) = absurd (let both = sym b.1 ∙ a.0 in dash_fits b.0 g (cc) b.2)
@@ -87,11 +83,11 @@ same_first text l r m s a b = elim a.whole [
 ]
 
 -- the line behind some lines that have no fault
-front_line : (y : Step NameSet) (ys : List (Step NameSet)) (behind text line rest : List ℕ) → HasLine y → text ≡ steps_text (y ∷ ys) ++ behind → IsFirstLine text line rest → line ≡ step_line y
+front_line : (y : Step Weights) (ys : List (Step Weights)) (behind text line rest : List ℕ) → HasLine y → text ≡ steps_text (y ∷ ys) ++ behind → IsFirstLine text line rest → line ≡ step_line y
 front_line y ys behind text line rest has is first =
     head_line (step_line y) (steps_text ys ++ behind) text line rest (step_lacks y has.is_step) (inl (is ∙ append_assoc (step_line y) (10 ∷ steps_text ys) behind)) first
 
-same_place : (xs ys : List (Step NameSet)) (b c l r m s : List ℕ) (f g : Fault) → AllByRecursion HasLine xs → AllByRecursion HasLine ys → steps_text xs ++ b ≡ steps_text ys ++ c
+same_place : (xs ys : List (Step Weights)) (b c l r m s : List ℕ) (f g : Fault) → AllByRecursion HasLine xs → AllByRecursion HasLine ys → steps_text xs ++ b ≡ steps_text ys ++ c
     → IsFirstLine b l r → IsFirstLine c m s → IsLineFault TellNoStep l f → IsLineFault TellNoStep m g → (l ≡ m) × (length xs ≡ length ys)
 same_place [] [] b c l r m s f g p q e first other a d = (same_first c l r m s (subst (λ t. IsFirstLine t l r) e first) other, refl)
 same_place [] (y ∷ ys) b c l r m s f g p q e first other a d =

@@ -2,7 +2,7 @@
 use Rattle.std.proofs.Common.{◌≡◌, ◌≢◌, ◌⊎◌, ℕ, ◌+◌, Bool, true, false, cond, not, true≢false, eqb, List, [], ◌∷◌, length, filter, codes, Option, None, Some, inl, inr, refl, sym, ap, subst, ◌∙◌}
 use Rattle.rambo_text.specs.declared.fault.Fault.{Fault}
 use Rattle.rambo_text.specs.declared.fault.Fault.TheVariants.{NoFounders, UnknownWord, WrongCount, BadHex, OutOfMemory}
-use Rattle.rambo_text.specs.Forms.{Set, Hex, IsSpelt, IsBadWord}
+use Rattle.rambo_text.specs.Forms.{Conf, Hex, IsSpelt, IsBadWord}
 use Rattle.rambo_text.specs.Signs.{hex_text, AreBytes}
 use Rattle.rambo_text.specs.Words.{IsFirstWord, AreWords, AreMore}
 use Rattle.rambo_lines.specs.declared.kind.StepKind.{StepKind}
@@ -12,8 +12,10 @@ use Rattle.rambo_lines.specs.Faults.{IsLineFault, TellNoStep, TellNoFounders, Te
 use Rattle.std.specs.FinSet.{contains}
 use Rattle.std.specs.Str.{bytes_eq}
 use Rattle.std.proofs.lemmas.Slice.Eq.{bytes_eq-Decides}
-use Rattle.rambo_names.specs.Names.{NameSet, names, rising, how_many, count_of}
-use Rattle.rambo_names.specs.Signs.{set_text, names_text}
+use Rattle.rambo_names.specs.Names.{count_of}
+use Rattle.rambo_names.specs.Signs.{conf_text}
+use Rattle.rambo_names.specs.Weights.{Weights, members_of}
+use Rattle.rambo_names.proofs.ConfTexts.{none_text}
 use Rattle.rambo_text.proofs.WordSplits.{words_joined}
 use Rattle.rambo_lines.specs.Parts.{TellUnfit, TellFault, NeedRoom}
 use Rattle.std.proofs.lemmas.Bool.Decides.{nat_tests}
@@ -85,7 +87,7 @@ other_word line word more short first other =
 
 -- the words behind it are unfit
 pub unfit_founders : (line word : List ℕ) (more : Option (List ℕ)) (others : List (List ℕ)) (f : Fault) → IsShort line → IsFirstWord line word more → word ≡ codes "founders"
-    → AreMore more others → AreUnfit (Set ∷ []) others f → NoFounding line f
+    → AreMore more others → AreUnfit (Conf ∷ []) others f → NoFounding line f
 unfit_founders line word more others f short first is are unfit =
     inr (short, (word ∷ others, words_joined line word more others first are, inr (inl (others, ap (λ w. w ∷ others) is, unfit))))
 
@@ -96,24 +98,11 @@ founders_count line word more f short first is fault none =
     let there = more_there more in
     unfit_founders line word more there.0 f short first is there.1 (inl (none there.0 there.1, fault))
 
-none_of : (p : ℕ → Bool) (xs : List ℕ) → how_many p xs ≡ 0 → filter p xs ≡ []
-none_of p [] none = refl
-none_of p (x ∷ xs) none =
-    elim (p x) as (λ t. cond t 1 0 + how_many p xs ≡ 0 → cond t (x ∷ filter p xs) (filter p xs) ≡ []) [
-      | true ↦ λ e. absurd (omega arith)
-      | false ↦ λ e. none_of p xs (omega arith)
-    ] none
-
--- a set of no names is a dash
-pub dash : (s : NameSet) → count_of s ≡ 0 → set_text s ≡ 45 ∷ []
-unfolding count_of names
-dash s none = ap names_text (none_of (contains s) (rising 64 1) none)
-
 -- there is no founder
-pub no_founder : (line word set : List ℕ) (more : Option (List ℕ)) (s : NameSet) → IsShort line → IsFirstWord line word more → word ≡ codes "founders"
-    → AreMore more (set ∷ []) → set ≡ set_text s → count_of s ≡ 0 → NoFounding line NoFounders
-no_founder line word set more s short first is are spelt none =
-    inr (short, (word ∷ set ∷ [], words_joined line word more (set ∷ []) first are, inr (inr ((λ i. is i ∷ (spelt ∙ dash s none) i ∷ []), refl))))
+pub no_founder : (line word set : List ℕ) (more : Option (List ℕ)) (c : Weights) → IsShort line → IsFirstWord line word more → word ≡ codes "founders"
+    → AreMore more (set ∷ []) → set ≡ conf_text c → count_of (members_of c) ≡ 0 → NoFounding line NoFounders
+no_founder line word set more c short first is are spelt none =
+    inr (short, (word ∷ set ∷ [], words_joined line word more (set ∷ []) first are, inr (inr ((λ i. is i ∷ (spelt ∙ none_text c none) i ∷ []), refl))))
 
 from_not : (t : Bool) → false ≡ not t → t ≡ true
 from_not true e = refl

@@ -8,7 +8,7 @@ use Rattle.rambo_text.specs.Words.{Lacks, AreWords}
 use Rattle.rambo_text.proofs.Lacking.{lacks-decimal}
 use Rattle.rambo_lines.specs.declared.kind.StepKind.TheVariants as kind
 use Rattle.rambo_lines.specs.Parts.{TellStep}
-use Rattle.rambo_lines.proofs.Signs.{lacks-call}
+use Rattle.rambo_text.proofs.Plain.{lacks-call}
 
 -- a line of one word
 one_word : (rest word : List ℕ) → rest ≡ word → Lacks 32 word → AreWords rest (word ∷ [])

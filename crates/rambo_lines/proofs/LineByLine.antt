@@ -1,7 +1,7 @@
 -- Reading a text line by line
 use Rattle.std.proofs.Common.{◌≡◌, ◌≢◌, ◌⊎◌, ℕ, ◌+◌, ◌<◌, List, [], ◌∷◌, ◌++◌, length, inl, inr, refl, sym, ap, subst, ◌∙◌, arith, append_assoc, append-nil, length-append}
 use Rattle.std.specs.List.{AllByRecursion}
-use Rattle.rambo_names.specs.Names.{NameSet}
+use Rattle.rambo_names.specs.Weights.{Weights}
 use Rattle.rambo_run.specs.declared.step.Step.{Step}
 use Rattle.rambo_text.specs.Words.{IsFirstLine}
 use Rattle.rambo_lines.specs.StepLines.{step_line}
@@ -12,25 +12,25 @@ use Rattle.rambo_text.specs.declared.fault.Fault.TheVariants.{OutOfMemory}
 use Rattle.rambo_text.specs.declared.fault.ScriptFault.{ScriptFault}
 use Rattle.rambo_lines.specs.Pushes.{PushesStep}
 
-abbrev pub script : NameSet → List (Step NameSet) → ScriptState
+abbrev pub script : Weights → List (Step Weights) → ScriptState
 script founders steps = record { founders = founders; steps = steps }
 
 -- the lines up to a rest are those of founders and steps
-pub record Reads (bytes : List ℕ) (founders : NameSet) (steps : List (Step NameSet)) (rest : List ℕ) : Type 0 where
+pub record Reads (bytes : List ℕ) (founders : Weights) (steps : List (Step Weights)) (rest : List ℕ) : Type 0 where
   pub lines : HasLines (script founders steps)
   pub whole : (bytes ≡ script_text (script founders steps) ++ rest) ⊎ ((bytes ++ 10 ∷ [] ≡ script_text (script founders steps)) × (rest ≡ []))
 
-steps_text-append : (xs ys : List (Step NameSet)) → steps_text (xs ++ ys) ≡ steps_text xs ++ steps_text ys
+steps_text-append : (xs ys : List (Step Weights)) → steps_text (xs ++ ys) ≡ steps_text xs ++ steps_text ys
 steps_text-append [] ys = refl
 steps_text-append (x ∷ xs) ys =
     ap (λ t. step_line x ++ 10 ∷ t) (steps_text-append xs ys) ∙ sym (append_assoc (step_line x) (10 ∷ steps_text xs) (steps_text ys))
 
-all-append : (xs : List (Step NameSet)) (y : Step NameSet) → AllByRecursion HasLine xs → HasLine y → AllByRecursion HasLine (xs ++ y ∷ [])
+all-append : (xs : List (Step Weights)) (y : Step Weights) → AllByRecursion HasLine xs → HasLine y → AllByRecursion HasLine (xs ++ y ∷ [])
 all-append [] y all one = (one, tt)
 all-append (x ∷ xs) y all one = (all.0, all-append xs y all.1 one)
 
 -- the first line was read
-pub reads-first : (bytes line rest : List ℕ) (founders : NameSet) → IsFirstLine bytes line rest → AreFounders founders → line ≡ founders_line founders
+pub reads-first : (bytes line rest : List ℕ) (founders : Weights) → IsFirstLine bytes line rest → AreFounders founders → line ≡ founders_line founders
     → Reads bytes founders [] rest
 reads-first bytes line rest founders first are is =
     record {
@@ -42,7 +42,7 @@ reads-first bytes line rest founders first are is =
     }
 
 -- one line more was read
-pub reads-next : (bytes rest line more : List ℕ) (founders : NameSet) (steps others : List (Step NameSet)) → Reads bytes founders steps rest → rest ≢ [] → IsFirstLine rest line more
+pub reads-next : (bytes rest line more : List ℕ) (founders : Weights) (steps others : List (Step Weights)) → Reads bytes founders steps rest → rest ≢ [] → IsFirstLine rest line more
     → PushesStep steps others line → Reads bytes founders others more
 reads-next bytes rest line more founders steps others now some first push =
     let is_step = push.has_line in
@@ -69,7 +69,7 @@ reads-next bytes rest line more founders steps others now some first push =
     }
 
 -- all was read
-pub reads-all : (bytes rest : List ℕ) (founders : NameSet) (steps : List (Step NameSet)) → Reads bytes founders steps rest → rest ≡ [] → IsScript bytes (script founders steps)
+pub reads-all : (bytes rest : List ℕ) (founders : Weights) (steps : List (Step Weights)) → Reads bytes founders steps rest → rest ≡ [] → IsScript bytes (script founders steps)
 reads-all bytes rest founders steps now none =
     record {
       lines = now.lines;
@@ -80,7 +80,7 @@ reads-all bytes rest founders steps now none =
     }
 
 -- the line that is read
-pub reads-line : (bytes rest line more : List ℕ) (founders : NameSet) (steps : List (Step NameSet)) (number : ℕ) → Reads bytes founders steps rest → rest ≢ [] → IsFirstLine rest line more
+pub reads-line : (bytes rest line more : List ℕ) (founders : Weights) (steps : List (Step Weights)) (number : ℕ) → Reads bytes founders steps rest → rest ≢ [] → IsFirstLine rest line more
     → number ≡ length steps + 2 → IsNextLine bytes line number
 reads-line bytes rest line more founders steps number now some first is =
     record {
@@ -103,7 +103,7 @@ pub first-fault : (NeedsRoom : List ℕ → Type 0) (bytes line rest : List ℕ)
 first-fault NeedsRoom bytes line rest f first number fault = inl (inl (record { line = line; rest = rest; is_first = first; fault = fault; number = number }))
 
 -- the line has a fault, or no room
-pub reads-fault : (NeedsRoom : List ℕ → Type 0) (bytes rest line more : List ℕ) (founders : NameSet) (steps : List (Step NameSet)) (f : ScriptFault) → Reads bytes founders steps rest → rest ≢ [] → IsFirstLine rest line more
+pub reads-fault : (NeedsRoom : List ℕ → Type 0) (bytes rest line more : List ℕ) (founders : Weights) (steps : List (Step Weights)) (f : ScriptFault) → Reads bytes founders steps rest → rest ≢ [] → IsFirstLine rest line more
     → f.line ≡ length steps + 2 → ((f.fault ≡ OutOfMemory) × NeedsRoom line) ⊎ IsLineFault TellNoStep line f.fault → IsScriptFault bytes f ⊎ RanOut NeedsRoom bytes f
 reads-fault NeedsRoom bytes rest line more founders steps f now some first is (inl spent) =
     inr (record { line = line; is_next = reads-line bytes rest line more founders steps f.line now some first is; needs = spent.1; fault = spent.0 })

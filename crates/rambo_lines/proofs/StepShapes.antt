@@ -3,8 +3,10 @@ use Rattle.std.proofs.Common.{◌≡◌, ℕ, suc, ◌<◌, ◌^◌, cond, List,
 use Rattle.std.specs.List.{AllByRecursion}
 use Rattle.std.specs.Str.{bytes_eq}
 use Rattle.std.proofs.lemmas.Fmt.{decimal_injective}
-use Rattle.rambo_names.specs.Names.{IsName, NameSet}
-use Rattle.rambo_names.specs.Signs.{set_text}
+use Rattle.rambo_names.specs.Names.{IsName}
+use Rattle.rambo_names.specs.Signs.{set_text, conf_text}
+use Rattle.rambo_names.specs.Weights.{Weights}
+use Rattle.rambo_names.proofs.ConfOnce.{one_conf_is, one_set_is}
 use Rattle.rambo_atomic.specs.declared.operation.Op.TheVariants as op
 use Rattle.rambo_run.specs.declared.step.Step.{Step}
 use Rattle.rambo_run.specs.declared.step.Step.TheVariants as step
@@ -17,10 +19,10 @@ use Rattle.rambo_text.proofs.WordSplits.{same_words}
 use Rattle.rambo_lines.specs.declared.kind.StepKind.{StepKind}
 use Rattle.rambo_lines.specs.declared.kind.StepKind.TheVariants as kind
 use Rattle.rambo_lines.specs.StepLines.{word_of, forms_of, step_words, step_line, IsStep}
-use Rattle.rambo_lines.proofs.Signs.{lacks-set, lacks-hex, lacks-call, lacks-tested, lacks-words}
-use Rattle.rambo_lines.proofs.Alike.{same_set_text, same_hex, same_id}
+use Rattle.rambo_text.proofs.Plain.{lacks-set, lacks-conf, lacks-hex, lacks-call, lacks-tested, lacks-words}
+use Rattle.rambo_text.proofs.Alike.{same_hex, same_id}
 
-abbrev pub kind_of : Step NameSet → StepKind
+abbrev pub kind_of : Step Weights → StepKind
 kind_of (step.Join n contacts) = kind.Join
 kind_of (step.Call n (op.Get key)) = kind.Get
 kind_of (step.Call n (op.Set key value)) = kind.Set
@@ -35,7 +37,7 @@ kind_of (step.Rebid n) = kind.Rebid
 kind_of (step.AdvanceRecon n) = kind.AdvanceRecon
 kind_of (step.Stop n) = kind.Stop
 
-abbrev pub parts_of : Step NameSet → List (List ℕ)
+abbrev pub parts_of : Step Weights → List (List ℕ)
 parts_of (step.Join n contacts) = decimal n ∷ set_text contacts ∷ []
 parts_of (step.Call n (op.Get key)) = decimal n ∷ hex_text key ∷ []
 parts_of (step.Call n (op.Set key value)) = decimal n ∷ hex_text key ∷ hex_text value ∷ []
@@ -45,12 +47,12 @@ parts_of (step.Advance c) = call_text c ∷ []
 parts_of (step.Again c) = call_text c ∷ []
 parts_of (step.Collect n) = decimal n ∷ []
 parts_of (step.AdvanceCollect n) = decimal n ∷ []
-parts_of (step.Recon n wish) = decimal n ∷ set_text wish ∷ []
+parts_of (step.Recon n wish) = decimal n ∷ conf_text wish ∷ []
 parts_of (step.Rebid n) = decimal n ∷ []
 parts_of (step.AdvanceRecon n) = decimal n ∷ []
 parts_of (step.Stop n) = decimal n ∷ []
 
-pub words_are : (st : Step NameSet) → step_words st ≡ word_of (kind_of st) ∷ parts_of st
+pub words_are : (st : Step Weights) → step_words st ≡ word_of (kind_of st) ∷ parts_of st
 words_are (step.Join n contacts) = refl
 words_are (step.Call n (op.Get key)) = refl
 words_are (step.Call n (op.Set key value)) = refl
@@ -66,7 +68,7 @@ words_are (step.AdvanceRecon n) = refl
 words_are (step.Stop n) = refl
 
 -- the parts of a step are in the forms of its kind
-pub spelt : (st : Step NameSet) → IsStep st → AreSpelt (forms_of (kind_of st)) (parts_of st)
+pub spelt : (st : Step Weights) → IsStep st → AreSpelt (forms_of (kind_of st)) (parts_of st)
 spelt (step.Join n contacts) is = ((n, is.0, refl), ((contacts, refl), tt))
 spelt (step.Call n (op.Get key)) is = ((n, is.0, refl), ((key, is.1, refl), tt))
 spelt (step.Call n (op.Set key value)) is = ((n, is.0, refl), ((key, is.1.0, refl), ((value, is.1.1, refl), tt)))
@@ -147,7 +149,7 @@ lacks-word b kind.Stop low = lacks-tested b (codes "stop") low refl
 lacks-name : (b n : ℕ) → b < 44 → IsName n → Lacks b (decimal n)
 lacks-name b n low is = lacks-decimal b n (omega arith) (omega arith)
 
-lacks-parts : (b : ℕ) (st : Step NameSet) → b < 44 → IsStep st → AllByRecursion (Lacks b) (parts_of st)
+lacks-parts : (b : ℕ) (st : Step Weights) → b < 44 → IsStep st → AllByRecursion (Lacks b) (parts_of st)
 lacks-parts b (step.Join n contacts) low is = (lacks-name b n low is.0, (lacks-set b contacts low, tt))
 lacks-parts b (step.Call n (op.Get key)) low is = (lacks-name b n low is.0, (lacks-hex b key low, tt))
 lacks-parts b (step.Call n (op.Set key value)) low is = (lacks-name b n low is.0, (lacks-hex b key low, (lacks-hex b value low, tt)))
@@ -157,19 +159,19 @@ lacks-parts b (step.Advance c) low is = (lacks-call b c low is, tt)
 lacks-parts b (step.Again c) low is = (lacks-call b c low is, tt)
 lacks-parts b (step.Collect n) low is = (lacks-name b n low is, tt)
 lacks-parts b (step.AdvanceCollect n) low is = (lacks-name b n low is, tt)
-lacks-parts b (step.Recon n wish) low is = (lacks-name b n low is.0, (lacks-set b wish low, tt))
+lacks-parts b (step.Recon n wish) low is = (lacks-name b n low is.0, (lacks-conf b wish low, tt))
 lacks-parts b (step.Rebid n) low is = (lacks-name b n low is, tt)
 lacks-parts b (step.AdvanceRecon n) low is = (lacks-name b n low is, tt)
 lacks-parts b (step.Stop n) low is = (lacks-name b n low is, tt)
 
-lacks-step : (b : ℕ) (st : Step NameSet) → b < 44 → IsStep st → AllByRecursion (Lacks b) (step_words st)
+lacks-step : (b : ℕ) (st : Step Weights) → b < 44 → IsStep st → AllByRecursion (Lacks b) (step_words st)
 lacks-step b st low is = rw (words_are st) (lacks-word b (kind_of st) low, lacks-parts b st low is)
 
 -- a step's line is its words, and has no line feed
-pub step_are_words : (st : Step NameSet) → IsStep st → AreWords (step_line st) (step_words st)
+pub step_are_words : (st : Step Weights) → IsStep st → AreWords (step_line st) (step_words st)
 step_are_words st is = record { some = λ e. let other = sym (words_are st) ∙ e in cc; no_space = lacks-step 32 st (lit< tt) is; whole = refl }
 
-pub step_lacks : (st : Step NameSet) → IsStep st → Lacks 10 (step_line st)
+pub step_lacks : (st : Step Weights) → IsStep st → Lacks 10 (step_line st)
 step_lacks st is = lacks-words 10 (step_words st) (λ e. cc) (lacks-step 10 st (lit< tt) is)
 
 same_number : (n m : ℕ) → n < 2 ^ 64 → m < 2 ^ 64 → decimal n ≡ decimal m → n ≡ m
@@ -178,8 +180,8 @@ same_number n m a b e = decimal_injective n m a b e
 same_name : (n m : ℕ) → IsName n → IsName m → decimal n ≡ decimal m → n ≡ m
 same_name n m a b e = decimal_injective n m (omega arith) (omega arith) e
 
-same_shape : (st su : Step NameSet) → IsStep st → IsStep su → kind_of st ≡ kind_of su → parts_of st ≡ parts_of su → st ≡ su
-same_shape (step.Join n s) (step.Join m t) a b k e = (λ i. step.Join (same_name n m a.0 b.0 (cc) i) (same_set_text s t a.1 b.1 (cc) i))
+same_shape : (st su : Step Weights) → IsStep st → IsStep su → kind_of st ≡ kind_of su → parts_of st ≡ parts_of su → st ≡ su
+same_shape (step.Join n s) (step.Join m t) a b k e = (λ i. step.Join (same_name n m a.0 b.0 (cc) i) (one_set_is s t a.1 b.1 (cc) i))
 same_shape (step.Call n (op.Get k1)) (step.Call m (op.Get k2)) a b k e = (λ i. step.Call (same_name n m a.0 b.0 (cc) i) (op.Get (same_hex k1 k2 a.1 b.1 (cc) i)))
 same_shape (step.Call n (op.Set k1 v1)) (step.Call m (op.Set k2 v2)) a b k e =
     (λ i. step.Call (same_name n m a.0 b.0 (cc) i) (op.Set (same_hex k1 k2 a.1.0 b.1.0 (cc) i) (same_hex v1 v2 a.1.1 b.1.1 (cc) i)))
@@ -189,7 +191,7 @@ same_shape (step.Advance c) (step.Advance d) a b k e = ap step.Advance (same_id 
 same_shape (step.Again c) (step.Again d) a b k e = ap step.Again (same_id c d a b (cc))
 same_shape (step.Collect n) (step.Collect m) a b k e = ap step.Collect (same_name n m a b (cc))
 same_shape (step.AdvanceCollect n) (step.AdvanceCollect m) a b k e = ap step.AdvanceCollect (same_name n m a b (cc))
-same_shape (step.Recon n s) (step.Recon m t) a b k e = (λ i. step.Recon (same_name n m a.0 b.0 (cc) i) (same_set_text s t a.1 b.1 (cc) i))
+same_shape (step.Recon n s) (step.Recon m t) a b k e = (λ i. step.Recon (same_name n m a.0 b.0 (cc) i) (one_conf_is s t a.1 b.1 (cc) i))
 same_shape (step.Rebid n) (step.Rebid m) a b k e = ap step.Rebid (same_name n m a b (cc))
 same_shape (step.AdvanceRecon n) (step.AdvanceRecon m) a b k e = ap step.AdvanceRecon (same_name n m a b (cc))
 same_shape (step.Stop n) (step.Stop m) a b k e = ap step.Stop (same_name n m a b (cc))
@@ -200,7 +202,7 @@ same_shape (step.Call n (op.Set key value)) su a b k e = cc
 same_shape st su a b k e = cc
 
 -- a step is known by its line
-pub same_step : (st su : Step NameSet) → IsStep st → IsStep su → step_line st ≡ step_line su → st ≡ su
+pub same_step : (st su : Step Weights) → IsStep st → IsStep su → step_line st ≡ step_line su → st ≡ su
 same_step st su a b e =
     let words = same_words (step_line su) (step_words st) (step_words su) (subst (λ l. AreWords l (step_words st)) e (step_are_words st a)) (step_are_words su b) in
     let both = sym (words_are st) ∙ words ∙ words_are su in

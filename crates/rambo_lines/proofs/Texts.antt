@@ -1,13 +1,15 @@
 -- A text is that of one script, and has no fault then
 use Rattle.std.proofs.Common.{◌≡◌, ◌≢◌, ℕ, Bool, true, false, cond, filter, ◌+◌, List, [], ◌∷◌, ◌++◌, length, codes, inl, inr, refl, sym, ap, subst, ◌∙◌, arith, lit<, append_assoc}
 use Rattle.std.specs.List.{AllByRecursion}
-use Rattle.rambo_names.specs.Names.{NameSet, names, rising, how_many, count_of}
-use Rattle.std.specs.FinSet.{contains}
-use Rattle.rambo_names.specs.Signs.{set_text}
+use Rattle.rambo_names.specs.Names.{count_of}
+use Rattle.rambo_names.specs.Signs.{conf_text}
+use Rattle.rambo_names.specs.Weights.{Weights, members_of}
+use Rattle.rambo_names.proofs.ConfOnce.{one_conf_is}
+use Rattle.rambo_names.proofs.ConfTexts.{text_none}
 use Rattle.rambo_run.specs.declared.step.Step.{Step}
 use Rattle.rambo_text.specs.declared.fault.Fault.{Fault}
 use Rattle.rambo_text.specs.declared.fault.ScriptFault.{ScriptFault}
-use Rattle.rambo_text.specs.Forms.{Set, IsBadWord}
+use Rattle.rambo_text.specs.Forms.{Conf, IsBadWord}
 use Rattle.rambo_text.specs.Words.{Lacks, AreWords, IsFirstLine}
 use Rattle.rambo_text.proofs.WordSplits.{cut, no_cut, same_words}
 use Rattle.rambo_lines.specs.declared.kind.StepKind.{StepKind}
@@ -15,21 +17,20 @@ use Rattle.rambo_lines.specs.declared.kind.StepKind.TheVariants as kind
 use Rattle.rambo_lines.specs.StepLines.{word_of, forms_of, step_words, step_line, IsStep}
 use Rattle.rambo_lines.specs.Scripts.{ScriptState, HasLine, HasLines, AreFounders, IsTextOf, IsScript, founders_words, founders_line, steps_text, script_text}
 use Rattle.rambo_lines.specs.Faults.{IsLineFault, TellNoStep, TellNoFounders, AreUnfit, IsScriptFault}
-use Rattle.rambo_lines.proofs.Signs.{small_names, lacks-set, lacks-tested, lacks-words}
-use Rattle.rambo_lines.proofs.Alike.{same_list, same_set_text}
+use Rattle.rambo_text.proofs.Plain.{lacks-conf, lacks-tested, lacks-words}
 use Rattle.rambo_lines.proofs.StepShapes.{kind_of, parts_of, words_are, spelt, not_bad, as_many, same_kind, step_are_words, step_lacks, same_step}
 
-founders_are_words : (s : NameSet) → AreWords (founders_line s) (founders_words s)
-founders_are_words s = record { some = λ e. cc; no_space = (lacks-tested 32 (codes "founders") (lit< tt) refl, (lacks-set 32 s (lit< tt), tt)); whole = refl }
+founders_are_words : (s : Weights) → AreWords (founders_line s) (founders_words s)
+founders_are_words s = record { some = λ e. cc; no_space = (lacks-tested 32 (codes "founders") (lit< tt) refl, (lacks-conf 32 s (lit< tt), tt)); whole = refl }
 
-pub founders_lack : (s : NameSet) → Lacks 10 (founders_line s)
-founders_lack s = lacks-words 10 (founders_words s) (λ e. cc) (lacks-tested 10 (codes "founders") (lit< tt) refl, (lacks-set 10 s (lit< tt), tt))
+pub founders_lack : (s : Weights) → Lacks 10 (founders_line s)
+founders_lack s = lacks-words 10 (founders_words s) (λ e. cc) (lacks-tested 10 (codes "founders") (lit< tt) refl, (lacks-conf 10 s (lit< tt), tt))
 
 no_nothing : (l t : List ℕ) → [] ≡ l ++ 10 ∷ t → ⊥
 no_nothing [] t e = cc
 no_nothing (x ∷ l) t e = cc
 
-same_steps : (xs ys : List (Step NameSet)) → AllByRecursion HasLine xs → AllByRecursion HasLine ys
+same_steps : (xs ys : List (Step Weights)) → AllByRecursion HasLine xs → AllByRecursion HasLine ys
     → steps_text xs ≡ steps_text ys → xs ≡ ys
 same_steps [] [] a b e = refl
 same_steps [] (y ∷ ys) a b e = absurd (no_nothing (step_line y) (steps_text ys) e)
@@ -54,12 +55,12 @@ word_there kind.AdvanceRecon e = cc
 word_there kind.Stop e = cc
 
 -- a line of a step isn't empty
-not_empty : (y : Step NameSet) → IsStep y → [] ≡ step_line y → ⊥
+not_empty : (y : Step Weights) → IsStep y → [] ≡ step_line y → ⊥
 not_empty y is e =
     let words = same_words (step_line y) (step_words y) ([] ∷ []) (step_are_words y is) (record { some = λ n. cc; no_space = (tt, tt); whole = sym e }) in
     word_there (kind_of y) (let both = sym (words_are y) ∙ words in cc)
 
-no_line_more : (xs ys : List (Step NameSet)) → AllByRecursion HasLine xs → AllByRecursion HasLine ys → steps_text xs ++ 10 ∷ [] ≡ steps_text ys → ⊥
+no_line_more : (xs ys : List (Step Weights)) → AllByRecursion HasLine xs → AllByRecursion HasLine ys → steps_text xs ++ 10 ∷ [] ≡ steps_text ys → ⊥
 no_line_more [] [] a b e = cc
 no_line_more [] (y ∷ ys) a b e = not_empty y b.0.is_step (cut 10 [] (step_line y) [] (steps_text ys) tt (step_lacks y b.0.is_step) e).0
 no_line_more (x ∷ xs) [] a b e =
@@ -74,7 +75,7 @@ same_text s t a b e =
     let parts = cut 10 (founders_line s.founders) (founders_line t.founders) (steps_text s.steps) (steps_text t.steps) (founders_lack s.founders) (founders_lack t.founders) e in
     let words = same_words (founders_line t.founders) (founders_words s.founders) (founders_words t.founders)
     (subst (λ l. AreWords l (founders_words s.founders)) parts.0 (founders_are_words s.founders)) (founders_are_words t.founders) in
-    let founders = same_set_text s.founders t.founders a.founders.names b.founders.names (cc) in
+    let founders = one_conf_is s.founders t.founders a.founders.names b.founders.names (cc) in
     let steps = same_steps s.steps t.steps a.steps b.steps parts.1 in
     (λ i. record { founders = founders i; steps = steps i })
 
@@ -132,8 +133,8 @@ not_nothing [] ys some e = some e
 not_nothing (x ∷ xs) ys some e = cc
 
 -- a later line is that of a step
-step_there : (xs ys : List (Step NameSet)) (bytes behind line rest : List ℕ) → AllByRecursion HasLine xs → AllByRecursion HasLine ys → bytes ≡ steps_text xs ++ behind
-    → IsTextOf bytes (steps_text ys) → behind ≢ [] → IsFirstLine behind line rest → (st : Step NameSet) × HasLine st × (line ≡ step_line st)
+step_there : (xs ys : List (Step Weights)) (bytes behind line rest : List ℕ) → AllByRecursion HasLine xs → AllByRecursion HasLine ys → bytes ≡ steps_text xs ++ behind
+    → IsTextOf bytes (steps_text ys) → behind ≢ [] → IsFirstLine behind line rest → (st : Step Weights) × HasLine st × (line ≡ step_line st)
 step_there xs [] bytes behind line rest a b is text some first =
     absurd (no_text bytes (λ none. not_nothing (steps_text xs) behind some (sym is ∙ none)) text)
 step_there [] (y ∷ ys) bytes behind line rest a b is text some first =
@@ -142,51 +143,38 @@ step_there (x ∷ xs) (y ∷ ys) bytes behind line rest a b is text some first =
     step_there xs ys (steps_text xs ++ behind) behind line rest a.1 b.1 refl
     (tail_text (step_line x) (steps_text xs) behind (step_line y) (steps_text ys) bytes (step_lacks x a.0.is_step) (step_lacks y b.0.is_step) is text) some first
 
-nothing_passes : (p : ℕ → Bool) (xs : List ℕ) → filter p xs ≡ [] → how_many p xs ≡ 0
-nothing_passes p [] e = refl
-nothing_passes p (x ∷ xs) e =
-    elim (p x) as (λ t. cond t (x ∷ filter p xs) (filter p xs) ≡ [] → cond t 1 0 + how_many p xs ≡ 0) [
-      | true ↦ λ some. cc
-      | false ↦ λ none. let rest = nothing_passes p xs none in omega arith
-    ] e
-
--- only the empty set is a dash
-no_names : (s : NameSet) → set_text s ≡ codes "-" → count_of s ≡ 0
-unfolding count_of names
-no_names s e = nothing_passes (contains s) (rising 64 1) (same_list (names s) [] (small_names s) tt e)
-
-founders_fit : (s : NameSet) (f : Fault) (others : List (List ℕ)) → others ≡ set_text s ∷ [] → AreUnfit (Set ∷ []) others f → ⊥
+founders_fit : (s : Weights) (f : Fault) (others : List (List ℕ)) → others ≡ conf_text s ∷ [] → AreUnfit (Conf ∷ []) others f → ⊥
 founders_fit s f others same (inl many) = many.0 (ap length same)
-founders_fit s f others same (inr bad) = not_bad (Set ∷ []) (set_text s ∷ []) f ((s, refl), tt) (subst (λ o. IsBadWord (Set ∷ []) o f) same bad.1)
+founders_fit s f others same (inr bad) = not_bad (Conf ∷ []) (conf_text s ∷ []) f ((s, refl), tt) (subst (λ o. IsBadWord (Conf ∷ []) o f) same bad.1)
 
-founders_told : (s : NameSet) (f : Fault) (words : List (List ℕ)) → AreFounders s → words ≡ founders_words s → TellNoFounders words f → ⊥
-founders_told s f words are same (inl other) = other.0 (set_text s ∷ []) same
+founders_told : (s : Weights) (f : Fault) (words : List (List ℕ)) → AreFounders s → words ≡ founders_words s → TellNoFounders words f → ⊥
+founders_told s f words are same (inl other) = other.0 (conf_text s ∷ []) same
 founders_told s f words are same (inr (inl unfit)) =
-    let others : unfit.0 ≡ set_text s ∷ [] = (let both = sym unfit.1 ∙ same in cc) in
+    let others : unfit.0 ≡ conf_text s ∷ [] = (let both = sym unfit.1 ∙ same in cc) in
     founders_fit s f unfit.0 others unfit.2
 founders_told s f words are same (inr (inr none)) =
     let some = are.some in
-    let zero_of : count_of s ≡ 0 = no_names s (let both = sym same ∙ none.0 in cc) in omega arith
+    let zero_of : count_of (members_of s) ≡ 0 = text_none s (let both = sym same ∙ none.0 in cc) in omega arith
 
-pub good_founders : (s : NameSet) (f : Fault) → AreFounders s → IsLineFault TellNoFounders (founders_line s) f → ⊥
+pub good_founders : (s : Weights) (f : Fault) → AreFounders s → IsLineFault TellNoFounders (founders_line s) f → ⊥
 good_founders s f are (inl long) = let some = long.0 in let short = are.short in omega arith
 good_founders s f are (inr fault) =
     founders_told s f fault.1.0 are (same_words (founders_line s) fault.1.0 (founders_words s) fault.1.1 (founders_are_words s)) fault.1.2
 
-step_fit : (st : Step NameSet) (f : Fault) (k : StepKind) (others : List (List ℕ)) → IsStep st → k ≡ kind_of st → others ≡ parts_of st → AreUnfit (forms_of k) others f → ⊥
+step_fit : (st : Step Weights) (f : Fault) (k : StepKind) (others : List (List ℕ)) → IsStep st → k ≡ kind_of st → others ≡ parts_of st → AreUnfit (forms_of k) others f → ⊥
 step_fit st f k others is kinds same (inl many) =
     many.0 (ap length same ∙ as_many (forms_of (kind_of st)) (parts_of st) (spelt st is) ∙ ap (λ j. length (forms_of j)) (sym kinds))
 step_fit st f k others is kinds same (inr bad) =
     not_bad (forms_of (kind_of st)) (parts_of st) f (spelt st is)
     (subst (λ j. IsBadWord (forms_of j) (parts_of st) f) kinds (subst (λ o. IsBadWord (forms_of k) o f) same bad.1))
 
-step_told : (st : Step NameSet) (f : Fault) (words : List (List ℕ)) → IsStep st → words ≡ step_words st → TellNoStep words f → ⊥
+step_told : (st : Step Weights) (f : Fault) (words : List (List ℕ)) → IsStep st → words ≡ step_words st → TellNoStep words f → ⊥
 step_told st f words is same (inl none) = none.0 (kind_of st) (parts_of st) (same ∙ words_are st)
 step_told st f words is same (inr unfit) =
     let both = sym unfit.2 ∙ same ∙ words_are st in
     step_fit st f unfit.0 unfit.1 is (same_kind unfit.0 (kind_of st) (cc)) (cc) unfit.3
 
-pub good_step : (st : Step NameSet) (f : Fault) → HasLine st → IsLineFault TellNoStep (step_line st) f → ⊥
+pub good_step : (st : Step Weights) (f : Fault) → HasLine st → IsLineFault TellNoStep (step_line st) f → ⊥
 good_step st f has (inl long) = let some = long.0 in let short = has.short in omega arith
 good_step st f has (inr fault) = step_told st f fault.1.0 has.is_step (same_words (step_line st) fault.1.0 (step_words st) fault.1.1 (step_are_words st has.is_step)) fault.1.2
 

@@ -1,11 +1,11 @@
 -- The first faulty line of a text, and its first fault
 use Rattle.std.specs.Prelude.{◌≡◌, ◌≢◌, ◌⊎◌, ℕ, ◌+◌, ◌<◌, ◌++◌, List, [], ◌∷◌, length, codes}
-use Rattle.rambo_names.specs.Names.{NameSet}
+use Rattle.rambo_names.specs.Weights.{Weights}
 use Rattle.rambo_run.specs.declared.step.Step.{Step}
 use Rattle.rambo_text.specs.declared.fault.Fault.{Fault}
 use Rattle.rambo_text.specs.declared.fault.Fault.TheVariants.{NoFounders, UnknownWord, WrongCount, LineTooLong, OutOfMemory}
 use Rattle.rambo_text.specs.declared.fault.ScriptFault.{ScriptFault}
-use Rattle.rambo_text.specs.Forms.{Form, Name, Set, IsSpelt, IsBadWord}
+use Rattle.rambo_text.specs.Forms.{Form, Name, Conf, IsSpelt, IsBadWord}
 use Rattle.rambo_text.specs.Words.{AreWords, IsFirstLine}
 use Rattle.rambo_lines.specs.declared.kind.StepKind.{StepKind}
 use Rattle.rambo_lines.specs.StepLines.{word_of, forms_of, step_line, HoldsBytes}
@@ -25,7 +25,7 @@ TellNoStep words f =
 abbrev pub TellNoFounders : List (List ℕ) → Fault → Type 0
 TellNoFounders words f =
     (((others : List (List ℕ)) → words ≢ codes "founders" ∷ others) × (f ≡ NoFounders))
-    ⊎ ((others : List (List ℕ)) × (words ≡ codes "founders" ∷ others) × AreUnfit (Set ∷ []) others f)
+    ⊎ ((others : List (List ℕ)) × (words ≡ codes "founders" ∷ others) × AreUnfit (Conf ∷ []) others f)
     ⊎ ((words ≡ codes "founders" ∷ codes "-" ∷ []) × (f ≡ NoFounders))
 
 -- a line is too long, or its words have a fault
@@ -52,7 +52,7 @@ pub record TellsBytes (line : List ℕ) : Type 0 where
 
 -- a line tells bytes, or a whole step
 abbrev pub TellsBytesOrStep : List ℕ → Type 0
-TellsBytesOrStep line = TellsBytes line ⊎ ((st : Step NameSet) × HasLine st × (line ≡ step_line st))
+TellsBytesOrStep line = TellsBytes line ⊎ ((st : Step Weights) × HasLine st × (line ≡ step_line st))
 
 -- the first line has a fault
 pub record IsFirstFault (bytes : List ℕ) (f : ScriptFault) : Type 0 where

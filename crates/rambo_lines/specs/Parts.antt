@@ -1,6 +1,6 @@
 -- What the words behind the first tell
 use Rattle.std.specs.Prelude.{◌≡◌, ◌⊎◌, ℕ, List, ◌∷◌, Option}
-use Rattle.rambo_names.specs.Names.{NameSet}
+use Rattle.rambo_names.specs.Weights.{Weights}
 use Rattle.rambo_run.specs.declared.step.Step.{Step}
 use Rattle.rambo_text.specs.declared.fault.Fault.{Fault}
 use Rattle.rambo_text.specs.declared.fault.Fault.TheVariants.{OutOfMemory}
@@ -15,7 +15,7 @@ abbrev pub IsUnspelt : Form → List ℕ → Fault → Type 0
 IsUnspelt m word f = ¬ (IsSpelt m word) × (f ≡ form_fault m)
 
 -- the words behind the first tell this step of a kind
-pub record TellStep (kind : StepKind) (more : Option (List ℕ)) (st : Step NameSet) : Type 0 where
+pub record TellStep (kind : StepKind) (more : Option (List ℕ)) (st : Step Weights) : Type 0 where
   pub others : List (List ℕ)
   pub are : AreMore more others
   pub words : step_words st ≡ word_of kind ∷ others

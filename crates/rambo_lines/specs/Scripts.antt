@@ -1,27 +1,28 @@
 -- How a script is written
 use Rattle.std.specs.Prelude.{◌≡◌, ◌⊎◌, ℕ, ◌<◌, ◌≤◌, ◌++◌, List, [], ◌∷◌, length, codes}
 use Rattle.std.specs.List.{AllByRecursion}
-use Rattle.rambo_names.specs.Names.{NameSet, AreNames, count_of}
-use Rattle.rambo_names.specs.Signs.{set_text}
+use Rattle.rambo_names.specs.Names.{count_of}
+use Rattle.rambo_names.specs.Signs.{conf_text, IsConf}
+use Rattle.rambo_names.specs.Weights.{Weights, members_of}
 use Rattle.rambo_run.specs.declared.step.Step.{Step}
 use Rattle.rambo_text.specs.Words.{words_text}
 use Rattle.rambo_lines.specs.StepLines.{step_line, IsStep}
 
 -- a script without where it lies in memory
 pub record ScriptState : Type 0 where
-  pub founders : NameSet
-  pub steps : List (Step NameSet)
+  pub founders : Weights
+  pub steps : List (Step Weights)
 
 -- the words of the first line
-abbrev pub founders_words : NameSet → List (List ℕ)
-founders_words founders = codes "founders" ∷ set_text founders ∷ []
+abbrev pub founders_words : Weights → List (List ℕ)
+founders_words founders = codes "founders" ∷ conf_text founders ∷ []
 
 -- the first line, with no line feed
-abbrev pub founders_line : NameSet → List ℕ
+abbrev pub founders_line : Weights → List ℕ
 founders_line founders = words_text (founders_words founders)
 
 -- the lines of steps, each with its line feed
-abbrev pub steps_text : List (Step NameSet) → List ℕ
+abbrev pub steps_text : List (Step Weights) → List ℕ
 steps_text [] = []
 steps_text (st ∷ sts) = step_line st ++ 10 ∷ steps_text sts
 
@@ -34,13 +35,13 @@ abbrev pub IsShort : List ℕ → Type 0
 IsShort line = length line ≤ 16384
 
 -- some founders, which are names, on a line that isn't too long
-pub record AreFounders (founders : NameSet) : Type 0 where
-  pub names : AreNames founders
-  pub some : 0 < count_of founders
+pub record AreFounders (founders : Weights) : Type 0 where
+  pub names : IsConf founders
+  pub some : 0 < count_of (members_of founders)
   pub short : IsShort (founders_line founders)
 
 -- a step that has a line, which isn't too long
-pub record HasLine (st : Step NameSet) : Type 0 where
+pub record HasLine (st : Step Weights) : Type 0 where
   pub is_step : IsStep st
   pub short : IsShort (step_line st)
 

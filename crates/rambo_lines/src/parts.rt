@@ -2,14 +2,14 @@
 ghost use Rattle.std.specs.Prelude.{◌≡◌, ◌≢◌, ◌⊎◌, ℕ, List, [], ◌∷◌, ◌<◌, ◌^◌, length, decimal, IfOk, IfErr};
 ghost use Rattle.std.specs.Option.{option_copied};
 ghost use Rattle.rambo_names.specs.Names.{IsName, AreNames};
-ghost use Rattle.rambo_names.specs.Signs.{set_text};
-ghost use Rattle.rambo_text.specs.Forms.{Num, Name as AName, Set, Call};
+ghost use Rattle.rambo_names.specs.Signs.{set_text, conf_text, IsConf};
+ghost use Rattle.rambo_text.specs.Forms.{Num, Name as AName, Set, Conf, Call};
 ghost use Rattle.rambo_text.specs.Signs.{call_text, IsCall};
 ghost use Rattle.rambo_text.specs.Words.{AreMore};
 ghost use Rattle.rambo_lines.specs.Parts.{IsUnspelt};
 
 use rambo_atomic::CallId;
-use rambo_names::{Members, Name, read_num, read_set};
+use rambo_names::{Members, Name, Weighted, read_conf, read_num, read_set};
 use rambo_text::{Fault, one_word, read_call, read_name, three_words, two_words};
 
 /// The word behind the first, where it is the only one; else `WrongCount`.
@@ -61,6 +61,14 @@ pub fn set_of(word: &[u8]) -> Result<Members, Fault>
     ensures fault { IfErr result (λ f. IsUnspelt Set word.now f) }
 {
     read_set(word).ok_or(Fault::BadNumber)
+}
+
+/// The configuration that a word spells; else `BadNumber`.
+pub fn conf_of(word: &[u8]) -> Result<Weighted, Fault>
+    ensures found { IfOk result (λ c. IsConf c × (word.now ≡ conf_text c)) }
+    ensures fault { IfErr result (λ f. IsUnspelt Conf word.now f) }
+{
+    read_conf(word).ok_or(Fault::BadNumber)
 }
 
 /// The call that a word spells; else `BadNumber`.

@@ -9,11 +9,11 @@ ghost use Rattle.rambo_lines.specs.Scripts.{HasLine, IsShort};
 ghost use Rattle.rambo_lines.specs.StepLines.{step_line, word_of};
 
 use crate::kind::StepKind;
-use crate::parts::{call_of, name_of, number_of, one, set_of, three, two};
+use crate::parts::{call_of, conf_of, name_of, number_of, one, set_of, three, two};
 use crate::plain::{frequent_kind, plain_call, plain_letter, plain_names};
 use crate::script::LINE_LIMIT;
 use rambo_atomic::{CallId, Op};
-use rambo_names::{Majority, Name};
+use rambo_names::{Name, Weighted};
 use rambo_run::Step;
 use rambo_text::{Fault, next_word, read_hex};
 use std::alloc::Global;
@@ -22,7 +22,7 @@ use std::alloc::Global;
 ///
 /// `OutOfMemory` where there is no room for the bytes of a get or a set, and no fault stands before these: a step that
 /// holds no bytes needs no memory. Else the first fault of the line.
-pub fn read_step(alloc: Global, line: &[u8]) -> Result<Step<Majority>, Fault>
+pub fn read_step(alloc: Global, line: &[u8]) -> Result<Step<Weighted>, Fault>
     ensures found { IfOk result (λ st. HasLine st × (line.now ≡ step_line st)) }
     ensures fault { IfErr result (λ f. (f ≡ Fault.OutOfMemory) ⊎ IsLineFault TellNoStep line.now f) }
     ensures memory { IfErr result (λ f. f ≡ Fault.OutOfMemory → TellsBytes line.now) }
@@ -60,7 +60,7 @@ pub fn read_parts(
     alloc: Global,
     kind: StepKind,
     more: Option<&[u8]>,
-) -> Result<Step<Majority>, Fault>
+) -> Result<Step<Weighted>, Fault>
     ensures found { IfOk result (λ st. TellStep kind (option_copied more.entry) st) }
     ensures fault { IfErr result (λ f. TellFault kind (option_copied more.entry) f) }
     ensures memory { IfErr result (λ f. f ≡ Fault.OutOfMemory → NeedRoom kind (option_copied more.entry)) }
@@ -82,7 +82,7 @@ pub fn read_parts(
     }
 }
 
-fn read_join(more: Option<&[u8]>) -> Result<Step<Majority>, Fault>
+fn read_join(more: Option<&[u8]>) -> Result<Step<Weighted>, Fault>
     ensures found { IfOk result (λ st. TellStep StepKind.Join (option_copied more.entry) st) }
     ensures fault { IfErr result (λ f. TellUnfit StepKind.Join (option_copied more.entry) f) }
 {
@@ -90,7 +90,7 @@ fn read_join(more: Option<&[u8]>) -> Result<Step<Majority>, Fault>
     Ok(Step::Join(name_of(name)?, set_of(contacts)?))
 }
 
-fn read_get(alloc: Global, more: Option<&[u8]>) -> Result<Step<Majority>, Fault>
+fn read_get(alloc: Global, more: Option<&[u8]>) -> Result<Step<Weighted>, Fault>
     ensures found { IfOk result (λ st. TellStep StepKind.Get (option_copied more.entry) st) }
     ensures fault { IfErr result (λ f. TellFault StepKind.Get (option_copied more.entry) f) }
     ensures memory { IfErr result (λ f. f ≡ Fault.OutOfMemory → NeedRoom StepKind.Get (option_copied more.entry)) }
@@ -114,7 +114,7 @@ pub fn get_asked(alloc: Global, more: Option<&[u8]>) -> Result<(Name, Op), Fault
     Ok((name, Op::Get(key)))
 }
 
-fn read_put(alloc: Global, more: Option<&[u8]>) -> Result<Step<Majority>, Fault>
+fn read_put(alloc: Global, more: Option<&[u8]>) -> Result<Step<Weighted>, Fault>
     ensures found { IfOk result (λ st. TellStep StepKind.Set (option_copied more.entry) st) }
     ensures fault { IfErr result (λ f. TellFault StepKind.Set (option_copied more.entry) f) }
     ensures memory { IfErr result (λ f. f ≡ Fault.OutOfMemory → NeedRoom StepKind.Set (option_copied more.entry)) }
@@ -139,7 +139,7 @@ pub fn set_asked(alloc: Global, more: Option<&[u8]>) -> Result<(Name, Op), Fault
     Ok((name, Op::Set(key, value)))
 }
 
-fn read_send(more: Option<&[u8]>) -> Result<Step<Majority>, Fault>
+fn read_send(more: Option<&[u8]>) -> Result<Step<Weighted>, Fault>
     ensures found { IfOk result (λ st. TellStep StepKind.Send (option_copied more.entry) st) }
     ensures fault { IfErr result (λ f. TellUnfit StepKind.Send (option_copied more.entry) f) }
 {
@@ -159,7 +159,7 @@ pub fn read_names(more: Option<&[u8]>) -> Result<(Name, Name), Fault>
     Ok((name_of(from)?, name_of(to)?))
 }
 
-fn read_deliver(more: Option<&[u8]>) -> Result<Step<Majority>, Fault>
+fn read_deliver(more: Option<&[u8]>) -> Result<Step<Weighted>, Fault>
     ensures found { IfOk result (λ st. TellStep StepKind.Deliver (option_copied more.entry) st) }
     ensures fault { IfErr result (λ f. TellUnfit StepKind.Deliver (option_copied more.entry) f) }
 {
@@ -178,7 +178,7 @@ pub fn read_letter(more: Option<&[u8]>) -> Result<u64, Fault>
     number_of(letter)
 }
 
-fn read_advance(more: Option<&[u8]>) -> Result<Step<Majority>, Fault>
+fn read_advance(more: Option<&[u8]>) -> Result<Step<Weighted>, Fault>
     ensures found { IfOk result (λ st. TellStep StepKind.Advance (option_copied more.entry) st) }
     ensures fault { IfErr result (λ f. TellUnfit StepKind.Advance (option_copied more.entry) f) }
 {
@@ -197,7 +197,7 @@ pub fn read_call(more: Option<&[u8]>) -> Result<CallId, Fault>
     call_of(call)
 }
 
-fn read_again(more: Option<&[u8]>) -> Result<Step<Majority>, Fault>
+fn read_again(more: Option<&[u8]>) -> Result<Step<Weighted>, Fault>
     ensures found { IfOk result (λ st. TellStep StepKind.Again (option_copied more.entry) st) }
     ensures fault { IfErr result (λ f. TellUnfit StepKind.Again (option_copied more.entry) f) }
 {
@@ -205,7 +205,7 @@ fn read_again(more: Option<&[u8]>) -> Result<Step<Majority>, Fault>
     Ok(Step::Again(call_of(call)?))
 }
 
-fn read_collect(more: Option<&[u8]>) -> Result<Step<Majority>, Fault>
+fn read_collect(more: Option<&[u8]>) -> Result<Step<Weighted>, Fault>
     ensures found { IfOk result (λ st. TellStep StepKind.Collect (option_copied more.entry) st) }
     ensures fault { IfErr result (λ f. TellUnfit StepKind.Collect (option_copied more.entry) f) }
 {
@@ -213,7 +213,7 @@ fn read_collect(more: Option<&[u8]>) -> Result<Step<Majority>, Fault>
     Ok(Step::Collect(name_of(name)?))
 }
 
-fn read_advance_collect(more: Option<&[u8]>) -> Result<Step<Majority>, Fault>
+fn read_advance_collect(more: Option<&[u8]>) -> Result<Step<Weighted>, Fault>
     ensures found { IfOk result (λ st. TellStep StepKind.AdvanceCollect (option_copied more.entry) st) }
     ensures fault { IfErr result (λ f. TellUnfit StepKind.AdvanceCollect (option_copied more.entry) f) }
 {
@@ -221,15 +221,15 @@ fn read_advance_collect(more: Option<&[u8]>) -> Result<Step<Majority>, Fault>
     Ok(Step::AdvanceCollect(name_of(name)?))
 }
 
-fn read_recon(more: Option<&[u8]>) -> Result<Step<Majority>, Fault>
+fn read_recon(more: Option<&[u8]>) -> Result<Step<Weighted>, Fault>
     ensures found { IfOk result (λ st. TellStep StepKind.Recon (option_copied more.entry) st) }
     ensures fault { IfErr result (λ f. TellUnfit StepKind.Recon (option_copied more.entry) f) }
 {
     let (name, wish) = two(more)?;
-    Ok(Step::Recon(name_of(name)?, Majority::of(set_of(wish)?)))
+    Ok(Step::Recon(name_of(name)?, conf_of(wish)?))
 }
 
-fn read_rebid(more: Option<&[u8]>) -> Result<Step<Majority>, Fault>
+fn read_rebid(more: Option<&[u8]>) -> Result<Step<Weighted>, Fault>
     ensures found { IfOk result (λ st. TellStep StepKind.Rebid (option_copied more.entry) st) }
     ensures fault { IfErr result (λ f. TellUnfit StepKind.Rebid (option_copied more.entry) f) }
 {
@@ -237,7 +237,7 @@ fn read_rebid(more: Option<&[u8]>) -> Result<Step<Majority>, Fault>
     Ok(Step::Rebid(name_of(name)?))
 }
 
-fn read_advance_recon(more: Option<&[u8]>) -> Result<Step<Majority>, Fault>
+fn read_advance_recon(more: Option<&[u8]>) -> Result<Step<Weighted>, Fault>
     ensures found { IfOk result (λ st. TellStep StepKind.AdvanceRecon (option_copied more.entry) st) }
     ensures fault { IfErr result (λ f. TellUnfit StepKind.AdvanceRecon (option_copied more.entry) f) }
 {
@@ -245,7 +245,7 @@ fn read_advance_recon(more: Option<&[u8]>) -> Result<Step<Majority>, Fault>
     Ok(Step::AdvanceRecon(name_of(name)?))
 }
 
-fn read_stop(more: Option<&[u8]>) -> Result<Step<Majority>, Fault>
+fn read_stop(more: Option<&[u8]>) -> Result<Step<Weighted>, Fault>
     ensures found { IfOk result (λ st. TellStep StepKind.Stop (option_copied more.entry) st) }
     ensures fault { IfErr result (λ f. TellUnfit StepKind.Stop (option_copied more.entry) f) }
 {

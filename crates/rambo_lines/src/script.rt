@@ -4,9 +4,9 @@ ghost use Rattle.rambo_lines.specs.Faults.{IsLineFault, TellNoStep, TellNoFounde
 ghost use Rattle.rambo_lines.specs.Scripts.{AreFounders, founders_line, IsScript};
 ghost use Rattle.rambo_lines.specs.Pushes.{PushesStep};
 
-use crate::parts::{one, set_of};
+use crate::parts::{conf_of, one};
 use crate::reading::read_step;
-use rambo_names::{Majority, Members};
+use rambo_names::{Quorums, Weighted};
 use rambo_run::Step;
 use rambo_text::{Fault, ScriptFault, next_line, next_word};
 use std::alloc::Global;
@@ -18,8 +18,8 @@ pub const LINE_LIMIT: usize = 16_384;
 /// The founders and the steps of a run.
 #[derive(Drop)]
 pub struct Script {
-    pub founders: Majority,
-    pub steps: Vec<Step<Majority>>,
+    pub founders: Weighted,
+    pub steps: Vec<Step<Weighted>>,
 }
 
 impl Model for Script {
@@ -51,10 +51,7 @@ pub fn read_script(alloc: Global, text: &[u8]) -> Result<Script, ScriptFault>
         at_line(number, push_step(alloc, line, &mut steps))?;
         rest = behind;
     }
-    Ok(Script {
-        founders: Majority::of(founders),
-        steps,
-    })
+    Ok(Script { founders, steps })
 }
 
 /// What the line of this number tells; a fault with that number.
@@ -69,8 +66,8 @@ pub fn at_line<T>(line: u64, told: Result<T, Fault>) -> Result<T, ScriptFault>
 ///
 /// `LineTooLong` where the line is too long; `NoFounders` where its first word is another one, or there is no founder;
 /// else the first fault of the words behind the first.
-pub fn read_founders(line: &[u8]) -> Result<Members, Fault>
-    ensures found { IfOk result (λ s. AreFounders s × (line.now ≡ founders_line s)) }
+pub fn read_founders(line: &[u8]) -> Result<Weighted, Fault>
+    ensures found { IfOk result (λ c. AreFounders c × (line.now ≡ founders_line c)) }
     ensures fault { IfErr result (λ f. IsLineFault TellNoFounders line.now f) }
 {
     if line.len() > LINE_LIMIT {
@@ -80,16 +77,16 @@ pub fn read_founders(line: &[u8]) -> Result<Members, Fault>
     if word != b"founders".as_slice() {
         return Err(Fault::NoFounders);
     }
-    let set = one(more)?;
-    let founders = set_of(set)?;
-    if founders.count() == 0 {
+    let conf = one(more)?;
+    let founders = conf_of(conf)?;
+    if founders.members().count() == 0 {
         return Err(Fault::NoFounders);
     }
     Ok(founders)
 }
 
 // Appends the step that a line tells.
-fn push_step(alloc: Global, line: &[u8], steps: &mut Vec<Step<Majority>>) -> Result<(), Fault>
+fn push_step(alloc: Global, line: &[u8], steps: &mut Vec<Step<Weighted>>) -> Result<(), Fault>
     ensures ok { OnOk result (PushesStep steps.old.items steps.new.items line.now) }
     ensures err { OnErr result (steps.new.items ≡ steps.old.items) }
     ensures fault { IfErr result (λ f. (f ≡ Fault.OutOfMemory) ⊎ IsLineFault TellNoStep line.now f) }
@@ -100,7 +97,7 @@ fn push_step(alloc: Global, line: &[u8], steps: &mut Vec<Step<Majority>>) -> Res
 }
 
 // Puts a step at the end of others.
-fn keep_step(step: Step<Majority>, steps: &mut Vec<Step<Majority>>) -> Result<(), Fault>
+fn keep_step(step: Step<Weighted>, steps: &mut Vec<Step<Weighted>>) -> Result<(), Fault>
     ensures ok { OnOk result (steps.new.items ≡ steps.old.items ++ step ∷ []) }
     ensures err { OnErr result (steps.new.items ≡ steps.old.items) }
     ensures fault { IfErr result (λ f. f ≡ Fault.OutOfMemory) }

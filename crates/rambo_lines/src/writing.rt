@@ -1,20 +1,20 @@
 //! Writing the lines of steps.
 ghost use Rattle.std.specs.Prelude.{◌≡◌, ◌++◌, ◌∷◌, [], decimal, OnOk, OnErr, IfErr};
-ghost use Rattle.rambo_names.specs.Signs.{set_text};
+ghost use Rattle.rambo_names.specs.Signs.{set_text, conf_text};
 ghost use Rattle.rambo_text.specs.Signs.{Grows, call_text, hex_text};
 ghost use Rattle.rambo_text.specs.Words.{words_text};
 ghost use Rattle.rambo_lines.specs.StepLines.{word_of, step_line, call_words};
 
 use crate::kind::StepKind;
 use rambo_atomic::{CallId, Op};
-use rambo_names::{Bytes, Majority, Members, Name, Quorums, Refusal, write_set};
+use rambo_names::{Bytes, Members, Name, Refusal, Weighted, write_conf, write_set};
 use rambo_run::Step;
 use rambo_text::{write_call, write_hex, write_name, write_num};
 
 /// Appends the line of a step, with its line feed.
 ///
 /// `OutOfMemory` where the text can't grow; it is then as before.
-pub fn step_text(step: &Step<Majority>, out: &mut Vec<u8>) -> Result<(), Refusal>
+pub fn step_text(step: &Step<Weighted>, out: &mut Vec<u8>) -> Result<(), Refusal>
     ensures ok { OnOk result (out.new.items ≡ out.old.items ++ step_line step.now ++ 10 ∷ []) }
     ensures err { OnErr result (out.new.items ≡ out.old.items) }
     ensures refused { IfErr result (λ r. r ≡ Refusal.OutOfMemory) }
@@ -27,7 +27,7 @@ pub fn step_text(step: &Step<Majority>, out: &mut Vec<u8>) -> Result<(), Refusal
     written
 }
 
-fn append_line(step: &Step<Majority>, out: &mut Vec<u8>) -> Result<(), Refusal>
+fn append_line(step: &Step<Weighted>, out: &mut Vec<u8>) -> Result<(), Refusal>
     ensures ok { OnOk result (out.new.items ≡ out.old.items ++ step_line step.now ++ 10 ∷ []) }
     ensures err { OnErr result (Grows out.old.items out.new.items) }
     ensures refused { IfErr result (λ r. r ≡ Refusal.OutOfMemory) }
@@ -38,7 +38,7 @@ fn append_line(step: &Step<Majority>, out: &mut Vec<u8>) -> Result<(), Refusal>
 }
 
 // Appends the words of a step, or after a refusal some front of them.
-fn append_step(step: &Step<Majority>, out: &mut Vec<u8>) -> Result<(), Refusal>
+fn append_step(step: &Step<Weighted>, out: &mut Vec<u8>) -> Result<(), Refusal>
     ensures ok { OnOk result (out.new.items ≡ out.old.items ++ step_line step.now) }
     ensures err { OnErr result (Grows out.old.items out.new.items) }
     ensures refused { IfErr result (λ r. r ≡ Refusal.OutOfMemory) }
@@ -63,7 +63,7 @@ fn append_step(step: &Step<Majority>, out: &mut Vec<u8>) -> Result<(), Refusal>
         Step::AdvanceCollect(name) => append_named(StepKind::AdvanceCollect, *name, out),
         Step::Recon(name, wish) => {
             append_named(StepKind::Recon, *name, out)?;
-            append_set(&wish.members(), out)
+            append_conf(wish, out)
         }
         Step::Rebid(name) => append_named(StepKind::Rebid, *name, out),
         Step::AdvanceRecon(name) => append_named(StepKind::AdvanceRecon, *name, out),
@@ -147,6 +147,15 @@ fn append_set(set: &Members, out: &mut Vec<u8>) -> Result<(), Refusal>
 {
     out.push(b' ')?;
     write_set(set, out)
+}
+
+fn append_conf(conf: &Weighted, out: &mut Vec<u8>) -> Result<(), Refusal>
+    ensures ok { OnOk result (out.new.items ≡ out.old.items ++ 32 ∷ conf_text conf.now) }
+    ensures err { OnErr result (Grows out.old.items out.new.items) }
+    ensures refused { IfErr result (λ r. r ≡ Refusal.OutOfMemory) }
+{
+    out.push(b' ')?;
+    write_conf(conf, out)
 }
 
 fn append_id(id: &CallId, out: &mut Vec<u8>) -> Result<(), Refusal>

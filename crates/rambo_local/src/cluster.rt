@@ -4,14 +4,14 @@ ghost use Rattle.rambo_local.specs.Clusters.{history_of};
 
 use rambo_atomic::{Answer, CallId, Op};
 use rambo_client::Cluster;
-use rambo_names::{Majority, Name, Refusal};
+use rambo_names::{Name, Refusal, Weighted};
 use rambo_node::Effect;
 use rambo_tag::Registers;
 use rambo_world::{Step, World};
 use std::hash::{BuildHasherDefault, FoldHasher};
 
-/// A world over majorities that holds its copies in hash tables.
-pub type Host = World<Majority, Registers<BuildHasherDefault<FoldHasher>>>;
+/// A world over weighted majorities that holds its copies in hash tables.
+pub type Host = World<Weighted, Registers<BuildHasherDefault<FoldHasher>>>;
 
 /// That nodes of a run are asked, which hear of each other by letters.
 pub(crate) struct ByLetters;

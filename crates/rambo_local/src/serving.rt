@@ -1,6 +1,7 @@
 //! Serving a client of a world.
 ghost use Rattle.std.specs.Prelude.{◌≡◌, ◌≤◌, [], IfErr, OnOk, OnErr};
 ghost use Rattle.rambo_names.specs.Names.{count_of};
+ghost use Rattle.rambo_names.specs.Weights.{members_of};
 ghost use Rattle.rambo_client.specs.Calls.{lowest};
 ghost use Rattle.rambo_client.specs.Faults.{reads_failed, writes_failed};
 ghost use Rattle.rambo_client.specs.Talks.{ServesAt, StopsAt};
@@ -25,7 +26,7 @@ pub fn local_on<R: Source, W: Sink>(
     writer: &mut W,
 ) -> Result<(), LocalFault>
     requires fresh { world.old.steps ≡ [] }
-    requires founded { 1 ≤ count_of world.old.founders }
+    requires founded { 1 ≤ count_of (members_of world.old.founders) }
     ensures ok { OnOk result (ServesAt (lowest world.old.founders) (R.left reader.old) (R.left reader.new) (W.taken writer.old) (W.taken writer.new) (history_of world.new)) }
     ensures err { OnErr result (StopsAt (lowest world.old.founders) (R.left reader.old) (R.left reader.new) (W.taken writer.old) (W.taken writer.new) (history_of world.new)) }
     ensures fine_reader { OnOk result (R.failures reader.new ≡ R.failures reader.old) }

@@ -1,7 +1,7 @@
 -- How serving many clients ends
 use Rattle.std.specs.Prelude.{◌≡◌, ◌⊎◌, ◌≤◌, ℕ, List, [], Option, length}
-use Rattle.rambo_names.specs.Names.{NameSet}
-use Rattle.rambo_names.specs.Quorums.{majorities}
+use Rattle.rambo_names.specs.Weights.{Weights}
+use Rattle.rambo_names.specs.Weights.{weighted_majorities}
 use Rattle.rambo_run.specs.declared.step.Step.{Step}
 use Rattle.rambo_run.specs.Legal.{IsLegal}
 use Rattle.rambo_text.specs.declared.fault.ReplayFault.TheVariants.{Memory}
@@ -23,9 +23,9 @@ Unserved e write told = (f : ServeFault) × Takes [] write × Fails (server_line
 
 -- how serving ends on a listener: steps of which none was refused where it stands, and of which the book has room, are
 -- written; or the server failed
-abbrev pub GivesTo : Serving → NameSet → Ending → Stream → Stream → Type 0
+abbrev pub GivesTo : Serving → Weights → Ending → Stream → Stream → Type 0
 GivesTo s founders e write told =
-    ((steps : List (Step NameSet)) × IsLegal majorities founders steps × (length steps ≤ s.steps) × WritesTo founders steps e write told)
+    ((steps : List (Step Weights)) × IsLegal weighted_majorities founders steps × (length steps ≤ s.steps) × WritesTo founders steps e write told)
     ⊎ Unserved e write told
 
 -- a port is the one that is asked for, or any where none is
@@ -33,7 +33,7 @@ abbrev pub ListensOn : ℕ → ℕ → Type 0
 ListensOn asked port = (asked ≡ 0) ⊎ (port ≡ asked)
 
 -- how serving ends: it doesn't listen; or its port was told first
-abbrev pub ServesTo : {E : Type 0} → (E → Option (List ℕ)) → (E → ℕ) → Serving → NameSet → Ending → Stream → E → E → Type 0
+abbrev pub ServesTo : {E : Type 0} → (E → Option (List ℕ)) → (E → ℕ) → Serving → Weights → Ending → Stream → E → E → Type 0
 ServesTo taken failures s founders e write old new =
     Unserved e write (stream taken failures old new)
     ⊎ ((port : ℕ) × ListensOn s.port port × (behind : _) × Tells (listening_line port) (stream taken failures old behind)

@@ -10,7 +10,7 @@ use Rattle.rambo_text.specs.declared.fault.ReplayFault.TheVariants.{Script, Read
 use Rattle.rambo_check.specs.Checks.{IsLeft, IsChecked}
 use Rattle.rambo_check.specs.Texts.{IsTextFault}
 use Rattle.rambo_steps.specs.Replays.{Replays, Leaves, reads_failed, writes_failed}
-use Rattle.rambo_names.specs.Names.{NameSet}
+use Rattle.rambo_names.specs.Weights.{Weights}
 use Rattle.rambo_client.specs.declared.fault.LocalFault.{LocalFault}
 use Rattle.rambo_client.specs.declared.fault.LocalFault.TheVariants as local
 use Rattle.rambo_client.specs.Talks.{Served, Stopped}
@@ -119,7 +119,7 @@ pub record IsRefused (status : ℕ) (write told : Stream) : Type 0 where
 abbrev pub IsRejected : ℕ → Stream → Stream → Stream → Type 0
 IsRejected status read write told = IsRefused status write told × (read.new ≡ read.old) × IsFine read
 
-abbrev pub LocalEnds : Option NameSet → ℕ → Stream → Stream → Stream → Type 0
+abbrev pub LocalEnds : Option Weights → ℕ → Stream → Stream → Stream → Type 0
 LocalEnds (Some founders) status read write told = ServesTo status read write told
 LocalEnds None status read write told = IsRejected status read write told
 
@@ -127,10 +127,10 @@ LocalEnds None status read write told = IsRejected status read write told
 abbrev pub LocalTo : List Text → ℕ → Stream → Stream → Stream → Type 0
 LocalTo words status read write told =
     (EndsBy Memory status read write told × Keeps write.old write.new)
-    ⊎ ((founders : Option NameSet) × IsFounders (founders_or (codes "1") words) founders × LocalEnds founders status read write told)
+    ⊎ ((founders : Option Weights) × IsFounders (founders_or (codes "1") words) founders × LocalEnds founders status read write told)
 
 -- how serving many clients ends, where there are founders
-abbrev pub ServeEnds : {E : Type 0} → (E → Option (List ℕ)) → (E → ℕ) → Serving → Option NameSet → Ending → Stream → E → E → Type 0
+abbrev pub ServeEnds : {E : Type 0} → (E → Option (List ℕ)) → (E → ℕ) → Serving → Option Weights → Ending → Stream → E → E → Type 0
 ServeEnds taken failures s (Some founders) e write old new = servers.ServesTo taken failures s founders e write old new
 ServeEnds taken failures s None e write old new = IsRefused e.status write (stream taken failures old new) × (e.trace ≡ None)
 

@@ -1,6 +1,7 @@
 //! The program's work over any streams.
 ghost use Rattle.std.specs.Prelude.{◌≡◌, ◌≤◌, ◌⊎◌, None, map};
 ghost use Rattle.rambo_names.specs.Names.{count_of};
+ghost use Rattle.rambo_names.specs.Weights.{members_of};
 ghost use Rattle.rambo_command_line.specs.Lines.{Asks, AsksLocal, AsksServe};
 ghost use Rattle.clap.specs.Words.{kind_of};
 ghost use Rattle.rambo_telling.specs.Telling.{EndsAs, GivesUp, Tells, stream};
@@ -24,7 +25,7 @@ use rambo_atomic::{Sink, Source};
 use rambo_client::LocalFault;
 use rambo_command_line::{Serving, Task, task_of};
 use rambo_direct::local;
-use rambo_names::{Majority, Members};
+use rambo_names::Weighted;
 use rambo_outcome::check_text;
 use rambo_replay::replay;
 use rambo_serving::Ending;
@@ -187,19 +188,19 @@ fn checked<R: Source, W: Sink, E: Sink>(
 // A client is served by a store of its own.
 fn served<R: Source, W: Sink, E: Sink>(
     alloc: Global,
-    founders: Members,
+    founders: Weighted,
     reader: &mut R,
     writer: &mut W,
     errors: &mut E,
 ) -> Ending
-    requires { 1 ≤ count_of founders }
+    requires { 1 ≤ count_of (members_of founders) }
     ensures ends { ServesTo result.status (stream R.left R.failures reader.old reader.new)
         (stream W.taken W.failures writer.old writer.new)
         (stream E.taken E.failures errors.old errors.new) }
     ensures quiet { (result.status ≡ 0) ⊎ (result.status ≡ 3) → errors.new ≡ errors.old }
     ensures untraced { result.trace ≡ None }
 {
-    if let Err(fault) = local(alloc, Majority::of(founders), reader, writer) {
+    if let Err(fault) = local(alloc, founders, reader, writer) {
         return Ending::of(tell(told_as(fault), errors));
     }
     Ending::of(DONE)

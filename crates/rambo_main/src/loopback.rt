@@ -7,7 +7,7 @@ ghost use Rattle.rambo_main.specs.Servers.{GivesTo, ListensOn, ServesTo, server_
 use rambo_atomic::Sink;
 use rambo_cluster::{Options, ServeFault, serve};
 use rambo_command_line::Serving;
-use rambo_names::{Majority, Members};
+use rambo_names::Weighted;
 use rambo_post::NoGate;
 use rambo_serving::{Ending, write_steps};
 use rambo_telling::{tell, tell_listening, tell_socket};
@@ -28,7 +28,7 @@ use std::time::Clock;
 pub(crate) fn serve_clients<R, W: Sink, E: Sink>(
     rt: &R,
     alloc: Global,
-    founders: Members,
+    founders: Weighted,
     serving: &Serving,
     writer: &mut W,
     errors: &mut E,
@@ -57,7 +57,7 @@ fn served<R, W: Sink, E: Sink>(
     rt: &R,
     alloc: Global,
     listener: &TcpListener,
-    founders: Members,
+    founders: Weighted,
     serving: &Serving,
     writer: &mut W,
     errors: &mut E,
@@ -79,7 +79,7 @@ where
 }
 
 // What a server of these founders is started with.
-fn options_of(founders: Members, serving: &Serving) -> Options<Majority>
+fn options_of(founders: Weighted, serving: &Serving) -> Options<Weighted>
     ensures founders { result.founders ≡ founders }
     ensures clients { result.clients ≡ serving.now.clients }
     ensures steps { result.steps ≡ serving.now.steps }
@@ -87,7 +87,7 @@ fn options_of(founders: Members, serving: &Serving) -> Options<Majority>
     ensures twice { result.twice ≡ serving.now.twice }
 {
     Options {
-        founders: Majority::of(founders),
+        founders,
         clients: serving.clients as usize,
         steps: serving.steps as usize,
         lose: serving.lose,

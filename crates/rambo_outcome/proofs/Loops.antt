@@ -2,7 +2,7 @@
 use Rattle.std.proofs.Common.{◌≡◌, ℕ, ◌+◌, ◌<◌, List, [], ◌∷◌, ◌++◌, length, get_or, drop, sym, ap, ◌∙◌, append_assoc, Result, map}
 use Rattle.std.proofs.lemmas.List.{drop_more}
 use Rattle.rambo_names.specs.declared.refusal.Refusal.{Refusal}
-use Rattle.rambo_names.specs.Quorums.{QuorumSystem}
+use Rattle.rambo_names.specs.Weights.{Weights}
 use Rattle.rambo_atomic.specs.declared.event.Event.{Event}
 use Rattle.rambo_node.specs.declared.effect.Effect.{Effect}
 use Rattle.rambo_run.specs.Runs.{OutcomeState}
@@ -25,22 +25,22 @@ pub grows_on : (start out new more : List ℕ) → new ≡ out ++ more → Grows
 grows_on start out new more now front = (front.0 ++ more, now ∙ ap (λ t. t ++ more) front.1 ∙ append_assoc start front.0 more)
 
 -- a step more
-pub step_on : {Q : Type 0} (s : QuorumSystem Q) (h : List Event) (rs : List (Result (Effect Q) Refusal)) (i : ℕ) (r : Result (Effect Q) Refusal) (out new whole : List ℕ) → i < length rs
-    → r ≡ get_or rs i r → new ≡ out ++ items_text (step_items s h (i + 1) r)
-    → out ++ items_text (steps_items s h (i + 1) (drop i rs)) ≡ whole → new ++ items_text (steps_items s h (i + 1 + 1) (drop (i + 1) rs)) ≡ whole
-step_on s h rs i r out new whole lt item now before =
-    let left = steps_items s h (i + 1 + 1) (drop (i + 1) rs) in
+pub step_on : (h : List Event) (rs : List (Result (Effect Weights) Refusal)) (i : ℕ) (r : Result (Effect Weights) Refusal) (out new whole : List ℕ) → i < length rs
+    → r ≡ get_or rs i r → new ≡ out ++ items_text (step_items h (i + 1) r)
+    → out ++ items_text (steps_items h (i + 1) (drop i rs)) ≡ whole → new ++ items_text (steps_items h (i + 1 + 1) (drop (i + 1) rs)) ≡ whole
+step_on h rs i r out new whole lt item now before =
+    let left = steps_items h (i + 1 + 1) (drop (i + 1) rs) in
     let split = drop_more rs i r lt ∙ ap (λ y. y ∷ drop (i + 1) rs) (sym item) in
-    ap (λ t. t ++ items_text left) now ∙ append_assoc out (items_text (step_items s h (i + 1) r)) (items_text left)
-    ∙ ap (λ t. out ++ t) (sym (items-append (step_items s h (i + 1) r) left))
-    ∙ ap (λ t. out ++ items_text (steps_items s h (i + 1) t)) (sym split) ∙ before
+    ap (λ t. t ++ items_text left) now ∙ append_assoc out (items_text (step_items h (i + 1) r)) (items_text left)
+    ∙ ap (λ t. out ++ t) (sym (items-append (step_items h (i + 1) r) left))
+    ∙ ap (λ t. out ++ items_text (steps_items h (i + 1) t)) (sym split) ∙ before
 
 -- the steps, then the sequences, then the maps
-pub whole_text : {Q : Type 0} (s : QuorumSystem Q) (o : OutcomeState Q) (start a b c : List ℕ) → start ≡ [] → a ≡ start ++ items_text (steps_items s o.history 1 o.effects)
-    → b ≡ a ++ items_text (map Ordered o.sequences) → c ≡ b ++ items_text (map (map_item s) o.maps) → c ≡ outcome_lines s o
-whole_text s o start a b c none steps sequences maps =
-    let first : a ≡ items_text (steps_items s o.history 1 o.effects) = steps ∙ ap (λ t. t ++ items_text (steps_items s o.history 1 o.effects)) none in
+pub whole_text : (o : OutcomeState Weights) (start a b c : List ℕ) → start ≡ [] → a ≡ start ++ items_text (steps_items o.history 1 o.effects)
+    → b ≡ a ++ items_text (map Ordered o.sequences) → c ≡ b ++ items_text (map map_item o.maps) → c ≡ outcome_lines o
+whole_text o start a b c none steps sequences maps =
+    let first : a ≡ items_text (steps_items o.history 1 o.effects) = steps ∙ ap (λ t. t ++ items_text (steps_items o.history 1 o.effects)) none in
     maps
-    ∙ ap (λ t. t ++ items_text (map (map_item s) o.maps))
-    (sequences ∙ ap (λ t. t ++ items_text (map Ordered o.sequences)) first ∙ sym (items-append (steps_items s o.history 1 o.effects) (map Ordered o.sequences)))
-    ∙ sym (items-append (steps_items s o.history 1 o.effects ++ map Ordered o.sequences) (map (map_item s) o.maps))
+    ∙ ap (λ t. t ++ items_text (map map_item o.maps))
+    (sequences ∙ ap (λ t. t ++ items_text (map Ordered o.sequences)) first ∙ sym (items-append (steps_items o.history 1 o.effects) (map Ordered o.sequences)))
+    ∙ sym (items-append (steps_items o.history 1 o.effects ++ map Ordered o.sequences) (map map_item o.maps))

@@ -2,6 +2,7 @@
 use Rattle.std.proofs.Common.{◌≡◌, ℕ, map, ◌+◌, Bool, true, false, if◌then◌else◌, List, [], ◌∷◌, ◌++◌, length, nat_lt, Option, None, Some, Result, Ok, refl, sym, ap, ◌∙◌, append_assoc, append-nil, inl, inr, arith}
 use Rattle.rambo_names.specs.declared.refusal.Refusal.{Refusal}
 use Rattle.rambo_names.specs.Quorums.{QuorumSystem}
+use Rattle.rambo_names.specs.Weights.{Weights}
 use Rattle.rambo_atomic.specs.declared.operation.Op.{Op}
 use Rattle.rambo_atomic.specs.declared.event.CallId.{CallId}
 use Rattle.rambo_atomic.specs.declared.event.Event.{Event}
@@ -60,18 +61,18 @@ IsTold h (effect.Collected name place) = Unit {0}
 IsTold h (effect.Decided name d) = Unit {0}
 
 -- as the history grows, the same is told
-abbrev Stays : {Q : Type 0} → QuorumSystem Q → List Event → Result (Effect Q) Refusal → Type 0
-Stays s h r = (k : List Event) (n : ℕ) → Grows h k → step_items s k n r ≡ step_items s h n r
+abbrev Stays : List Event → Result (Effect Weights) Refusal → Type 0
+Stays h r = (k : List Event) (n : ℕ) → Grows h k → step_items k n r ≡ step_items h n r
 
-told_stays : {Q : Type 0} (s : QuorumSystem Q) (h : List Event) (e : Effect Q) → IsTold h e → Stays s h (Ok e)
-told_stays s h effect.Done is k n more = refl
-told_stays s h (effect.Called c) is k n more =
+told_stays : (h : List Event) (e : Effect Weights) → IsTold h e → Stays h (Ok e)
+told_stays h effect.Done is k n more = refl
+told_stays h (effect.Called c) is k n more =
     ap (call_items c) (ap (λ l. call_in l c) more.1 ∙ call_kept h more.0 c is.0 is.1 ∙ sym is.1)
-told_stays s h (effect.Sent l) is k n more = refl
-told_stays s h effect.Moved is k n more = refl
-told_stays s h (effect.Answered c a) is k n more = refl
-told_stays s h (effect.Collected name place) is k n more = refl
-told_stays s h (effect.Decided name d) is k n more = refl
+told_stays h (effect.Sent l) is k n more = refl
+told_stays h effect.Moved is k n more = refl
+told_stays h (effect.Answered c a) is k n more = refl
+told_stays h (effect.Collected name place) is k n more = refl
+told_stays h (effect.Decided name d) is k n more = refl
 
 called_there : (h : List Event) (c : CallId) (o : Op) → (p : Op) × (call_in (h ++ event.Call c o ∷ []) c ≡ Some p)
 called_there h c o = elim (none_or_some (call_in h c)) [
@@ -150,8 +151,8 @@ module _ {Q : Type 0} (w : WorldState Q) where
   unfolding turn
   turn_true st = of_true (meant w st)
 
-module _ {Q : Type 0} (s : QuorumSystem Q) where
-  after_grows : (w : WorldState Q) (st : Step Q) → Grows w.history (after s w st).history
+module _ (s : QuorumSystem Weights) where
+  after_grows : (w : WorldState Weights) (st : Step Weights) → Grows w.history (after s w st).history
   unfolding after
   after_grows w st = by_refusal (refusal s w st)
     where
@@ -159,30 +160,30 @@ module _ {Q : Type 0} (s : QuorumSystem Q) where
       by_refusal None = (turn_true w st).1
       by_refusal (Some r) = grows-refl w.history
 
-  run_grows : (w : WorldState Q) (sts : List (Step Q)) → Grows w.history (run_from s w sts).history
+  run_grows : (w : WorldState Weights) (sts : List (Step Weights)) → Grows w.history (run_from s w sts).history
   unfolding run_from
   run_grows w [] = grows-refl w.history
   run_grows w (st ∷ sts) = grows-trans w.history (after s w st).history (run_from s (after s w st) sts).history (after_grows w st) (run_grows (after s w st) sts)
 
   -- what a step of a run tells
-  abbrev pub result : WorldState Q → Step Q → Result (Effect Q) Refusal
+  abbrev pub result : WorldState Weights → Step Weights → Result (Effect Weights) Refusal
   result w st = result_of (refusal s w st) w st
 
-  result_stays : (w : WorldState Q) (st : Step Q) → Stays s (after s w st).history (result w st)
+  result_stays : (w : WorldState Weights) (st : Step Weights) → Stays (after s w st).history (result w st)
   unfolding after
   result_stays w st = by_refusal (refusal s w st)
     where
-      by_refusal : (o : Option Refusal) → Stays s (unless_refused o w (turn w st).world).history (result_of o w st)
-      by_refusal None = told_stays s (turn w st).world.history (turn w st).effect (turn_true w st).0
+      by_refusal : (o : Option Refusal) → Stays (unless_refused o w (turn w st).world).history (result_of o w st)
+      by_refusal None = told_stays (turn w st).world.history (turn w st).effect (turn_true w st).0
       by_refusal (Some r) = λ k n more. refl
 
   -- of each step what is told right after it, from a number on
-  abbrev pub told_along : WorldState Q → ℕ → List (Step Q) → List Item
+  abbrev pub told_along : WorldState Weights → ℕ → List (Step Weights) → List Item
   told_along w n [] = []
-  told_along w n (st ∷ sts) = step_items s (after s w st).history n (result w st) ++ told_along (after s w st) (n + 1) sts
+  told_along w n (st ∷ sts) = step_items (after s w st).history n (result w st) ++ told_along (after s w st) (n + 1) sts
 
   -- it is what is told at the end
-  pub told_at_end : (w : WorldState Q) (n : ℕ) (sts : List (Step Q)) → told_along w n sts ≡ steps_items s (run_from s w sts).history n (results_from s w sts)
+  pub told_at_end : (w : WorldState Weights) (n : ℕ) (sts : List (Step Weights)) → told_along w n sts ≡ steps_items (run_from s w sts).history n (results_from s w sts)
   unfolding run_from results_from
   told_at_end w n [] = refl
   told_at_end w n (st ∷ sts) =
@@ -190,39 +191,39 @@ module _ {Q : Type 0} (s : QuorumSystem Q) where
       λ i. sym (result_stays w st (run_from s next sts).history n (run_grows next sts)) i ++ told_at_end next (n + 1) sts i
 
   -- and of one step more
-  pub told_more : (w : WorldState Q) (n m : ℕ) (sts : List (Step Q)) (st : Step Q) → m ≡ n + length sts
-      → told_along w n (sts ++ st ∷ []) ≡ told_along w n sts ++ step_items s (after s (run_from s w sts) st).history m (result (run_from s w sts) st)
+  pub told_more : (w : WorldState Weights) (n m : ℕ) (sts : List (Step Weights)) (st : Step Weights) → m ≡ n + length sts
+      → told_along w n (sts ++ st ∷ []) ≡ told_along w n sts ++ step_items (after s (run_from s w sts) st).history m (result (run_from s w sts) st)
   unfolding run_from
   told_more w n m [] st e =
       let here : n ≡ m = omega (arith, e) in
-      append-nil (step_items s (after s w st).history n (result w st)) ∙ ap (λ k. step_items s (after s w st).history k (result w st)) here
+      append-nil (step_items (after s w st).history n (result w st)) ∙ ap (λ k. step_items (after s w st).history k (result w st)) here
   told_more w n m (x ∷ sts) st e =
       let next = after s w x in
-      let first = step_items s next.history n (result w x) in
+      let first = step_items next.history n (result w x) in
       ap (λ is. first ++ is) (told_more next (n + 1) m sts st (omega (arith, e)))
-      ∙ sym (append_assoc first (told_along next (n + 1) sts) (step_items s (after s (run_from s next sts) st).history m (result (run_from s next sts) st)))
+      ∙ sym (append_assoc first (told_along next (n + 1) sts) (step_items (after s (run_from s next sts) st).history m (result (run_from s next sts) st)))
 
   -- the text after one step more
-  pub text_more : (first : WorldState Q) (sts : List (Step Q)) (st : Step Q) (w next : WorldState Q) (r : Result (Effect Q) Refusal) (number : ℕ) (out new : List ℕ)
+  pub text_more : (first : WorldState Weights) (sts : List (Step Weights)) (st : Step Weights) (w next : WorldState Weights) (r : Result (Effect Weights) Refusal) (number : ℕ) (out new : List ℕ)
       → w ≡ run_from s first sts → next ≡ after s w st → r ≡ result w st → number ≡ length sts + 1
-      → out ≡ items_text (told_along first 1 sts) → new ≡ out ++ items_text (step_items s next.history number r) → new ≡ items_text (told_along first 1 (sts ++ st ∷ []))
+      → out ≡ items_text (told_along first 1 sts) → new ≡ out ++ items_text (step_items next.history number r) → new ≡ items_text (told_along first 1 (sts ++ st ∷ []))
   text_more first sts st w next r number out new is goes told counted before more =
-      let here : step_items s next.history number r ≡ step_items s (after s (run_from s first sts) st).history number (result (run_from s first sts) st) =
-      (λ i. step_items s (goes i).history number (told i)) ∙ ap (λ w. step_items s (after s w st).history number (result w st)) is in
+      let here : step_items next.history number r ≡ step_items (after s (run_from s first sts) st).history number (result (run_from s first sts) st) =
+      (λ i. step_items (goes i).history number (told i)) ∙ ap (λ w. step_items (after s w st).history number (result w st)) is in
       more ∙ (λ i. before i ++ items_text (here i))
-      ∙ sym (items-append (told_along first 1 sts) (step_items s (after s (run_from s first sts) st).history number (result (run_from s first sts) st)))
+      ∙ sym (items-append (told_along first 1 sts) (step_items (after s (run_from s first sts) st).history number (result (run_from s first sts) st)))
       ∙ ap items_text (sym (told_more first 1 number sts st (omega (arith, counted))))
 
   -- behind the steps the sequences and the maps
-  pub text_whole : (founders : Q) (sts : List (Step Q)) (w : WorldState Q) (sequences : List SequenceOf) (maps : List (MapOf Q)) (a b c : List ℕ)
+  pub text_whole : (founders : Weights) (sts : List (Step Weights)) (w : WorldState Weights) (sequences : List SequenceOf) (maps : List (MapOf Weights)) (a b c : List ℕ)
       → w ≡ run_from s (first_world s founders) sts → sequences ≡ sequences_of w.history w.marks → maps ≡ maps_of w.nodes
-      → a ≡ items_text (told_along (first_world s founders) 1 sts) → b ≡ a ++ items_text (map Ordered sequences) → c ≡ b ++ items_text (map (map_item s) maps)
-      → c ≡ outcome_lines s (outcome_of s founders sts)
+      → a ≡ items_text (told_along (first_world s founders) 1 sts) → b ≡ a ++ items_text (map Ordered sequences) → c ≡ b ++ items_text (map map_item maps)
+      → c ≡ outcome_lines (outcome_of s founders sts)
   unfolding outcome_of run
   text_whole founders sts w sequences maps a b c is given told steps first second =
       let first_w = first_world s founders in
       let o = outcome_at (results_from s first_w sts) (run_from s first_w sts) in
-      whole_text s o [] a b c refl
+      whole_text o [] a b c refl
       (steps ∙ ap items_text (told_at_end first_w 1 sts))
-      (first ∙ ap (λ ss. a ++ items_text (map Ordered ss)) (given ∙ ap (λ (w : WorldState Q). sequences_of w.history w.marks) is))
-      (second ∙ ap (λ ms. b ++ items_text (map (map_item s) ms)) (told ∙ ap (λ (w : WorldState Q). maps_of w.nodes) is))
+      (first ∙ ap (λ ss. a ++ items_text (map Ordered ss)) (given ∙ ap (λ (w : WorldState Weights). sequences_of w.history w.marks) is))
+      (second ∙ ap (λ ms. b ++ items_text (map map_item ms)) (told ∙ ap (λ (w : WorldState Weights). maps_of w.nodes) is))

@@ -4,14 +4,14 @@
 ghost use Rattle.std.specs.Prelude.{◌≡◌, ◌++◌, ◌∷◌, map, decimal, OnOk, OnErr, IfErr};
 ghost use Rattle.rambo_atomic.specs.declared.event.Event.TheVariants as event;
 ghost use Rattle.rambo_text.specs.Words.{more_words};
-ghost use Rattle.rambo_text.specs.Signs.{call_text, standing_text, Grows};
-ghost use Rattle.rambo_names.specs.Signs.{set_text};
+ghost use Rattle.rambo_text.specs.Signs.{call_text, Grows};
+ghost use Rattle.rambo_names.specs.Signs.{conf_text};
 ghost use Rattle.rambo_names.specs.Refusals.{number_of};
 ghost use Rattle.rambo_check.specs.Lines.{Happened, Collected, Settled, Refused, Ordered, op_words, answer_words, item_line};
-ghost use Rattle.rambo_outcome.specs.Outcomes.{members_at, map_item};
+ghost use Rattle.rambo_outcome.specs.Outcomes.{map_item};
 
 use rambo_atomic::{Answer, CallId, Op};
-use rambo_names::{Name, Quorums, Refusal, write_set};
+use rambo_names::{Name, Refusal, Weighted, write_conf};
 use rambo_node::Decided;
 use rambo_run::NodeMap;
 use rambo_sequence::KeySequence;
@@ -108,31 +108,20 @@ pub(crate) fn append_collected(name: Name, place: u64, out: &mut Vec<u8>) -> Res
 }
 
 /// Appends the line of a node's attempt, which ended.
-pub(crate) fn append_decided<Q: Quorums>(
+pub(crate) fn append_decided(
     name: Name,
-    decided: &Decided<Q>,
+    decided: &Decided<Weighted>,
     out: &mut Vec<u8>,
 ) -> Result<(), Refusal>
-    ensures ok { OnOk result (out.new.items ≡ out.old.items ++ item_line (Settled name decided.now.place (members_at Q.system decided.now.config))) }
+    ensures ok { OnOk result (out.new.items ≡ out.old.items ++ item_line (Settled name decided.now.place decided.now.config)) }
     ensures err { OnErr result (Grows out.old.items out.new.items) }
     ensures refused { IfErr result (λ r. r ≡ Refusal.OutOfMemory) }
 {
     append_front(b"decided ", name, decided.place, out)?;
     out.push(b' ')?;
-    write_config(&decided.config, out)?;
+    write_standing(decided.config, out)?;
     out.push(b'\n')?;
     Ok(())
-}
-
-fn write_config<Q: Quorums>(config: &Option<Q>, out: &mut Vec<u8>) -> Result<(), Refusal>
-    ensures ok { OnOk result (out.new.items ≡ out.old.items ++ standing_text (members_at Q.system config.now)) }
-    ensures err { OnErr result (out.new.items ≡ out.old.items) }
-    ensures refused { IfErr result (λ r. r ≡ Refusal.OutOfMemory) }
-{
-    match config {
-        None => write_standing(None, out),
-        Some(config) => write_standing(Some(config.members()), out),
-    }
 }
 
 /// Appends the line of a refused step.
@@ -175,8 +164,8 @@ fn append_calls(calls: &[CallId], out: &mut Vec<u8>) -> Result<(), Refusal>
 }
 
 /// Appends the line of a node's map.
-pub(crate) fn append_map<Q: Quorums>(node: &NodeMap<Q>, out: &mut Vec<u8>) -> Result<(), Refusal>
-    ensures ok { OnOk result (out.new.items ≡ out.old.items ++ item_line (map_item Q.system node.now)) }
+pub(crate) fn append_map(node: &NodeMap<Weighted>, out: &mut Vec<u8>) -> Result<(), Refusal>
+    ensures ok { OnOk result (out.new.items ≡ out.old.items ++ item_line (map_item node.now)) }
     ensures err { OnErr result (Grows out.old.items out.new.items) }
     ensures refused { IfErr result (λ r. r ≡ Refusal.OutOfMemory) }
 {
@@ -186,14 +175,14 @@ pub(crate) fn append_map<Q: Quorums>(node: &NodeMap<Q>, out: &mut Vec<u8>) -> Re
     Ok(())
 }
 
-fn append_configs<Q: Quorums>(configs: &[Q], out: &mut Vec<u8>) -> Result<(), Refusal>
-    ensures ok { OnOk result (out.new.items ≡ out.old.items ++ more_words (map set_text (map Q.system.members configs.now))) }
+fn append_configs(configs: &[Weighted], out: &mut Vec<u8>) -> Result<(), Refusal>
+    ensures ok { OnOk result (out.new.items ≡ out.old.items ++ more_words (map conf_text configs.now)) }
     ensures err { OnErr result (Grows out.old.items out.new.items) }
     ensures refused { IfErr result (λ r. r ≡ Refusal.OutOfMemory) }
 {
     for config in configs {
         out.push(b' ')?;
-        write_set(&config.members(), out)?;
+        write_conf(config, out)?;
     }
     Ok(())
 }

@@ -9,18 +9,18 @@ use crate::line::{
     append_sequence,
 };
 use rambo_atomic::History;
-use rambo_names::{Quorums, Refusal};
+use rambo_names::{Refusal, Weighted};
 use rambo_node::Effect;
 use rambo_run::{NodeMap, Outcome};
 use rambo_sequence::KeySequence;
 use std::alloc::Global;
 
 /// The text of an outcome: a line for each call, answer, ended collection, ended attempt and refusal in the order of the
-/// steps, then one for each sequence, then one for each map. Of a configuration the members are told.
+/// steps, then one for each sequence, then one for each map.
 ///
 /// `OutOfMemory` where there is no room for it.
-pub fn outcome_text<Q: Quorums>(alloc: Global, outcome: &Outcome<Q>) -> Result<Vec<u8>, Refusal>
-    ensures text { IfOk result (λ text. text.items ≡ outcome_lines Q.system outcome.now) }
+pub fn outcome_text(alloc: Global, outcome: &Outcome<Weighted>) -> Result<Vec<u8>, Refusal>
+    ensures text { IfOk result (λ text. text.items ≡ outcome_lines outcome.now) }
     ensures refused { IfErr result (λ r. r ≡ Refusal.OutOfMemory) }
 {
     let mut out = Vec::new(alloc);
@@ -31,12 +31,12 @@ pub fn outcome_text<Q: Quorums>(alloc: Global, outcome: &Outcome<Q>) -> Result<V
 }
 
 // Appends what is told of the steps, or after a refusal some bytes.
-fn append_steps<Q: Quorums>(
-    results: &[Result<Effect<Q>, Refusal>],
+fn append_steps(
+    results: &[Result<Effect<Weighted>, Refusal>],
     history: &History,
     out: &mut Vec<u8>,
 ) -> Result<(), Refusal>
-    ensures ok { OnOk result (out.new.items ≡ out.old.items ++ items_text (steps_items Q.system history.now.events 1 results.now)) }
+    ensures ok { OnOk result (out.new.items ≡ out.old.items ++ items_text (steps_items history.now.events 1 results.now)) }
     ensures err { OnErr result (Grows out.old.items out.new.items) }
     ensures refused { IfErr result (λ r. r ≡ Refusal.OutOfMemory) }
 {
@@ -50,13 +50,13 @@ fn append_steps<Q: Quorums>(
 /// a refusal, or none. What a call asked is looked up in the history.
 ///
 /// `OutOfMemory` where the text can't grow; it is then as before.
-pub fn write_step<Q: Quorums>(
+pub fn write_step(
     step: u64,
-    told: &Result<Effect<Q>, Refusal>,
+    told: &Result<Effect<Weighted>, Refusal>,
     history: &History,
     out: &mut Vec<u8>,
 ) -> Result<(), Refusal>
-    ensures ok { OnOk result (out.new.items ≡ out.old.items ++ items_text (step_items Q.system history.now.events step told.now)) }
+    ensures ok { OnOk result (out.new.items ≡ out.old.items ++ items_text (step_items history.now.events step told.now)) }
     ensures err { OnErr result (out.new.items ≡ out.old.items) }
     ensures refused { IfErr result (λ r. r ≡ Refusal.OutOfMemory) }
 {
@@ -69,13 +69,13 @@ pub fn write_step<Q: Quorums>(
 }
 
 // Appends what is told of a step, or after a refusal some bytes.
-fn append_step<Q: Quorums>(
+fn append_step(
     step: u64,
-    told: &Result<Effect<Q>, Refusal>,
+    told: &Result<Effect<Weighted>, Refusal>,
     history: &History,
     out: &mut Vec<u8>,
 ) -> Result<(), Refusal>
-    ensures ok { OnOk result (out.new.items ≡ out.old.items ++ items_text (step_items Q.system history.now.events step told.now)) }
+    ensures ok { OnOk result (out.new.items ≡ out.old.items ++ items_text (step_items history.now.events step told.now)) }
     ensures err { OnErr result (Grows out.old.items out.new.items) }
     ensures refused { IfErr result (λ r. r ≡ Refusal.OutOfMemory) }
 {
@@ -120,11 +120,11 @@ fn append_sequences(sequences: &[KeySequence], out: &mut Vec<u8>) -> Result<(), 
     Ok(())
 }
 
-/// Appends a line for each map. Of a configuration the members are told.
+/// Appends a line for each map.
 ///
 /// `OutOfMemory` where the text can't grow; it is then as before.
-pub fn write_maps<Q: Quorums>(maps: &[NodeMap<Q>], out: &mut Vec<u8>) -> Result<(), Refusal>
-    ensures ok { OnOk result (out.new.items ≡ out.old.items ++ items_text (map (map_item Q.system) maps.now)) }
+pub fn write_maps(maps: &[NodeMap<Weighted>], out: &mut Vec<u8>) -> Result<(), Refusal>
+    ensures ok { OnOk result (out.new.items ≡ out.old.items ++ items_text (map map_item maps.now)) }
     ensures err { OnErr result (out.new.items ≡ out.old.items) }
     ensures refused { IfErr result (λ r. r ≡ Refusal.OutOfMemory) }
 {
@@ -137,8 +137,8 @@ pub fn write_maps<Q: Quorums>(maps: &[NodeMap<Q>], out: &mut Vec<u8>) -> Result<
 }
 
 // Appends a line for each map, or after a refusal some bytes.
-fn append_maps<Q: Quorums>(maps: &[NodeMap<Q>], out: &mut Vec<u8>) -> Result<(), Refusal>
-    ensures ok { OnOk result (out.new.items ≡ out.old.items ++ items_text (map (map_item Q.system) maps.now)) }
+fn append_maps(maps: &[NodeMap<Weighted>], out: &mut Vec<u8>) -> Result<(), Refusal>
+    ensures ok { OnOk result (out.new.items ≡ out.old.items ++ items_text (map map_item maps.now)) }
     ensures err { OnErr result (Grows out.old.items out.new.items) }
     ensures refused { IfErr result (λ r. r ≡ Refusal.OutOfMemory) }
 {

@@ -5,7 +5,7 @@ ghost use Rattle.rambo_steps.specs.Replays.{IsReplay, Replays, Leaves, GivesUp, 
 ghost use Rattle.rambo_steps.specs.Runs.{IsFounded};
 
 use rambo_atomic::{Sink, Source, read_all, write_all};
-use rambo_names::Majority;
+use rambo_names::Weighted;
 use rambo_steps::{founders_in, in_memory, run_through};
 use rambo_tag::Registers;
 use rambo_text::ReplayFault;
@@ -13,10 +13,10 @@ use rambo_world::Running;
 use std::alloc::Global;
 use std::hash::{BuildHasherDefault, FoldHasher};
 
-// A run over majority quorums.
-type MajorityRun = Running<Majority, Registers<BuildHasherDefault<FoldHasher>>>;
+// A run over weighted majorities.
+type WeightedRun = Running<Weighted, Registers<BuildHasherDefault<FoldHasher>>>;
 
-/// Reads a script, runs it over majority quorums, and writes the text of what the run gives.
+/// Reads a script, runs it over weighted majorities, and writes the text of what the run gives.
 ///
 /// The whole input is read and run before the first byte is written. Each step is taken as its line is read: neither
 /// the steps nor what they did are kept. `Script` where the input is no script, or where there is no room for the bytes
@@ -51,11 +51,11 @@ fn replayed(alloc: Global, input: &[u8]) -> Result<Vec<u8>, ReplayFault>
 }
 
 // The run of the founders that the first line of a script tells, before any step.
-fn founded(alloc: Global, input: &[u8]) -> Result<MajorityRun, ReplayFault>
+fn founded(alloc: Global, input: &[u8]) -> Result<WeightedRun, ReplayFault>
     ensures founded { IfOk result (λ r. IsFounded input.now r) }
     ensures fault { IfErr result (λ f. GivesUp input.now f) }
 {
     let founders = founders_in(input)?;
     let replica = Registers::new(alloc, BuildHasherDefault::<FoldHasher>::new());
-    in_memory(Running::new(alloc, Majority::of(founders), &replica))
+    in_memory(Running::new(alloc, founders, &replica))
 }

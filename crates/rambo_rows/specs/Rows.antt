@@ -1,7 +1,7 @@
 -- What a right row shows
 use Rattle.std.specs.Prelude.{◌≡◌, ◌⊎◌, ◌++◌, true, false, ℕ, List, [], Option, Some, codes}
-use Rattle.rambo_names.specs.Names.{NameSet}
-use Rattle.rambo_names.specs.Signs.{set_text}
+use Rattle.rambo_names.specs.Weights.{Weights}
+use Rattle.rambo_names.specs.Signs.{conf_text}
 use Rattle.rambo_client.specs.Talks.{Served}
 use Rattle.rambo_check.specs.Checks.{IsChecked}
 use Rattle.rambo_steps.specs.Replays.{IsReplay}
@@ -15,4 +15,4 @@ abbrev pub Shows : List ℕ → List ℕ → List ℕ → List ℕ → Type 0
 Shows word ending input output =
     ((word ≡ codes "replay") × (ending ≡ codes "done" → IsReplay input output))
     ⊎ ((word ≡ codes "check") × (ending ≡ codes "done" → IsChecked input output true) × (ending ≡ codes "no" → IsChecked input output false))
-    ⊎ ((founders : NameSet) × (word ≡ codes "local " ++ set_text founders) × (ending ≡ codes "done" → IsServed input output))
+    ⊎ ((founders : Weights) × (word ≡ codes "local " ++ conf_text founders) × (ending ≡ codes "done" → IsServed input output))

@@ -1,7 +1,8 @@
 //! Whether a row came out as it is wanted.
 ghost use Rattle.std.specs.Prelude.{◌≡◌, ◌≤◌, ◌++◌, None, true, false, codes, IfOk, IfSome, IsTrue, OnOk, Ok as AnOk, List, ℕ};
 ghost use Rattle.rambo_names.specs.Names.{count_of};
-ghost use Rattle.rambo_names.specs.Signs.{set_text};
+ghost use Rattle.rambo_names.specs.Weights.{members_of};
+ghost use Rattle.rambo_names.specs.Signs.{conf_text};
 ghost use Rattle.rambo_client.specs.Talks.{Served};
 ghost use Rattle.rambo_check.specs.Checks.{IsChecked};
 ghost use Rattle.rambo_rows.specs.Rows.{IsServed, Shows};
@@ -10,7 +11,7 @@ ghost use Rattle.rambo_steps.specs.Replays.{IsReplay, Replays};
 use crate::row::{LOCAL, Row};
 use rambo_atomic::{Sink, Source, Tape};
 use rambo_local::{LocalFault, local};
-use rambo_names::{Majority, read_set};
+use rambo_names::{Quorums, Weighted, read_conf};
 use rambo_script::{ReplayFault, check_text, replay};
 use std::alloc::{AllocError, Global};
 
@@ -81,20 +82,20 @@ fn is_right_check(alloc: Global, row: Row) -> Result<bool, AllocError>
 }
 
 // The founders of the store that a word has a client served by, if it does.
-fn founders_of(word: &[u8]) -> Option<Majority>
-    ensures some { IfSome result (λ founders. 1 ≤ count_of founders) }
-    ensures founders { IfSome result (λ founders. word.now ≡ codes "local " ++ set_text founders) }
+fn founders_of(word: &[u8]) -> Option<Weighted>
+    ensures some { IfSome result (λ founders. 1 ≤ count_of (members_of founders)) }
+    ensures founders { IfSome result (λ founders. word.now ≡ codes "local " ++ conf_text founders) }
 {
-    let set = read_set(word.strip_prefix(LOCAL)?)?;
-    if set.count() == 0 {
+    let founders = read_conf(word.strip_prefix(LOCAL)?)?;
+    if founders.members().count() == 0 {
         return None;
     }
-    Some(Majority::of(set))
+    Some(founders)
 }
 
 // Where it is done and right, the wanted output is what an ordinary map replies to the commands of the input.
-fn is_right_local(alloc: Global, founders: Majority, row: Row) -> Result<bool, AllocError>
-    requires { 1 ≤ count_of founders }
+fn is_right_local(alloc: Global, founders: Weighted, row: Row) -> Result<bool, AllocError>
+    requires { 1 ≤ count_of (members_of founders) }
     ensures done { IfOk result (λ right. IsTrue right → row.entry.ending.now ≡ codes "done" → IsServed row.entry.input.items row.entry.output.items) }
 {
     let mut reader = Tape::new(row.input).in_pieces(READ_PIECE);
@@ -112,11 +113,11 @@ fn is_right_local(alloc: Global, founders: Majority, row: Row) -> Result<bool, A
 // A client that is served, and answers yes where that is done.
 fn local_all<R: Source, W: Sink>(
     alloc: Global,
-    founders: Majority,
+    founders: Weighted,
     reader: &mut R,
     writer: &mut W,
 ) -> Result<bool, ReplayFault>
-    requires { 1 ≤ count_of founders }
+    requires { 1 ≤ count_of (members_of founders) }
     ensures { OnOk result (Served (R.left reader.old) (R.left reader.new) (W.taken writer.old) (W.taken writer.new)) }
 {
     match local(alloc, founders, reader, writer) {

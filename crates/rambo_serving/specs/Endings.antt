@@ -1,6 +1,6 @@
 -- How writing a trace ends
 use Rattle.std.specs.Prelude.{◌≡◌, ◌⊎◌, ℕ, List, [], None, Some, length}
-use Rattle.rambo_names.specs.Names.{NameSet}
+use Rattle.rambo_names.specs.Weights.{Weights}
 use Rattle.rambo_run.specs.declared.step.Step.{Step}
 use Rattle.rambo_text.specs.declared.fault.ReplayFault.TheVariants.{Write, Memory}
 use Rattle.rambo_atomic.specs.Streams.{Begins}
@@ -15,18 +15,18 @@ pub record Fails (line : List ℕ) (e : Ending) (told : Stream) : Type 0 where
   pub line_told : Tells line told
 
 -- the trace of the steps was written whole, and nothing more was told
-pub record IsWritten (founders : NameSet) (steps : List (Step NameSet)) (e : Ending) (write told : Stream) : Type 0 where
+pub record IsWritten (founders : Weights) (steps : List (Step Weights)) (e : Ending) (write told : Stream) : Type 0 where
   pub status_is : e.status ≡ 0
   pub trace_is : e.trace ≡ Some (length steps)
   pub whole : Takes (trace_text founders steps) write
   pub quiet : Takes [] told
 
 -- a beginning of it, since the writer failed or memory ran out
-abbrev pub IsBroken : NameSet → List (Step NameSet) → Ending → Stream → Stream → Type 0
+abbrev pub IsBroken : Weights → List (Step Weights) → Ending → Stream → Stream → Type 0
 IsBroken founders steps e write told =
     (Breaks (trace_text founders steps) write × Fails (fault_line Write) e told)
     ⊎ (IsFine write × Begins write.old write.new (trace_text founders steps) × Fails (fault_line Memory) e told)
 
 -- how writing the trace of steps ends
-abbrev pub WritesTo : NameSet → List (Step NameSet) → Ending → Stream → Stream → Type 0
+abbrev pub WritesTo : Weights → List (Step Weights) → Ending → Stream → Stream → Type 0
 WritesTo founders steps e write told = IsWritten founders steps e write told ⊎ IsBroken founders steps e write told

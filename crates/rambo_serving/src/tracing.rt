@@ -4,7 +4,7 @@ ghost use Rattle.rambo_serving.specs.Endings.{WritesTo};
 
 use crate::ending::Ending;
 use rambo_atomic::{Sink, StreamFault};
-use rambo_names::{Majority, Members};
+use rambo_names::Weighted;
 use rambo_run::Step;
 use rambo_telling::{DONE, tell};
 use rambo_text::ReplayFault;
@@ -17,8 +17,8 @@ use std::alloc::Global;
 /// memory ran out; then a beginning of the trace was written.
 pub fn write_steps<W: Sink, E: Sink>(
     alloc: Global,
-    founders: Members,
-    steps: &[Step<Majority>],
+    founders: Weighted,
+    steps: &[Step<Weighted>],
     writer: &mut W,
     errors: &mut E,
 ) -> Ending

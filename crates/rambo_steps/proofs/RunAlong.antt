@@ -1,7 +1,7 @@
 -- A run that goes on as the lines of a script are read
 use Rattle.std.proofs.Common.{◌≡◌, ◌≢◌, ◌⊎◌, ℕ, ◌+◌, ◌≤◌, List, [], ◌∷◌, ◌++◌, Option, length, inl, inr, refl, sym, ap, subst, ◌∙◌, arith, length-append, map}
-use Rattle.rambo_names.specs.Names.{NameSet}
-use Rattle.rambo_names.specs.Quorums.{majorities}
+use Rattle.rambo_names.specs.Weights.{Weights}
+use Rattle.rambo_names.specs.Weights.{weighted_majorities}
 use Rattle.rambo_sequence.specs.Sequences.{sequences_of}
 use Rattle.rambo_run.specs.declared.step.Step.{Step}
 use Rattle.rambo_run.specs.Worlds.{first_world}
@@ -29,11 +29,11 @@ use Rattle.rambo_lines.proofs.Fitting.{line_needs}
 use Rattle.rambo_lines.proofs.LineByLine.{Reads, script, less_left, reads-first, reads-next, reads-all, first-fault, reads-fault}
 
 -- some steps: their lines were read, the run took them, and the text is what was told of them
-pub record Runs (bytes : List ℕ) (r : RunningOf NameSet) (number : ℕ) (text rest : List ℕ) : Type 0 where
-  pub steps : List (Step NameSet)
+pub record Runs (bytes : List ℕ) (r : RunningOf Weights) (number : ℕ) (text rest : List ℕ) : Type 0 where
+  pub steps : List (Step Weights)
   pub reads : Reads bytes r.founders steps rest
-  pub ran : r.state ≡ run_from majorities (first_world majorities r.founders) steps
-  pub told : text ≡ items_text (told_along majorities (first_world majorities r.founders) 1 steps)
+  pub ran : r.state ≡ run_from weighted_majorities (first_world weighted_majorities r.founders) steps
+  pub told : text ≡ items_text (told_along weighted_majorities (first_world weighted_majorities r.founders) 1 steps)
   pub counted : number ≡ length steps
   pub within : number + length rest ≤ length bytes
 
@@ -45,27 +45,27 @@ rest_within bytes line rest first = elim first.whole [
 ]
 
 -- the first line was read
-pub runs_first : (bytes line rest : List ℕ) (r : RunningOf NameSet) (text : List ℕ) → IsFirstLine bytes line rest → IsFounded bytes r → text ≡ [] → Runs bytes r 0 text rest
+pub runs_first : (bytes line rest : List ℕ) (r : RunningOf Weights) (text : List ℕ) → IsFirstLine bytes line rest → IsFounded bytes r → text ≡ [] → Runs bytes r 0 text rest
 runs_first bytes line rest r text first founded none =
     let is : line ≡ founders_line r.founders = same_first bytes line rest founded.0.line founded.0.rest first founded.0.is_first ∙ founded.0.line_is in
     record {
       steps = [];
       reads = reads-first bytes line rest r.founders first founded.0.founders is;
-      ran = founded.1 ∙ sym (run_from-none majorities (first_world majorities r.founders));
+      ran = founded.1 ∙ sym (run_from-none weighted_majorities (first_world weighted_majorities r.founders));
       told = none;
       counted = refl;
       within = let h = rest_within bytes line rest first in omega (arith, h);
     }
 
 -- the step of one line more was taken
-pub runs_next : (bytes rest line more : List ℕ) (r new : RunningOf NameSet) (number next : ℕ) (text longer : List ℕ) → Runs bytes r number text rest → rest ≢ [] → IsFirstLine rest line more
+pub runs_next : (bytes rest line more : List ℕ) (r new : RunningOf Weights) (number next : ℕ) (text longer : List ℕ) → Runs bytes r number text rest → rest ≢ [] → IsFirstLine rest line more
     → next ≡ number + 1 → TakesStep line next r new text longer → Runs bytes new next longer more
 runs_next bytes rest line more r new number next text longer now some first is takes =
-    let s = majorities in
+    let s = weighted_majorities in
     let st = takes.step in
     let steps = now.steps ++ st ∷ [] in
-    let founders : new.founders ≡ r.founders = ap (λ (v : RunningOf NameSet). v.founders) takes.takes.taken in
-    let state : new.state ≡ after s r.state st = ap (λ (v : RunningOf NameSet). v.state) takes.takes.taken in
+    let founders : new.founders ≡ r.founders = ap (λ (v : RunningOf Weights). v.founders) takes.takes.taken in
+    let state : new.state ≡ after s r.state st = ap (λ (v : RunningOf Weights). v.state) takes.takes.taken in
     let first_w = first_world s r.founders in
     let fewer = less_left rest line more some first in
     record {
@@ -84,11 +84,11 @@ nothing [] none = refl
 nothing (x ∷ xs) none = absurd (omega arith)
 
 -- all was read, and the sequences and the maps came behind it
-pub runs_all : (bytes rest : List ℕ) (r : RunningOf NameSet) (number : ℕ) (text whole : List ℕ) → Runs bytes r number text rest → length rest ≡ 0 → whole ≡ ended r.state text → IsReplay bytes whole
+pub runs_all : (bytes rest : List ℕ) (r : RunningOf Weights) (number : ℕ) (text whole : List ℕ) → Runs bytes r number text rest → length rest ≡ 0 → whole ≡ ended r.state text → IsReplay bytes whole
 runs_all bytes rest r number text whole now none is = record {
   script = script r.founders now.steps;
   is_script = reads-all bytes rest r.founders now.steps now.reads (nothing rest none);
-  text_is = text_whole majorities r.founders now.steps r.state (sequences_of r.state.history r.state.marks) (maps_of r.state.nodes) text
+  text_is = text_whole weighted_majorities r.founders now.steps r.state (sequences_of r.state.history r.state.marks) (maps_of r.state.nodes) text
       (text ++ items_text (map Ordered (sequences_of r.state.history r.state.marks))) whole now.ran refl refl now.told refl is;
 }
 
@@ -97,7 +97,7 @@ pub first_fault : (bytes line rest : List ℕ) (g : ScriptFault) → IsFirstLine
 first_fault bytes line rest g first number fault = inr (g, refl, first-fault TellsBytes bytes line rest g first number fault)
 
 -- a later line has one, or there was no room for its step
-pub later_fault : (bytes rest line more : List ℕ) (r : RunningOf NameSet) (number next : ℕ) (text : List ℕ) (f : ReplayFault) → Runs bytes r number text rest → rest ≢ [] → IsFirstLine rest line more
+pub later_fault : (bytes rest line more : List ℕ) (r : RunningOf Weights) (number next : ℕ) (text : List ℕ) (f : ReplayFault) → Runs bytes r number text rest → rest ≢ [] → IsFirstLine rest line more
     → next ≡ number + 1 → IsFaultAt (next + 1) (λ g. ((g ≡ OutOfMemory) × TellsBytes line) ⊎ IsLineFault TellNoStep line g) f → GivesUp bytes f
 later_fault bytes rest line more r number next text f now some first is (inl spent) = inl spent
 later_fault bytes rest line more r number next text f now some first is (inr found) =

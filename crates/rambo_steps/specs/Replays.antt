@@ -1,7 +1,7 @@
 -- What a replay writes, and what it leaves after a fault
 use Rattle.std.specs.Prelude.{◌≡◌, ◌⊎◌, ℕ, List, Option, IfSome}
 use Rattle.std.specs.Io.KnownBytes.{Appends, Keeps}
-use Rattle.rambo_names.specs.Quorums.{majorities}
+use Rattle.rambo_names.specs.Weights.{weighted_majorities}
 use Rattle.rambo_atomic.specs.Streams.{counted, Begins}
 use Rattle.rambo_run.specs.Runs.{outcome_of}
 use Rattle.rambo_text.specs.declared.fault.ReplayFault.{ReplayFault}
@@ -13,7 +13,7 @@ use Rattle.rambo_lines.specs.Faults.{IsScriptFault, TellsBytes, RanOut}
 
 -- the text of what the run of a script gives
 abbrev pub replayed : ScriptState → List ℕ
-replayed s = outcome_lines majorities (outcome_of majorities s.founders s.steps)
+replayed s = outcome_lines (outcome_of weighted_majorities s.founders s.steps)
 
 -- the bytes are a script, and the text is that of its run
 pub record IsReplay (bytes text : List ℕ) : Type 0 where

@@ -1,7 +1,7 @@
 -- A run that goes on as the lines of a script are read
 use Rattle.std.specs.Prelude.{◌≡◌, ◌⊎◌, ℕ, List, Option, ◌++◌, map}
-use Rattle.rambo_names.specs.Names.{NameSet}
-use Rattle.rambo_names.specs.Quorums.{majorities}
+use Rattle.rambo_names.specs.Weights.{Weights}
+use Rattle.rambo_names.specs.Weights.{weighted_majorities}
 use Rattle.rambo_sequence.specs.Sequences.{sequences_of}
 use Rattle.rambo_run.specs.declared.step.Step.{Step}
 use Rattle.rambo_run.specs.Worlds.{WorldState, first_world}
@@ -22,32 +22,32 @@ use Rattle.rambo_lines.specs.StepLines.{step_line}
 use Rattle.rambo_lines.specs.Scripts.{AreFounders, HasLine, founders_line}
 
 -- the first line of some bytes tells founders
-pub record TellsFounders (bytes : List ℕ) (s : NameSet) : Type 0 where
+pub record TellsFounders (bytes : List ℕ) (c : Weights) : Type 0 where
   pub line : List ℕ
   pub rest : List ℕ
   pub is_first : IsFirstLine bytes line rest
-  pub founders : AreFounders s
-  pub line_is : line ≡ founders_line s
+  pub founders : AreFounders c
+  pub line_is : line ≡ founders_line c
 
 -- and those of a run that took no step
-abbrev pub IsFounded : List ℕ → RunningOf NameSet → Type 0
-IsFounded bytes r = TellsFounders bytes r.founders × (r.state ≡ first_world majorities r.founders)
+abbrev pub IsFounded : List ℕ → RunningOf Weights → Type 0
+IsFounded bytes r = TellsFounders bytes r.founders × (r.state ≡ first_world weighted_majorities r.founders)
 
 -- a run took a step of this number, and what is told of it came to the end of a text
-pub record Takes (step : Step NameSet) (number : ℕ) (old new : RunningOf NameSet) (text longer : List ℕ) : Type 0 where
-  pub taken : new ≡ record old { state = after majorities old.state step }
-  pub told : longer ≡ text ++ items_text (step_items majorities new.state.history number (result_of (refusal majorities old.state step) old.state step))
+pub record Takes (step : Step Weights) (number : ℕ) (old new : RunningOf Weights) (text longer : List ℕ) : Type 0 where
+  pub taken : new ≡ record old { state = after weighted_majorities old.state step }
+  pub told : longer ≡ text ++ items_text (step_items new.state.history number (result_of (refusal weighted_majorities old.state step) old.state step))
 
 -- a line tells it
-pub record TakesStep (line : List ℕ) (number : ℕ) (old new : RunningOf NameSet) (text longer : List ℕ) : Type 0 where
-  pub step : Step NameSet
+pub record TakesStep (line : List ℕ) (number : ℕ) (old new : RunningOf Weights) (text longer : List ℕ) : Type 0 where
+  pub step : Step Weights
   pub has_line : HasLine step
   pub line_is : line ≡ step_line step
   pub takes : Takes step number old new text longer
 
 -- the words behind the first one, which is that of a kind, tell it
-pub record TakesTold (kind : StepKind) (more : Option (List ℕ)) (number : ℕ) (old new : RunningOf NameSet) (text longer : List ℕ) : Type 0 where
-  pub step : Step NameSet
+pub record TakesTold (kind : StepKind) (more : Option (List ℕ)) (number : ℕ) (old new : RunningOf Weights) (text longer : List ℕ) : Type 0 where
+  pub step : Step Weights
   pub tell : TellStep kind more step
   pub takes : Takes step number old new text longer
 
@@ -56,8 +56,8 @@ abbrev pub IsPartsFault : StepKind → Option (List ℕ) → Fault → Type 0
 IsPartsFault kind more f = ((f ≡ OutOfMemory) × NeedRoom kind more) ⊎ TellUnfit kind more f
 
 -- a text, with the sequences and the maps behind it
-abbrev pub ended : WorldState NameSet → List ℕ → List ℕ
-ended w text = (text ++ items_text (map Ordered (sequences_of w.history w.marks))) ++ items_text (map (map_item majorities) (maps_of w.nodes))
+abbrev pub ended : WorldState Weights → List ℕ → List ℕ
+ended w text = (text ++ items_text (map Ordered (sequences_of w.history w.marks))) ++ items_text (map map_item (maps_of w.nodes))
 
 -- a line has a fault, or memory ran out
 abbrev pub IsFaultAt : ℕ → (Fault → Type 0) → ReplayFault → Type 0

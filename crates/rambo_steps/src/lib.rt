@@ -1,4 +1,4 @@
-//! Scripts, read line by line, and taken by a run of any kind over majorities (`Run`).
+//! Scripts, read line by line, and taken by a run of any kind over weighted majorities (`Run`).
 //!
 //! - `founders_in`: what the first line tells.
 //! - `run_through`: the steps of the other lines are taken, and what is told of them is written.

@@ -14,7 +14,7 @@ use rambo_lines::{
     StepKind, at_line, get_asked, read_call, read_founders, read_kind, read_letter, read_names,
     read_parts, set_asked,
 };
-use rambo_names::{Majority, Members, Name, Refusal};
+use rambo_names::{Name, Refusal, Weighted};
 use rambo_outcome::{
     write_answered, write_called, write_maps, write_refused, write_sequences, write_step,
 };
@@ -25,8 +25,8 @@ use std::alloc::Global;
 /// The founders that the first line of a script tells.
 ///
 /// `Script` where that line is faulty.
-pub fn founders_in(input: &[u8]) -> Result<Members, ReplayFault>
-    ensures founders { IfOk result (λ s. TellsFounders input.now s) }
+pub fn founders_in(input: &[u8]) -> Result<Weighted, ReplayFault>
+    ensures founders { IfOk result (λ c. TellsFounders input.now c) }
     ensures fault { IfErr result (λ f. GivesUp input.now f) }
     ensures told { IfErr result (λ f. f ≢ ReplayFault.Memory) }
 {
@@ -40,7 +40,7 @@ pub fn founders_in(input: &[u8]) -> Result<Members, ReplayFault>
 /// The run is that of the founders of the first line, before any step. `Script` where a line behind the first is faulty,
 /// or where there is no room for the bytes of a get or a set; `Memory` where there is no room for the run or its text.
 /// What the run is afterwards, the contract does not say.
-pub fn run_through<R: Run<Majority>>(
+pub fn run_through<R: Run<Weighted>>(
     alloc: Global,
     input: &[u8],
     running: &mut R,
@@ -63,7 +63,7 @@ pub fn run_through<R: Run<Majority>>(
 }
 
 // Takes the step of this number, which a line tells, and appends what is told of it.
-fn take_line<R: Run<Majority>>(
+fn take_line<R: Run<Weighted>>(
     alloc: Global,
     number: u64,
     line: &[u8],
@@ -86,7 +86,7 @@ fn take_line<R: Run<Majority>>(
 }
 
 // Takes the sending that the words behind the first tell, and appends what is told of it.
-fn take_send<R: Run<Majority>>(
+fn take_send<R: Run<Weighted>>(
     number: u64,
     more: Option<&[u8]>,
     running: &mut R,
@@ -104,7 +104,7 @@ fn take_send<R: Run<Majority>>(
 }
 
 // Takes the delivery that the words behind the first tell, and appends what is told of it.
-fn take_deliver<R: Run<Majority>>(
+fn take_deliver<R: Run<Weighted>>(
     number: u64,
     more: Option<&[u8]>,
     running: &mut R,
@@ -122,7 +122,7 @@ fn take_deliver<R: Run<Majority>>(
 }
 
 // Takes the advance of a call that the words behind the first tell, and appends what is told of it.
-fn take_advance<R: Run<Majority>>(
+fn take_advance<R: Run<Weighted>>(
     number: u64,
     more: Option<&[u8]>,
     running: &mut R,
@@ -141,7 +141,7 @@ fn take_advance<R: Run<Majority>>(
 }
 
 // Takes the get that the words behind the first tell, and appends what is told of it.
-fn take_get<R: Run<Majority>>(
+fn take_get<R: Run<Weighted>>(
     alloc: Global,
     number: u64,
     more: Option<&[u8]>,
@@ -157,7 +157,7 @@ fn take_get<R: Run<Majority>>(
 }
 
 // Takes the set that the words behind the first tell, and appends what is told of it.
-fn take_put<R: Run<Majority>>(
+fn take_put<R: Run<Weighted>>(
     alloc: Global,
     number: u64,
     more: Option<&[u8]>,
@@ -173,7 +173,7 @@ fn take_put<R: Run<Majority>>(
 }
 
 // Takes the call of an operation, and appends what is told of it.
-fn take_call<R: Run<Majority>>(
+fn take_call<R: Run<Weighted>>(
     number: u64,
     name: Name,
     op: Op,
@@ -203,7 +203,7 @@ fn write_call(id: &CallId, history: &History, text: &mut Vec<u8>) -> Result<(), 
 // Takes a step of any kind that the words behind the first tell, and appends what is told of it.
 // (a step is large, and where this is inlined the other kinds pay for its room)
 #[inline(never)]
-fn take_step<R: Run<Majority>>(
+fn take_step<R: Run<Weighted>>(
     alloc: Global,
     kind: StepKind,
     number: u64,
@@ -221,7 +221,7 @@ fn take_step<R: Run<Majority>>(
 }
 
 // Appends the sequences and the maps of a run.
-fn end<R: Run<Majority>>(alloc: Global, running: &R, text: &mut Vec<u8>) -> Result<(), ReplayFault>
+fn end<R: Run<Weighted>>(alloc: Global, running: &R, text: &mut Vec<u8>) -> Result<(), ReplayFault>
     ensures ok { OnOk result (text.new.items ≡ ended (R.running running.now).state text.old.items) }
     ensures fault { IfErr result (λ f. f ≡ ReplayFault.Memory) }
 {

@@ -1,46 +1,51 @@
 -- Words of signs hold no space and no line feed
-use Rattle.std.proofs.Common.{◌≡◌, ◌≢◌, ℕ, zero, suc, ◌+◌, ◌/◌, ◌%◌, ◌<◌, ◌≤◌, ◌^◌, Bool, true, false, cond, nat_lt, ◌&&◌, List, [], ◌∷◌, filter, decimal, refl, sym, arith}
+use Rattle.std.proofs.Common.{◌≡◌, ◌≢◌, ℕ, zero, suc, ◌+◌, ◌/◌, ◌%◌, ◌<◌, ◌≤◌, ◌^◌, Bool, true, false, cond, nat_lt, nat_eq, ◌&&◌, List, [], ◌∷◌, decimal, refl, sym, subst, arith}
 use Rattle.std.specs.List.{AllByRecursion}
-use Rattle.std.specs.FinSet.{contains}
+use Rattle.std.specs.Prelude.{if◌then◌else◌}
 use Rattle.std.proofs.lemmas.Bool.Decides.{nat_tests}
-use Rattle.rambo_names.specs.Names.{NameSet, rising, names}
-use Rattle.rambo_names.specs.Signs.{set_text, names_text, more_names}
+use Rattle.rambo_names.specs.Names.{NameSet}
+use Rattle.rambo_names.specs.Signs.{set_text, joined, behind_commas, member_text, weight_text, conf_text}
+use Rattle.rambo_names.specs.Weights.{Weights, weight_of, evenly}
+use Rattle.rambo_names.proofs.ConfTexts.{parts, conf_parts, even_text, weight_most}
 use Rattle.rambo_atomic.specs.declared.event.CallId.{CallId}
 use Rattle.rambo_text.specs.Signs.{digit_of, pairs_text, hex_text, call_text, IsCall}
 use Rattle.rambo_text.specs.Words.{Lacks, words_text, more_words}
 use Rattle.rambo_text.proofs.Lacking.{lacks-append, lacks-decimal}
 
--- numbers that can be written
-abbrev pub AreSmall : List ℕ → Type 0
-AreSmall = AllByRecursion (λ n. n < 2 ^ 64)
-
-small_rising : (p : ℕ → Bool) (k a : ℕ) → k + a ≤ 65 → AreSmall (filter p (rising k a))
-unfolding rising
-small_rising p zero a h = tt
-small_rising p (suc k) a h =
-    elim (p a) as (λ t. AreSmall (cond t (a ∷ filter p (rising k (a + 1))) (filter p (rising k (a + 1))))) [
-      | true ↦ (omega arith, small_rising p k (a + 1) (omega arith))
-      | false ↦ small_rising p k (a + 1) (omega arith)
-    ]
-
--- the names of a set are small
-pub small_names : (s : NameSet) → AreSmall (names s)
-unfolding names
-small_names s = small_rising (contains s) 64 1 (omega arith)
-
 not_low : (b c : ℕ) → b < 44 → 44 ≤ c → c ≢ b
 not_low b c low high e = omega arith
 
-lacks-more : (b : ℕ) (ns : List ℕ) → b < 44 → AreSmall ns → Lacks b (more_names ns)
-lacks-more b [] low small = tt
-lacks-more b (n ∷ ns) low small = (not_low b 44 low (omega arith), lacks-append b (decimal n) (more_names ns) (lacks-decimal b n (omega arith) small.0) (lacks-more b ns low small.1))
+lacks-joined : (b : ℕ) (ws : List (List ℕ)) → b < 44 → AllByRecursion (Lacks b) ws → Lacks b (joined ws)
+lacks-joined b [] low all = (not_low b 45 low (omega arith), tt)
+lacks-joined b (w ∷ ws) low all = lacks-append b w (behind_commas ws) all.0 (lacks-commas ws all.1)
+  where
+    lacks-commas : (vs : List (List ℕ)) → AllByRecursion (Lacks b) vs → Lacks b (behind_commas vs)
+    lacks-commas [] each = tt
+    lacks-commas (v ∷ vs) each = (not_low b 44 low (omega arith), lacks-append b v (behind_commas vs) each.0 (lacks-commas vs each.1))
 
-lacks-names : (b : ℕ) (ns : List ℕ) → b < 44 → AreSmall ns → Lacks b (names_text ns)
-lacks-names b [] low small = (not_low b 45 low (omega arith), tt)
-lacks-names b (n ∷ ns) low small = lacks-append b (decimal n) (more_names ns) (lacks-decimal b n (omega arith) small.0) (lacks-more b ns low small.1)
+lacks-weight : (b w : ℕ) → b < 44 → w ≤ 15 → Lacks b (weight_text w)
+lacks-weight b w low small =
+    elim (nat_eq w 1) as (λ t. Lacks b (if t then [] else 58 ∷ decimal w)) [
+      | true ↦ tt
+      | false ↦ (not_low b 58 low (omega arith), lacks-decimal b w (omega arith) (omega (arith, small)))
+    ]
+
+lacks-parts : (b : ℕ) (f : ℕ → ℕ) → b < 44 → ((n : ℕ) → f n ≤ 15) → (k a : ℕ) → a + k ≤ 65 → AllByRecursion (Lacks b) (parts f k a)
+unfolding parts
+lacks-parts b f low small zero a h = tt
+lacks-parts b f low small (suc k) a h =
+    let rest = lacks-parts b f low small k (a + 1) (omega arith) in
+    elim (nat_lt 0 (f a)) as (λ t. AllByRecursion (Lacks b) (cond t (member_text a (f a) ∷ parts f k (a + 1)) (parts f k (a + 1)))) [
+      | true ↦ (lacks-append b (decimal a) (weight_text (f a)) (lacks-decimal b a (omega arith) (omega arith)) (lacks-weight b (f a) low (small a)), rest)
+      | false ↦ rest
+    ]
+
+pub lacks-conf : (b : ℕ) (c : Weights) → b < 44 → Lacks b (conf_text c)
+lacks-conf b c low =
+    subst (Lacks b) (sym (conf_parts c)) (lacks-joined b (parts (weight_of c) 64 1) low (lacks-parts b (weight_of c) low (weight_most c) 64 1 (omega arith)))
 
 pub lacks-set : (b : ℕ) (s : NameSet) → b < 44 → Lacks b (set_text s)
-lacks-set b s low = lacks-names b (names s) low (small_names s)
+lacks-set b s low = subst (Lacks b) (even_text s) (lacks-conf b (evenly s) low)
 
 high_digit : (d : ℕ) → 44 ≤ digit_of d
 high_digit d = elim (nat_lt d 10) as (λ t. 44 ≤ cond t (48 + d) (87 + d)) [ true ↦ omega arith | false ↦ omega arith ]

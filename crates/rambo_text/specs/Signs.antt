@@ -1,8 +1,8 @@
 -- How calls and bytes are spelt
-use Rattle.std.specs.Prelude.{◌≡◌, true, ℕ, ◌+◌, ◌<◌, ◌≤◌, ◌^◌, if◌then◌else◌, nat_lt, List, [], ◌∷◌, ◌++◌, Option, None, Some, codes, decimal, ◌/◌, ◌%◌, All}
-use Rattle.std.specs.FinSet.{contains}
-use Rattle.rambo_names.specs.Names.{IsName, NameSet}
-use Rattle.rambo_names.specs.Signs.{set_text}
+use Rattle.std.specs.Prelude.{◌≡◌, ℕ, ◌+◌, ◌<◌, ◌≤◌, ◌^◌, if◌then◌else◌, nat_lt, List, [], ◌∷◌, ◌++◌, Option, None, Some, codes, decimal, ◌/◌, ◌%◌, All}
+use Rattle.rambo_names.specs.Names.{IsName}
+use Rattle.rambo_names.specs.Signs.{conf_text}
+use Rattle.rambo_names.specs.Weights.{Weights}
 use Rattle.rambo_atomic.specs.declared.event.CallId.{CallId}
 
 -- the digit of a number below 16
@@ -23,10 +23,10 @@ hex_text (b ∷ bs) = pairs_text (b ∷ bs)
 abbrev pub call_text : CallId → List ℕ
 call_text c = decimal c.name ++ 46 ∷ decimal c.number
 
--- what stands at a place: the members of its configuration, or none where the place is removed
-abbrev pub standing_text : Option NameSet → List ℕ
+-- what stands at a place: its configuration, or none where the place is removed
+abbrev pub standing_text : Option Weights → List ℕ
 standing_text None = codes "removed"
-standing_text (Some members) = set_text members
+standing_text (Some conf) = conf_text conf
 
 -- a call has a node's name, and a number from 1
 abbrev pub IsCall : CallId → Type 0
@@ -39,7 +39,3 @@ AreBytes bs = All (λ b. b < 256) bs
 -- a text with some more behind it
 abbrev pub Grows : List ℕ → List ℕ → Type 0
 Grows old new = (more : List ℕ) × (new ≡ old ++ more)
-
--- a set has no number that is no name
-abbrev pub AreNames : NameSet → Type 0
-AreNames s = (n : ℕ) → contains s n ≡ true → IsName n

@@ -1,6 +1,7 @@
 //! Reading signs.
 ghost use Rattle.std.specs.Prelude.{◌≡◌, ◌≢◌, ◌⊎◌, ℕ, List, ◌∷◌, ◌++◌, length, ◌<◌, ◌≤◌, ◌/◌, ◌%◌, decimal, Option, IfSome, IfNone, IfOk, IfErr};
-ghost use Rattle.rambo_names.specs.Names.{IsName, NameSet};
+ghost use Rattle.rambo_names.specs.Names.{IsName};
+ghost use Rattle.rambo_names.specs.Weights.{Weights};
 ghost use Rattle.rambo_atomic.specs.declared.event.CallId.{CallId};
 ghost use Rattle.rambo_text.specs.Signs.{digit_of, pairs_text, hex_text, call_text, standing_text, IsCall, AreBytes};
 
@@ -8,7 +9,7 @@ use crate::fault::Fault;
 use crate::leading::{leading_call, leading_name};
 use crate::numbers::number_of;
 use rambo_atomic::CallId;
-use rambo_names::{Bytes, Members, Name, read_set};
+use rambo_names::{Bytes, Name, Weighted, read_conf};
 use std::alloc::Global;
 
 /// The name that a word spells: a number from 1 to 64 in plain decimal.
@@ -38,17 +39,17 @@ pub fn read_call(word: &[u8]) -> Option<CallId>
     if rest.is_empty() { Some(call) } else { None }
 }
 
-/// What a word tells of a place: the members of the configuration that stands there, or none for the word `removed`.
+/// What a word tells of a place: the configuration that stands there, or none for the word `removed`.
 ///
 /// None where it tells neither.
-pub fn read_standing(word: &[u8]) -> Option<Option<Members>>
-    ensures found { IfSome result (λ members. word.now ≡ standing_text members) }
-    ensures none { IfNone result ((members : Option NameSet) → word.now ≢ standing_text members) }
+pub fn read_standing(word: &[u8]) -> Option<Option<Weighted>>
+    ensures found { IfSome result (λ conf. word.now ≡ standing_text conf) }
+    ensures none { IfNone result ((conf : Option Weights) → word.now ≢ standing_text conf) }
 {
     if word == b"removed".as_slice() {
         return Some(None);
     }
-    read_set(word).map(Some)
+    read_conf(word).map(Some)
 }
 
 /// The bytes that a word spells: pairs of digits, `0` to `9` and `a` to `f`, or a dash for no bytes.

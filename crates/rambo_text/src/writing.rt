@@ -4,7 +4,7 @@ ghost use Rattle.rambo_text.specs.Signs.{hex_text, call_text, standing_text};
 
 use crate::digits::{MOST_DIGITS, push_num, push_pairs};
 use rambo_atomic::CallId;
-use rambo_names::{Members, Name, Refusal, write_set};
+use rambo_names::{Name, Refusal, Weighted, write_conf};
 use std::alloc::AllocError;
 
 // How many digits the greatest name has.
@@ -62,17 +62,17 @@ pub fn write_hex(bytes: &[u8], out: &mut Vec<u8>) -> Result<(), AllocError>
     Ok(())
 }
 
-/// Appends what stands at a place: the members of its configuration, or `removed` for none.
+/// Appends what stands at a place: its configuration, or `removed` for none.
 ///
 /// `OutOfMemory` where the text can't grow; it is then as before.
-pub fn write_standing(members: Option<Members>, out: &mut Vec<u8>) -> Result<(), Refusal>
-    ensures ok { OnOk result (out.new.items ≡ out.old.items ++ standing_text members) }
+pub fn write_standing(conf: Option<Weighted>, out: &mut Vec<u8>) -> Result<(), Refusal>
+    ensures ok { OnOk result (out.new.items ≡ out.old.items ++ standing_text conf) }
     ensures err { OnErr result (out.new.items ≡ out.old.items) }
     ensures refused { IfErr result (λ r. r ≡ Refusal.OutOfMemory) }
 {
-    match members {
+    match conf {
         None => out.extend_from_slice(b"removed")?,
-        Some(members) => write_set(&members, out)?,
+        Some(conf) => write_conf(&conf, out)?,
     }
     Ok(())
 }

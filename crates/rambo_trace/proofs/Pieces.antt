@@ -4,7 +4,7 @@ use Rattle.std.specs.Prelude.{Ok, OnOk, Option, Result}
 use Rattle.std.specs.Io.KnownBytes.{Appends}
 use Rattle.std.proofs.KnownBytes.{Appends-nil, Appends-trans}
 use Rattle.std.proofs.lemmas.List.{take_more}
-use Rattle.rambo_names.specs.Names.{NameSet}
+use Rattle.rambo_names.specs.Weights.{Weights}
 use Rattle.rambo_atomic.specs.Streams.{Begins}
 use Rattle.rambo_run.specs.declared.step.Step.{Step}
 use Rattle.rambo_lines.specs.StepLines.{step_line}
@@ -12,26 +12,26 @@ use Rattle.rambo_lines.specs.Scripts.{founders_line, steps_text}
 use Rattle.rambo_trace.specs.Traces.{Moves, trace_text}
 
 -- of the text of the founders and some steps one part was written, and the other waits
-pub record Going (founders : NameSet) (steps : List (Step NameSet)) (old now : Option (List ℕ)) (waits : List ℕ) : Type 0 where
+pub record Going (founders : Weights) (steps : List (Step Weights)) (old now : Option (List ℕ)) (waits : List ℕ) : Type 0 where
   pub gone : List ℕ
   pub written : Appends old now gone
   pub whole : trace_text founders steps ≡ gone ++ waits
 
-steps_text-append : (xs ys : List (Step NameSet)) → steps_text (xs ++ ys) ≡ steps_text xs ++ steps_text ys
+steps_text-append : (xs ys : List (Step Weights)) → steps_text (xs ++ ys) ≡ steps_text xs ++ steps_text ys
 steps_text-append [] ys = refl
 steps_text-append (x ∷ xs) ys =
     ap (λ t. step_line x ++ 10 ∷ t) (steps_text-append xs ys) ∙ sym (append_assoc (step_line x) (10 ∷ steps_text xs) (steps_text ys))
 
 -- the text of more steps
-pub trace-append : (founders : NameSet) (xs ys : List (Step NameSet)) → trace_text founders (xs ++ ys) ≡ trace_text founders xs ++ steps_text ys
+pub trace-append : (founders : Weights) (xs ys : List (Step Weights)) → trace_text founders (xs ++ ys) ≡ trace_text founders xs ++ steps_text ys
 trace-append founders xs ys =
     ap (λ t. founders_line founders ++ 10 ∷ t) (steps_text-append xs ys) ∙ sym (append_assoc (founders_line founders) (10 ∷ steps_text xs) (steps_text ys))
 
-pub goes_first : (founders : NameSet) (old : Option (List ℕ)) (waits : List ℕ) → waits ≡ founders_line founders ++ 10 ∷ [] → Going founders [] old old waits
+pub goes_first : (founders : Weights) (old : Option (List ℕ)) (waits : List ℕ) → waits ≡ founders_line founders ++ 10 ∷ [] → Going founders [] old old waits
 goes_first founders old waits is = record { gone = []; written = Appends-nil old; whole = sym is }
 
 -- one step more waits
-goes_longer : (founders : NameSet) (xs : List (Step NameSet)) (st : Step NameSet) (old now : Option (List ℕ)) (waits longer : List ℕ) → Going founders xs old now waits
+goes_longer : (founders : Weights) (xs : List (Step Weights)) (st : Step Weights) (old now : Option (List ℕ)) (waits longer : List ℕ) → Going founders xs old now waits
     → longer ≡ waits ++ step_line st ++ 10 ∷ [] → Going founders (xs ++ st ∷ []) old now longer
 goes_longer founders xs st old now waits longer g is = record {
   gone = g.gone;
@@ -41,7 +41,7 @@ goes_longer founders xs st old now waits longer g is = record {
 }
 
 -- and some of what waits is written
-goes_written : (founders : NameSet) (xs : List (Step NameSet)) (old now next : Option (List ℕ)) (waits left : List ℕ) → Going founders xs old now waits
+goes_written : (founders : Weights) (xs : List (Step Weights)) (old now next : Option (List ℕ)) (waits left : List ℕ) → Going founders xs old now waits
     → Moves now next waits left → Going founders xs old next left
 goes_written founders xs old now next waits left g m = record {
   gone = g.gone ++ m.0;
@@ -49,9 +49,9 @@ goes_written founders xs old now next waits left g m = record {
   whole = g.whole ∙ ap (λ t. g.gone ++ t) m.1 ∙ sym (append_assoc g.gone m.0 left);
 }
 
-module _ (founders : NameSet) (steps : List (Step NameSet)) (old now : Option (List ℕ)) (waits : List ℕ) (i : ℕ) (g : Going founders (take i steps) old now waits) where
+module _ (founders : Weights) (steps : List (Step Weights)) (old now : Option (List ℕ)) (waits : List ℕ) (i : ℕ) (g : Going founders (take i steps) old now waits) where
   -- the line of the next step joins
-  pub goes_next : (d : Step NameSet) (longer left : List ℕ) (next : Option (List ℕ)) → i < length steps → longer ≡ waits ++ step_line (get_or steps i d) ++ 10 ∷ []
+  pub goes_next : (d : Step Weights) (longer left : List ℕ) (next : Option (List ℕ)) → i < length steps → longer ≡ waits ++ step_line (get_or steps i d) ++ 10 ∷ []
       → Moves now next longer left → Going founders (take (i + 1) steps) old next left
   goes_next d longer left next below is m =
       subst (λ xs. Going founders xs old next left) (sym (take_more steps i d below))
@@ -74,7 +74,7 @@ module _ (founders : NameSet) (steps : List (Step NameSet)) (old now : Option (L
   )
 
   -- and after a beginning of that with the line of the next step
-  pub begun_longer : (d : Step NameSet) (longer : List ℕ) (next : Option (List ℕ)) → i < length steps → longer ≡ waits ++ step_line (get_or steps i d) ++ 10 ∷ []
+  pub begun_longer : (d : Step Weights) (longer : List ℕ) (next : Option (List ℕ)) → i < length steps → longer ≡ waits ++ step_line (get_or steps i d) ++ 10 ∷ []
       → Begins now next longer → Begins old next (trace_text founders steps)
   begun_longer d longer next below is b =
       let more : Going founders (take (i + 1) steps) old now longer =
@@ -93,7 +93,7 @@ module _ (founders : NameSet) (steps : List (Step NameSet)) (old now : Option (L
           )
 
 -- with no piece left the trace was written whole
-pub gone_whole : (founders : NameSet) (steps all : List (Step NameSet)) (old now next : Option (List ℕ)) (waits : List ℕ) → Going founders steps old now waits → steps ≡ all
+pub gone_whole : (founders : Weights) (steps all : List (Step Weights)) (old now next : Option (List ℕ)) (waits : List ℕ) → Going founders steps old now waits → steps ≡ all
     → Appends now next waits → Appends old next (trace_text founders all)
 gone_whole founders steps all old now next waits g same a =
     subst (Appends old next) (sym g.whole ∙ ap (trace_text founders) same) (Appends-trans old now next g.gone waits g.written a)

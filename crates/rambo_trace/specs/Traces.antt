@@ -1,12 +1,12 @@
 -- The text of a trace
 use Rattle.std.specs.Prelude.{◌≡◌, ℕ, List, ◌++◌, Option}
 use Rattle.std.specs.Io.KnownBytes.{Appends}
-use Rattle.rambo_names.specs.Names.{NameSet}
+use Rattle.rambo_names.specs.Weights.{Weights}
 use Rattle.rambo_run.specs.declared.step.Step.{Step}
 use Rattle.rambo_lines.specs.Scripts.{script_text}
 
 -- it is the script of the founders and the steps
-abbrev pub trace_text : NameSet → List (Step NameSet) → List ℕ
+abbrev pub trace_text : Weights → List (Step Weights) → List ℕ
 trace_text founders steps = script_text (record { founders = founders; steps = steps })
 
 -- a front of what waits was written, and the rest still waits

@@ -8,7 +8,7 @@ ghost use Rattle.rambo_trace.specs.Traces.{Moves, trace_text};
 
 use rambo_atomic::{Sink, StreamFault, write_all};
 use rambo_lines::step_text;
-use rambo_names::{Majority, Members, Refusal, write_set};
+use rambo_names::{Refusal, Weighted, write_conf};
 use rambo_run::Step;
 use std::alloc::Global;
 
@@ -21,8 +21,8 @@ const PIECE: usize = 64 * 1024;
 /// was written.
 pub fn write_trace<W: Sink>(
     alloc: Global,
-    founders: Members,
-    steps: &[Step<Majority>],
+    founders: Weighted,
+    steps: &[Step<Weighted>],
     writer: &mut W,
 ) -> Result<(), StreamFault>
     ensures ok { OnOk result (Appends (W.taken writer.old) (W.taken writer.new) (trace_text founders steps.now)) }
@@ -56,11 +56,11 @@ fn write_if_long<W: Sink>(piece: &mut Vec<u8>, writer: &mut W) -> Result<(), Str
 }
 
 // Appends the first line, which tells the founders.
-fn founders_text(founders: Members, out: &mut Vec<u8>) -> Result<(), Refusal>
+fn founders_text(founders: Weighted, out: &mut Vec<u8>) -> Result<(), Refusal>
     ensures ok { OnOk result (out.new.items ≡ out.old.items ++ founders_line founders ++ 10 ∷ []) }
 {
     out.extend_from_slice(b"founders ")?;
-    write_set(&founders, out)?;
+    write_conf(&founders, out)?;
     out.push(b'\n')?;
     Ok(())
 }

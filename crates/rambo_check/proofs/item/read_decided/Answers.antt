@@ -15,7 +15,7 @@ returns-clause-spelt c =
     let second = sym c.in-Some-read_num.ensures.found in
     let third = sym c.in-Some-read_standing.ensures.found in
     let small : c.in-Some-read_num._place < 2 ^ 64 = omega arith in (
-      Settled c.in-Some-read_name._name c.in-Some-read_num._place c.in-Some-read_standing._members,
+      Settled c.in-Some-read_name._name c.in-Some-read_num._place c.in-Some-read_standing._conf,
       tt,
       (
         (name.0, small),

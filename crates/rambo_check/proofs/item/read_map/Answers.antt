@@ -1,11 +1,11 @@
 use Rattle.std.proofs.Common.{◌∷◌, codes, map, inl, inr, refl, sym, ◌<◌, ◌^◌, arith}
 use Rattle.std.specs.Option.{option_copied}
-use Rattle.rambo_names.specs.Signs.{set_text}
+use Rattle.rambo_names.specs.Signs.{conf_text}
 use Rattle.std.proofs.lemmas.Result.{on_ok_weaker, IfErr-weaker}
-use Rattle.rambo_text.specs.Forms.{Set}
+use Rattle.rambo_text.specs.Forms.{Conf}
 use Rattle.rambo_check.specs.Lines.{Mapped}
 use Rattle.rambo_check.proofs.LineWords.{more_has_words}
-use Rattle.rambo_check.proofs.LineFaults.{map_short, map_bad, row_bad, some_sets, no_sets}
+use Rattle.rambo_check.proofs.LineFaults.{map_short, map_bad, row_bad, some_confs, no_confs}
 use Rattle.rambo_check.proofs.item.read_map.Goals as goal
 
 pub returns-then-is_none-clause-fault : goal.returns-then-is_none-clause-fault
@@ -31,29 +31,29 @@ returns-clause-spelt c =
     let first = sym name.1 in
     let second = sym c.in-Some-read_num.ensures.found in
     let small : c.in-Some-read_num._floor < 2 ^ 64 = omega arith in
-    on_ok_weaker c.read_sets.result
+    on_ok_weaker c.read_confs.result
     (λ s. (
       Mapped c.in-Some-read_name._name c.in-Some-read_num._floor s.0,
       tt,
       (
-        (name.0, small, no_sets s.0 (some_sets c.in-Some.more (map set_text s.0) c.if-is_none.ensures s.1)),
-        c.in-Some.name.now ∷ c.in-Some.floor.now ∷ map set_text s.0,
-        c.in-Some.ensures.found (map set_text s.0) s.1,
-        λ i. codes "map" ∷ first i ∷ second i ∷ map set_text s.0,
+        (name.0, small, no_confs s.0 (some_confs c.in-Some.more (map conf_text s.0) c.if-is_none.ensures s.1)),
+        c.in-Some.name.now ∷ c.in-Some.floor.now ∷ map conf_text s.0,
+        c.in-Some.ensures.found (map conf_text s.0) s.1,
+        λ i. codes "map" ∷ first i ∷ second i ∷ map conf_text s.0,
       ),
     ))
-    c.read_sets.ensures.sets
+    c.read_confs.ensures.confs
 
 pub returns-clause-fault : goal.returns-clause-fault
 returns-clause-fault c =
     let name = c.in-Some-read_name.ensures.found in
     let small : c.in-Some-read_num._floor < 2 ^ 64 = omega arith in
-    IfErr-weaker c.read_sets.result _ _
+    IfErr-weaker c.read_confs.result _ _
     (λ f h.
-    elim (row_bad Set (option_copied c.in-Some.more) f h) [
+    elim (row_bad Conf (option_copied c.in-Some.more) f h) [
       | inl e ↦ inl e
       | inr b ↦
           map_bad (option_copied c.args.more) c.in-Some.more c.in-Some.name.now c.in-Some.floor.now b.0 f c.if-is_none.ensures b.1 (c.in-Some.ensures.found b.0 b.1)
           (inr ((c.in-Some-read_name._name, name.0, name.1), inr ((c.in-Some-read_num._floor, small, c.in-Some-read_num.ensures.found), b.2)))
     ])
-    c.read_sets.ensures.fault
+    c.read_confs.ensures.fault

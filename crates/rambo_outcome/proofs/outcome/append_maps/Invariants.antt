@@ -5,7 +5,7 @@ use Rattle.rambo_outcome.specs.Outcomes.{map_item}
 use Rattle.rambo_outcome.proofs.outcome.append_maps.Given as goal
 
 abbrev pub invariant-loop-node : goal.invariant-loop-node
-invariant-loop-node g l = record {
-  text : l.out.items ++ items_text (map (map_item g.Q.Quorums.system) (drop l.node-index l.maps)) ≡ l.initial.out.items ++ items_text (map (map_item g.Q.Quorums.system) l.maps);
+invariant-loop-node l = record {
+  text : l.out.items ++ items_text (map map_item (drop l.node-index l.maps)) ≡ l.initial.out.items ++ items_text (map map_item l.maps);
   front : Grows l.initial.out.items l.out.items;
 }
