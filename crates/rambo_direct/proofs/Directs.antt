@@ -1,9 +1,8 @@
 -- The history of a run that keeps no letters, after its steps
 use Rattle.std.proofs.Common.{◌≡◌, ℕ, [], ◌∷◌, ◌++◌, Option, None, Some, Result, Ok, Err, IfOk, OnErr, refl, sym, ap, ◌∙◌}
 use Rattle.rambo_names.specs.declared.refusal.Refusal.{Refusal}
-use Rattle.rambo_names.specs.Weights.{Weights}
+use Rattle.rambo_names.specs.Weights.{Weights, weighted_majorities}
 use Rattle.rambo_names.specs.Quorums.{QuorumSystem}
-use Rattle.rambo_names.specs.Weights.{weighted_majorities}
 use Rattle.rambo_atomic.specs.declared.operation.Op.{Op}
 use Rattle.rambo_atomic.specs.declared.operation.Answer.{Answer}
 use Rattle.rambo_atomic.specs.declared.event.CallId.{CallId}

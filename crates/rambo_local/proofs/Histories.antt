@@ -1,7 +1,6 @@
 -- The history of a world, after its steps
 use Rattle.std.proofs.Common.{◌≡◌, ℕ, [], ◌∷◌, ◌++◌, None, refl, sym, ap, ◌∙◌}
-use Rattle.rambo_names.specs.Weights.{Weights}
-use Rattle.rambo_names.specs.Weights.{weighted_majorities}
+use Rattle.rambo_names.specs.Weights.{Weights, weighted_majorities}
 use Rattle.rambo_atomic.specs.declared.operation.Op.{Op}
 use Rattle.rambo_atomic.specs.declared.operation.Answer.{Answer}
 use Rattle.rambo_atomic.specs.declared.event.CallId.{CallId}

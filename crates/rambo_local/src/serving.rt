@@ -27,8 +27,8 @@ pub fn local_on<R: Source, W: Sink>(
 ) -> Result<(), LocalFault>
     requires fresh { world.old.steps ≡ [] }
     requires founded { 1 ≤ count_of (members_of world.old.founders) }
-    ensures ok { OnOk result (ServesAt (lowest world.old.founders) (R.left reader.old) (R.left reader.new) (W.taken writer.old) (W.taken writer.new) (history_of world.new)) }
-    ensures err { OnErr result (StopsAt (lowest world.old.founders) (R.left reader.old) (R.left reader.new) (W.taken writer.old) (W.taken writer.new) (history_of world.new)) }
+    ensures ok { OnOk result (ServesAt (lowest (members_of world.old.founders)) (R.left reader.old) (R.left reader.new) (W.taken writer.old) (W.taken writer.new) (history_of world.new)) }
+    ensures err { OnErr result (StopsAt (lowest (members_of world.old.founders)) (R.left reader.old) (R.left reader.new) (W.taken writer.old) (W.taken writer.new) (history_of world.new)) }
     ensures fine_reader { OnOk result (R.failures reader.new ≡ R.failures reader.old) }
     ensures fine_writer { OnOk result (W.failures writer.new ≡ W.failures writer.old) }
     ensures reads { IfErr result (λ f. R.failures reader.new ≡ reads_failed f (R.failures reader.old)) }

@@ -1,7 +1,6 @@
 -- How serving many clients ends
 use Rattle.std.specs.Prelude.{◌≡◌, ◌⊎◌, ◌≤◌, ℕ, List, [], Option, length}
-use Rattle.rambo_names.specs.Weights.{Weights}
-use Rattle.rambo_names.specs.Weights.{weighted_majorities}
+use Rattle.rambo_names.specs.Weights.{Weights, weighted_majorities}
 use Rattle.rambo_run.specs.declared.step.Step.{Step}
 use Rattle.rambo_run.specs.Legal.{IsLegal}
 use Rattle.rambo_text.specs.declared.fault.ReplayFault.TheVariants.{Memory}

@@ -1,7 +1,6 @@
 -- The run of the founders that a script tells
 use Rattle.std.proofs.Common.{◌≡◌, List, ℕ, ap, subst, sym, ◌∙◌}
-use Rattle.rambo_names.specs.Weights.{Weights}
-use Rattle.rambo_names.specs.Weights.{weighted_majorities}
+use Rattle.rambo_names.specs.Weights.{Weights, weighted_majorities}
 use Rattle.rambo_run.specs.Worlds.{first_world}
 use Rattle.rambo_run.specs.Ongoing.{RunningOf}
 use Rattle.rambo_steps.specs.Runs.{TellsFounders, IsFounded}

@@ -1,7 +1,6 @@
 -- A run that goes on as the lines of a script are read
 use Rattle.std.specs.Prelude.{◌≡◌, ◌⊎◌, ℕ, List, Option, ◌++◌, map}
-use Rattle.rambo_names.specs.Weights.{Weights}
-use Rattle.rambo_names.specs.Weights.{weighted_majorities}
+use Rattle.rambo_names.specs.Weights.{Weights, weighted_majorities}
 use Rattle.rambo_sequence.specs.Sequences.{sequences_of}
 use Rattle.rambo_run.specs.declared.step.Step.{Step}
 use Rattle.rambo_run.specs.Worlds.{WorldState, first_world}
