@@ -1,8 +1,7 @@
 -- Members of lists, and the list of a node's open calls
-use Rattle.std.proofs.Common.{◌≡◌, ℕ, zero, suc, ◌<◌, ◌⊎◌, Bool, true, false, if◌then◌else◌, nat_eq, List, [], ◌∷◌, ◌++◌, length, map, Option, Some, None, slice_get, slice_set, refl, sym, ap, ◌∙◌, subst, inl, inr, ⊎_elim, eqb-true, true≢false, arith}
+use Rattle.std.proofs.Common.{◌≡◌, ℕ, zero, suc, ◌⊎◌, nat_eq, List, [], ◌∷◌, ◌++◌, length, map, Some, slice_get, slice_set, refl, sym, ap, ◌∙◌, subst, inl, inr, ⊎_elim, eqb-true}
 use Rattle.std.proofs.lemmas.Bool.{eqb-false}
 use Rattle.std.specs.List.{remove}
-use Rattle.rambo_atomic.specs.Proper.{Stands}
 use Rattle.rambo_calls.specs.Calls.{CallState, place_of, find_call}
 pub use Rattle.rambo_sequence.proofs.Members.{pick, some_inj, none-some, Member, member_middle, member_stands, stands_member, member_left, member_right, member_cases, set_here, set_there, below_there, there_below}
 
