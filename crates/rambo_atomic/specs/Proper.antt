@@ -1,4 +1,4 @@
--- Which orders of calls explain what a history says of one key (Herlihy and Wing, "Linearizability", TOPLAS 1990)
+-- Which orders of calls explain what a history says of one key, and of all (Herlihy and Wing, "Linearizability", TOPLAS 1990)
 use Rattle.std.specs.Prelude.{◌≡◌, ℕ, List, ◌∷◌, ◌++◌, true, if◌then◌else◌, Option, None, Some, IsSome, fold}
 use Rattle.std.specs.Option.{IsSomeAnd}
 use Rattle.std.specs.Str.{bytes_eq}
@@ -57,5 +57,21 @@ pub record IsProper (h : List Event) (key : List ℕ) (order : List CallId) : Ty
   pub complete : IsComplete h key order
   pub distinct : IsDistinct order
   pub no_stranger : HasNoStranger h key order
+  pub latest : AnswersLatest h order
+  pub real_time : KeepsRealTime h order
+
+-- each answered call stands in the order
+abbrev pub HasAllAnswered : List Event → List CallId → Type 0
+HasAllAnswered h order = (c : CallId) → IsSome (answer_in h c) → Stands order c
+
+-- each entry is a call, and a get only if it was answered
+abbrev pub HasCallsAlone : List Event → List CallId → Type 0
+HasCallsAlone h order = EverySplit (λ front c back. IsSomeAnd (call_in h c) (λ op. is_get op ≡ true → IsSome (answer_in h c))) order
+
+-- the order explains the history of all keys
+pub record IsProperForAll (h : List Event) (order : List CallId) : Type 0 where
+  pub complete : HasAllAnswered h order
+  pub distinct : IsDistinct order
+  pub no_stranger : HasCallsAlone h order
   pub latest : AnswersLatest h order
   pub real_time : KeepsRealTime h order

@@ -1,5 +1,3 @@
-pub mod RunSteps
-pub mod WellFormed
 pub mod Latest
 pub mod Orders
 pub mod Right

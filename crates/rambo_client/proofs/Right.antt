@@ -14,7 +14,7 @@ use Rattle.rambo_commands.specs.declared.request.Request.{Request}
 use Rattle.rambo_client.specs.Maps.{answer_of, no_values}
 use Rattle.rambo_client.specs.Replies.{after_all}
 use Rattle.rambo_client.specs.Calls.{IsHistory, IsOfRun}
-use Rattle.rambo_client.proofs.WellFormed.{run_well_formed}
+use Rattle.rambo_run.proofs.WellFormed.{run_well_formed}
 use Rattle.rambo_client.proofs.Orders.{answer_right}
 
 pub right : (h : List Event) (name : ℕ) (qs : List Request) (h0 : List Event) (id : CallId) (o : Op) (a : Answer) → IsOfRun h → IsHistory name qs h0

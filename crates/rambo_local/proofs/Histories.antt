@@ -13,11 +13,11 @@ use Rattle.rambo_run.specs.Worlds.{WorldState}
 use Rattle.rambo_run.specs.Steps.{refusal, turn}
 use Rattle.rambo_run.proofs.NodeLists.{node_named}
 use Rattle.rambo_world.specs.Worlds.{WorldOf, state}
-use Rattle.rambo_client.proofs.RunSteps.{run-more}
+use Rattle.rambo_run.proofs.GoingOn.{run-more}
 use Rattle.rambo_client.specs.Calls.{id_at, IsOfRun}
 use Rattle.rambo_local.specs.Clusters.{history_of}
 use Rattle.rambo_direct.proofs.Turns.{answered_by, send_quiet, deliver_quiet, call_told, uncalled_told, advance_told}
-use Rattle.rambo_client.proofs.WellFormed.{no_history}
+use Rattle.rambo_run.proofs.WellFormed.{no_history}
 
 -- a step that wasn't refused
 pub stepped : (old new : WorldOf Weights) (st : Step Weights) → refusal weighted_majorities (state weighted_majorities old) st ≡ None → new ≡ record old { steps = old.steps ++ st ∷ [] }

@@ -12,6 +12,7 @@ use Rattle.rambo_atomic.proofs.LookUps.{either, call_in-append, answer_in-append
 use Rattle.rambo_atomic.proofs.Pushes.{same_call-path, same_call-refl}
 use Rattle.rambo_sequence.specs.Sequences.{call_place}
 use Rattle.rambo_run.proofs.Lists.{pick, some_inj, none-some}
+pub use Rattle.rambo_sequence.proofs.MergedOrder.{call_kept}
 
 pub none_or_some : {A : Type 0} (o : Option A) → (o ≡ None) ⊎ ((a : A) × (o ≡ Some a))
 none_or_some None = inl refl
@@ -28,9 +29,6 @@ either_cases (Some b) p a e = inl e
 if_some : {A : Type 0} (b : Bool) (a x : A) → (if b then Some a else None) ≡ Some x → (b ≡ true) × (a ≡ x)
 if_some true a x e = (refl, some_inj a x e)
 if_some false a x e = absurd (none-some x e)
-
-pub call_kept : (h es : List Event) (c : CallId) (o : Op) → call_in h c ≡ Some o → call_in (h ++ es) c ≡ Some o
-call_kept h es c o e = call_in-append h es c ∙ ap (λ p. either p (call_in es c)) e
 
 pub answer_kept : (h es : List Event) (c : CallId) (a : Answer) → answer_in h c ≡ Some a → answer_in (h ++ es) c ≡ Some a
 answer_kept h es c a e = answer_in-append h es c ∙ ap (λ p. either p (answer_in es c)) e

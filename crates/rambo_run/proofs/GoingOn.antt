@@ -34,10 +34,12 @@ pub after-refused : {Q : Type 0} (s : QuorumSystem Q) (w : WorldState Q) (st : S
 unfolding after
 after-refused s w st r e = λ i. unless_refused (e i) w (turn w st).world
 
+pub run-after : {Q : Type 0} (s : QuorumSystem Q) (founders : Q) (sts : List (Step Q)) (st : Step Q) → run s founders (sts ++ st ∷ []) ≡ after s (run s founders sts) st
+run-after s founders sts st =
+    run_is s founders (sts ++ st ∷ []) ∙ run_from-more s (first_world s founders) sts st ∙ ap (λ w. after s w st) (sym (run_is s founders sts))
+
 pub run-more : {Q : Type 0} (s : QuorumSystem Q) (founders : Q) (sts : List (Step Q)) (st : Step Q) → refusal s (run s founders sts) st ≡ None → run s founders (sts ++ st ∷ []) ≡ (turn (run s founders sts) st).world
-run-more s founders sts st e =
-    run_is s founders (sts ++ st ∷ []) ∙ run_from-more s (first_world s founders) sts st
-    ∙ ap (λ w. after s w st) (sym (run_is s founders sts)) ∙ after-taken s (run s founders sts) st e
+run-more s founders sts st e = run-after s founders sts st ∙ after-taken s (run s founders sts) st e
 
 pub run_from-append : {Q : Type 0} (s : QuorumSystem Q) (w : WorldState Q) (xs ys : List (Step Q)) → run_from s w (xs ++ ys) ≡ run_from s (run_from s w xs) ys
 unfolding run_from

@@ -49,3 +49,5 @@ pub mod Quiet
 pub mod Causes
 mod Rows
 mod ChangeRows
+pub mod WellFormed
+pub mod StoreOrder

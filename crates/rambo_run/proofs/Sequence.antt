@@ -17,6 +17,7 @@ use Rattle.rambo_node.specs.Operations.{answer_of}
 use Rattle.rambo_sequence.specs.declared.mark.Mark.{Mark}
 use Rattle.rambo_sequence.specs.Sequences.{call_place, rank, sorted_marks, sequence_of}
 use Rattle.rambo_run.specs.Worlds.{WorldState}
+use Rattle.rambo_sequence.proofs.Members.{some_and}
 use Rattle.rambo_run.proofs.Lists.{pick, some_inj, Member, member_stands, stands_member, member_map, map_member, member_left, member_right, member_cases}
 use Rattle.rambo_run.proofs.Events.{place_same}
 use Rattle.rambo_run.proofs.Sights.{Worlds}
@@ -54,10 +55,6 @@ split_marks (m ∷ ms) (d ∷ front) c back e =
     let r = split_marks ms front c back (ap tail_of e) in
     let h : m.id ≡ d = ap (head_or d) e in
     record { before = m ∷ r.before; mark = r.mark; behind = r.behind; whole = λ i. m ∷ r.whole i; front_is = λ i. h i ∷ r.front_is i; id = r.id; back_is = r.back_is }
-
-pub some_and : {A : Type 0} (P : A → Type 0) (o : Option A) → IsSomeAnd o P → (a : A) × (o ≡ Some a) × P a
-some_and P None h = absurd h
-some_and P (Some a) h = (a, refl, h)
 
 is_some_of : {A : Type 0} (o : Option A) → IsSome o → (a : A) × (o ≡ Some a)
 is_some_of None h = absurd (true≢false (sym h))

@@ -8,7 +8,7 @@ use Rattle.rambo_tag.specs.Tags.{tag_lt, tag_of}
 use Rattle.rambo_tag.specs.Copies.{joined}
 use Rattle.rambo_atomic.specs.Calls.{key_of, is_get}
 use Rattle.rambo_atomic.specs.Histories.{answered_before}
-use Rattle.rambo_atomic.specs.Proper.{IsProper, Stands}
+use Rattle.rambo_atomic.specs.Proper.{IsProper, IsProperForAll, Stands}
 use Rattle.rambo_config_map.specs.Maps.{active_at, end_of}
 use Rattle.rambo_joiner.specs.Statuses.{is_active}
 use Rattle.rambo_phase.specs.Phases.{above}
@@ -20,9 +20,10 @@ use Rattle.rambo_run.specs.declared.step.Step.{Step}
 use Rattle.rambo_run.specs.declared.step.Step.TheVariants as step
 use Rattle.rambo_sequence.specs.declared.mark.Mark.{Mark}
 use Rattle.rambo_sequence.specs.Sequences.{sequence_of}
+use Rattle.rambo_sequence.specs.StoreOrders.{IsOrder, NoTwice, all_calls}
 use Rattle.rambo_run.specs.Worlds.{WorldState, node_at, letter_at}
 use Rattle.rambo_run.specs.Steps.{refusal}
-use Rattle.rambo_run.specs.Runs.{run}
+use Rattle.rambo_run.specs.Runs.{run, given_sequences, given_order}
 
 -- for each key the given sequence is proper for the history
 abbrev pub IsAtomic : {Q : Type 0} → WorldState Q → Type 0
@@ -97,6 +98,16 @@ RepliesAreFresh {Q} s =
 -- of every run, of any founders and steps, the given sequences are proper
 abbrev pub EveryRunIsAtomic : {Q : Type 0} → QuorumSystem Q → Type 0
 EveryRunIsAtomic {Q} s = (founders : Q) (steps : List (Step Q)) → IsAtomic (run s founders steps)
+
+-- no call stands twice in the given sequences, the given order is one order of them, and it is proper for all keys
+pub record HasOneOrder {Q : Type 0} (w : WorldState Q) : Type 0 where
+  pub once : NoTwice (all_calls (given_sequences w))
+  pub is_order : IsOrder w.history (given_sequences w) (given_order w)
+  pub proper : IsProperForAll w.history (given_order w)
+
+-- so it is of every run
+abbrev pub EveryRunHasOneOrder : {Q : Type 0} → QuorumSystem Q → Type 0
+EveryRunHasOneOrder {Q} s = (founders : Q) (steps : List (Step Q)) → HasOneOrder (run s founders steps)
 
 -- and nodes hold the same configurations
 abbrev pub EveryRunAgrees : {Q : Type 0} → QuorumSystem Q → Type 0

@@ -2,12 +2,14 @@
 use Rattle.std.specs.Prelude.{ℕ, if◌then◌else◌, List, [], ◌∷◌, Option, None, Some, Result, Ok, Err}
 use Rattle.rambo_names.specs.declared.refusal.Refusal.{Refusal}
 use Rattle.rambo_names.specs.Quorums.{QuorumSystem}
+use Rattle.rambo_atomic.specs.declared.event.CallId.{CallId}
 use Rattle.rambo_atomic.specs.declared.event.Event.{Event}
 use Rattle.rambo_joiner.specs.Statuses.{is_idle}
 use Rattle.rambo_node.specs.declared.effect.Effect.{Effect}
 use Rattle.rambo_node.specs.Nodes.{NodeState}
 use Rattle.rambo_run.specs.declared.step.Step.{Step}
 use Rattle.rambo_sequence.specs.Sequences.{SequenceOf, sequences_of}
+use Rattle.rambo_sequence.specs.StoreOrders.{order_of}
 use Rattle.rambo_run.specs.Worlds.{WorldState, first_world}
 use Rattle.rambo_run.specs.Steps.{refusal, turn}
 
@@ -47,16 +49,25 @@ abbrev pub maps_of : {Q : Type 0} → List (NodeState Q) → List (MapOf Q)
 maps_of [] = []
 maps_of (x ∷ xs) = if is_idle x.status then maps_of xs else record { name = x.name; floor = x.map.floor; active = x.map.configs } ∷ maps_of xs
 
--- what a run gives: the effect or refusal of each step, the history, the sequence of each key that has one, and the
--- map of each node that isn't idle
+-- the given sequences of all keys
+abbrev pub given_sequences : {Q : Type 0} → WorldState Q → List SequenceOf
+given_sequences w = sequences_of w.history w.marks
+
+-- the one order of the calls of all keys
+abbrev pub given_order : {Q : Type 0} → WorldState Q → List CallId
+given_order w = order_of w.history (given_sequences w)
+
+-- what a run gives: the effect or refusal of each step, the history, the sequence of each key that has one, the one order
+-- of the calls of all keys, and the map of each node that isn't idle
 pub record OutcomeState (Q : Type 0) : Type 0 where
   pub effects : List (Result (Effect Q) Refusal)
   pub history : List Event
   pub sequences : List SequenceOf
+  pub order : List CallId
   pub maps : List (MapOf Q)
 
 abbrev pub outcome_at : {Q : Type 0} → List (Result (Effect Q) Refusal) → WorldState Q → OutcomeState Q
-outcome_at effects w = record { effects = effects; history = w.history; sequences = sequences_of w.history w.marks; maps = maps_of w.nodes }
+outcome_at effects w = record { effects = effects; history = w.history; sequences = given_sequences w; order = given_order w; maps = maps_of w.nodes }
 
 unfoldable pub outcome_of : {Q : Type 0} → QuorumSystem Q → Q → List (Step Q) → OutcomeState Q
 outcome_of s founders sts = outcome_at (results_from s (first_world s founders) sts) (run s founders sts)

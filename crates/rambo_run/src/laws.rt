@@ -1,6 +1,7 @@
 //! What holds of every run.
 ghost use Rattle.rambo_run.specs.Claims.{
   EveryRunIsAtomic,
+  EveryRunHasOneOrder,
   EveryRunAgrees,
   RepliesAreFresh,
   OneTagOneCopy,
@@ -27,6 +28,13 @@ use rambo_names::Quorums;
 /// "Linearizability", TOPLAS 1990).
 pub fn given_sequences_are_proper<Q: Quorums>()
     ensures proper { EveryRunIsAtomic Q.system }
+{}
+
+/// One order explains a run: no call stands twice in the given sequences, the given order is one order of them (and no
+/// other list is, as `one_store_order` of `rambo_sequence` says), and it is proper for all keys (Herlihy and Wing,
+/// "Linearizability", TOPLAS 1990).
+pub fn one_order_explains<Q: Quorums>()
+    ensures order { EveryRunHasOneOrder Q.system }
 {}
 
 /// Two nodes, at one moment of a run or at two, hold the same configuration at one place.

@@ -1,7 +1,7 @@
 //! What a run gives.
 
 use crate::step::Step;
-use rambo_atomic::History;
+use rambo_atomic::{CallId, History};
 use rambo_names::{Name, Quorums, Refusal};
 use rambo_node::Effect;
 use rambo_sequence::KeySequence;
@@ -29,12 +29,13 @@ impl<Q: Quorums> Model for NodeMap<Q> {
 }
 
 /// What a run gives: the effect or refusal of each step, the history, the sequence of each key that has one, keys in
-/// byte order, and the map of each node that isn't idle, names rising.
+/// byte order, the one order of the calls of all keys, and the map of each node that isn't idle, names rising.
 #[derive(Drop)]
 pub struct Outcome<Q: Quorums> {
     pub effects: Vec<Result<Effect<Q>, Refusal>>,
     pub history: History,
     pub sequences: Vec<KeySequence>,
+    pub order: Vec<CallId>,
     pub maps: Vec<NodeMap<Q>>,
 }
 
@@ -46,5 +47,5 @@ impl<Q: Quorums> Model for Outcome<Q> {
 
     ghost coded = { Prim.hlevel (codes, Q.code) };
 
-    ghost view = { λ o. record { effects = o.effects.items; history = o.history.events; sequences = o.sequences.items; maps = o.maps.items } };
+    ghost view = { λ o. record { effects = o.effects.items; history = o.history.events; sequences = o.sequences.items; order = o.order.items; maps = o.maps.items } };
 }

@@ -56,14 +56,14 @@ lt_either a b apart h =
       | false ↦ λ k. sym apart ∙ ap (bytes_eq a) (sym (not_lt_both a b h k)) ∙ bytes_eq-itself a
     ] refl
 
-eq_false : (a b : Key) → ¬ (a ≡ b) → bytes_eq a b ≡ false
+pub eq_false : (a b : Key) → ¬ (a ≡ b) → bytes_eq a b ≡ false
 eq_false a b apart =
     elim (bytes_eq a b) as (λ t. bytes_eq a b ≡ t → t ≡ false) [
       | true ↦ λ h. absurd (apart (bytes_eq-true a b h))
       | false ↦ λ h. refl
     ] refl
 
-lt_apart : (a b : Key) → bytes_lt a b ≡ true → ¬ (a ≡ b)
+pub lt_apart : (a b : Key) → bytes_lt a b ≡ true → ¬ (a ≡ b)
 lt_apart a b h e = true≢false (sym h ∙ ap (λ k. bytes_lt k b) e ∙ lt_itself b)
 
 -- all of these come after k

@@ -1,8 +1,13 @@
 mod Ascents
+pub mod GivenOrder
 mod GroupLists
 mod KeyLists
+pub mod Members
+pub mod MergedOrder
+mod NotedCalls
 mod OneList
 mod OneOrder
+mod OneOrderAlone
 pub mod Outcomes
 mod RankedLists
 mod WeakOrders

@@ -1,5 +1,6 @@
-//! What the given sequences are.
+//! What the given sequences are, and the one order of them.
 ghost use Rattle.rambo_sequence.specs.Laws.{GivenIsSequence, OneSequence, GivenAreSequences, OneList};
+ghost use Rattle.rambo_sequence.specs.StoreOrders.{GivenIsOrder, OneOrder, OrderIsProper};
 
 /// The given sequence of a key has exactly the calls of the key's marks: by their tags; of one tag the sets before
 /// the gets; and gets of one tag by the places of their calls.
@@ -21,4 +22,22 @@ pub fn given_are_sequences()
 /// No other list is.
 pub fn one_list()
     ensures { OneList }
+{}
+
+/// The given order of all keys is one: at each place stands the front of one key's remaining sequence, of the key that
+/// holds the one of all remaining operations that was answered first; when none that remains was answered, the keys follow
+/// in byte order.
+pub fn given_is_order()
+    ensures { GivenIsOrder }
+{}
+
+/// No other list is.
+pub fn one_store_order()
+    ensures { OneOrder }
+{}
+
+/// Where the sequence of each key is proper, one order of all of them is proper for all keys (Herlihy and Wing,
+/// "Linearizability", TOPLAS 1990, prove that such an order exists).
+pub fn order_is_proper()
+    ensures { OrderIsProper }
 {}

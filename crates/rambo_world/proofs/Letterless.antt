@@ -29,7 +29,7 @@ use Rattle.rambo_world.specs.Direct.{without_letters, passed, pass_refusal, firs
 use Rattle.rambo_run.proofs.Quiet.{quiet_made}
 use Rattle.rambo_run.proofs.GoingOn.{after-refused, run_none}
 use Rattle.rambo_run.proofs.Legal.{events_fit_run}
-use Rattle.rambo_world.proofs.Reached.{run-after}
+use Rattle.rambo_run.proofs.GoingOn.{run-after}
 use Rattle.rambo_world.proofs.Turns.{step_turn, step_refusal, step_fits, deliver_refusal}
 
 -- the first item behind a list

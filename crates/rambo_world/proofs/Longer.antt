@@ -3,19 +3,22 @@ use Rattle.std.proofs.Common.{◌≡◌, ◌+◌, ◌<◌, take, get_or, ℕ, Li
 use Rattle.std.proofs.lemmas.List.{take_more}
 use Rattle.rambo_names.specs.declared.refusal.Refusal.{Refusal}
 use Rattle.rambo_names.specs.Quorums.{QuorumSystem, IsSound}
-use Rattle.rambo_atomic.specs.Proper.{IsProper}
+use Rattle.rambo_atomic.specs.Proper.{IsProper, IsProperForAll}
+use Rattle.rambo_atomic.specs.declared.event.CallId.{CallId}
 use Rattle.rambo_atomic.specs.declared.event.Event.{Event}
-use Rattle.rambo_sequence.specs.Sequences.{sequence_in, sequences_of}
+use Rattle.rambo_sequence.specs.Sequences.{sequence_in}
+use Rattle.rambo_sequence.specs.StoreOrders.{IsOrder, order_of}
 use Rattle.rambo_sequence.proofs.Outcomes.{sequence_in-sequences_of}
 use Rattle.rambo_node.specs.declared.effect.Effect.{Effect}
 use Rattle.rambo_run.specs.declared.step.Step.{Step}
 use Rattle.rambo_run.specs.Worlds.{WorldState, first_world}
 use Rattle.rambo_run.specs.Steps.{Turn, refusal, turn}
 use Rattle.rambo_sequence.specs.Sequences.{SequenceOf}
-use Rattle.rambo_run.specs.Runs.{MapOf, maps_of, after, run_from, run, result_of, results_from, outcome_at, outcome_of, OutcomeState}
+use Rattle.rambo_run.specs.Runs.{MapOf, maps_of, given_sequences, after, run_from, run, result_of, results_from, outcome_at, outcome_of, OutcomeState}
 use Rattle.rambo_run.proofs.Runs.{run_from-more}
 use Rattle.rambo_run.proofs.GoingOn.{run_is, run-more}
 use Rattle.rambo_run.proofs.EveryRun.{is_atomic}
+use Rattle.rambo_run.proofs.StoreOrder.{has_one_order}
 use Rattle.rambo_run.specs.Ongoing.{RunningOf}
 
 pub results_from-none : {Q : Type 0} (s : QuorumSystem Q) (w : WorldState Q) → results_from s w [] ≡ []
@@ -63,6 +66,19 @@ pub told_proper : {Q : Type 0} (s : QuorumSystem Q) → IsSound s → (founders 
 told_proper s law founders ss (Ok o) e = outcome_proper s law founders ss o e
 told_proper s law founders ss (Err f) e = e
 
+-- and whose one order explains all keys
+pub outcome_ordered : {Q : Type 0} (s : QuorumSystem Q) → IsSound s → (founders : Q) (ss : List (Step Q)) (r : Result (OutcomeState Q) Refusal)
+    → IfOk r (λ o. o ≡ outcome_of s founders ss) → IfOk r (λ o. IsOrder o.history o.sequences o.order)
+unfolding outcome_of
+outcome_ordered s law founders ss (Ok o) e = subst (λ (o : OutcomeState _). IsOrder o.history o.sequences o.order) (sym e) (has_one_order s law founders ss).is_order
+outcome_ordered s law founders ss (Err f) e = e
+
+pub outcome_explained : {Q : Type 0} (s : QuorumSystem Q) → IsSound s → (founders : Q) (ss : List (Step Q)) (r : Result (OutcomeState Q) Refusal)
+    → IfOk r (λ o. o ≡ outcome_of s founders ss) → IfOk r (λ o. IsProperForAll o.history o.order)
+unfolding outcome_of
+outcome_explained s law founders ss (Ok o) e = subst (λ (o : OutcomeState _). IsProperForAll o.history o.order) (sym e) (has_one_order s law founders ss).proper
+outcome_explained s law founders ss (Err f) e = e
+
 -- the results of one step more
 results_from-more : {Q : Type 0} (s : QuorumSystem Q) (w : WorldState Q) (sts : List (Step Q)) (st : Step Q)
     → results_from s w (sts ++ st ∷ []) ≡ results_from s w sts ++ result_of (refusal s (run_from s w sts) st) (run_from s w sts) st ∷ []
@@ -83,6 +99,8 @@ module _ {Q : Type 0} (s : QuorumSystem Q) (w : WorldState Q) (steps : List (Ste
       more ∙ (λ k. told k ++ (e ∙ ap (λ w. result_of (refusal s w x) w x) then) k ∷ []) ∙ sym (results_from-more s w (take i steps) x) ∙ ap (results_from s w) (sym next_steps)
 
 -- an outcome by its parts
-pub outcome_made : {Q : Type 0} (effects : List (Result (Effect Q) Refusal)) (w : WorldState Q) (history : List Event) (sequences : List SequenceOf) (maps : List (MapOf Q))
-    → history ≡ w.history → sequences ≡ sequences_of w.history w.marks → maps ≡ maps_of w.nodes → record { effects = effects; history = history; sequences = sequences; maps = maps } ≡ outcome_at effects w
-outcome_made effects w history sequences maps h s m = λ i. record { effects = effects; history = h i; sequences = s i; maps = m i }
+pub outcome_made : {Q : Type 0} (effects : List (Result (Effect Q) Refusal)) (w : WorldState Q) (history : List Event) (sequences : List SequenceOf) (order : List CallId) (maps : List (MapOf Q))
+    → history ≡ w.history → sequences ≡ given_sequences w → order ≡ order_of w.history sequences → maps ≡ maps_of w.nodes
+    → record { effects = effects; history = history; sequences = sequences; order = order; maps = maps } ≡ outcome_at effects w
+outcome_made effects w history sequences order maps h s o m =
+    λ i. record { effects = effects; history = h i; sequences = s i; order = (o ∙ ap (order_of w.history) s) i; maps = m i }

@@ -2,23 +2,20 @@
 use Rattle.std.proofs.Common.{◌≡◌, ℕ, List, [], ◌∷◌, ◌++◌, Result, Ok, Err, IfOk, OnOk, OnErr, refl, sym, ap, ◌∙◌, subst}
 use Rattle.rambo_names.specs.declared.refusal.Refusal.{Refusal}
 use Rattle.rambo_names.specs.Quorums.{QuorumSystem, IsSound}
-use Rattle.rambo_atomic.specs.Proper.{IsProper}
+use Rattle.rambo_atomic.specs.Proper.{IsProper, IsProperForAll}
 use Rattle.rambo_sequence.specs.Sequences.{SequenceOf, sequence_in, sequence_of, sequences_of}
+use Rattle.rambo_sequence.specs.StoreOrders.{IsOrder}
 use Rattle.rambo_sequence.proofs.Outcomes.{sequence_in-sequences_of}
 use Rattle.rambo_run.specs.declared.step.Step.{Step}
 use Rattle.rambo_run.specs.Worlds.{WorldState, first_world}
 use Rattle.rambo_run.specs.Runs.{OutcomeState, after, outcome_at, results_from, run, run_from}
 use Rattle.rambo_run.proofs.EveryRun.{agrees, is_atomic}
+use Rattle.rambo_run.proofs.StoreOrder.{has_one_order}
+use Rattle.rambo_run.specs.Claims.{HasOneOrder}
 use Rattle.rambo_run.specs.Ongoing.{RunningOf, IsReached, AgreesSoFar}
 use Rattle.rambo_run.specs.Legal.{EventsFit}
-use Rattle.rambo_run.proofs.Runs.{run_from-more}
-use Rattle.rambo_run.proofs.GoingOn.{run_is, run_none}
+use Rattle.rambo_run.proofs.GoingOn.{run_is, run_none, run-after}
 use Rattle.rambo_run.proofs.Legal.{events_fit_run}
-
--- the run of one step more
-pub run-after : {Q : Type 0} (s : QuorumSystem Q) (founders : Q) (sts : List (Step Q)) (st : Step Q) → run s founders (sts ++ st ∷ []) ≡ after s (run s founders sts) st
-run-after s founders sts st =
-    run_is s founders (sts ++ st ∷ []) ∙ run_from-more s (first_world s founders) sts st ∙ ap (λ w. after s w st) (sym (run_is s founders sts))
 
 pub reached_first : {Q : Type 0} (s : QuorumSystem Q) (founders : Q) (w : WorldState Q) → w ≡ first_world s founders → IsReached s founders w
 reached_first s founders w first = ([], first ∙ sym (run_none s founders))
@@ -77,6 +74,22 @@ pub reached_told : {Q : Type 0} (s : QuorumSystem Q) → IsSound s → (founders
 reached_told s law founders w more (Ok o) reached e = λ key.
     subst (λ (o : OutcomeState _). IsProper o.history key (sequence_in o.sequences key)) (sym e) (reached_proper s law founders (run_from s w more) (reached_further s founders w more reached) key)
 reached_told s law founders w more (Err f) reached e = e
+
+-- and one order, which explains all keys
+pub reached_one_order : {Q : Type 0} (s : QuorumSystem Q) → IsSound s → (founders : Q) (w : WorldState Q) (more : List (Step Q)) → IsReached s founders w → HasOneOrder (run_from s w more)
+reached_one_order s law founders w more reached =
+    let r = reached_further s founders w more reached in
+    subst HasOneOrder (sym r.1) (has_one_order s law founders r.0)
+
+pub reached_ordered : {Q : Type 0} (s : QuorumSystem Q) → IsSound s → (founders : Q) (w : WorldState Q) (more : List (Step Q)) (r : Result (OutcomeState Q) Refusal) → IsReached s founders w
+    → IfOk r (λ o. o ≡ outcome_at (results_from s w more) (run_from s w more)) → IfOk r (λ o. IsOrder o.history o.sequences o.order)
+reached_ordered s law founders w more (Ok o) reached e = subst (λ (o : OutcomeState _). IsOrder o.history o.sequences o.order) (sym e) (reached_one_order s law founders w more reached).is_order
+reached_ordered s law founders w more (Err f) reached e = e
+
+pub reached_explained : {Q : Type 0} (s : QuorumSystem Q) → IsSound s → (founders : Q) (w : WorldState Q) (more : List (Step Q)) (r : Result (OutcomeState Q) Refusal) → IsReached s founders w
+    → IfOk r (λ o. o ≡ outcome_at (results_from s w more) (run_from s w more)) → IfOk r (λ o. IsProperForAll o.history o.order)
+reached_explained s law founders w more (Ok o) reached e = subst (λ (o : OutcomeState _). IsProperForAll o.history o.order) (sym e) (reached_one_order s law founders w more reached).proper
+reached_explained s law founders w more (Err f) reached e = e
 
 -- what a step makes of a run that goes on
 pub goes_on : {Q A B : Type 0} (s : QuorumSystem Q) (founders : Q) (w new : WorldState Q) (v : RunningOf Q) (st : Step Q) (r : Result A B) → record { founders = founders; state = w } ≡ v

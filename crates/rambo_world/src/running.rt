@@ -1,8 +1,9 @@
 //! Runs that go on.
 ghost use Rattle.std.specs.Prelude.{◌≡◌, List, ℕ, None, IfOk, IfErr, OnOk};
 ghost use Rattle.rambo_names.specs.Refusals.{least, IsRefusal};
-ghost use Rattle.rambo_atomic.specs.Proper.{IsProper};
+ghost use Rattle.rambo_atomic.specs.Proper.{IsProper, IsProperForAll};
 ghost use Rattle.rambo_sequence.specs.Sequences.{sequence_in};
+ghost use Rattle.rambo_sequence.specs.StoreOrders.{IsOrder};
 ghost use Rattle.rambo_run.specs.Runs.{results_from, run_from, outcome_at};
 ghost use Rattle.rambo_run.specs.Worlds.{first_world};
 ghost use Rattle.rambo_node.specs.Changes.{answer_in};
@@ -58,7 +59,7 @@ impl<Q: Quorums, S: Replica> Running<Q, S> {
         })
     }
 
-    /// Takes all of these steps, and gives what they did, the history, the sequences and the maps. A step that is
+    /// Takes all of these steps, and gives what they did, the history, the sequences, their one order and the maps. A step that is
     /// refused is noted with its refusal, and the run goes on. With no step before, that is the outcome of the run of these
     /// steps, for any system of quorums.
     ///
@@ -66,6 +67,8 @@ impl<Q: Quorums, S: Replica> Running<Q, S> {
     pub fn finish(self, alloc: Global, steps: &[Step<Q>]) -> Result<Outcome<Q>, Refusal>
         ensures outcome { IfOk result (λ o. o ≡ outcome_at (results_from Q.system self.state steps.now) (run_from Q.system self.state steps.now)) }
         ensures proper { IfOk result (λ o. (key : List ℕ) → IsProper o.history key (sequence_in o.sequences key)) }
+        ensures ordered { IfOk result (λ o. IsOrder o.history o.sequences o.order) }
+        ensures explained { IfOk result (λ o. IsProperForAll o.history o.order) }
         ensures agreed { AgreesSoFar Q.system self.founders (run_from Q.system self.state steps.now) }
         ensures refused { IfErr result (λ r. r ≡ Refusal.OutOfMemory) }
     {

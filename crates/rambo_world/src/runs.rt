@@ -1,10 +1,11 @@
 //! Whole runs.
 ghost use Rattle.std.specs.Prelude.{◌≡◌, List, ℕ, None, IfOk, IfErr, OnOk};
 ghost use Rattle.rambo_names.specs.Refusals.{least, IsRefusal};
-ghost use Rattle.rambo_atomic.specs.Proper.{IsProper};
+ghost use Rattle.rambo_atomic.specs.Proper.{IsProper, IsProperForAll};
 ghost use Rattle.rambo_sequence.specs.Sequences.{sequence_in};
+ghost use Rattle.rambo_sequence.specs.StoreOrders.{IsOrder, NoTwice, all_calls};
 ghost use Rattle.rambo_run.specs.Claims.{Agrees};
-ghost use Rattle.rambo_run.specs.Runs.{outcome_at, outcome_of, results_from, run_from};
+ghost use Rattle.rambo_run.specs.Runs.{given_sequences, outcome_at, outcome_of, results_from, run_from};
 ghost use Rattle.rambo_run.specs.Legal.{EventsFit};
 ghost use Rattle.rambo_run.specs.Worlds.{founding_causes};
 
@@ -24,11 +25,17 @@ use std::hash::{BuildHasherDefault, FoldHasher};
 /// stands before it (Attiya, Bar-Noy and Dolev, "Sharing Memory Robustly in Message-Passing Systems", JACM 1995; Lynch
 /// and Shvartsman, "RAMBO", DISC 2002). No two nodes hold different configurations at one place.
 ///
+/// The outcome also gives one order of the calls of all keys, which explains them together: at each place stands the front
+/// of one key's remaining sequence, of the key that holds the one of all remaining operations that was answered first; when
+/// none that remains was answered, the keys follow in byte order.
+///
 /// Refused are 18 where there is no founder, 22 where memory runs out.
 pub fn run<Q: Quorums>(alloc: Global, founders: Q, steps: &[Step<Q>]) -> Result<Outcome<Q>, Refusal>
     ensures founded { OnOk result (least (founding_causes Q.system founders) ≡ None) }
     ensures outcome { IfOk result (λ o. o ≡ outcome_of Q.system founders steps.now) }
     ensures proper { IfOk result (λ o. (key : List ℕ) → IsProper o.history key (sequence_in o.sequences key)) }
+    ensures ordered { IfOk result (λ o. IsOrder o.history o.sequences o.order) }
+    ensures explained { IfOk result (λ o. IsProperForAll o.history o.order) }
     ensures agreed { Agrees Q.system founders steps.now }
     ensures refused { IfErr result (IsRefusal (least (founding_causes Q.system founders))) }
 {
@@ -43,16 +50,19 @@ pub(crate) fn outcome<Q: Quorums, S: Replica>(
     steps: &[Step<Q>],
 ) -> Result<Outcome<Q>, Refusal>
     requires fits { (done : List (Step _)) → EventsFit Q.system (run_from Q.system state.old done) }
+    requires once { NoTwice (all_calls (given_sequences (run_from Q.system state.old steps.now))) }
     ensures outcome { IfOk result (λ o. o ≡ outcome_at (results_from Q.system state.old steps.now) (run_from Q.system state.old steps.now)) }
     ensures refused { IfErr result (λ r. r ≡ Refusal.OutOfMemory) }
 {
     let effects = state.take_all(alloc, steps)?;
     let sequences = state.sequences(alloc)?;
+    let order = state.order(alloc, sequences.as_slice())?;
     let maps = state.maps(alloc)?;
     Ok(Outcome {
         effects,
         history: state.take_history(alloc),
         sequences,
+        order,
         maps,
     })
 }

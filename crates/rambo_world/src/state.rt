@@ -5,6 +5,7 @@ ghost use Rattle.rambo_run.specs.Runs.{after, result_of, results_from, run_from,
 ghost use Rattle.rambo_run.specs.Steps.{refusal, turn};
 ghost use Rattle.rambo_run.specs.Worlds.{first_world, node_at};
 ghost use Rattle.rambo_sequence.specs.Sequences.{sequence_of, sequences_of};
+ghost use Rattle.rambo_sequence.specs.StoreOrders.{NoTwice, all_calls, order_of};
 ghost use Rattle.rambo_run.specs.Legal.{EventsFit};
 
 use crate::nodes::Nodes;
@@ -209,6 +210,19 @@ impl<Q: Quorums, S: Replica> State<Q, S> {
         ensures refused { IfErr result (λ r. r ≡ Refusal.OutOfMemory) }
     {
         rambo_sequence::sequences(alloc, &self.history, self.marks.as_slice())
+    }
+
+    // The one order of the calls of all of these sequences.
+    pub(crate) fn order(
+        &self,
+        alloc: Global,
+        sequences: &[KeySequence],
+    ) -> Result<Vec<CallId>, Refusal>
+        requires { NoTwice (all_calls sequences.now) }
+        ensures given { IfOk result (λ order. order.items ≡ order_of self.now.history sequences.now) }
+        ensures refused { IfErr result (λ r. r ≡ Refusal.OutOfMemory) }
+    {
+        rambo_sequence::one_order(alloc, &self.history, sequences)
     }
 
     // The maps of the nodes that aren't idle.

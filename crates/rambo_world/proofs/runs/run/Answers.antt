@@ -1,6 +1,6 @@
 use Rattle.rambo_run.proofs.EveryRun.{agrees}
 use Rattle.rambo_world.proofs.Fitting.{running_fits}
-use Rattle.rambo_world.proofs.Longer.{run_outcome, told_proper}
+use Rattle.rambo_world.proofs.Longer.{run_outcome, told_proper, outcome_ordered, outcome_explained}
 use Rattle.rambo_world.proofs.Turns.{err_alone}
 use Rattle.rambo_world.proofs.runs.run.Goals as goal
 
@@ -15,6 +15,12 @@ returns-clause-outcome g c = run_outcome g.Q.Quorums.system c.args.founders c.ar
 
 pub returns-clause-proper : goal.returns-clause-proper
 returns-clause-proper g c = told_proper g.Q.Quorums.system g.met.Q.Quorums.sound c.args.founders c.args.steps.now c.finish.result (returns-clause-outcome g c)
+
+pub returns-clause-ordered : goal.returns-clause-ordered
+returns-clause-ordered g c = outcome_ordered g.Q.Quorums.system g.met.Q.Quorums.sound c.args.founders c.args.steps.now c.finish.result (returns-clause-outcome g c)
+
+pub returns-clause-explained : goal.returns-clause-explained
+returns-clause-explained g c = outcome_explained g.Q.Quorums.system g.met.Q.Quorums.sound c.args.founders c.args.steps.now c.finish.result (returns-clause-outcome g c)
 
 pub returns-clause-refused : goal.returns-clause-refused
 returns-clause-refused g c = err_alone c.finish.result _ c.in_ok-new.ensures.founded c.finish.ensures.refused

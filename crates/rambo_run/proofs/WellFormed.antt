@@ -16,7 +16,7 @@ use Rattle.rambo_run.specs.Worlds.{WorldState, first_world}
 use Rattle.rambo_run.specs.Steps.{refusal}
 use Rattle.rambo_run.specs.Runs.{run}
 use Rattle.rambo_run.proofs.Fitting.{events_fit}
-use Rattle.rambo_client.proofs.RunSteps.{run-more, run-none, run-after, after-refused}
+use Rattle.rambo_run.proofs.GoingOn.{run_none, run-more, run-after, after-refused}
 
 none_well : IsWellFormed []
 none_well = record {
@@ -30,7 +30,7 @@ module _ {Q : Type 0} (s : QuorumSystem Q) (founders : Q) where
   first_history = λ i. []
 
   pub no_history : (run s founders []).history ≡ []
-  no_history = ap (λ (w : WorldState Q). w.history) (run-none s founders) ∙ first_history
+  no_history = ap (λ (w : WorldState Q). w.history) (run_none s founders) ∙ first_history
 
   one_more : (done : List (Step Q)) (st : Step Q) → IsWellFormed (run s founders done).history → IsWellFormed (run s founders (done ++ st ∷ [])).history
   one_more done st well =
