@@ -14,3 +14,5 @@ pub mod Turned
 pub mod Taken
 pub mod Found
 pub mod Told
+pub mod Taking
+pub mod Clearing

@@ -141,11 +141,11 @@ module _ {Q : Type 0} (s : QuorumSystem Q) (w : WorldState Q) (name : ℕ) (x : 
       ∙ ap (λ o. or_then (advance_of (moved_first s x x.calls)) (chosen (refusal_of s x change.AdvanceCollect) (step.AdvanceCollect name) (chosen o (step.AdvanceRecon name) None))) bids)
 
 -- each of these steps
-abbrev Each : {Q : Type 0} → (Step Q → Type 0) → List (Step Q) → Type 0
+abbrev pub Each : {Q : Type 0} → (Step Q → Type 0) → List (Step Q) → Type 0
 Each P [] = Unit {0}
 Each P (st ∷ sts) = P st × Each P sts
 
-each_append : {Q : Type 0} (P : Step Q → Type 0) (xs ys : List (Step Q)) → Each P xs → Each P ys → Each P (xs ++ ys)
+pub each_append : {Q : Type 0} (P : Step Q → Type 0) (xs ys : List (Step Q)) → Each P xs → Each P ys → Each P (xs ++ ys)
 each_append P [] ys a b = b
 each_append P (x ∷ xs) ys a b = (a.0, each_append P xs ys a.1 b)
 
@@ -153,7 +153,7 @@ chosen_has : {Q : Type 0} (P : Step Q → Type 0) (o : Option Refusal) (st : Ste
 chosen_has P None st rest p h = p
 chosen_has P (Some r) st rest p h = h
 
-first_has : {Q : Type 0} (s : QuorumSystem Q) (w : WorldState Q) (P : Step Q → Type 0) (sts : List (Step Q)) → Each P sts → IfSome (first_of s w sts) P
+pub first_has : {Q : Type 0} (s : QuorumSystem Q) (w : WorldState Q) (P : Step Q → Type 0) (sts : List (Step Q)) → Each P sts → IfSome (first_of s w sts) P
 first_has s w P [] a = tt
 first_has s w P (st ∷ sts) a = chosen_has P (refusal s w st) st (first_of s w sts) a.0 (first_has s w P sts a.1)
 

@@ -20,10 +20,12 @@ pub record KeeperView (Q : Type 0) : Type 0 where
   pub tray : List (Mail Q)
   pub seen : List (Step Q)
 
+-- waiting: of the names 1, 2, .. the numbers of the letters that wait for each, the oldest first
 pub record BookView (Q : Type 0) : Type 0 where
   pub founders : Q
   pub steps : List (Step Q)
   pub capacity : ℕ
+  pub waiting : List (List ℕ)
 
 -- the world that the steps of a book make
 abbrev pub state : {Q : Type 0} → QuorumSystem Q → BookView Q → WorldState Q

@@ -1,4 +1,5 @@
 pub mod Deeds
 pub mod Kept
+pub mod Mailing
 pub mod Passes
 pub mod Turns

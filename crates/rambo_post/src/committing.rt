@@ -2,6 +2,7 @@
 ghost use Rattle.std.specs.Prelude.{◌≡◌, ◌≢◌, ◌<◌, ◌++◌, ◌∷◌, [], None, Some, length, OnOk, OnErr, IfOk, IfErr};
 ghost use Rattle.std.specs.Vec.{vec_len, vec_capacity};
 ghost use Rattle.rambo_atomic.specs.Faults.{fault_of};
+ghost use Rattle.rambo_run.specs.Actors.{sent_by};
 ghost use Rattle.rambo_run.specs.Runs.{run};
 ghost use Rattle.rambo_run.specs.Steps.{refusal, turn, with_letter, with_event};
 ghost use Rattle.rambo_run.specs.Worlds.{node_at};
@@ -58,7 +59,8 @@ pub fn commit<J: Terms<Q>, Q: Quorums, S: Replica>(
     requires { IsServedBy (state Q.system book.old) step keeper.old.name }
     ensures legal { OnOk result (refusal Q.system (state Q.system book.old) step ≡ None) }
     ensures effect { IfOk result (λ e. e ≡ (turn (state Q.system book.old) step).effect) }
-    ensures book { OnOk result (book.new ≡ record book.old { steps = book.old.steps ++ step ∷ [] }) }
+    ensures book { OnOk result (book.new ≡ record book.old { steps = book.old.steps ++ step ∷ []; waiting = book.new.waiting }) }
+    ensures waiting { OnOk result (sent_by step ≡ [] → book.new.waiting ≡ book.old.waiting) }
     ensures keeper { OnOk result (keeper.new ≡ record keeper.old { node = keeper.new.node; seen = book.old.steps ++ step ∷ [] }) }
     ensures node { OnOk result (node_at (state Q.system book.new) keeper.old.name ≡ Some keeper.new.node) }
     ensures same { OnErr result ((book.new ≡ book.old) × (keeper.new ≡ keeper.old)) }
@@ -109,7 +111,7 @@ fn make_room<Q: Quorums>(
     mails: &mut Mails,
     step: &Step<Q>,
 ) -> Result<(), Refusal>
-    ensures same { (steps.new.items ≡ steps.old.items) × (letters.new.items ≡ letters.old.items) × (history.new.events ≡ history.old.events) }
+    ensures same { (steps.new.items ≡ steps.old.items) × (letters.new.items ≡ letters.old.items) × (history.new.events ≡ history.old.events) × (mails.new ≡ mails.old) }
     ensures room { OnOk result ((vec_len steps.new < vec_capacity steps.new) × (vec_len letters.new < vec_capacity letters.new) × (0 < history.new.room)) }
 {
     mails.make_room(step)?;

@@ -1,5 +1,7 @@
 //! What a keeper takes from the book.
-ghost use Rattle.std.specs.Prelude.{◌≡◌, OnErr, IfErr};
+ghost use Rattle.std.specs.Prelude.{◌≡◌, ◌<◌, ℕ, [], ◌∷◌, drop, slice_get, OnOk, OnErr, IfErr};
+ghost use Rattle.rambo_post.specs.Kept.{state};
+ghost use Rattle.rambo_post.specs.Mailing.{waiting_for, with_waiting, sent_to, IsBehind, AreTaken, all_for};
 
 use crate::book::Book;
 use crate::deeds::letter_of;
@@ -29,7 +31,8 @@ pub fn take_letter<J: Terms<Q>, Q: Quorums, S: Replica>(
     number: u64,
 ) -> Result<(), Refusal>
     requires { keeper.old.seen ≡ book.now.steps }
-    ensures same { (keeper.new.name ≡ keeper.old.name) × (keeper.new.node ≡ keeper.old.node) × (keeper.new.seen ≡ keeper.old.seen) }
+    ensures keeper { keeper.new ≡ record keeper.old { tray = keeper.new.tray } }
+    ensures tray { OnOk result (IsBehind keeper.old.tray (sent_to (state Q.system book.now) keeper.old.name (number ∷ [])) keeper.new.tray) }
     ensures err { OnErr result (keeper.new ≡ keeper.old) }
     ensures refused { IfErr result (λ r. r ≡ Refusal.OutOfMemory) }
 {
@@ -47,28 +50,22 @@ pub fn take_letter<J: Terms<Q>, Q: Quorums, S: Replica>(
 
 impl<J: Terms<Q>, Q: Quorums> Book<J, Q> {
     // Who sent a marked letter that the node of a name heard since this was last asked.
-    pub(crate) fn take_heard(&mut self, name: Name) -> Members {
+    pub(crate) fn take_heard(&mut self, name: Name) -> Members
+        ensures { self.new ≡ self.old }
+    {
         self.mails.take_heard(name)
     }
 
-    // The names with something to do, a bit for each.
-    pub(crate) fn ready(&self) -> u64 {
-        self.mails.ready()
-    }
-
-    // How many letters wait for a name.
-    fn count_mail(&self, name: Name) -> usize {
-        self.mails.count(name)
-    }
-
     // The letter that waits for a name for the longest time.
-    fn first_mail(&self, name: Name) -> Option<u64> {
+    fn first_mail(&self, name: Name) -> Option<u64>
+        ensures { result ≡ slice_get (waiting_for self.now.waiting name) 0 }
+    {
         self.mails.first(name)
     }
 
     // That letter waits no more.
     fn drop_mail(&mut self, name: Name)
-        ensures { self.new ≡ self.old }
+        ensures { self.new ≡ record self.old { waiting = with_waiting self.old.waiting name (drop 1 (waiting_for self.old.waiting name)) } }
     {
         self.mails.drop_first(name);
     }
@@ -82,18 +79,17 @@ pub fn take_mail<J: Terms<Q>, Q: Quorums, S: Replica>(
     keeper: &mut Keeper<J, Q, S>,
 ) -> Result<(), Refusal>
     requires { keeper.old.seen ≡ book.old.steps }
-    ensures book { book.new ≡ book.old }
-    ensures same { (keeper.new.name ≡ keeper.old.name) × (keeper.new.node ≡ keeper.old.node) × (keeper.new.seen ≡ keeper.old.seen) }
+    ensures book { book.new ≡ record book.old { waiting = book.new.waiting } }
+    ensures keeper { keeper.new ≡ record keeper.old { tray = keeper.new.tray } }
+    ensures all { OnOk result (AreTaken (state Q.system book.old) keeper.old.name (all_for keeper.old book.old.waiting) book.old.waiting book.new.waiting keeper.old.tray keeper.new.tray) }
+    ensures some { OnErr result ((count : ℕ) × (count < all_for keeper.old book.old.waiting) × AreTaken (state Q.system book.old) keeper.old.name count book.old.waiting book.new.waiting keeper.old.tray keeper.new.tray) }
     ensures refused { IfErr result (λ r. r ≡ Refusal.OutOfMemory) }
 {
-    let name = keeper.name();
     if keeper.has_stopped() {
         return Ok(());
     }
-    for _ in 0..book.count_mail(name) {
-        let Some(number) = book.first_mail(name) else {
-            return Ok(());
-        };
+    let name = keeper.name();
+    while let Some(number) = book.first_mail(name) {
         take_letter(book, keeper, number)?;
         book.drop_mail(name);
     }

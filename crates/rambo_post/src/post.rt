@@ -21,7 +21,7 @@ use crate::pass::{Pass, act_in, call_in, close_in, meet_in};
 use crate::sending::send_in;
 use crate::terms::Terms;
 use crate::turn::{Turn, turn_in};
-use crate::waiting::{Mails, bit_of};
+use crate::waiting::Mails;
 use rambo_atomic::{Answer, CallId, Op};
 use rambo_config_map::ConfigMap;
 use rambo_names::{Members, Name, Quorums, Refusal};
@@ -30,7 +30,6 @@ use rambo_roll::Opened;
 use rambo_run::{Step, may_found};
 use rambo_tag::Replica;
 use std::alloc::Global;
-use std::sync::atomic::{AtomicU64, Ordering};
 use std::sync::{Mutex, MutexGuard, Wait};
 
 /// What a post leaves when it is closed.
@@ -47,8 +46,6 @@ pub struct Closed<Q: Quorums> {
 /// What one list of steps promises holds of all that clients see, since each pass is a beginning of the book's steps.
 #[derive(Drop)]
 pub struct Post<J: Terms<Q>, Q: Quorums, S: Replica> {
-    // A bit for each name with something to do, as the book last knew. A hint: nothing rests on it.
-    ready: AtomicU64,
     pub(crate) keepers: Vec<Mutex<Keeper<J, Q, S>>>,
     pub(crate) book: Mutex<Book<J, Q>>,
     // Never filled: it tells the prover that a keeper has a size, which it doesn't see behind a `Vec`.
@@ -110,7 +107,6 @@ impl<J: Terms<Q>, Q: Quorums, S: Replica> Post<J, Q, S> {
             keepers.push(Mutex::new(keeper))?;
         }
         Ok(Post {
-            ready: AtomicU64::new(0),
             keepers,
             book: Mutex::new(Book::new(alloc, founders, capacity, roll, mails)),
             spare: None,
@@ -146,9 +142,7 @@ impl<J: Terms<Q>, Q: Quorums, S: Replica> Post<J, Q, S> {
     {
         let mut keeper = self.keeper_of(rt, name);
         let mut book = self.book.lock(rt);
-        let id = call_in(&mut book, &mut keeper, pass, name, op);
-        self.tell(&book);
-        id
+        call_in(&mut book, &mut keeper, pass, name, op)
     }
 
     /// Does a step for a client: what it did. The client has then seen all steps up to it, and it stands last.
@@ -169,9 +163,7 @@ impl<J: Terms<Q>, Q: Quorums, S: Replica> Post<J, Q, S> {
         ensures cause { IfErr result (λ r. (f : Q) → J.founders ≡ Some f → (r ≡ Refusal.OutOfMemory) ⊎ Told (refusal Q.system (run Q.system f pass.new.seen) step) (length pass.new.seen) J.capacity r) }
     {
         let (mut keeper, mut book) = self.both(rt, &step);
-        let done = act_in(&mut book, &mut keeper, pass, step);
-        self.tell(&book);
-        done
+        act_in(&mut book, &mut keeper, pass, step)
     }
 
     /// Sends a letter from one node to another: its number.
@@ -181,9 +173,7 @@ impl<J: Terms<Q>, Q: Quorums, S: Replica> Post<J, Q, S> {
     pub fn send<R: Wait>(&self, rt: &R, from: Name, to: Name) -> Result<u64, Refusal> {
         let mut keeper = self.keeper_of(rt, from);
         let mut book = self.book.lock(rt);
-        let number = send_in(&mut book, &mut keeper, from, to);
-        self.tell(&book);
-        number
+        send_in(&mut book, &mut keeper, from, to)
     }
 
     /// To whom a worker of this name writes: while its node is joining or has a call, a collection or an attempt open, all
@@ -201,17 +191,6 @@ impl<J: Terms<Q>, Q: Quorums, S: Replica> Post<J, Q, S> {
             return keeper.known();
         }
         self.book.lock(rt).take_heard(name)
-    }
-
-    /// Whether a name may have something to do: a letter that waits, or a step of its own that may go on. It may be out of
-    /// date.
-    pub fn is_ready(&self, name: Name) -> bool {
-        self.ready.load(Ordering::SeqCst) & bit_of(name) != 0
-    }
-
-    // Keeps what the book knows of names with something to do.
-    fn tell(&self, book: &Book<J, Q>) {
-        self.ready.store(book.ready(), Ordering::SeqCst);
     }
 
     // Takes the lock of the keeper that may do the step, and then the book's.
@@ -272,7 +251,8 @@ impl<J: Terms<Q>, Q: Quorums, S: Replica> Post<J, Q, S> {
     /// The node of this name takes its mail, and does what it then picks.
     ///
     /// The gate is told when its keeper's lock is held, and when both locks are free again, whatever the turn answers. Refused
-    /// is 23 where the book is full, 22 where there is no room; the letters that it took stay in its tray.
+    /// is 23 where the book is full and there is something to do, 22 where there is no room; the letters that it took stay
+    /// in its tray.
     pub fn turn<R: Wait, G: Gate>(&self, rt: &R, name: Name, gate: &G) -> Result<Turn<Q>, Refusal> {
         let done = self.turn_held(rt, name, gate);
         gate.ended(name);
@@ -289,38 +269,7 @@ impl<J: Terms<Q>, Q: Quorums, S: Replica> Post<J, Q, S> {
         let mut keeper = self.keeper_of(rt, name);
         gate.working(name);
         let mut book = self.book.lock(rt);
-        let done = turn_in(&mut book, &mut keeper);
-        self.tell(&book);
-        done
-    }
-
-    /// The same where the keeper's lock is free; None where it isn't, or the moment is a bad one.
-    pub fn try_turn<R: Wait, G: Gate>(
-        &self,
-        rt: &R,
-        name: Name,
-        gate: &G,
-    ) -> Result<Option<Turn<Q>>, Refusal> {
-        let done = self.try_turn_held(rt, name, gate);
-        gate.ended(name);
-        done
-    }
-
-    // What it does with the locks held.
-    fn try_turn_held<R: Wait, G: Gate>(
-        &self,
-        rt: &R,
-        name: Name,
-        gate: &G,
-    ) -> Result<Option<Turn<Q>>, Refusal> {
-        let Some(mut keeper) = self.keepers[place_of(name)].try_lock() else {
-            return Ok(None);
-        };
-        gate.working(name);
-        let mut book = self.book.lock(rt);
-        let done = turn_in(&mut book, &mut keeper);
-        self.tell(&book);
-        Ok(Some(done?))
+        turn_in(&mut book, &mut keeper)
     }
 
     /// The map of the node of this name. It takes no memory.
@@ -351,7 +300,6 @@ impl<J: Terms<Q>, Q: Quorums, S: Replica> Post<J, Q, S> {
         ensures begins { All (λ p. IsPrefix p.seen result.steps.items) passes.items }
     {
         let Post {
-            ready: _,
             keepers: _keepers,
             book,
             spare: _spare,

@@ -1,7 +1,8 @@
 //! What a keeper does by itself.
-ghost use Rattle.std.specs.Prelude.{◌≡◌, ◌<◌, length, IfSome, IfOk, OnErr};
+ghost use Rattle.std.specs.Prelude.{◌≡◌, ◌<◌, length, MatchOption, IfSome, OnErr, IfOk, IfErr};
+ghost use Rattle.std.specs.List.{remove};
 ghost use Rattle.rambo_post.specs.Kept.{IsServedBy, state};
-ghost use Rattle.rambo_post.specs.Turns.{first_of, candidates, IsTurn, HasTurned};
+ghost use Rattle.rambo_post.specs.Turns.{without, cleared, next_of, HasDone, CannotDo, IsTurn, IsRefusedTurn};
 
 use crate::book::Book;
 use crate::committing::commit;
@@ -24,7 +25,7 @@ pub enum Turn<Q: Quorums> {
 
 // The place of the first letter of this number in a tray, if there is one.
 fn place_in<Q: Quorums>(tray: &[Mail<Q>], number: u64) -> Option<usize>
-    ensures { IfSome result (λ at. at < length tray.now) }
+    ensures { MatchOption result (without tray.now number ≡ tray.now) (λ at. (at < length tray.now) × (remove tray.now at ≡ without tray.now number)) }
 {
     for at in 0..tray.len() {
         if tray[at].number == number {
@@ -37,7 +38,7 @@ fn place_in<Q: Quorums>(tray: &[Mail<Q>], number: u64) -> Option<usize>
 impl<J: Terms<Q>, Q: Quorums, S: Replica> Keeper<J, Q, S> {
     // The first letter of this number leaves the tray.
     fn forget(&mut self, number: u64)
-        ensures { (self.new.name ≡ self.old.name) × (self.new.seen ≡ self.old.seen) × (self.new.node ≡ self.old.node) }
+        ensures { self.new ≡ record self.old { tray = without self.old.tray number } }
     {
         let Some(at) = place_in(self.tray.as_slice(), number) else {
             return;
@@ -47,7 +48,9 @@ impl<J: Terms<Q>, Q: Quorums, S: Replica> Keeper<J, Q, S> {
 }
 
 // The letter that was delivered leaves the tray.
-fn clear_up<J: Terms<Q>, Q: Quorums, S: Replica>(keeper: &mut Keeper<J, Q, S>, step: &Step<Q>) {
+fn clear_up<J: Terms<Q>, Q: Quorums, S: Replica>(keeper: &mut Keeper<J, Q, S>, step: &Step<Q>)
+    ensures { keeper.new ≡ record keeper.old { tray = cleared keeper.old.tray step.now } }
+{
     if let Step::Deliver(number) = step {
         keeper.forget(*number);
     }
@@ -59,7 +62,7 @@ fn next_in<J: Terms<Q>, Q: Quorums, S: Replica>(
     keeper: &Keeper<J, Q, S>,
 ) -> Option<Step<Q>>
     requires { keeper.now.seen ≡ book.now.steps }
-    ensures first { result ≡ first_of Q.system (state Q.system book.now) (candidates keeper.now.name keeper.now.node keeper.now.tray) }
+    ensures first { result ≡ next_of Q.system book.now keeper.now }
     ensures served { IfSome result (λ st. IsServedBy (state Q.system book.now) st keeper.now.name) }
 {
     book.facts();
@@ -73,35 +76,30 @@ fn do_next<J: Terms<Q>, Q: Quorums, S: Replica>(
     keeper: &mut Keeper<J, Q, S>,
 ) -> Result<Turn<Q>, Refusal>
     requires { keeper.old.seen ≡ book.old.steps }
-    ensures did { IfOk result (λ t. IsTurn Q.system book.old book.new (candidates keeper.old.name keeper.old.node keeper.old.tray) t) }
-    ensures err { OnErr result (book.new ≡ book.old) }
+    ensures did { IfOk result (λ t. HasDone Q.system book.old book.new keeper.old keeper.new t) }
+    ensures same { OnErr result ((book.new ≡ book.old) × (keeper.new ≡ keeper.old)) }
+    ensures cause { IfErr result (λ r. CannotDo Q.system book.old keeper.old r) }
 {
     let Some(step) = next_in(book, keeper) else {
-        book.rest(keeper);
         return Ok(Turn::Nothing);
     };
+    // (what it picks has no bytes, so that this can't fail)
     let told = step.clone()?;
     commit(book, keeper, step)?;
     clear_up(keeper, &told);
     Ok(Turn::Did(told))
 }
 
-impl<J: Terms<Q>, Q: Quorums> Book<J, Q> {
-    // There is nothing to do for the keeper's node.
-    fn rest<S: Replica>(&mut self, keeper: &Keeper<J, Q, S>)
-        ensures { self.new ≡ self.old }
-    {
-        self.mails.rest(keeper.name());
-    }
-}
-
-/// The keeper takes its mail, and does what it then picks. A letter that came leaves its tray.
+/// The keeper takes its mail, and does what it then picks. A letter that came leaves its tray, once where it is there twice.
+///
+/// `HistoryFull` where there is something to do and the book is full, `OutOfMemory` where there is no room for a letter or
+/// for the step; what it took of its mail stays in its tray.
 pub fn turn_in<J: Terms<Q>, Q: Quorums, S: Replica>(
     book: &mut Book<J, Q>,
     keeper: &mut Keeper<J, Q, S>,
 ) -> Result<Turn<Q>, Refusal>
-    ensures did { IfOk result (λ t. HasTurned Q.system book.old book.new t) }
-    ensures err { OnErr result (book.new ≡ book.old) }
+    ensures did { IfOk result (λ t. IsTurn Q.system book.old book.new keeper.old keeper.new t) }
+    ensures refused { IfErr result (λ r. IsRefusedTurn Q.system book.old book.new keeper.old keeper.new r) }
 {
     see_all(book, keeper);
     take_mail(book, keeper)?;

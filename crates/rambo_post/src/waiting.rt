@@ -1,5 +1,7 @@
-//! The mail of a book: which letters wait for which name. No promise rests on it.
-ghost use Rattle.std.specs.Prelude.{◌≡◌, IfErr};
+//! The mail of a book: which letters wait for which name.
+ghost use Rattle.std.specs.Prelude.{◌≡◌, ◌-◌, [], None, drop, slice_get, option_to_list, IfErr};
+ghost use Rattle.rambo_run.specs.Actors.{sent_by};
+ghost use Rattle.rambo_post.specs.Mailing.{waiting_for, with_waiting};
 
 use crate::deeds::{Worker, letter_of};
 use crate::letter::SharedLetter;
@@ -8,6 +10,7 @@ use rambo_run::Step;
 use rambo_tag::Replica;
 use std::alloc::Global;
 use std::collections::VecDeque;
+use std::marker::Model;
 
 // So many names there are.
 const NAMES: u64 = 64;
@@ -15,26 +18,80 @@ const NAMES: u64 = 64;
 // So many clients there are at most.
 const PASSES: u64 = 32;
 
-/// What waits for one name.
+/// The letters that wait for one name, by their numbers, in the order in which they were sent.
 #[derive(Drop)]
-struct Slot {
-    // The numbers of the letters, in the order in which they were sent.
-    letters: VecDeque<u64>,
-    // Who sent a marked letter that its node heard.
-    heard: Members,
+struct Queue {
+    numbers: VecDeque<u64>,
+}
+
+impl Model for Queue {
+    ghost use Rattle.std.specs.Prelude.{List, ℕ};
+
+    ghost Value = { List ℕ };
+
+    ghost view = { λ q. q.numbers.items };
+}
+
+impl Queue {
+    // No letter. It takes no memory.
+    fn new(alloc: Global) -> Queue
+        ensures { result ≡ [] }
+    {
+        Queue {
+            numbers: VecDeque::new(alloc),
+        }
+    }
+
+    // Makes room for a letter that may have to wait twice.
+    fn make_room(&mut self) -> Result<(), Refusal>
+        ensures { self.new ≡ self.old }
+    {
+        Ok(self.numbers.reserve(2)?)
+    }
+
+    // The letter of this number waits too, for which there is room.
+    fn push(&mut self, number: u64) {
+        let _ = self.numbers.push_back(number).is_ok();
+    }
+
+    // The letter that waits for the longest time.
+    fn first(&self) -> Option<u64>
+        ensures { result ≡ slice_get self.now 0 }
+    {
+        match self.numbers.front() {
+            Some(number) => Some(*number),
+            None => None,
+        }
+    }
+
+    // That letter waits no more.
+    fn drop_first(&mut self)
+        ensures { self.new ≡ drop 1 self.old }
+    {
+        let _ = self.numbers.pop_front();
+    }
 }
 
 /// What waits for each name, which letters are marked, and how many passes were given.
 #[derive(Drop)]
 pub(crate) struct Mails {
-    slots: Vec<Slot>,
+    // Of the names 1, 2, ..
+    queues: Vec<Queue>,
+    // Who sent a marked letter that the node heard, of the names 1, 2, ..
+    heard: Vec<Members>,
     // Of the letters 1, 2, ..
     marks: Vec<bool>,
     lose: u64,
     twice: u64,
     passes: u64,
-    // A bit for each name with something to do, as far as the book knows.
-    ready: u64,
+}
+
+impl Model for Mails {
+    ghost use Rattle.std.specs.Prelude.{List, ℕ};
+
+    ghost Value = { List (List ℕ) };
+
+    ghost view = { λ m. m.queues.items };
 }
 
 /// What a step means for the mail, as it stands before the step.
@@ -53,11 +110,10 @@ impl Posting {
         worker: &Worker<Q, S>,
         letters: &[SharedLetter<Q>],
         step: &Step<Q>,
-    ) -> Posting {
-        let (to, marked) = match step {
-            Step::Send(_, to) => (Some(*to), worker.is_open()),
-            _ => (None, false),
-        };
+    ) -> Posting
+        ensures { option_to_list result.to ≡ sent_by step.now }
+    {
+        let to = sent_by(step);
         let came = match step {
             Step::Deliver(number) => sender_of(letters, *number),
             _ => None,
@@ -65,9 +121,19 @@ impl Posting {
         Posting {
             by,
             to,
-            marked,
+            marked: to.is_some() && worker.is_open(),
             came,
         }
+    }
+}
+
+// Whom the letter is for that a step sends, if it sends one.
+fn sent_by<Q: Quorums>(step: &Step<Q>) -> Option<Name>
+    ensures { option_to_list result ≡ sent_by step.now }
+{
+    match step {
+        Step::Send(_, to) => Some(*to),
+        _ => None,
     }
 }
 
@@ -88,13 +154,10 @@ fn divides(each: u64, number: u64) -> bool {
 }
 
 // The place of a name in a list of all.
-fn slot_of(name: Name) -> usize {
+fn place_of(name: Name) -> usize
+    ensures { result ≡ name - 1 }
+{
     name.number() as usize - 1
-}
-
-// The bit of a name among those of all.
-pub(crate) fn bit_of(name: Name) -> u64 {
-    1u64 << (name.number() - 1)
 }
 
 impl Mails {
@@ -102,26 +165,26 @@ impl Mails {
     pub(crate) fn new(alloc: Global, lose: u64, twice: u64) -> Result<Mails, Refusal>
         ensures { IfErr result (λ r. r ≡ Refusal.OutOfMemory) }
     {
-        let mut slots = Vec::new(alloc);
+        let mut queues = Vec::new(alloc);
+        let mut heard = Vec::new(alloc);
         for _ in 0..NAMES {
-            slots.push(Slot {
-                letters: VecDeque::new(alloc),
-                heard: Members::empty(),
-            })?;
+            queues.push(Queue::new(alloc))?;
+            heard.push(Members::empty())?;
         }
         Ok(Mails {
-            slots,
+            queues,
+            heard,
             marks: Vec::new(alloc),
             lose,
             twice,
             passes: 0,
-            ready: 0,
         })
     }
 
     // Counts one pass more. `NoPassLeft` where there are 32.
     pub(crate) fn count_pass(&mut self) -> Result<(), Refusal>
-        ensures { IfErr result (λ r. r ≡ Refusal.NoPassLeft) }
+        ensures same { self.new ≡ self.old }
+        ensures refused { IfErr result (λ r. r ≡ Refusal.NoPassLeft) }
     {
         if self.passes >= PASSES {
             return Err(Refusal::NoPassLeft);
@@ -131,20 +194,23 @@ impl Mails {
     }
 
     // Makes room for the letter of a step, if it sends one, which may have to wait twice.
-    pub(crate) fn make_room<Q: Quorums>(&mut self, step: &Step<Q>) -> Result<(), Refusal> {
+    pub(crate) fn make_room<Q: Quorums>(&mut self, step: &Step<Q>) -> Result<(), Refusal>
+        ensures { self.new ≡ self.old }
+    {
         let Step::Send(_, to) = step else {
             return Ok(());
         };
         self.marks.reserve(1)?;
-        if let Some(slot) = self.slots.get_mut(slot_of(*to)) {
-            slot.letters.reserve(2)?;
+        match self.queues.get_mut(place_of(*to)) {
+            Some(queue) => queue.make_room(),
+            None => Ok(()),
         }
-        Ok(())
     }
 
     // The step was done; so many letters were sent with it.
-    pub(crate) fn post(&mut self, posting: &Posting, letters: usize) {
-        self.ready |= bit_of(posting.by);
+    pub(crate) fn post(&mut self, posting: &Posting, letters: usize)
+        ensures { posting.now.to ≡ None → self.new ≡ self.old }
+    {
         if let Some(to) = posting.to {
             self.note_sent(to, letters as u64, posting.marked);
         }
@@ -160,17 +226,18 @@ impl Mails {
             return;
         }
         let twice = divides(self.twice, number);
-        self.ready |= bit_of(to);
-        if let Some(slot) = self.slots.get_mut(slot_of(to)) {
-            let _ = slot.letters.push_back(number).is_ok();
+        if let Some(queue) = self.queues.get_mut(place_of(to)) {
+            queue.push(number);
             if twice {
-                let _ = slot.letters.push_back(number).is_ok();
+                queue.push(number);
             }
         }
     }
 
     // The node of a name heard the letter of this number.
-    fn note_heard(&mut self, name: Name, number: u64, sender: Name) {
+    fn note_heard(&mut self, name: Name, number: u64, sender: Name)
+        ensures { self.new ≡ self.old }
+    {
         let marked = match self.marks.get(number.wrapping_sub(1) as usize) {
             Some(marked) => *marked,
             None => false,
@@ -178,53 +245,38 @@ impl Mails {
         if !marked {
             return;
         }
-        if let Some(slot) = self.slots.get_mut(slot_of(name)) {
-            slot.heard = slot.heard.with(sender);
-        }
-    }
-
-    // How many letters wait for a name.
-    pub(crate) fn count(&self, name: Name) -> usize {
-        match self.slots.get(slot_of(name)) {
-            Some(slot) => slot.letters.len(),
-            None => 0,
+        if let Some(heard) = self.heard.get_mut(place_of(name)) {
+            *heard = heard.with(sender);
         }
     }
 
     // The letter that waits for a name for the longest time.
-    pub(crate) fn first(&self, name: Name) -> Option<u64> {
-        match self.slots.get(slot_of(name))?.letters.front() {
-            Some(number) => Some(*number),
-            None => None,
-        }
+    pub(crate) fn first(&self, name: Name) -> Option<u64>
+        ensures { result ≡ slice_get (waiting_for self.now name) 0 }
+    {
+        self.queues.get(place_of(name))?.first()
     }
 
     // That letter waits no more.
-    pub(crate) fn drop_first(&mut self, name: Name) {
-        if let Some(slot) = self.slots.get_mut(slot_of(name)) {
-            let _ = slot.letters.pop_front();
+    pub(crate) fn drop_first(&mut self, name: Name)
+        ensures { self.new ≡ with_waiting self.old name (drop 1 (waiting_for self.old name)) }
+    {
+        if let Some(queue) = self.queues.get_mut(place_of(name)) {
+            queue.drop_first();
         }
     }
 
     // Who sent a marked letter that the node of a name heard since this was last asked.
-    pub(crate) fn take_heard(&mut self, name: Name) -> Members {
-        match self.slots.get_mut(slot_of(name)) {
-            Some(slot) => {
-                let heard = slot.heard;
-                slot.heard = Members::empty();
-                heard
+    pub(crate) fn take_heard(&mut self, name: Name) -> Members
+        ensures { self.new ≡ self.old }
+    {
+        match self.heard.get_mut(place_of(name)) {
+            Some(heard) => {
+                let senders = *heard;
+                *heard = Members::empty();
+                senders
             }
             None => Members::empty(),
         }
-    }
-
-    // There was nothing to do for a name.
-    pub(crate) fn rest(&mut self, name: Name) {
-        self.ready &= !bit_of(name);
-    }
-
-    // The names with something to do, a bit for each.
-    pub(crate) fn ready(&self) -> u64 {
-        self.ready
     }
 }

@@ -8,6 +8,7 @@ use Rattle.rambo_run.specs.Steps.{meant_in}
 use Rattle.rambo_post.specs.Deeds.{judged}
 use Rattle.rambo_post.specs.Kept.{BookView, state}
 use Rattle.rambo_post.proofs.Commits.{served_inside, told_outside, book_same, verdict, told_refused, told_full, told_memory, finished_here, book_after, keeper_after}
+use Rattle.rambo_post.proofs.Taking.{unlisted}
 use Rattle.rambo_post.proofs.committing.commit.Goals as goal
 
 pub returns-in-Err-clause-same : goal.returns-in-Err-clause-same
@@ -40,7 +41,7 @@ invariant_of-book-in_default-make_room g c =
 
 pub returns-in_default-make_room-clause-same : goal.returns-in_default-make_room-clause-same
 returns-in_default-make_room-clause-same g c = (
-  (λ i. record { founders = c.book.inside.founders; steps = c.make_room.ensures.same.0 i; capacity = c.book.inside.capacity }) ∙ c.book.view_is,
+  (λ i. record { founders = c.book.inside.founders; steps = c.make_room.ensures.same.0 i; capacity = c.book.inside.capacity; waiting = c.make_room.ensures.same.3 i }) ∙ c.book.view_is,
   (λ i. record { name = c.keeper.inside.name; node = c.keeper.inside.worker; tray = c.keeper.inside.tray.items; seen = (c.agree.ensures.keeper i).1 }) ∙ c.keeper.view_is,
 )
 
@@ -59,7 +60,7 @@ invariant_of-book-in_default-act g c =
 
 pub returns-in_default-act-clause-same : goal.returns-in_default-act-clause-same
 returns-in_default-act-clause-same g c = (
-  (λ i. record { founders = c.book.inside.founders; steps = c.make_room.ensures.same.0 i; capacity = c.book.inside.capacity }) ∙ c.book.view_is,
+  (λ i. record { founders = c.book.inside.founders; steps = c.make_room.ensures.same.0 i; capacity = c.book.inside.capacity; waiting = c.make_room.ensures.same.3 i }) ∙ c.book.view_is,
   (λ i. record { name = c.keeper.inside.name; node = c.in_default-act.ensures.err i; tray = c.keeper.inside.tray.items; seen = (c.agree.ensures.keeper i).1 }) ∙ c.keeper.view_is,
 )
 
@@ -140,8 +141,11 @@ returns-clause-effect g c =
 
 pub returns-clause-book : goal.returns-clause-book
 returns-clause-book g c =
-    (λ i. record { founders = c.book.inside.founders; steps = (c.push_reserved.ensures.items ∙ ap (λ l. l ++ c.args.step ∷ []) c.make_room.ensures.same.0) i; capacity = c.book.inside.capacity })
-    ∙ ap (λ (b : BookView _). record { founders = b.founders; steps = b.steps ++ c.args.step ∷ []; capacity = b.capacity }) c.book.view_is
+    (λ i. record { founders = c.book.inside.founders; steps = (c.push_reserved.ensures.items ∙ ap (λ l. l ++ c.args.step ∷ []) c.make_room.ensures.same.0) i; capacity = c.book.inside.capacity; waiting = c.post.new.self })
+    ∙ ap (λ (b : BookView _). record { founders = b.founders; steps = b.steps ++ c.args.step ∷ []; capacity = b.capacity; waiting = c.post.new.self }) c.book.view_is
+
+pub returns-clause-waiting : goal.returns-clause-waiting
+returns-clause-waiting g c = λ quiet. c.post.ensures (unlisted c.of-posting.result.to (c.of-posting.ensures ∙ quiet)) ∙ c.make_room.ensures.same.3 ∙ ap (λ (b : BookView _). b.waiting) c.book.view_is
 
 pub returns-clause-keeper : goal.returns-clause-keeper
 returns-clause-keeper g c =
@@ -153,7 +157,7 @@ returns-clause-node g c =
     let s = g.Q.Quorums.system in
     let served = served_inside s _ _ _ _ c.args.step c.book.view_is c.keeper.view_is c.requires in
     let done = finished_here c.book.invariant c.keeper.invariant c.agree.ensures.idle c.args.step served c.as_slice.result.now c.as_slice-3.result.now c.act.new.self c.in-Ok-act.done c.as_slice.ensures.value (c.as_slice-3.ensures.value ∙ c.make_room.ensures.same.1) c.in_default.ensures.ok c.in-Ok-act.ensures.node c.in-Ok-act.ensures.done in
-    (λ i. node_at (state s (record { founders = c.book.inside.founders; steps = (c.push_reserved.ensures.items ∙ ap (λ l. l ++ c.args.step ∷ []) c.make_room.ensures.same.0) i; capacity = c.book.inside.capacity })) (sym c.keeper.view_is i).name) ∙ done.node
+    (λ i. node_at (state s (record { founders = c.book.inside.founders; steps = (c.push_reserved.ensures.items ∙ ap (λ l. l ++ c.args.step ∷ []) c.make_room.ensures.same.0) i; capacity = c.book.inside.capacity; waiting = c.post.new.self })) (sym c.keeper.view_is i).name) ∙ done.node
 
 pub of-posting-requires : goal.of-posting-requires
 of-posting-requires g c = back_fits _ _ _ (up_fits _ _ _ c.requires-raw.1.1.1.0)

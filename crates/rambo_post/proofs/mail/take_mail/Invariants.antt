@@ -1,5 +1,14 @@
-use Rattle.std.proofs.Common.{◌≡◌}
+use Rattle.std.proofs.Common.{◌≡◌, ℕ, ◌≤◌, length}
+use Rattle.rambo_post.specs.Kept.{state}
+use Rattle.rambo_post.specs.Mailing.{waiting_for, AreTaken}
 use Rattle.rambo_post.proofs.mail.take_mail.Given as goal
 
-abbrev pub invariant-loop : goal.invariant-loop
-invariant-loop g l = (l.book ≡ l.fn.book) × (l.keeper.name ≡ l.fn.keeper.name) × (l.keeper.node ≡ l.fn.keeper.node) × (l.keeper.seen ≡ l.fn.keeper.seen)
+abbrev pub invariant-loop-number : goal.invariant-loop-number
+invariant-loop-number g l =
+    (l.book ≡ record l.fn.book { waiting = l.book.waiting })
+    × (l.keeper ≡ record l.fn.keeper { tray = l.keeper.tray })
+    × (count : ℕ) × (count ≤ length (waiting_for l.fn.book.waiting l.fn.keeper.name))
+    × AreTaken (state g.Q.Quorums.system l.fn.book) l.fn.keeper.name count l.fn.book.waiting l.book.waiting l.fn.keeper.tray l.keeper.tray
+
+abbrev pub decreases-loop-number : goal.decreases-loop-number
+decreases-loop-number g l = length (waiting_for l.book.waiting l.fn.keeper.name)

@@ -8,8 +8,8 @@ use Rattle.rambo_post.proofs.post.Post.act.Goals as goal
 pub both-keeper-requires : goal.both-keeper-requires
 both-keeper-requires g c = let post = c.requires-raw.1.1.1.1 in (post, back_fits _ _ _ (up_fits _ _ _ (back_fits _ _ _ (up_fits _ _ _ (variant_fits _ _ _ _ (back_fits _ _ _ (up_fits _ _ _ post)))))))
 
-pub act_in-done-requires : goal.act_in-done-requires
-act_in-done-requires g c =
+pub act_in-requires : goal.act_in-requires
+act_in-requires g c =
     let post = c.requires-raw.1.1.1.1 in (
       back_fits _ _ _ (up_fits _ _ _ (back_fits _ _ _ (up_fits _ _ _ (variant_fits _ _ _ _ (back_fits _ _ _ (up_fits _ _ _ post)))))),
       subst (λ b. IsServedBy (state g.Q.Quorums.system b) c.args.step c.deref_mut-2.result.now.name) (sym c.deref_mut.ensures.value)
@@ -21,13 +21,10 @@ drop-keeper-requires-room-T-Destruct g c κs within = let post = c.requires-raw.
 
 pub returns-clause-acted : goal.returns-clause-acted
 returns-clause-acted g c =
-    let h = c.act_in-done.ensures in
-    acted g.Q.Quorums.system g.J.Terms.founders c.deref_mut.result.now c.act_in-done.result c.args.pass.now c.act_in-done.new.pass c.args.step h.terms.0 h.between h.last h.legal h.accepted h.effect h.mine
+    let h = c.act_in.ensures in
+    acted g.Q.Quorums.system g.J.Terms.founders c.deref_mut.result.now c.act_in.result c.args.pass.now c.act_in.new.pass c.args.step h.terms.0 h.between h.last h.legal h.accepted h.effect h.mine
 
 pub returns-clause-cause : goal.returns-clause-cause
 returns-clause-cause g c =
-    let h = c.act_in-done.ensures in
-    caused g.Q.Quorums.system g.J.Terms.founders g.J.Terms.capacity c.deref_mut.result.now c.act_in-done.result c.act_in-done.new.pass.seen c.args.step h.terms.0 h.terms.1 h.cause
-
-pub tell-requires : goal.tell-requires
-tell-requires g c = c.requires-raw.1.1.1.1
+    let h = c.act_in.ensures in
+    caused g.Q.Quorums.system g.J.Terms.founders g.J.Terms.capacity c.deref_mut.result.now c.act_in.result c.act_in.new.pass.seen c.args.step h.terms.0 h.terms.1 h.cause

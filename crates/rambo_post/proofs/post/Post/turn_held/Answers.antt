@@ -4,11 +4,8 @@ use Rattle.rambo_post.proofs.post.Post.turn_held.Goals as goal
 pub keeper_of-keeper-requires : goal.keeper_of-keeper-requires
 keeper_of-keeper-requires g c = let post = c.requires-raw.1.1.1.1.1.1 in (post, back_fits _ _ _ (up_fits _ _ _ (back_fits _ _ _ (up_fits _ _ _ (variant_fits _ _ _ _ (back_fits _ _ _ (up_fits _ _ _ post)))))))
 
-pub turn_in-done-requires : goal.turn_in-done-requires
-turn_in-done-requires g c = let post = c.requires-raw.1.1.1.1.1.1 in back_fits _ _ _ (up_fits _ _ _ (back_fits _ _ _ (up_fits _ _ _ (variant_fits _ _ _ _ (back_fits _ _ _ (up_fits _ _ _ post))))))
+pub turn_in-requires : goal.turn_in-requires
+turn_in-requires g c = let post = c.requires-raw.1.1.1.1.1.1 in back_fits _ _ _ (up_fits _ _ _ (back_fits _ _ _ (up_fits _ _ _ (variant_fits _ _ _ _ (back_fits _ _ _ (up_fits _ _ _ post))))))
 
 pub drop-keeper-requires-room-T-Destruct : goal.drop-keeper-requires-room-T-Destruct
 drop-keeper-requires-room-T-Destruct g c κs within = let post = c.requires-raw.1.1.1.1.1.1 in back_fits _ _ _ (up_fits _ _ _ (back_fits _ _ _ (up_fits _ _ _ (variant_fits _ _ _ _ (back_fits _ _ _ (up_fits _ _ _ post))))))
-
-pub tell-requires : goal.tell-requires
-tell-requires g c = c.requires-raw.1.1.1.1.1.1

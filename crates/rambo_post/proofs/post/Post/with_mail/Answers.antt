@@ -35,8 +35,8 @@ loop-place-preserved g c = record {
   each = c.in_ok-push.ensures.len ∙ ap (λ n. n + 1) c.loop-place.invariant.each;
 }
 
-pub new-requires-3 : goal.new-requires-3
-new-requires-3 g c = record { roll = ap (λ r. r.1) c.loop-place.invariant.made; founders = c.requires.founders; capacity = c.requires.capacity }
+pub new-requires-2 : goal.new-requires-2
+new-requires-2 g c = record { roll = ap (λ r. r.1) c.loop-place.invariant.made; founders = c.requires.founders; capacity = c.requires.capacity }
 
 pub invariant_of-result : goal.invariant_of-result
 invariant_of-result g c = record { names = omega (arith, c.loop-place.invariant.each, c.loop-place-test.false, c.loop-place.auto.place-end) }
