@@ -16,7 +16,7 @@ impl<J: Terms<Weighted>> Hub<J> {
         rt: &R,
         gate: &G,
         pass: &mut Pass<J, Weighted>,
-        place: u32,
+        place: usize,
         name: Name,
         op: Op,
     ) -> Result<Option<Answer>, Refusal> {
@@ -32,7 +32,7 @@ impl<J: Terms<Weighted>> Hub<J> {
         &self,
         rt: &R,
         pass: &mut Pass<J, Weighted>,
-        place: u32,
+        place: usize,
         name: Name,
         op: Op,
     ) -> Result<u64, Refusal> {
@@ -53,11 +53,11 @@ impl<J: Terms<Weighted>> Hub<J> {
         rt: &R,
         gate: &G,
         pass: &mut Pass<J, Weighted>,
-        place: u32,
+        place: usize,
         name: Name,
         number: u64,
     ) -> Result<Option<Answer>, Refusal> {
-        match self.bells.get(place as usize) {
+        match self.bells.get(place) {
             Some(bell) => self.finish(rt, gate, pass, bell, name, number),
             None => Ok(None),
         }
@@ -75,11 +75,12 @@ impl<J: Terms<Weighted>> Hub<J> {
     ) -> Result<Option<Answer>, Refusal> {
         for _ in rt.forever() {
             self.point_at(name);
-            self.work(rt, gate, || bell.has_rung(rt));
+            let worked = self.work(rt, gate, || bell.has_rung(rt));
             let is_over = self.is_full() || self.is_closing();
             if let Some(answer) = self.post.take_answer(rt, pass, CallId { name, number })? {
                 return Ok(Some(answer));
             }
+            worked?;
             if is_over {
                 return self.unanswered();
             }

@@ -38,7 +38,7 @@ pub(crate) struct Session<'h, J: Terms<Weighted>, G: Gate, R> {
     pub(crate) gate: &'h G,
     pub(crate) hub: &'h Hub<J>,
     pub(crate) pass: &'h mut Pass<J, Weighted>,
-    pub(crate) place: u32,
+    pub(crate) place: usize,
     pub(crate) name: Name,
 }
 

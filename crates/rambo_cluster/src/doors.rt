@@ -1,4 +1,5 @@
 //! The sockets that are open.
+ghost use Rattle.std.specs.Prelude.{◌≡◌, vec_len, IfOk};
 
 use std::alloc::{AllocError, AllocFailed, Global};
 use std::net::{Shutdown, TcpStream};
@@ -15,9 +16,11 @@ impl Doors {
     pub(crate) fn new(
         alloc: Global,
         count: usize,
-    ) -> Result<Doors, AllocFailed<Mutex<Option<TcpStream>>>> {
+    ) -> Result<Doors, AllocFailed<Mutex<Option<TcpStream>>>>
+        ensures { IfOk result (λ d. vec_len d.streams ≡ count) }
+    {
         let mut streams = Vec::new(alloc);
-        for _ in 0..count {
+        for place in 0..count {
             streams.push(Mutex::new(None))?;
         }
         Ok(Doors { streams })

@@ -1,4 +1,5 @@
 //! What all threads of a server share.
+ghost use Rattle.std.specs.Prelude.{◌≡◌, vec_len, IfOk, IfErr};
 
 use crate::bell::Bell;
 use crate::doors::Doors;
@@ -34,14 +35,20 @@ pub(crate) struct Hub<J: Terms<Weighted>> {
 }
 
 impl<J: Terms<Weighted>> Hub<J> {
+    /// Nothing is to do, and so many clients have a bell and a door each.
     pub(crate) fn new(
         alloc: Global,
         post: Post<J, Weighted, Copies>,
         first: Name,
         clients: usize,
-    ) -> Result<Hub<J>, ServeFault> {
+    ) -> Result<Hub<J>, ServeFault>
+        ensures first { IfOk result (λ h. h.first ≡ first) }
+        ensures bells { IfOk result (λ h. vec_len h.bells ≡ clients) }
+        ensures doors { IfOk result (λ h. vec_len h.doors.streams ≡ clients) }
+        ensures fault { IfErr result (λ f. f ≡ ServeFault.Memory) }
+    {
         let mut bells = Vec::new(alloc);
-        for _ in 0..clients {
+        for client in 0..clients {
             bells.push(Bell::new())?;
         }
         Ok(Hub {
@@ -67,34 +74,34 @@ impl<J: Terms<Weighted>> Hub<J> {
         self.is_full.load(Ordering::SeqCst)
     }
 
-    /// Wakes the clients at these places.
-    pub(crate) fn ring_clients<R: Wait>(&self, rt: &R, places: u64) {
-        let mut rest = places;
+    // Wakes all clients.
+    fn ring_clients<R: Wait>(&self, rt: &R) {
         for bell in self.bells.as_slice() {
-            if rest & 1 == 1 {
-                bell.ring(rt);
-            }
-            rest >>= 1;
+            bell.ring(rt);
         }
     }
 
     /// Wakes the clients that wait at a node.
     pub(crate) fn ring_waiting<R: Wait>(&self, rt: &R, name: Name) {
-        let waiting = self.rooms.of(name).desk.lock(rt).waiting();
-        self.ring_clients(rt, waiting);
+        let desk = self.rooms.of(name).desk.lock(rt);
+        for client in 0..self.bells.len() {
+            if desk.has_client(client) {
+                self.bells[client].ring(rt);
+            }
+        }
     }
 
     /// The book is full: who waits is told.
     pub(crate) fn fill<R: Wait>(&self, rt: &R) {
         if !self.is_full.swap(true, Ordering::SeqCst) {
-            self.ring_clients(rt, u64::MAX);
+            self.ring_clients(rt);
         }
     }
 
     /// Ends the server: nothing more is read, and all that sleep wake.
     pub(crate) fn close<R: Wait>(&self, rt: &R) {
         self.is_closing.store(true, Ordering::SeqCst);
-        self.ring_clients(rt, u64::MAX);
+        self.ring_clients(rt);
         for number in 1..65u64 {
             if let Ok(name) = Name::new(number) {
                 self.rooms.of(name).bell.ring(rt);

@@ -8,7 +8,6 @@
 mod bell;
 mod clients;
 mod connection;
-mod desk;
 mod doors;
 mod fault;
 mod hub;

@@ -2,7 +2,7 @@
 ghost use Rattle.std.specs.Prelude.{◌≡◌, vec_len};
 
 use crate::bell::Bell;
-use crate::desk::Desk;
+use rambo_desk::Desk;
 use rambo_names::{Name, Refusal};
 use std::alloc::Global;
 use std::sync::Mutex;

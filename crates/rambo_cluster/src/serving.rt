@@ -1,6 +1,7 @@
 //! Serving clients over sockets.
-ghost use Rattle.std.specs.Prelude.{◌≡◌, ◌≤◌, Some, length, IfOk, All};
+ghost use Rattle.std.specs.Prelude.{◌≡◌, ◌≤◌, [], Some, length, slice_get, vec_len, IfOk, IfErr, All};
 ghost use mathlib.Core.List.{IsPrefix};
+ghost use Rattle.rambo_names.specs.Names.{names};
 ghost use Rattle.rambo_names.specs.Weights.{weighted_majorities};
 ghost use Rattle.rambo_run.specs.Legal.{IsLegal};
 
@@ -92,32 +93,64 @@ where
     ensures fits { IfOk result (λ c. length c.steps.items ≤ steps) }
 {
     let own = listener.local_addr()?;
-    let first = lowest(founders)?;
+    let (to, from) = bounded(alloc, WAITING)?;
     let copies = Copies::new(alloc, RandomState::new(rt)?);
+    let (hub, mut passes) = set_up::<J, R>(rt, alloc, opened, options, founders, steps, &copies)?;
+    if !run(rt, gate, alloc, &hub, listener, own, to, &from, &mut passes) {
+        return Err(ServeFault::Memory);
+    }
+    Ok(end(hub, passes, founders))
+}
+
+// What all threads share, whose clients begin at the lowest founder and have a bell and a door each; and a pass for each of
+// them, which has seen nothing. `Memory` where there is no founder, too many clients, or no room.
+fn set_up<J: Terms<Weighted>, R: Wait>(
+    rt: &R,
+    alloc: Global,
+    opened: Opened<Step<Weighted>, Actor>,
+    options: &Options<Weighted>,
+    founders: Weighted,
+    steps: usize,
+    copies: &Copies,
+) -> Result<(Hub<J>, Vec<Pass<J, Weighted>>), ServeFault>
+    requires name { opened ≡ J.table }
+    requires founders { J.founders ≡ Some founders }
+    requires capacity { steps ≡ J.capacity }
+    ensures first { IfOk result (λ s. slice_get (names founders) 0 ≡ Some s.0.first) }
+    ensures bells { IfOk result (λ s. vec_len s.0.bells ≡ options.now.clients) }
+    ensures doors { IfOk result (λ s. vec_len s.0.doors.streams ≡ options.now.clients) }
+    ensures passes { IfOk result (λ s. vec_len s.1 ≡ options.now.clients) }
+    ensures fresh { IfOk result (λ s. All (λ p. p ≡ record { seen = []; mine = [] }) s.1.items) }
+    ensures fault { IfErr result (λ f. f ≡ ServeFault.Memory) }
+{
+    let first = lowest(founders)?;
     let post = Post::<J, Weighted, Copies>::with_mail(
         alloc,
         opened,
         founders,
         steps,
-        &copies,
+        copies,
         options.lose,
         options.twice,
     )?;
-    let mut passes = passes_of(rt, alloc, &post, options.clients)?;
-    let hub = Hub::new(alloc, post, first, passes.len())?;
-    run(rt, gate, alloc, &hub, listener, own, &mut passes)?;
-    Ok(end(hub, passes, founders))
+    let passes = passes_of(rt, alloc, &post, options.clients)?;
+    let hub = Hub::new(alloc, post, first, options.clients)?;
+    Ok((hub, passes))
 }
 
-// So many passes.
+// So many passes, which have seen nothing.
 fn passes_of<J: Terms<Weighted>, R: Wait>(
     rt: &R,
     alloc: Global,
     post: &Post<J, Weighted, Copies>,
     count: usize,
-) -> Result<Vec<Pass<J, Weighted>>, ServeFault> {
+) -> Result<Vec<Pass<J, Weighted>>, ServeFault>
+    ensures count { IfOk result (λ ps. vec_len ps ≡ count) }
+    ensures fresh { IfOk result (λ ps. All (λ p. p ≡ record { seen = []; mine = [] }) ps.items) }
+    ensures fault { IfErr result (λ f. f ≡ ServeFault.Memory) }
+{
     let mut passes = Vec::new(alloc);
-    for _ in 0..count {
+    for place in 0..count {
         passes.push(post.pass(rt, alloc)?)?;
     }
     Ok(passes)
@@ -138,17 +171,19 @@ fn end<J: Terms<Weighted>>(
     post.close(passes)
 }
 
-// The lowest founder.
-fn lowest(founders: Weighted) -> Result<Name, Refusal> {
+// The lowest founder. `EmptyMembers` where there is none.
+fn lowest(founders: Weighted) -> Result<Name, Refusal>
+    ensures ok { IfOk result (λ n. slice_get (names founders) 0 ≡ Some n) }
+    ensures refused { IfErr result (λ r. (r ≡ Refusal.EmptyMembers) × (names founders ≡ [])) }
+{
     match founders.members().iter().next() {
         Some(name) => Ok(name),
         None => Err(Refusal::EmptyMembers),
     }
 }
 
-// Runs all threads until the end.
-//
-// `Memory` where there is no room for a thread or for the channel; the others have then ended.
+// Runs all threads until the end. Whether each of them could be started; else nobody was served, and those that were have
+// ended.
 fn run<J: Terms<Weighted> + Send + Sync, G: Gate, R>(
     rt: &R,
     gate: &G,
@@ -156,20 +191,20 @@ fn run<J: Terms<Weighted> + Send + Sync, G: Gate, R>(
     hub: &Hub<J>,
     listener: &TcpListener,
     own: SocketAddr,
+    to: Sender<TcpStream>,
+    streams: &Receiver<TcpStream>,
     passes: &mut Vec<Pass<J, Weighted>>,
-) -> Result<(), ServeFault>
+) -> bool
 where
     R: Net<Listener = TcpListener, Stream = TcpStream> + Threads + Wait + Clock + Sync,
 {
-    let (to, from) = bounded(alloc, WAITING)?;
-    let streams = &from;
-    let all_run = thread::scope(thread::scope_env(), rt, |scope| {
+    thread::scope(thread::scope_env(), rt, |scope| {
         let mut all_run = true;
         for number in 1..65u64 {
             let worker = scope.spawn(move || hub.run_worker(rt, gate, number));
             all_run &= worker.is_ok();
         }
-        let mut place = 0u32;
+        let mut place = 0usize;
         for pass in passes.iter_mut() {
             let worker = scope.spawn(move || serve_streams(
                 rt, gate, alloc, hub, streams, own, pass, place,
@@ -184,12 +219,7 @@ where
         }
         drop(to);
         all_run
-    });
-    if all_run {
-        Ok(())
-    } else {
-        Err(ServeFault::Memory)
-    }
+    })
 }
 
 // Hands each socket that comes to the client workers, until the server ends.
@@ -237,7 +267,7 @@ fn serve_streams<J: Terms<Weighted>, G: Gate, R>(
     streams: &Receiver<TcpStream>,
     own: SocketAddr,
     pass: &mut Pass<J, Weighted>,
-    place: u32,
+    place: usize,
 )
 where
     R: Net<Listener = TcpListener, Stream = TcpStream> + Wait + Clock,
@@ -272,13 +302,12 @@ fn serve_stream<J: Terms<Weighted>, G: Gate, R: Wait + Clock>(
     };
     let _ = stream.set_nodelay(true);
     let hub = session.hub;
-    hub.doors
-        .put(session.rt, session.place as usize, Some(door));
+    hub.doors.put(session.rt, session.place, Some(door));
     let flow = if hub.is_closing() {
         Flow::Ends
     } else {
         session.talk(&mut Wrapped::new(stream), &mut Wrapped::new(stream))
     };
-    hub.doors.put(session.rt, session.place as usize, None);
+    hub.doors.put(session.rt, session.place, None);
     flow
 }

@@ -1,9 +1,9 @@
 //! What a thread does at the nodes.
 
-use crate::desk::Asks;
 use crate::hub::Hub;
 use crate::quorums::quorum_behind;
 use crate::rooms::bit;
+use rambo_desk::Asks;
 use rambo_names::{Members, Name, Refusal, Weighted};
 use rambo_post::{Gate, Terms, Turn};
 use rambo_run::Step;
@@ -17,19 +17,28 @@ impl<J: Terms<Weighted>> Hub<J> {
     }
 
     /// Takes the turns that there are, at each node where nobody else is, until there are none, or until this says so.
-    pub(crate) fn work<R: Wait, G: Gate, F: Fn() -> bool>(&self, rt: &R, gate: &G, is_over: F)
+    ///
+    /// `OutOfMemory` where a turn or a letter was refused so. It is then left for later, with all that is still to do.
+    pub(crate) fn work<R: Wait, G: Gate, F: Fn() -> bool>(
+        &self,
+        rt: &R,
+        gate: &G,
+        is_over: F,
+    ) -> Result<(), Refusal>
         requires { F.IsAlwaysCallable is_over }
     {
         for _ in rt.forever() {
             let Some(name) = self.claim() else {
-                return;
+                return Ok(());
             };
-            self.visit(rt, gate, name);
+            let done = self.visit(rt, gate, name);
             self.visited.fetch_and(!bit(name), Ordering::SeqCst);
+            done?;
             if is_over() {
-                return;
+                return Ok(());
             }
         }
+        Ok(())
     }
 
     // A node where there is something to do and nobody else is.
@@ -44,22 +53,50 @@ impl<J: Terms<Weighted>> Hub<J> {
     }
 
     // Takes the turns of a node, and then writes to whom it owes a letter, and to whom it asks.
-    fn visit<R: Wait, G: Gate>(&self, rt: &R, gate: &G, name: Name) {
+    fn visit<R: Wait, G: Gate>(&self, rt: &R, gate: &G, name: Name) -> Result<(), Refusal> {
         self.pending.fetch_and(!bit(name), Ordering::SeqCst);
         let owes = self.rooms.of(name).owes.swap(0, Ordering::SeqCst);
         if let Err(refusal) = self.take_turns(rt, gate, name) {
             self.rooms.of(name).owes.fetch_or(owes, Ordering::SeqCst);
-            if refusal == Refusal::HistoryFull {
-                self.fill(rt);
-            }
-            return;
+            return self.leave(rt, name, refusal);
         }
         let asked = self.asked(rt, name);
+        let mut done = Ok(());
         for to in names_in(owes).union(asked).iter() {
-            if self.write(rt, name, to, asked.has(to)) == Err(Refusal::HistoryFull) {
-                self.fill(rt);
+            if let Err(refusal) = self.write(rt, name, to, asked.has(to)) {
+                done = self.leave_letter(rt, name, to, refusal);
             }
         }
+        done
+    }
+
+    // What is to do at a node is left for later, since memory was refused; where the book is full, it is left for good.
+    fn leave<R: Wait>(&self, rt: &R, name: Name, refusal: Refusal) -> Result<(), Refusal> {
+        match refusal {
+            Refusal::OutOfMemory => {
+                self.point_at(name);
+                Err(refusal)
+            }
+            Refusal::HistoryFull => {
+                self.fill(rt);
+                Ok(())
+            }
+            _ => Ok(()),
+        }
+    }
+
+    // The same of a letter, which is owed if it is left for later.
+    fn leave_letter<R: Wait>(
+        &self,
+        rt: &R,
+        from: Name,
+        to: Name,
+        refusal: Refusal,
+    ) -> Result<(), Refusal> {
+        if refusal == Refusal::OutOfMemory {
+            self.rooms.of(from).owes.fetch_or(bit(to), Ordering::SeqCst);
+        }
+        self.leave(rt, from, refusal)
     }
 
     fn take_turns<R: Wait, G: Gate>(&self, rt: &R, gate: &G, name: Name) -> Result<(), Refusal> {
@@ -78,7 +115,7 @@ impl<J: Terms<Weighted>> Hub<J> {
             Step::Advance(id) => {
                 let client = self.rooms.of(name).desk.lock(rt).advance(id.number);
                 if let Some(client) = client {
-                    if let Some(bell) = self.bells.get(client as usize) {
+                    if let Some(bell) = self.bells.get(client) {
                         bell.ring(rt);
                     }
                 }

@@ -26,9 +26,14 @@ impl<J: Terms<Weighted>> Hub<J> {
                 self.rooms.of(name).desk.lock(rt).remind();
             }
             self.point_at(name);
-            self.work(rt, gate, || self.is_closing());
-            is_waiting = !self.post.wanted(rt, name).is_subset(Members::empty());
+            let worked = self.work(rt, gate, || self.is_closing());
+            is_waiting = worked.is_err() || self.has_wishes(rt, name);
         }
+    }
+
+    // Whether a node has letters to send, for itself or in reply.
+    fn has_wishes<R: Wait>(&self, rt: &R, name: Name) -> bool {
+        !self.post.wanted(rt, name).is_subset(Members::empty())
     }
 
     // Sleeps until the bell rings, but only briefly where the node waits. Whether it rang.
