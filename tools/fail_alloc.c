@@ -43,8 +43,7 @@ void _exit(int status) {
 
 static int refuse(void) {
     if (!ready) return 0;
-    requests += 1;
-    return requests == refused_at;
+    return __atomic_add_fetch(&requests, 1, __ATOMIC_RELAXED) == refused_at;
 }
 
 void *malloc(size_t size) {
