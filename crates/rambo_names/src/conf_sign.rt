@@ -12,11 +12,6 @@ use crate::weighted::Weighted;
 use itoa::Buffer;
 use std::alloc::{AllocError, Allocator};
 
-// The least weight that is written, and the greatest.
-const LEAST_WRITTEN: u64 = 2;
-
-const GREATEST: u64 = 15;
-
 /// The configuration that the bytes spell: `-` for the one with no member, else its members in strictly rising order,
 /// joined by commas: each its name, 1 to 64 in plain decimal, and behind a colon its weight, 2 to 15, unless that is 1.
 ///
@@ -99,7 +94,7 @@ fn written_weight(digits: &[u8]) -> Option<(u8, &[u8])>
     ensures none { IfNone result ((w : ℕ) (r : List ℕ) → 2 ≤ w → w ≤ 15 → IsEnd r → digits.now ≢ decimal w ++ r) }
 {
     let (weight, rest) = leading_num(digits)?;
-    if LEAST_WRITTEN <= weight && weight <= GREATEST && ends(rest) {
+    if 2 <= weight && weight <= 15 && ends(rest) {
         Some((weight as u8, rest))
     } else {
         None
