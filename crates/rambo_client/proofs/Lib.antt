@@ -3,5 +3,6 @@ pub mod WellFormed
 pub mod Latest
 pub mod Orders
 pub mod Right
+pub mod Beginnings
 pub mod Gains
 pub mod Pieces
