@@ -11,10 +11,14 @@ use Rattle.rambo_atomic.specs.declared.event.CallId.{CallId}
 use Rattle.rambo_atomic.specs.declared.event.Event.{Event}
 use Rattle.rambo_atomic.specs.declared.event.Event.TheVariants as event
 use Rattle.rambo_atomic.specs.Calls.{key_of, is_get, answer_for, same_call}
-use Rattle.rambo_atomic.specs.Forms.{CallsOnce}
+use Rattle.rambo_atomic.specs.declared.scope.Scope.{Scope}
+use Rattle.rambo_atomic.specs.declared.scope.Scope.TheVariants as scope
+use Rattle.rambo_atomic.specs.Forms.{CallsOnce, IsWellFormed}
+use Rattle.rambo_atomic.specs.Scopes.{within, IsCompleteIn, HasNoStrangerIn, IsProperIn}
 use Rattle.rambo_atomic.specs.Histories.{call_in, answer_in}
-use Rattle.rambo_atomic.specs.Proper.{EverySplit, Stands, IsComplete, IsDistinct, HasNoStranger, AnswersLatest, after_op, held_after}
-use Rattle.rambo_atomic.specs.Tests.{stands_in, is_due, is_complete, is_distinct, is_own_op, has_no_stranger, holding, tells, is_right, answers_latest, later}
+use Rattle.rambo_atomic.specs.Proper.{EverySplit, Stands, IsDistinct, HasNoStranger, AnswersLatest, KeepsRealTime, after_op, held_after}
+use Rattle.rambo_atomic.specs.Tests.{stands_in, of_key, is_due, is_complete, is_distinct, is_own_op, has_no_stranger, holding, tells, is_right, answers_latest, is_told, all_told, none_held}
+use Rattle.rambo_atomic.proofs.Asked.{some_and, answered_called}
 use Rattle.rambo_atomic.proofs.LookUps.{call_in-append, either}
 use Rattle.rambo_atomic.proofs.Pushes.{same_call-path, same_call-refl}
 use Rattle.rambo_atomic.proofs.Splits.{splits-nil, splits-cons, splits-head, splits-tail, stands-later, stands-nil, stands-cases}
@@ -67,28 +71,34 @@ implies : (a b : Bool) → (a ≡ true → b ≡ true) → (not a || b) ≡ true
 implies true b f = f refl
 implies false b f = refl
 
-complete-each : (h : List Event) (key : List ℕ) (order : List CallId) (es : List Event) → is_complete h key order es ≡ true
-    → (c : CallId) (op : Op) → call_in es c ≡ Some op → key_of op ≡ key → is_some (answer_in h c) ≡ true → stands_in order c ≡ true
-complete-each h key order [] all c o has of_key answered = cc
-complete-each h key order (event.Call d p ∷ es) all c o has of_key answered =
-    let here = both (not (is_due h key (event.Call d p)) || stands_in order d) (is_complete h key order es) all in
+complete-each : (h : List Event) (among : Op → Bool) (order : List CallId) (es : List Event) → is_complete h among order es ≡ true
+    → (c : CallId) (op : Op) → call_in es c ≡ Some op → among op ≡ true → is_some (answer_in h c) ≡ true → stands_in order c ≡ true
+complete-each h among order [] all c o has own answered = cc
+complete-each h among order (event.Call d p ∷ es) all c o has own answered =
+    let here = both (not (is_due h among (event.Call d p)) || stands_in order d) (is_complete h among order es) all in
     elim (same_call d c) as (λ t. same_call d c ≡ t → cond t (Some p) (call_in es c) ≡ Some o → stands_in order c ≡ true) [
       | true ↦ λ same found.
           let is = same_call-path d c same in
           let op_is : p ≡ o = cc in
           ap (stands_in order) (sym is)
-          ∙ implied _ _ here.0 (λ i. (bytes_eq-Decides (key_of p) key).1 (ap key_of op_is ∙ of_key) i && (ap (λ x. is_some (answer_in h x)) is ∙ answered) i)
-      | false ↦ λ _ found. complete-each h key order es here.1 c o found of_key answered
+          ∙ implied _ _ here.0 (λ i. (ap among op_is ∙ own) i && (ap (λ x. is_some (answer_in h x)) is ∙ answered) i)
+      | false ↦ λ _ found. complete-each h among order es here.1 c o found own answered
     ] refl has
-complete-each h key order (event.Answer d a ∷ es) all c o has of_key answered =
-    complete-each h key order es all c o has of_key answered
+complete-each h among order (event.Answer d a ∷ es) all c o has own answered =
+    complete-each h among order es all c o has own answered
 
-pub complete-to : (h : List Event) (key : List ℕ) (order : List CallId) → is_complete h key order h ≡ true → IsComplete h key order
-complete-to h key order all c of_key answered =
-    elim (call_in h c) as (λ o. call_in h c ≡ o → IsSomeAnd o (λ op. key_of op ≡ key) → Stands order c) [
-      | None ↦ λ _ of. absurd of
-      | Some o ↦ λ is of. stands_in-to order c (complete-each h key order h all c o is of answered)
-    ] refl of_key
+some_is : {A : Type 0} (o : Option A) → IsSome o → (a : A) × (o ≡ Some a)
+some_is None i = absurd (true≢false (sym i))
+some_is (Some a) i = (a, refl)
+
+pub complete-to : (s : Scope) (h : List Event) (order : List CallId) → IsWellFormed h → is_complete h (within s) order h ≡ true → IsCompleteIn s h order
+complete-to (scope.Key key) h order well all = λ c own answered.
+    let o = some_and _ (call_in h c) own in
+    stands_in-to order c (complete-each h (of_key key.now) order h all c o.0 o.1 ((bytes_eq-Decides (key_of o.0) key.now).1 o.2) answered)
+complete-to scope.AllKeys h order well all = λ c answered.
+    let a = some_is (answer_in h c) answered in
+    let o = answered_called h well c a.0 a.1 in
+    stands_in-to order c (complete-each h (λ op. true) order h all c o.0 o.1 refl answered)
 
 -- the history has what is asked where a call stands
 call_in-split : (h front back : List Event) (c : CallId) (o : Op) → CallsOnce h → h ≡ front ++ event.Call c o ∷ back → call_in h c ≡ Some o
@@ -102,57 +112,75 @@ call_in-split h front back c o once e =
     first None false none same = cc
     first (Some q) t none same = cc
 
-complete-along : (h : List Event) (key : List ℕ) (order : List CallId) → CallsOnce h → IsComplete h key order
-    → (front es : List Event) → h ≡ front ++ es → is_complete h key order es ≡ true
-complete-along h key order once all front [] e = refl
-complete-along h key order once all front (event.Call d p ∷ es) e =
-    λ i. implies (bytes_eq (key_of p) key && is_some (answer_in h d)) (stands_in order d)
-    (λ due. let q = both _ _ due in
-    stands_in-from order d (all d (of_call (call_in h d) (call_in-split h front es d p once e) ((bytes_eq-Decides (key_of p) key).0 q.0)) q.1)) i
-    && complete-along h key order once all (front ++ event.Call d p ∷ []) es (e ∙ sym (append_assoc front (event.Call d p ∷ []) es)) i
-  where
-    of_call : (o : Option Op) → o ≡ Some p → key_of p ≡ key → IsSomeAnd o (λ op. key_of op ≡ key)
-    of_call None is k = cc
-    of_call (Some q) is k = let same : q ≡ p = cc in ap key_of same ∙ k
-complete-along h key order once all front (event.Answer d a ∷ es) e =
-    complete-along h key order once all (front ++ event.Answer d a ∷ []) es (e ∙ sym (append_assoc front (event.Answer d a ∷ []) es))
+abbrev StandsAll : List Event → (Op → Bool) → List CallId → Type 0
+StandsAll h among order = (c : CallId) (op : Op) → call_in h c ≡ Some op → among op ≡ true → is_some (answer_in h c) ≡ true → Stands order c
 
-pub complete-from : (h : List Event) (key : List ℕ) (order : List CallId) → CallsOnce h → IsComplete h key order → is_complete h key order h ≡ true
-complete-from h key order once all = complete-along h key order once all [] h refl
+complete-along : (h : List Event) (among : Op → Bool) (order : List CallId) → CallsOnce h → StandsAll h among order
+    → (front es : List Event) → h ≡ front ++ es → is_complete h among order es ≡ true
+complete-along h among order once all front [] e = refl
+complete-along h among order once all front (event.Call d p ∷ es) e =
+    λ i. implies (among p && is_some (answer_in h d)) (stands_in order d)
+    (λ due. let q = both _ _ due in stands_in-from order d (all d p (call_in-split h front es d p once e) q.0 q.1)) i
+    && complete-along h among order once all (front ++ event.Call d p ∷ []) es (e ∙ sym (append_assoc front (event.Call d p ∷ []) es)) i
+complete-along h among order once all front (event.Answer d a ∷ es) e =
+    complete-along h among order once all (front ++ event.Answer d a ∷ []) es (e ∙ sym (append_assoc front (event.Answer d a ∷ []) es))
+
+pub complete-from : (s : Scope) (h : List Event) (order : List CallId) → CallsOnce h → IsCompleteIn s h order → is_complete h (within s) order h ≡ true
+complete-from (scope.Key key) h order once all =
+    complete-along h (of_key key.now) order once
+    (λ c op is own. all c (subst (λ o. IsSomeAnd o (λ op. key_of op ≡ key.now)) (sym is) ((bytes_eq-Decides (key_of op) key.now).0 own))) [] h refl
+complete-from scope.AllKeys h order once all = complete-along h (λ op. true) order once (λ c op is own. all c) [] h refl
 
 -- no strangers
-abbrev IsOwn : List Event → List ℕ → CallId → Type 0
-IsOwn h key c = IsSomeAnd (call_in h c) (λ op. (key_of op ≡ key) × (is_get op ≡ true → IsSome (answer_in h c)))
+abbrev IsOwn : List Event → (Op → Bool) → CallId → Type 0
+IsOwn h among c = IsSomeAnd (call_in h c) (λ op. (among op ≡ true) × (is_get op ≡ true → IsSome (answer_in h c)))
 
-own_op-to : (key : List ℕ) (t : Bool) (o : Option Op) → is_own_op key t o ≡ true → IsSomeAnd o (λ op. (key_of op ≡ key) × (is_get op ≡ true → t ≡ true))
-own_op-to key t None e = true≢false (sym e)
-own_op-to key t (Some op) e =
-    let p = both (bytes_eq (key_of op) key) (not (is_get op) || t) e in
-    ((bytes_eq-Decides (key_of op) key).0 p.0, answered (is_get op) t p.1)
+own_op-to : (among : Op → Bool) (t : Bool) (o : Option Op) → is_own_op among t o ≡ true → IsSomeAnd o (λ op. (among op ≡ true) × (is_get op ≡ true → t ≡ true))
+own_op-to among t None e = true≢false (sym e)
+own_op-to among t (Some op) e =
+    let p = both (among op) (not (is_get op) || t) e in
+    (p.0, answered (is_get op) t p.1)
   where
     answered : (g t : Bool) → (not g || t) ≡ true → g ≡ true → t ≡ true
     answered true t e h = e
     answered false t e h = absurd (true≢false (sym h))
 
-own_op-from : (key : List ℕ) (t : Bool) (o : Option Op) → IsSomeAnd o (λ op. (key_of op ≡ key) × (is_get op ≡ true → t ≡ true)) → is_own_op key t o ≡ true
-own_op-from key t None h = absurd h
-own_op-from key t (Some op) h = λ i. (bytes_eq-Decides (key_of op) key).1 h.0 i && either (is_get op) t h.1 i
+own_op-from : (among : Op → Bool) (t : Bool) (o : Option Op) → IsSomeAnd o (λ op. (among op ≡ true) × (is_get op ≡ true → t ≡ true)) → is_own_op among t o ≡ true
+own_op-from among t None h = absurd h
+own_op-from among t (Some op) h = λ i. h.0 i && either (is_get op) t h.1 i
   where
     either : (g t : Bool) → (g ≡ true → t ≡ true) → (not g || t) ≡ true
     either true t f = f refl
     either false t f = refl
 
-pub stranger-to : (h : List Event) (key : List ℕ) (order : List CallId) → has_no_stranger h key order ≡ true → HasNoStranger h key order
-stranger-to h key [] e = splits-nil (λ front c back. IsOwn h key c)
-stranger-to h key (c ∷ cs) e =
+own-to : (h : List Event) (among : Op → Bool) (order : List CallId) → has_no_stranger h among order ≡ true → EverySplit (λ front c back. IsOwn h among c) order
+own-to h among [] e = splits-nil (λ front c back. IsOwn h among c)
+own-to h among (c ∷ cs) e =
     let p = both _ _ e in
-    splits-cons (λ front c back. IsOwn h key c) c cs (own_op-to key (is_some (answer_in h c)) (call_in h c) p.0) (stranger-to h key cs p.1)
+    splits-cons (λ front c back. IsOwn h among c) c cs (own_op-to among (is_some (answer_in h c)) (call_in h c) p.0) (own-to h among cs p.1)
 
-pub stranger-from : (h : List Event) (key : List ℕ) (order : List CallId) → HasNoStranger h key order → has_no_stranger h key order ≡ true
-stranger-from h key [] all = refl
-stranger-from h key (c ∷ cs) all =
-    λ i. own_op-from key (is_some (answer_in h c)) (call_in h c) (splits-head (λ front c back. IsOwn h key c) c cs all) i
-    && stranger-from h key cs (splits-tail (λ front c back. IsOwn h key c) c cs all) i
+own-from : (h : List Event) (among : Op → Bool) (order : List CallId) → EverySplit (λ front c back. IsOwn h among c) order → has_no_stranger h among order ≡ true
+own-from h among [] all = refl
+own-from h among (c ∷ cs) all =
+    λ i. own_op-from among (is_some (answer_in h c)) (call_in h c) (splits-head (λ front c back. IsOwn h among c) c cs all) i
+    && own-from h among cs (splits-tail (λ front c back. IsOwn h among c) c cs all) i
+
+weaker : (o : Option Op) (P R : Op → Type 0) → ((op : Op) → P op → R op) → IsSomeAnd o P → IsSomeAnd o R
+weaker None P R f h = absurd h
+weaker (Some op) P R f h = f op h
+
+pub key_stranger-to : (h : List Event) (key : List ℕ) (order : List CallId) → has_no_stranger h (of_key key) order ≡ true → HasNoStranger h key order
+key_stranger-to h key order e front c back split =
+    weaker (call_in h c) _ _ (λ op p. ((bytes_eq-Decides (key_of op) key).0 p.0, p.1)) (own-to h (of_key key) order e front c back split)
+
+pub stranger-to : (s : Scope) (h : List Event) (order : List CallId) → has_no_stranger h (within s) order ≡ true → HasNoStrangerIn s h order
+stranger-to (scope.Key key) h order e = key_stranger-to h key.now order e
+stranger-to scope.AllKeys h order e = λ front c back split. weaker (call_in h c) _ _ (λ op p. p.1) (own-to h (λ op. true) order e front c back split)
+
+pub stranger-from : (s : Scope) (h : List Event) (order : List CallId) → HasNoStrangerIn s h order → has_no_stranger h (within s) order ≡ true
+stranger-from (scope.Key key) h order all =
+    own-from h (of_key key.now) order (λ front c back split. weaker (call_in h c) _ _ (λ op p. ((bytes_eq-Decides (key_of op) key.now).1 p.0, p.1)) (all front c back split))
+stranger-from scope.AllKeys h order all = own-from h (λ op. true) order (λ front c back split. weaker (call_in h c) _ _ (λ op p. (refl, p)) (all front c back split))
 
 -- gets answer the latest set
 abbrev Right : List Event → List ℕ → Option (List ℕ) → List CallId → CallId → List CallId → Type 0
@@ -176,7 +204,7 @@ right-to held None a e key is = cc
 right-to held (Some (op.Get k)) a e key is = tells-to held a e
 right-to held (Some (op.Set k v)) a e key is = cc
 
-right-from : (key : List ℕ) (held : Option (List ℕ)) (o : Option Op) (a : Option Answer) (t : Bool) → is_own_op key t o ≡ true
+right-from : (key : List ℕ) (held : Option (List ℕ)) (o : Option Op) (a : Option Answer) (t : Bool) → is_own_op (of_key key) t o ≡ true
     → (o ≡ Some (op.Get key) → a ≡ Some (answer_for held)) → is_right held o a ≡ true
 right-from key held None a t own f = refl
 right-from key held (Some (op.Get k)) a t own f =
@@ -184,12 +212,12 @@ right-from key held (Some (op.Get k)) a t own f =
 right-from key held (Some (op.Set k v)) a t own f = refl
 
 -- a call of the key does to its value what it does to any one key's
-after-own : (key : List ℕ) (o : Option Op) (t : Bool) (held : Option (List ℕ)) → is_own_op key t o ≡ true → after_op key o held ≡ holding o held
+after-own : (key : List ℕ) (o : Option Op) (t : Bool) (held : Option (List ℕ)) → is_own_op (of_key key) t o ≡ true → after_op key o held ≡ holding o held
 after-own key None t held own = refl
 after-own key (Some (op.Get k)) t held own = refl
 after-own key (Some (op.Set k v)) t held own = ap (λ b. cond b (Some v) held) (both _ _ own).0
 
-right-along : (h : List Event) (key : List ℕ) (held : Option (List ℕ)) (order : List CallId) → has_no_stranger h key order ≡ true
+right-along : (h : List Event) (key : List ℕ) (held : Option (List ℕ)) (order : List CallId) → has_no_stranger h (of_key key) order ≡ true
     → answers_latest h held order ≡ true → EverySplit (Right h key held) order
 right-along h key held [] own e = splits-nil (Right h key held)
 right-along h key held (c ∷ cs) own e =
@@ -202,7 +230,7 @@ right-along h key held (c ∷ cs) own e =
       | false ↦ λ _ stopped. absurd (true≢false (sym stopped))
     ] refl e
 
-right-back : (h : List Event) (key : List ℕ) (held : Option (List ℕ)) (order : List CallId) → has_no_stranger h key order ≡ true
+right-back : (h : List Event) (key : List ℕ) (held : Option (List ℕ)) (order : List CallId) → has_no_stranger h (of_key key) order ≡ true
     → EverySplit (Right h key held) order → answers_latest h held order ≡ true
 right-back h key held [] own all = refl
 right-back h key held (c ∷ cs) own all =
@@ -212,10 +240,10 @@ right-back h key held (c ∷ cs) own all =
     ∙ right-back h key (holding (call_in h c) held) cs mine.1
     (subst (λ v. EverySplit (Right h key v) cs) (after-own key (call_in h c) (is_some (answer_in h c)) held mine.0) (splits-tail (Right h key held) c cs all))
 
-pub latest-to : (h : List Event) (key : List ℕ) (order : List CallId) → has_no_stranger h key order ≡ true
+pub latest-to : (h : List Event) (key : List ℕ) (order : List CallId) → has_no_stranger h (of_key key) order ≡ true
     → answers_latest h None order ≡ true → AnswersLatest h order
 latest-to h key order own e front c back split k is =
-    let mine = stranger-to h key order own front c back split in
+    let mine = key_stranger-to h key order own front c back split in
     let same : k ≡ key = of_key (call_in h c) is mine in
     subst (λ x. answer_in h c ≡ Some (answer_for (held_after h x front))) (sym same)
     (right-along h key None order own e front c back split (is ∙ ap (λ x. Some (op.Get x)) same))
@@ -224,6 +252,75 @@ latest-to h key order own e front c back split k is =
     of_key None is mine = absurd mine
     of_key (Some p) is mine = let q : p ≡ op.Get k = cc in ap key_of (sym q) ∙ mine.0
 
-pub latest-from : (h : List Event) (key : List ℕ) (order : List CallId) → has_no_stranger h key order ≡ true
+pub latest-from : (h : List Event) (key : List ℕ) (order : List CallId) → has_no_stranger h (of_key key) order ≡ true
     → AnswersLatest h order → answers_latest h None order ≡ true
 latest-from h key order own all = right-back h key None order own (λ front c back split. all front c back split key)
+
+-- what is told is what the keys hold
+abbrev Told : List Event → (List ℕ → Option (List ℕ)) → List CallId → CallId → List CallId → Type 0
+Told h held front c back =
+    (key : List ℕ) → call_in h c ≡ Some (op.Get key) → answer_in h c ≡ Some (answer_for (fold (λ v x. after_op key (call_in h x) v) (held key) front))
+
+told-here : (held : List ℕ → Option (List ℕ)) (o : Option Op) (a : Option Answer) → is_told held o a ≡ true → (key : List ℕ) → o ≡ Some (op.Get key) → a ≡ Some (answer_for (held key))
+told-here held None a e key is = cc
+told-here held (Some (op.Get k)) a e key is = let same : k ≡ key = cc in tells-to (held k) a e ∙ ap (λ k. Some (answer_for (held k))) same
+told-here held (Some (op.Set k v)) a e key is = cc
+
+told-from : (held : List ℕ → Option (List ℕ)) (o : Option Op) (a : Option Answer) → ((key : List ℕ) → o ≡ Some (op.Get key) → a ≡ Some (answer_for (held key))) → is_told held o a ≡ true
+told-from held None a f = refl
+told-from held (Some (op.Get k)) a f = ap (tells (held k)) (f k refl) ∙ told (held k)
+told-from held (Some (op.Set k v)) a f = refl
+
+abbrev next_held : List Event → CallId → (List ℕ → Option (List ℕ)) → List ℕ → Option (List ℕ)
+next_held h c held = λ key. after_op key (call_in h c) (held key)
+
+told-along : (h : List Event) (held : List ℕ → Option (List ℕ)) (order : List CallId) → all_told h held order ≡ true → EverySplit (Told h held) order
+told-along h held [] e = splits-nil (Told h held)
+told-along h held (c ∷ cs) e =
+    elim (is_told held (call_in h c) (answer_in h c)) as (λ t. is_told held (call_in h c) (answer_in h c) ≡ t → cond t (all_told h (next_held h c held) cs) false ≡ true → EverySplit (Told h held) (c ∷ cs)) [
+      | true ↦ λ fine rest. splits-cons (Told h held) c cs (told-here held (call_in h c) (answer_in h c) fine) (told-along h (next_held h c held) cs rest)
+      | false ↦ λ _ stopped. absurd (true≢false (sym stopped))
+    ] refl e
+
+told-back : (h : List Event) (held : List ℕ → Option (List ℕ)) (order : List CallId) → EverySplit (Told h held) order → all_told h held order ≡ true
+told-back h held [] all = refl
+told-back h held (c ∷ cs) all =
+    ap (λ t. cond t (all_told h (next_held h c held) cs) false) (told-from held (call_in h c) (answer_in h c) (splits-head (Told h held) c cs all))
+    ∙ told-back h (next_held h c held) cs (splits-tail (Told h held) c cs all)
+
+pub all_told-to : (h : List Event) (order : List CallId) → all_told h none_held order ≡ true → AnswersLatest h order
+all_told-to h order e = told-along h none_held order e
+
+pub all_told-from : (h : List Event) (order : List CallId) → AnswersLatest h order → all_told h none_held order ≡ true
+all_told-from h order all = told-back h none_held order all
+
+-- the test goes on behind an entry
+module _ (h : List Event) (held : List ℕ → Option (List ℕ)) (c : CallId) (cs : List CallId) where
+  all_told-step : (o : Option Op) (a : Option Answer) → call_in h c ≡ o → answer_in h c ≡ a → all_told h held (c ∷ cs) ≡ cond (is_told held o a) (all_told h (λ key. after_op key o (held key)) cs) false
+  all_told-step o a is was = λ i. cond (is_told held (is i) (was i)) (all_told h (λ key. after_op key (is i) (held key)) cs) false
+
+  pub told_none : call_in h c ≡ None → all_told h held (c ∷ cs) ≡ all_told h held cs
+  told_none is = all_told-step None (answer_in h c) is refl
+
+  pub told_right : (k : List ℕ) (a : Option Answer) → call_in h c ≡ Some (op.Get k) → answer_in h c ≡ a → tells (held k) a ≡ true → all_told h held (c ∷ cs) ≡ all_told h held cs
+  told_right k a is was e = all_told-step (Some (op.Get k)) a is was ∙ ap (λ t. cond t (all_told h held cs) false) e
+
+  pub told_wrong : (k : List ℕ) (a : Option Answer) → call_in h c ≡ Some (op.Get k) → answer_in h c ≡ a → tells (held k) a ≡ false → all_told h held (c ∷ cs) ≡ false
+  told_wrong k a is was e = all_told-step (Some (op.Get k)) a is was ∙ ap (λ t. cond t (all_told h held cs) false) e
+
+  pub told_set : (k v : List ℕ) (new : List ℕ → Option (List ℕ)) → call_in h c ≡ Some (op.Set k v) → ((q : List ℕ) → new q ≡ cond (bytes_eq k q) (Some v) (held q)) → all_told h held (c ∷ cs) ≡ all_told h new cs
+  told_set k v new is e = all_told-step (Some (op.Set k v)) (answer_in h c) is refl ∙ (λ i. all_told h (λ q. sym (e q) i) cs)
+
+  pub told_next : (new : List ℕ → Option (List ℕ)) → is_told held (call_in h c) (answer_in h c) ≡ true → ((q : List ℕ) → new q ≡ after_op q (call_in h c) (held q)) → all_told h held (c ∷ cs) ≡ all_told h new cs
+  told_next new fine e = ap (λ t. cond t (all_told h (next_held h c held) cs) false) fine ∙ (λ i. all_told h (λ q. sym (e q) i) cs)
+
+-- all rules together
+pub proper-in : (s : Scope) (h : List Event) (order : List CallId) → IsCompleteIn s h order → IsDistinct order → HasNoStrangerIn s h order → AnswersLatest h order → KeepsRealTime h order → IsProperIn s h order
+proper-in (scope.Key key) h order c d n l r = record { complete = c; distinct = d; no_stranger = n; latest = l; real_time = r }
+proper-in scope.AllKeys h order c d n l r = record { complete = c; distinct = d; no_stranger = n; latest = l; real_time = r }
+
+-- what a key holds behind one entry more
+pub held_after-push : (h : List Event) (key : List ℕ) (front : List CallId) (c : CallId) (held : Option (List ℕ))
+    → fold (λ v x. after_op key (call_in h x) v) held (front ++ c ∷ []) ≡ after_op key (call_in h c) (fold (λ v x. after_op key (call_in h x) v) held front)
+held_after-push h key [] c held = refl
+held_after-push h key (d ∷ front) c held = held_after-push h key front c (after_op key (call_in h d) held)

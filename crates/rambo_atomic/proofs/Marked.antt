@@ -16,8 +16,8 @@ use Rattle.rambo_atomic.specs.Forms.{IsWellFormed}
 use Rattle.rambo_atomic.specs.Marks.{is_marked, Marks, verdict_of}
 use Rattle.rambo_atomic.specs.Proper.{IsComplete}
 use Rattle.rambo_atomic.specs.Verdicts.{IsVerdict}
-use Rattle.rambo_atomic.specs.Tests.{stands_in, is_distinct, is_own, is_own_op, has_no_stranger, is_right, holding, answers_latest, is_before, later, keeps_real_time}
-use Rattle.rambo_atomic.proofs.Decided.{distinct-to, stranger-to, latest-to, latest-from}
+use Rattle.rambo_atomic.specs.Tests.{stands_in, of_key, is_distinct, is_own, is_own_op, has_no_stranger, is_right, holding, answers_latest, is_before, later, keeps_real_time}
+use Rattle.rambo_atomic.proofs.Decided.{distinct-to, key_stranger-to, latest-to, latest-from}
 use Rattle.rambo_atomic.proofs.LookUps.{position-cons}
 use Rattle.rambo_atomic.proofs.Pushes.{same_call-path}
 use Rattle.rambo_atomic.proofs.RealTime.{real_time-to, real_time-from}
@@ -52,7 +52,7 @@ event-called (event.Answer d a ∷ es) c n op at asked =
 -- what holds once the first k entries were gone through
 pub record PassSoFar (h : List Event) (key : List ℕ) (order : List CallId) (k : ℕ) (before marks : List Bool) (held : Option (List ℕ)) (latest : ℕ) (is_wrong is_late : Bool) : Type 0 where
   pub distinct : is_distinct (take k order) ≡ true
-  pub own : has_no_stranger h key (take k order) ≡ true
+  pub own : has_no_stranger h (of_key key) (take k order) ≡ true
   pub marked : (q : CallId) (n : ℕ) → stands_in (take k order) q ≡ true → called_at h q ≡ Some n → is_marked marks n ≡ true
   pub marking : Marks h key order before marks
   pub right : answers_latest h None order ≡ cond is_wrong false (answers_latest h held (drop k order))
@@ -105,12 +105,12 @@ first_true false b e = e
 pub pass_on : (h : List Event) (key : List ℕ) (order : List CallId) (k : ℕ) (before marks new : List Bool) (held next : Option (List ℕ)) (latest last : ℕ) (is_wrong wrong is_late late : Bool)
     (id : CallId) (op : Op) (answer : Option Answer) (called : ℕ) (answered : Option ℕ)
     → PassSoFar h key order k before marks held latest is_wrong is_late → k < length order → id ≡ get_or order k id → EntryIs h id op answer called answered
-    → is_marked marks called ≡ false → is_own_op key (is_some answer) (Some op) ≡ true → new ≡ set marks called true
+    → is_marked marks called ≡ false → is_own_op (of_key key) (is_some answer) (Some op) ≡ true → new ≡ set marks called true
     → wrong ≡ (is_wrong || not (is_right held (Some op) answer)) → next ≡ holding (Some op) held → late ≡ (is_late || is_before latest answered) → last ≡ max latest called
     → PassSoFar h key order (k + 1) before new next last wrong late
 pass_on h key order k before marks new held next latest last is_wrong wrong is_late late id op answer called answered now within is entry unmarked own set_is wrong_is next_is late_is last_is = record {
   distinct = ap is_distinct more ∙ distinct-new (take k order) id fresh ∙ now.distinct;
-  own = ap (has_no_stranger h key) more ∙ all-push (is_own h key) (take k order) id now.own ((λ i. is_own_op key (is_some (entry.told i)) (entry.asked i)) ∙ own);
+  own = ap (has_no_stranger h (of_key key)) more ∙ all-push (is_own h (of_key key)) (take k order) id now.own ((λ i. is_own_op (of_key key) (is_some (entry.told i)) (entry.asked i)) ∙ own);
   marked = λ q n stands at. subst (λ m. is_marked m n ≡ true) (sym set_is) (elim (or_cases _ _ (sym (stands_in-push (take k order) id q) ∙ ap (λ l. stands_in l q) (sym more) ∙ stands)) [
     | inl was ↦ still_marked marks called n place (now.marked q n was at)
     | inr same ↦
@@ -179,22 +179,22 @@ pass_end h key order k before marks held latest is_wrong is_late well now all co
     whole : take k order ≡ order
     whole = take_all k order all
 
-    own : has_no_stranger h key order ≡ true
-    own = ap (has_no_stranger h key) (sym whole) ∙ now.own
+    own : has_no_stranger h (of_key key) order ≡ true
+    own = ap (has_no_stranger h (of_key key)) (sym whole) ∙ now.own
 
     decide : (w l : Bool) → answers_latest h None order ≡ cond w false true → keeps_real_time h 0 order ≡ cond l false true → IsVerdict h key order (verdict_of w l)
-    decide true l r t = (complete, distinct-to order (ap is_distinct (sym whole) ∙ now.distinct), stranger-to h key order own, λ latest. true≢false (sym (latest-from h key order own latest) ∙ r))
+    decide true l r t = (complete, distinct-to order (ap is_distinct (sym whole) ∙ now.distinct), key_stranger-to h key order own, λ latest. true≢false (sym (latest-from h key order own latest) ∙ r))
     decide false true r t = (
       complete,
       distinct-to order (ap is_distinct (sym whole) ∙ now.distinct),
-      stranger-to h key order own,
+      key_stranger-to h key order own,
       latest-to h key order own r,
       λ in_time. true≢false (sym (real_time-from h well.calls_once order in_time) ∙ t),
     )
     decide false false r t = record {
       complete = complete;
       distinct = distinct-to order (ap is_distinct (sym whole) ∙ now.distinct);
-      no_stranger = stranger-to h key order own;
+      no_stranger = key_stranger-to h key order own;
       latest = latest-to h key order own r;
       real_time = real_time-to h well.calls_once order t;
     }

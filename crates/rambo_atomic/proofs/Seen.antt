@@ -1,15 +1,15 @@
 -- One entry more of an order
 use Rattle.std.proofs.Common.{◌≡◌, ℕ, ◌+◌, ◌≤◌, length, length-append, List, [], ◌∷◌, ◌++◌, Bool, true, false, cond, not, ◌&&◌, ◌||◌, nat_eq, None, Some, is_some, refl, sym, ap, ◌∙◌, true≢false, arith}
 use Rattle.std.specs.List.{list_any}
-use Rattle.std.specs.Str.{bytes_eq}
 use Rattle.std.proofs.lemmas.Bool.Decides.{nat_tests}
+use Rattle.rambo_atomic.specs.declared.operation.Op.{Op}
 use Rattle.rambo_atomic.specs.declared.event.CallId.{CallId}
 use Rattle.rambo_atomic.specs.declared.event.Event.{Event}
 use Rattle.rambo_atomic.specs.declared.event.Event.TheVariants as event
-use Rattle.rambo_atomic.specs.Calls.{key_of, same_call}
+use Rattle.rambo_atomic.specs.Calls.{same_call}
 use Rattle.rambo_atomic.specs.Forms.{CallsOnce}
 use Rattle.rambo_atomic.specs.Histories.{call_in, answer_in}
-use Rattle.rambo_atomic.specs.Tallies.{how_many, is_found, is_of_key, is_answered_call}
+use Rattle.rambo_atomic.specs.Tallies.{how_many, is_found, is_any_of, is_answered_call}
 use Rattle.rambo_atomic.specs.Tests.{stands_in, is_due, has_entry, is_distinct}
 use Rattle.rambo_atomic.proofs.Pushes.{same_call-path}
 use Rattle.rambo_atomic.proofs.RealTime.{once-tail, once-head}
@@ -72,43 +72,43 @@ entry-again xs c stands (event.Call d p) =
     last true = refl
     last false = refl
 
-pub found-again : (h : List Event) (key : List ℕ) (xs : List CallId) (c : CallId) → stands_in xs c ≡ true → (es : List Event)
-    → how_many (is_found h key (xs ++ c ∷ [])) es ≡ how_many (is_found h key xs) es
-found-again h key xs c stands [] = refl
-found-again h key xs c stands (e ∷ es) =
-    λ i. cond (is_due h key e && entry-again xs c stands e i) 1 0 + found-again h key xs c stands es i
+pub found-again : (h : List Event) (among : Op → Bool) (xs : List CallId) (c : CallId) → stands_in xs c ≡ true → (es : List Event)
+    → how_many (is_found h among (xs ++ c ∷ [])) es ≡ how_many (is_found h among xs) es
+found-again h among xs c stands [] = refl
+found-again h among xs c stands (e ∷ es) =
+    λ i. cond (is_due h among e && entry-again xs c stands e i) 1 0 + found-again h among xs c stands es i
 
--- whether an answered call of the key is made among these events
-abbrev made : List Event → List ℕ → List Event → CallId → Bool
-made h key es c = is_of_key key (call_in es c) && is_some (answer_in h c)
+-- whether an answered call of those within is made among these events
+abbrev made : List Event → (Op → Bool) → List Event → CallId → Bool
+made h among es c = is_any_of among (call_in es c) && is_some (answer_in h c)
 
-found-other : (h : List Event) (key : List ℕ) (xs : List CallId) (c : CallId) (es : List Event) → call_in es c ≡ None
-    → how_many (is_found h key (xs ++ c ∷ [])) es ≡ how_many (is_found h key xs) es
-found-other h key xs c [] none = refl
-found-other h key xs c (event.Answer d a ∷ es) none = ap (λ n. 0 + n) (found-other h key xs c es none)
-found-other h key xs c (event.Call d p ∷ es) none =
+found-other : (h : List Event) (among : Op → Bool) (xs : List CallId) (c : CallId) (es : List Event) → call_in es c ≡ None
+    → how_many (is_found h among (xs ++ c ∷ [])) es ≡ how_many (is_found h among xs) es
+found-other h among xs c [] none = refl
+found-other h among xs c (event.Answer d a ∷ es) none = ap (λ n. 0 + n) (found-other h among xs c es none)
+found-other h among xs c (event.Call d p ∷ es) none =
     elim (same_call d c) as (λ t. same_call d c ≡ t → cond t (Some p) (call_in es c) ≡ None
-    → how_many (is_found h key (xs ++ c ∷ [])) (event.Call d p ∷ es) ≡ how_many (is_found h key xs) (event.Call d p ∷ es)) [
+    → how_many (is_found h among (xs ++ c ∷ [])) (event.Call d p ∷ es) ≡ how_many (is_found h among xs) (event.Call d p ∷ es)) [
       | true ↦ λ _ e. cc
       | false ↦ λ other e.
-          λ i. cond (is_due h key (event.Call d p) && (stands_in-push xs c d ∙ ap (λ t. stands_in xs d || t) (same_call-swap c d ∙ other) ∙ last (stands_in xs d)) i) 1 0
-          + found-other h key xs c es e i
+          λ i. cond (is_due h among (event.Call d p) && (stands_in-push xs c d ∙ ap (λ t. stands_in xs d || t) (same_call-swap c d ∙ other) ∙ last (stands_in xs d)) i) 1 0
+          + found-other h among xs c es e i
     ] refl none
   where
     last : (t : Bool) → (t || false) ≡ t
     last true = refl
     last false = refl
 
--- an entry that is new finds its call, where that is an answered call of the key
-pub found-new : (h : List Event) (key : List ℕ) (xs : List CallId) (c : CallId) → stands_in xs c ≡ false → (es : List Event) → CallsOnce es
-    → how_many (is_found h key (xs ++ c ∷ [])) es ≡ how_many (is_found h key xs) es + cond (made h key es c) 1 0
-found-new h key xs c stands [] once = refl
-found-new h key xs c stands (event.Answer d a ∷ es) once = later _ _ _ (found-new h key xs c stands es (once-tail (event.Answer d a) es once))
+-- an entry that is new finds its call, where that is an answered call of those within
+pub found-new : (h : List Event) (among : Op → Bool) (xs : List CallId) (c : CallId) → stands_in xs c ≡ false → (es : List Event) → CallsOnce es
+    → how_many (is_found h among (xs ++ c ∷ [])) es ≡ how_many (is_found h among xs) es + cond (made h among es c) 1 0
+found-new h among xs c stands [] once = refl
+found-new h among xs c stands (event.Answer d a ∷ es) once = later _ _ _ (found-new h among xs c stands es (once-tail (event.Answer d a) es once))
   where
     later : (m n k : ℕ) → m ≡ n + k → 0 + m ≡ (0 + n) + k
     later m n k e = omega arith
-found-new h key xs c stands (event.Call d p ∷ es) once =
-    step (found-new h key xs c stands es (once-tail (event.Call d p) es once)) (same_call d c) (same_call-path d c) refl
+found-new h among xs c stands (event.Call d p ∷ es) once =
+    step (found-new h among xs c stands es (once-tail (event.Call d p) es once)) (same_call d c) (same_call-path d c) refl
   where
     last : (t : Bool) → (t || false) ≡ t
     last true = refl
@@ -122,42 +122,42 @@ found-new h key xs c stands (event.Call d p ∷ es) once =
     one true n = omega arith
     one false n = omega arith
 
-    step : how_many (is_found h key (xs ++ c ∷ [])) es ≡ how_many (is_found h key xs) es + cond (made h key es c) 1 0
+    step : how_many (is_found h among (xs ++ c ∷ [])) es ≡ how_many (is_found h among xs) es + cond (made h among es c) 1 0
         → (t : Bool) → (t ≡ true → d ≡ c) → same_call d c ≡ t
-        → how_many (is_found h key (xs ++ c ∷ [])) (event.Call d p ∷ es)
-        ≡ how_many (is_found h key xs) (event.Call d p ∷ es) + cond (is_of_key key (cond t (Some p) (call_in es c)) && is_some (answer_in h c)) 1 0
+        → how_many (is_found h among (xs ++ c ∷ [])) (event.Call d p ∷ es)
+        ≡ how_many (is_found h among xs) (event.Call d p ∷ es) + cond (is_any_of among (cond t (Some p) (call_in es c)) && is_some (answer_in h c)) 1 0
     step rest true same e =
         let is = same refl in
         let none = once-head d p es once in
-        (λ i. cond (is_due h key (event.Call d p) && (stands_in-push xs c d ∙ ap (λ t. stands_in xs d || t) (same_call-swap c d ∙ e) ∙ all (stands_in xs d)) i) 1 0
-        + found-other h key xs c es (ap (call_in es) (sym is) ∙ none) i)
-        ∙ one (is_due h key (event.Call d p)) (how_many (is_found h key xs) es)
-        ∙ (λ i. (cond (is_due h key (event.Call d p) && sym (ap (stands_in xs) is ∙ stands) i) 1 0 + how_many (is_found h key xs) es)
-        + cond (bytes_eq (key_of p) key && is_some (answer_in h (is i))) 1 0)
+        (λ i. cond (is_due h among (event.Call d p) && (stands_in-push xs c d ∙ ap (λ t. stands_in xs d || t) (same_call-swap c d ∙ e) ∙ all (stands_in xs d)) i) 1 0
+        + found-other h among xs c es (ap (call_in es) (sym is) ∙ none) i)
+        ∙ one (is_due h among (event.Call d p)) (how_many (is_found h among xs) es)
+        ∙ (λ i. (cond (is_due h among (event.Call d p) && sym (ap (stands_in xs) is ∙ stands) i) 1 0 + how_many (is_found h among xs) es)
+        + cond (among p && is_some (answer_in h (is i))) 1 0)
     step rest false same e =
-        (λ i. cond (is_due h key (event.Call d p) && (stands_in-push xs c d ∙ ap (λ t. stands_in xs d || t) (same_call-swap c d ∙ e) ∙ last (stands_in xs d)) i) 1 0 + rest i)
+        (λ i. cond (is_due h among (event.Call d p) && (stands_in-push xs c d ∙ ap (λ t. stands_in xs d || t) (same_call-swap c d ∙ e) ∙ last (stands_in xs d)) i) 1 0 + rest i)
         ∙ omega arith
 
-found-none : (h : List Event) (key : List ℕ) (es : List Event) → how_many (is_found h key []) es ≡ 0
-found-none h key [] = refl
-found-none h key (event.Answer d a ∷ es) = ap (λ n. 0 + n) (found-none h key es)
-found-none h key (event.Call d p ∷ es) = none (is_due h key (event.Call d p)) (how_many (is_found h key []) es) (found-none h key es)
+found-none : (h : List Event) (among : Op → Bool) (es : List Event) → how_many (is_found h among []) es ≡ 0
+found-none h among [] = refl
+found-none h among (event.Answer d a ∷ es) = ap (λ n. 0 + n) (found-none h among es)
+found-none h among (event.Call d p ∷ es) = none (is_due h among (event.Call d p)) (how_many (is_found h among []) es) (found-none h among es)
   where
     none : (t : Bool) (n : ℕ) → n ≡ 0 → cond (t && false) 1 0 + n ≡ 0
     none true n e = omega arith
     none false n e = omega arith
 
--- what is known of a front of an order: the calls in it, how many of the answered calls of the key they are, and whether none stands twice
-pub record HasSeen (h : List Event) (key : List ℕ) (front seen : List CallId) (n : ℕ) (t : Bool) : Type 0 where
+-- what is known of a front of an order: the calls in it, how many of the answered calls of those within they are, and whether none stands twice
+pub record HasSeen (h : List Event) (among : Op → Bool) (front seen : List CallId) (n : ℕ) (t : Bool) : Type 0 where
   pub calls : (c : CallId) → list_any (same_call c) seen ≡ stands_in front c
-  pub found : n ≡ how_many (is_found h key front) h
+  pub found : n ≡ how_many (is_found h among front) h
   pub distinct : t ≡ is_distinct front
   pub few : n ≤ length front
 
-pub seen-none : (h : List Event) (key : List ℕ) (seen : List CallId) → seen ≡ [] → HasSeen h key [] seen 0 true
-seen-none h key seen e = record {
+pub seen-none : (h : List Event) (among : Op → Bool) (seen : List CallId) → seen ≡ [] → HasSeen h among [] seen 0 true
+seen-none h among seen e = record {
   calls = λ c. ap (list_any (same_call c)) e;
-  found = sym (found-none h key h);
+  found = sym (found-none h among h);
   distinct = refl;
   few = omega arith;
 }
@@ -182,34 +182,34 @@ was-new : (r t : Bool) → r ≡ not t → r ≡ true → t ≡ false
 was-new r true e f = absurd (true≢false (sym f ∙ e))
 was-new r false e f = refl
 
-module _ (h : List Event) (key : List ℕ) (front next old new : List CallId) (n m : ℕ) (t u r : Bool) (c : CallId)
-    (was : HasSeen h key front old n t) (more : next ≡ front ++ c ∷ [])
+module _ (h : List Event) (among : Op → Bool) (front next old new : List CallId) (n m : ℕ) (t u r : Bool) (c : CallId)
+    (was : HasSeen h among front old n t) (more : next ≡ front ++ c ∷ [])
     (now : (q : CallId) → list_any (same_call q) new ≡ cond (same_call c q) true (list_any (same_call q) old))
     (added : r ≡ not (list_any (same_call c) old)) where
   longer : (k l : ℕ) → k ≤ length front → l ≤ k + 1 → l ≤ length next
   longer k l few e = let size : length next ≡ length front + 1 = ap length more ∙ length-append front (c ∷ []) in omega arith
 
   -- one entry more, which stood already
-  pub seen-again : r ≡ false → m ≡ n → u ≡ false → HasSeen h key next new m u
+  pub seen-again : r ≡ false → m ≡ n → u ≡ false → HasSeen h among next new m u
   seen-again stood same twice =
       let stands = sym (was.calls c) ∙ was-there r _ added stood in
       record {
         calls = λ q. calls-push front old new c was.calls now q ∙ ap (λ l. stands_in l q) (sym more);
-        found = same ∙ was.found ∙ sym (ap (λ l. how_many (is_found h key l) h) more ∙ found-again h key front c stands h);
+        found = same ∙ was.found ∙ sym (ap (λ l. how_many (is_found h among l) h) more ∙ found-again h among front c stands h);
         distinct = twice ∙ sym (ap is_distinct more ∙ distinct-again front c stands);
         few = longer n m was.few (omega arith);
       }
 
   -- one entry more, which is new
-  pub seen-new : CallsOnce h → r ≡ true → m ≡ n + cond (is_answered_call h key c) 1 0 → u ≡ t → HasSeen h key next new m u
+  pub seen-new : CallsOnce h → r ≡ true → m ≡ n + cond (is_answered_call h among c) 1 0 → u ≡ t → HasSeen h among next new m u
   seen-new once fresh one same =
       let stands = sym (was.calls c) ∙ was-new r _ added fresh in
       record {
         calls = λ q. calls-push front old new c was.calls now q ∙ ap (λ l. stands_in l q) (sym more);
-        found = one ∙ ap (λ k. k + cond (is_answered_call h key c) 1 0) was.found
-            ∙ sym (ap (λ l. how_many (is_found h key l) h) more ∙ found-new h key front c stands h once);
+        found = one ∙ ap (λ k. k + cond (is_answered_call h among c) 1 0) was.found
+            ∙ sym (ap (λ l. how_many (is_found h among l) h) more ∙ found-new h among front c stands h once);
         distinct = same ∙ was.distinct ∙ sym (ap is_distinct more ∙ distinct-new front c stands);
-        few = longer n m was.few (at_most (is_answered_call h key c) one);
+        few = longer n m was.few (at_most (is_answered_call h among c) one);
       }
     where
       at_most : (b : Bool) → m ≡ n + cond b 1 0 → m ≤ n + 1

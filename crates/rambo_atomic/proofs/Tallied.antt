@@ -6,9 +6,10 @@ use Rattle.std.specs.List.{list_all}
 use Rattle.std.specs.Map.{lookup}
 use Rattle.std.specs.Option.{unwrap_or}
 use Rattle.std.specs.Str.{bytes_eq}
+use Rattle.rambo_atomic.specs.declared.operation.Op.{Op}
 use Rattle.rambo_atomic.specs.declared.event.CallId.{CallId}
 use Rattle.rambo_atomic.specs.declared.event.Event.{Event}
-use Rattle.rambo_atomic.specs.Tallies.{count_at, how_many, is_found, IsTallied}
+use Rattle.rambo_atomic.specs.Tallies.{count_at, how_many, is_found}
 use Rattle.rambo_atomic.specs.Tests.{is_due, has_entry, is_complete}
 
 -- one more at a key
@@ -73,16 +74,12 @@ count-from-all p q (x ∷ xs) e = step (p x) (q x) (count-from-all p q xs) e
     step true false rest e = cc
     step false t rest e = let more = rest e in omega arith
 
-module _ (h : List Event) (key : List ℕ) (order : List CallId) (entries : List (Bor (List ℕ) × ℕ)) (found due : ℕ)
-    (tallied : IsTallied h entries) (of_order : found ≡ how_many (is_found h key order) h) (of_key : due ≡ count_at entries key) where
-  all : due ≡ how_many (is_due h key) h
-  all = of_key ∙ tallied key
+module _ (h : List Event) (among : Op → Bool) (order : List CallId) (found due : ℕ)
+    (of_order : found ≡ how_many (is_found h among order) h) (all : due ≡ how_many (is_due h among) h) where
+  -- no call is missing where the order has as many answered calls of those within as the history
+  pub complete-by-count : due ≤ found → is_complete h among order h ≡ true
+  complete-by-count enough = all-from-count (is_due h among) (has_entry order) h (omega (arith, of_order, all, enough))
 
-  -- no call is missing where the order has as many answered calls of the key as the history
-  pub complete-by-count : due ≤ found → is_complete h key order h ≡ true
-  complete-by-count enough =
-      let e = all in all-from-count (is_due h key) (has_entry order) h (omega (arith, of_order))
-
-  pub missing-by-count : found < due → ¬ (is_complete h key order h ≡ true)
+  pub missing-by-count : found < due → ¬ (is_complete h among order h ≡ true)
   missing-by-count fewer whole =
-      let e = all in let most = count-from-all (is_due h key) (has_entry order) h whole in omega (arith, of_order)
+      let most = count-from-all (is_due h among) (has_entry order) h whole in omega (arith, of_order, all, most, fewer)

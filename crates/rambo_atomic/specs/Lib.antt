@@ -1,12 +1,14 @@
 pub mod Calls
 pub mod Faults
 pub mod Forms
+pub mod Held
 pub mod Histories
 pub mod Looks
 pub mod HistoryStates
 pub mod Marks
 pub mod Places
 pub mod Proper
+pub mod Scopes
 pub mod Streams
 pub mod Tallies
 pub mod Tests

@@ -1,14 +1,13 @@
--- How many answered calls of each key a history has
-use Rattle.std.specs.Prelude.{◌≡◌, ℕ, ◌+◌, List, [], ◌∷◌, Bool, false, ◌&&◌, Option, None, Some, is_some, unwrap_or, if◌then◌else◌}
+-- How many answered calls of each key, and of all, a history has
+use Rattle.std.specs.Prelude.{◌≡◌, ℕ, ◌+◌, List, [], ◌∷◌, Bool, true, false, ◌&&◌, Option, None, Some, is_some, unwrap_or, if◌then◌else◌}
 use Rattle.std.specs.Borrow.{Bor}
 use Rattle.std.specs.Map.{lookup}
 use Rattle.std.specs.Str.{bytes_eq}
 use Rattle.rambo_atomic.specs.declared.operation.Op.{Op}
 use Rattle.rambo_atomic.specs.declared.event.CallId.{CallId}
 use Rattle.rambo_atomic.specs.declared.event.Event.{Event}
-use Rattle.rambo_atomic.specs.Calls.{key_of}
 use Rattle.rambo_atomic.specs.Histories.{call_in, answer_in}
-use Rattle.rambo_atomic.specs.Tests.{is_due, has_entry}
+use Rattle.rambo_atomic.specs.Tests.{of_key, is_due, has_entry}
 
 -- how many items pass a test
 abbrev pub how_many : {X : Type 0} → (X → Bool) → List X → ℕ
@@ -21,17 +20,25 @@ count_at entries key = unwrap_or (lookup (λ k. bytes_eq key k.now) entries) 0
 
 -- the entries have the number of answered calls of each key
 abbrev pub IsTallied : List Event → List (Bor (List ℕ) × ℕ) → Type 0
-IsTallied h entries = (key : List ℕ) → count_at entries key ≡ how_many (is_due h key) h
+IsTallied h entries = (key : List ℕ) → count_at entries key ≡ how_many (is_due h (of_key key)) h
 
--- whether an answered call of the key was made there and stands in the order
-abbrev pub is_found : List Event → List ℕ → List CallId → Event → Bool
-is_found h key order e = is_due h key e && has_entry order e
+-- the number of answered calls of all keys
+abbrev pub all_due : List Event → ℕ
+all_due h = how_many (is_due h (λ op. true)) h
 
--- whether an operation is of the key
+-- whether an answered call of those within was made there and stands in the order
+abbrev pub is_found : List Event → (Op → Bool) → List CallId → Event → Bool
+is_found h within order e = is_due h within e && has_entry order e
+
+-- whether there is an operation, and it is one of those within
+abbrev pub is_any_of : (Op → Bool) → Option Op → Bool
+is_any_of within None = false
+is_any_of within (Some op) = within op
+
+-- whether there is an operation, and it is of the key
 abbrev pub is_of_key : List ℕ → Option Op → Bool
-is_of_key key None = false
-is_of_key key (Some op) = bytes_eq (key_of op) key
+is_of_key key o = is_any_of (of_key key) o
 
--- whether a call is of the key and was answered
-abbrev pub is_answered_call : List Event → List ℕ → CallId → Bool
-is_answered_call h key c = is_of_key key (call_in h c) && is_some (answer_in h c)
+-- whether a call is one of those within and was answered
+abbrev pub is_answered_call : List Event → (Op → Bool) → CallId → Bool
+is_answered_call h within c = is_any_of within (call_in h c) && is_some (answer_in h c)

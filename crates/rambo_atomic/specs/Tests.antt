@@ -11,38 +11,43 @@ use Rattle.rambo_atomic.specs.declared.event.Event.{Event}
 use Rattle.rambo_atomic.specs.declared.event.Event.TheVariants as event
 use Rattle.rambo_atomic.specs.Calls.{key_of, is_get, same_call}
 use Rattle.rambo_atomic.specs.Histories.{call_in, answer_in, called_at, answered_at}
+use Rattle.rambo_atomic.specs.Proper.{after_op}
 
 abbrev pub stands_in : List CallId → CallId → Bool
 stands_in order c = list_any (λ d. same_call d c) order
 
--- whether this is where an answered call of the key was made
-abbrev pub is_due : List Event → List ℕ → Event → Bool
-is_due h key (event.Call c op) = bytes_eq (key_of op) key && is_some (answer_in h c)
-is_due h key (event.Answer c a) = false
+-- whether an operation is of the key
+abbrev pub of_key : List ℕ → Op → Bool
+of_key key op = bytes_eq (key_of op) key
+
+-- whether this is where an answered call of those within was made
+abbrev pub is_due : List Event → (Op → Bool) → Event → Bool
+is_due h within (event.Call c op) = within op && is_some (answer_in h c)
+is_due h within (event.Answer c a) = false
 
 -- whether the call that was made there stands in the order
 abbrev pub has_entry : List CallId → Event → Bool
 has_entry order (event.Call c op) = stands_in order c
 has_entry order (event.Answer c a) = false
 
--- whether each answered call of the key among these events stands in the order
-abbrev pub is_complete : List Event → List ℕ → List CallId → List Event → Bool
-is_complete h key order es = list_all (λ e. not (is_due h key e) || has_entry order e) es
+-- whether each answered call of those within among these events stands in the order
+abbrev pub is_complete : List Event → (Op → Bool) → List CallId → List Event → Bool
+is_complete h within order es = list_all (λ e. not (is_due h within e) || has_entry order e) es
 
 abbrev pub is_distinct : List CallId → Bool
 is_distinct [] = true
 is_distinct (c ∷ cs) = if stands_in cs c then false else is_distinct cs
 
--- whether an operation is of the key, and was answered if it is a get
-abbrev pub is_own_op : List ℕ → Bool → Option Op → Bool
-is_own_op key answered None = false
-is_own_op key answered (Some op) = bytes_eq (key_of op) key && (not (is_get op) || answered)
+-- whether an operation is one of those within, and was answered if it is a get
+abbrev pub is_own_op : (Op → Bool) → Bool → Option Op → Bool
+is_own_op within answered None = false
+is_own_op within answered (Some op) = within op && (not (is_get op) || answered)
 
-abbrev pub is_own : List Event → List ℕ → CallId → Bool
-is_own h key c = is_own_op key (is_some (answer_in h c)) (call_in h c)
+abbrev pub is_own : List Event → (Op → Bool) → CallId → Bool
+is_own h within c = is_own_op within (is_some (answer_in h c)) (call_in h c)
 
-abbrev pub has_no_stranger : List Event → List ℕ → List CallId → Bool
-has_no_stranger h key order = list_all (is_own h key) order
+abbrev pub has_no_stranger : List Event → (Op → Bool) → List CallId → Bool
+has_no_stranger h within order = list_all (is_own h within) order
 
 -- what the one key of some calls holds after one of them
 abbrev pub holding : Option Op → Option (List ℕ) → Option (List ℕ)
@@ -69,6 +74,21 @@ abbrev pub answers_latest : List Event → Option (List ℕ) → List CallId →
 answers_latest h held [] = true
 answers_latest h held (c ∷ cs) =
     if is_right held (call_in h c) (answer_in h c) then answers_latest h (holding (call_in h c) held) cs else false
+
+-- whether a get was told what its key holds
+abbrev pub is_told : (List ℕ → Option (List ℕ)) → Option Op → Option Answer → Bool
+is_told held None a = true
+is_told held (Some (op.Get key)) a = tells (held key) a
+is_told held (Some (op.Set key value)) a = true
+
+-- whether each get of these calls, before which the keys hold this, is told what its key holds
+abbrev pub all_told : List Event → (List ℕ → Option (List ℕ)) → List CallId → Bool
+all_told h held [] = true
+all_told h held (c ∷ cs) = if is_told held (call_in h c) (answer_in h c) then all_told h (λ key. after_op key (call_in h c) (held key)) cs else false
+
+-- no key holds anything
+abbrev pub none_held : List ℕ → Option (List ℕ)
+none_held key = None
 
 -- whether an answer stands before place n
 abbrev pub is_before : ℕ → Option ℕ → Bool

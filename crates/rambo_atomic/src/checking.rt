@@ -1,12 +1,14 @@
 //! A checker that takes no memory.
 ghost use Rattle.std.specs.Prelude.{◌≡◌, true};
 ghost use Rattle.rambo_atomic.specs.Forms.{IsWellFormed};
-ghost use Rattle.rambo_atomic.specs.Tests.{is_complete, is_distinct};
-ghost use Rattle.rambo_atomic.specs.Verdicts.{IsVerdict};
+ghost use Rattle.rambo_atomic.specs.Scopes.{within, IsVerdictIn};
+ghost use Rattle.rambo_atomic.specs.Tests.{is_complete, is_distinct, all_told, none_held};
+ghost use Rattle.rambo_atomic.specs.Verdicts.{IsVerdict, IsVerdictForAll};
 
 use crate::event::CallId;
 use crate::history::History;
 use crate::rules::{answers_latest, has_no_stranger, is_complete, is_distinct, keeps_real_time};
+use crate::scope::Scope;
 use crate::verdict::{Rule, Verdict};
 
 /// Whether an order of calls explains what a history says of a key, or the least rule that it breaks.
@@ -21,25 +23,53 @@ use crate::verdict::{Rule, Verdict};
 pub fn check(history: &History, key: &[u8], order: &[CallId]) -> Verdict
     ensures { IsVerdict history.now.events key.now order.now result }
 {
-    if !is_complete(history, key, order) {
+    check_within(history, Scope::Key(key), order)
+}
+
+/// Whether one order of calls explains what a history says of all keys, or the least rule that it breaks.
+///
+/// An order explains it by the rules that `check` has, with "of the key" left out: each answered call stands in it, none
+/// twice; each entry is a call, and a get only if it was answered; each get's answer is the value of the latest set of its
+/// key before it, or nil; and what was answered before a call was made doesn't stand behind it. The order is any list.
+///
+/// It takes no memory. The time grows with the product of the order's and the history's lengths; `judge_all` of a
+/// `Checker` takes memory and less time.
+pub fn check_all(history: &History, order: &[CallId]) -> Verdict
+    ensures { IsVerdictForAll history.now.events order.now result }
+{
+    check_within(history, Scope::AllKeys, order)
+}
+
+// Whether an order explains what a history says of the calls within, or the least rule that it breaks.
+fn check_within(history: &History, scope: Scope, order: &[CallId]) -> Verdict
+    ensures { IsVerdictIn scope.entry history.now.events order.now result }
+{
+    if !is_complete(history, scope, order) {
         Verdict::No(Rule::Missing)
     } else if !is_distinct(order) {
         Verdict::No(Rule::Repeated)
     } else {
-        judge_entries(history, key, order)
+        judge_entries(history, scope, order, answers_latest(history, order))
     }
 }
 
-// The verdict on an order that has each answered call of the key, and no call twice.
-pub(crate) fn judge_entries(history: &History, key: &[u8], order: &[CallId]) -> Verdict
+// The verdict on an order that has each answered call of those within, and no call twice. Whether its gets answer the
+// latest sets is known.
+pub(crate) fn judge_entries(
+    history: &History,
+    scope: Scope,
+    order: &[CallId],
+    is_latest: bool,
+) -> Verdict
     requires well_formed { IsWellFormed history.now.events }
-    requires complete { is_complete history.now.events key.now order.now history.now.events ≡ true }
+    requires complete { is_complete history.now.events (within scope) order.now history.now.events ≡ true }
     requires distinct { is_distinct order.now ≡ true }
-    ensures { IsVerdict history.now.events key.now order.now result }
+    requires latest { is_latest ≡ all_told history.now.events none_held order.now }
+    ensures { IsVerdictIn scope.entry history.now.events order.now result }
 {
-    if !has_no_stranger(history, key, order) {
+    if !has_no_stranger(history, scope, order) {
         Verdict::No(Rule::Stranger)
-    } else if !answers_latest(history, order) {
+    } else if !is_latest {
         Verdict::No(Rule::WrongAnswer)
     } else if !keeps_real_time(history, order) {
         Verdict::No(Rule::OutOfOrder)

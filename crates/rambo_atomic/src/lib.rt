@@ -12,6 +12,7 @@ mod history;
 mod marking;
 mod operation;
 mod rules;
+mod scope;
 mod spot;
 mod stream;
 mod tape;
@@ -21,7 +22,7 @@ mod whole;
 mod wrapped;
 
 pub use checker::Checker;
-pub use checking::check;
+pub use checking::{check, check_all};
 pub use event::{CallId, Event};
 pub use fault::HistoryFault;
 pub use history::History;

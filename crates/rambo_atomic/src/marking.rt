@@ -8,6 +8,7 @@ ghost use Rattle.rambo_atomic.specs.Verdicts.{IsVerdict};
 use crate::entry::{holding, is_own, is_right};
 use crate::event::CallId;
 use crate::history::History;
+use crate::scope::Scope;
 use crate::verdict::{Rule, Verdict};
 use rambo_names::Bytes;
 
@@ -37,7 +38,7 @@ pub fn mark_order(
     let mut is_late = false;
     for id in order {
         let entry = history.entry(id)?;
-        if marks[entry.called] || !is_own(key, entry.op, entry.answer) {
+        if marks[entry.called] || !is_own(Scope::Key(key), entry.op, entry.answer) {
             return None;
         }
         marks[entry.called] = true;

@@ -1,20 +1,24 @@
 //! Whether an order keeps each rule of a proper order.
-ghost use Rattle.std.specs.Prelude.{◌≡◌, None};
+ghost use Rattle.std.specs.Prelude.{◌≡◌};
 ghost use Rattle.std.specs.Option.{option_copied};
 ghost use Rattle.rambo_atomic.specs.Forms.{IsWellFormed};
-ghost use Rattle.rambo_atomic.specs.Tests.{is_due, has_entry, is_complete, is_distinct, is_own, has_no_stranger, tells, answers_latest, keeps_real_time};
+ghost use Rattle.rambo_atomic.specs.Proper.{held_after};
+ghost use Rattle.rambo_atomic.specs.Scopes.{within};
+ghost use Rattle.rambo_atomic.specs.Tests.{is_due, has_entry, is_complete, is_distinct, is_own, has_no_stranger, tells, all_told, none_held, keeps_real_time};
 
+use crate::entry::after_op;
 use crate::event::{CallId, Event};
 use crate::history::History;
 use crate::operation::{Answer, Op};
+use crate::scope::Scope;
 use rambo_names::Bytes;
 
-// Whether this is where an answered call of the key was made.
-pub(crate) fn is_due(history: &History, key: &[u8], event: &Event) -> bool
-    ensures { result ≡ is_due history.now.events key.now event.now }
+// Whether this is where an answered call of those within was made.
+fn is_due(history: &History, scope: Scope, event: &Event) -> bool
+    ensures { result ≡ is_due history.now.events (within scope.entry) event.now }
 {
     match event {
-        Event::Call(id, op) => op.key().as_slice() == key && history.answer(id).is_some(),
+        Event::Call(id, op) => scope.has(op) && history.answer(id).is_some(),
         Event::Answer(_, _) => false,
     }
 }
@@ -29,13 +33,13 @@ fn has_entry(order: &[CallId], event: &Event) -> bool
     }
 }
 
-// Whether each answered call of the key stands in the order.
-pub(crate) fn is_complete(history: &History, key: &[u8], order: &[CallId]) -> bool
-    ensures test { result ≡ is_complete history.now.events key.now order.now history.now.events }
+// Whether each answered call of those within stands in the order.
+pub(crate) fn is_complete(history: &History, scope: Scope, order: &[CallId]) -> bool
+    ensures test { result ≡ is_complete history.now.events (within scope.entry) order.now history.now.events }
     ensures well_formed { IsWellFormed history.now.events }
 {
     let events = history.events();
-    events.iter().all(|event| !is_due(history, key, event) || has_entry(order, event))
+    events.iter().all(|event| !is_due(history, scope, event) || has_entry(order, event))
 }
 
 // Whether no call stands twice.
@@ -52,21 +56,21 @@ pub(crate) fn is_distinct(order: &[CallId]) -> bool
     true
 }
 
-// Whether a call is of the key, and was answered if it is a get.
-fn is_own(history: &History, key: &[u8], id: &CallId) -> bool
-    ensures { result ≡ is_own history.now.events key.now id.now }
+// Whether a call is one of those within, and was answered if it is a get.
+fn is_own(history: &History, scope: Scope, id: &CallId) -> bool
+    ensures { result ≡ is_own history.now.events (within scope.entry) id.now }
 {
     match history.exchange(id) {
         None => false,
-        Some((op, answer)) => op.key().as_slice() == key && (!op.is_get() || answer.is_some()),
+        Some((op, answer)) => scope.has(op) && (!op.is_get() || answer.is_some()),
     }
 }
 
-// Whether each entry is a call of the key, and a get only if it was answered.
-pub(crate) fn has_no_stranger(history: &History, key: &[u8], order: &[CallId]) -> bool
-    ensures { result ≡ has_no_stranger history.now.events key.now order.now }
+// Whether each entry is a call of those within, and a get only if it was answered.
+pub(crate) fn has_no_stranger(history: &History, scope: Scope, order: &[CallId]) -> bool
+    ensures { result ≡ has_no_stranger history.now.events (within scope.entry) order.now }
 {
-    order.iter().all(|id| is_own(history, key, id))
+    order.iter().all(|id| is_own(history, scope, id))
 }
 
 // Whether an answer tells what a key holds.
@@ -80,23 +84,33 @@ pub(crate) fn tells(held: Option<&Bytes>, answer: Option<&Answer>) -> bool
     }
 }
 
-// Whether each get of an order of one key answers the latest set before it, or nil.
-pub(crate) fn answers_latest(history: &History, order: &[CallId]) -> bool
-    ensures { result ≡ answers_latest history.now.events None order.now }
+// What an ordinary map, empty at first, holds at a key behind the calls of an order.
+fn held_after<'a>(history: &'a History, key: &[u8], order: &[CallId]) -> Option<&'a Bytes>
+    ensures { option_copied result ≡ held_after history.now.events key.now order.now }
 {
-    let mut held: Option<&Bytes> = None;
+    let mut held = None;
     let mut rest = order;
     while let Some((id, others)) = rest.split_first() {
-        match history.exchange(id) {
-            Some((Op::Get(_), answer)) => {
-                if !tells(held, answer) {
-                    return false;
-                }
-            }
-            Some((Op::Set(_, value), _)) => held = Some(value),
-            None => {}
+        if let Some((op, _)) = history.exchange(id) {
+            held = after_op(key, op, held);
         }
         rest = others;
+    }
+    held
+}
+
+// Whether each get of an order answers the latest set of its key before it, or nil.
+pub(crate) fn answers_latest(history: &History, order: &[CallId]) -> bool
+    ensures { result ≡ all_told history.now.events none_held order.now }
+{
+    let mut count = 0;
+    while let Some(id) = order.get(count) {
+        if let Some((Op::Get(key), answer)) = history.exchange(id) {
+            if !tells(held_after(history, key.as_slice(), &order[..count]), answer) {
+                return false;
+            }
+        }
+        count += 1;
     }
     true
 }

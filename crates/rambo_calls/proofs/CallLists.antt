@@ -1,5 +1,5 @@
 -- Lists of open calls
-use Rattle.std.proofs.Common.{◌≡◌, ℕ, zero, suc, ◌+◌, ◌≤◌, ◌<◌, Bool, true, false, if◌then◌else◌, nat_le, List, [], ◌∷◌, ◌++◌, map, take, drop, length, None, Some, slice_get, slice_set, get_or, refl, sym, ap, ◌∙◌, subst, arith}
+use Rattle.std.proofs.Common.{◌≡◌, ℕ, zero, suc, ◌+◌, ◌≤◌, ◌<◌, Bool, true, false, if◌then◌else◌, nat_le, List, [], ◌∷◌, ◌++◌, map, take, drop, length, slice_get, slice_set, get_or, refl, sym, ap, ◌∙◌, subst, arith}
 use Rattle.std.proofs.lemmas.Bool.{true≢false, false≢true}
 use Rattle.std.proofs.lemmas.Option.{slice_get-map, slice_get-get_or, slice_get_past}
 use Rattle.std.specs.List.{remove}
@@ -11,7 +11,7 @@ use Rattle.rambo_phase.specs.Phases.{PhaseState, fits, counted, started, after_l
 use Rattle.rambo_phase.specs.declared.heard.Heard.{Heard}
 use Rattle.rambo_phase.specs.declared.heard.Heard.TheVariants as heard
 use Rattle.rambo_calls.specs.declared.open_call.OpenCall.{OpenCall}
-use Rattle.rambo_calls.specs.Calls.{CallState, place_of, find_call}
+use Rattle.rambo_calls.specs.Calls.{CallState}
 use Rattle.rambo_calls.specs.Hearing.{heard_phase}
 use Rattle.rambo_calls.specs.Kept.{call_of, calls_of, with_call, IsRoomy}
 
@@ -44,34 +44,25 @@ module _ {Q : Type 0} (number j : ℕ) (m : MapState Q) (fresh : ℕ) (merged : 
   pub phase_stays : heard_as p number m ≡ heard.Old → heard_phase number j m fresh merged me p ≡ after_letter p number m j
   phase_stays e = stays (counted p m j) (started fresh merged me) p (nat_le p.number number) (fits p m) (ap is_restart e)
 
--- what becomes of the call of a number
-module _ {Q : Type 0} (calls : List (OpenCall Q)) (number : ℕ) where
-  found_at : find_call number (calls_of calls) ≡ option_map call_of (slice_get calls (place_of number (calls_of calls)))
-  found_at = slice_get-map call_of calls (place_of number (calls_of calls))
-
-  -- it is there
-  pub found_in : (place : ℕ) → place ≡ place_of number (calls_of calls) → place < length calls → (e : OpenCall Q) → find_call number (calls_of calls) ≡ Some (call_of (get_or calls place e))
-  found_in place same below e = found_at ∙ ap (λ i. option_map call_of (slice_get calls i)) (sym same) ∙ ap (option_map call_of) (slice_get-get_or calls place e below)
-
-  -- it isn't
-  pub found_past : (place : ℕ) → place ≡ place_of number (calls_of calls) → length calls ≤ place → find_call number (calls_of calls) ≡ None
-  found_past place same past = found_at ∙ ap (λ i. option_map call_of (slice_get calls i)) (sym same) ∙ ap (option_map call_of) (slice_get_past calls place past)
+-- what becomes of the call at a place
+module _ {Q : Type 0} (calls : List (OpenCall Q)) (place : ℕ) where
+  found_at : slice_get (calls_of calls) place ≡ option_map call_of (slice_get calls place)
+  found_at = slice_get-map call_of calls place
 
   -- it is put in another way
-  pub put_at : (f : CallState Q → CallState Q) (place : ℕ) → place ≡ place_of number (calls_of calls) → place < length calls → (d e : OpenCall Q) → call_of d ≡ f (call_of (get_or calls place e))
-      → calls_of (slice_set calls place d) ≡ with_call (place_of number (calls_of calls)) (find_call number (calls_of calls)) f (calls_of calls)
-  put_at f place same below d e put =
-      map-set call_of calls place d ∙ ap (slice_set (calls_of calls) place) put ∙ ap (λ i. slice_set (calls_of calls) i (f (call_of (get_or calls place e)))) same
-      ∙ sym (ap (λ o. with_call (place_of number (calls_of calls)) o f (calls_of calls)) (found_in place same below e))
+  pub put_at : (f : CallState Q → CallState Q) → place < length calls → (d e : OpenCall Q) → call_of d ≡ f (call_of (get_or calls place e))
+      → calls_of (slice_set calls place d) ≡ with_call place (slice_get (calls_of calls) place) f (calls_of calls)
+  put_at f below d e put =
+      map-set call_of calls place d ∙ ap (slice_set (calls_of calls) place) put
+      ∙ sym (ap (λ o. with_call place o f (calls_of calls)) (found_at ∙ ap (option_map call_of) (slice_get-get_or calls place e below)))
 
-  -- nothing is put
-  pub put_past : (f : CallState Q → CallState Q) (place : ℕ) → place ≡ place_of number (calls_of calls) → length calls ≤ place
-      → calls_of calls ≡ with_call (place_of number (calls_of calls)) (find_call number (calls_of calls)) f (calls_of calls)
-  put_past f place same past = sym (ap (λ o. with_call (place_of number (calls_of calls)) o f (calls_of calls)) (found_past place same past))
+  -- there is none
+  pub put_past : (f : CallState Q → CallState Q) → length calls ≤ place → calls_of calls ≡ with_call place (slice_get (calls_of calls) place) f (calls_of calls)
+  put_past f past = sym (ap (λ o. with_call place o f (calls_of calls)) (found_at ∙ ap (option_map call_of) (slice_get_past calls place past)))
 
   -- it is taken out
-  pub closed_at : (place : ℕ) → place ≡ place_of number (calls_of calls) → calls_of (remove calls place) ≡ remove (calls_of calls) (place_of number (calls_of calls))
-  closed_at place same = map-remove call_of calls place ∙ ap (remove (calls_of calls)) same
+  pub closed_at : calls_of (remove calls place) ≡ remove (calls_of calls) place
+  closed_at = map-remove call_of calls place
 
 -- the loops count by adding one
 one_more : (i : ℕ) → suc i ≡ i + 1

@@ -1,7 +1,7 @@
 //! The open calls of a node, the oldest first.
 ghost use Rattle.std.specs.Prelude.{◌≡◌, ◌-◌, ◌^◌, ◌++◌, ◌∷◌, [], length, min, OnOk, OnErr, IfErr, remove, slice_get, map as list_map};
 ghost use Rattle.std.specs.Option.{option_copied};
-ghost use Rattle.rambo_calls.specs.Calls.{place_of, find_call, is_missing, is_unmet, query_in, number_in};
+ghost use Rattle.rambo_calls.specs.Calls.{place_of, find_call, number_in};
 ghost use Rattle.rambo_calls.specs.Hearing.{any_gap, number_after, restarted, heard_call};
 ghost use Rattle.rambo_calls.specs.Kept.{calls_of, call_found, with_call, propagating, IsRoomy};
 ghost use Rattle.rambo_phase.specs.Phases.{started};
@@ -95,42 +95,39 @@ impl<Q: Quorums> OpenCalls<Q> {
         Ok(())
     }
 
-    /// The call of a number sends a copy round, in a phase that begins under this phase number with this map. It takes
-    /// no memory. Where there is no such call, nothing changes.
+    /// The call at a place sends a copy round, in a phase that begins under this phase number with this map. It takes no
+    /// memory. Where there is no call, nothing changes.
     pub fn propagate(
         &mut self,
-        number: u64,
+        place: usize,
         kept: Option<Version>,
         phase_number: u64,
         map: &ConfigMap<Q>,
         me: Name,
     )
-        ensures { calls_of self.new ≡ with_call (place_of number (calls_of self.old)) (find_call number (calls_of self.old)) (propagating kept (started phase_number map.now me)) (calls_of self.old) }
+        ensures { calls_of self.new ≡ with_call place (slice_get (calls_of self.old) place) (propagating kept (started phase_number map.now me)) (calls_of self.old) }
     {
-        let place = self.place_of(number);
         if place >= self.list.len() {
             return;
         }
         self.list[place].propagate(kept, phase_number, map, me);
     }
 
-    /// The phase of the call of a number begins anew, under this phase number with this map. It takes no memory. Where
-    /// there is no such call, nothing changes.
-    pub fn restart(&mut self, number: u64, phase_number: u64, map: &ConfigMap<Q>, me: Name)
-        ensures { calls_of self.new ≡ with_call (place_of number (calls_of self.old)) (find_call number (calls_of self.old)) (restarted phase_number map.now me) (calls_of self.old) }
+    /// The phase of the call at a place begins anew, under this phase number with this map. It takes no memory. Where
+    /// there is no call, nothing changes.
+    pub fn restart(&mut self, place: usize, phase_number: u64, map: &ConfigMap<Q>, me: Name)
+        ensures { calls_of self.new ≡ with_call place (slice_get (calls_of self.old) place) (restarted phase_number map.now me) (calls_of self.old) }
     {
-        let place = self.place_of(number);
         if place >= self.list.len() {
             return;
         }
         self.list[place].restart(phase_number, map, me);
     }
 
-    /// Takes the call of a number out, if there is one.
-    pub fn close(&mut self, number: u64)
-        ensures { calls_of self.new ≡ remove (calls_of self.old) (place_of number (calls_of self.old)) }
+    /// Takes the call at a place out, if there is one.
+    pub fn close(&mut self, place: usize)
+        ensures { calls_of self.new ≡ remove (calls_of self.old) place }
     {
-        let place = self.place_of(number);
         if place >= self.list.len() {
             return;
         }
@@ -174,48 +171,25 @@ impl<Q: Quorums> OpenCalls<Q> {
         )
     }
 
-    // The place of the first call of a number, or the number of calls where there is none.
-    fn place_of(&self, number: u64) -> usize
+    /// The place of the first call of a number, or how many calls there are where none has it.
+    pub fn place_of(&self, number: u64) -> usize
         ensures { result ≡ place_of number (calls_of self.now) }
     {
         place_of(self.list.as_slice(), number)
     }
 
-    /// Whether there is no call of a number.
-    pub fn is_missing(&self, number: u64) -> bool
-        ensures { result ≡ is_missing (find_call number (calls_of self.now)) }
+    /// The call at a place, if there is one.
+    pub fn get(&self, place: usize) -> Option<&OpenCall<Q>>
+        ensures { call_found (option_copied result) ≡ slice_get (calls_of self.now) place }
     {
-        find(self.list.as_slice(), number).is_none()
-    }
-
-    /// Whether there is a call of a number whose phase isn't met.
-    pub fn is_unmet(&self, number: u64) -> bool
-        ensures { result ≡ is_unmet Q.system (find_call number (calls_of self.now)) }
-    {
-        match find(self.list.as_slice(), number) {
-            Some(call) => !call.phase.met(),
-            None => false,
-        }
-    }
-
-    /// What the call of a number asks for, if there is one that is in its query.
-    pub fn query(&self, number: u64) -> Option<&Op>
-        ensures { option_copied result ≡ query_in (find_call number (calls_of self.now)) }
-    {
-        match find(self.list.as_slice(), number) {
-            Some(call) => match call.stage {
-                Stage::Query => Some(&call.op),
-                Stage::Propagation(_) => None,
-            },
-            None => None,
-        }
+        call_at(self.list.as_slice(), place)
     }
 
     /// The call of a number, if there is one.
     pub fn find(&self, number: u64) -> Option<&OpenCall<Q>>
         ensures { call_found (option_copied result) ≡ find_call number (calls_of self.now) }
     {
-        find(self.list.as_slice(), number)
+        self.get(self.place_of(number))
     }
 
     /// The number of the call at a place, if there is one.
@@ -257,12 +231,6 @@ fn place_of<Q: Quorums>(calls: &[OpenCall<Q>], number: u64) -> usize
         rest = others;
     }
     count
-}
-
-fn find<Q: Quorums>(calls: &[OpenCall<Q>], number: u64) -> Option<&OpenCall<Q>>
-    ensures { call_found (option_copied result) ≡ find_call number (calls_of calls.now) }
-{
-    calls.get(place_of(calls, number))
 }
 
 fn call_at<Q: Quorums>(calls: &[OpenCall<Q>], place: usize) -> Option<&OpenCall<Q>>

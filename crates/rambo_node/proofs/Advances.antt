@@ -3,24 +3,19 @@ use Rattle.std.proofs.Common.{◌≡◌, ℕ, zero, suc, ◌+◌, Bool, true, fa
 use Rattle.std.proofs.lemmas.Bool.{eqb-true, true≢false}
 use Rattle.std.proofs.lemmas.Option.{none-some, same_Some}
 use Rattle.std.specs.List.{remove}
-use Rattle.std.specs.Option.{option_map}
 use Rattle.rambo_tag.specs.declared.version.Version.{Version}
-use Rattle.rambo_tag.specs.Copies.{Copies}
 use Rattle.rambo_atomic.specs.declared.event.CallId.{CallId}
-use Rattle.rambo_atomic.specs.declared.event.Event.TheVariants as event
 use Rattle.rambo_atomic.specs.declared.operation.Op.{Op}
-use Rattle.rambo_atomic.specs.declared.operation.Op.TheVariants as op
 use Rattle.rambo_paxos.specs.Attempts.{AttemptState}
 use Rattle.rambo_phase.specs.Phases.{started}
 use Rattle.rambo_calls.specs.declared.stage.Stage.{Stage}
 use Rattle.rambo_calls.specs.declared.stage.Stage.TheVariants.{Query, Propagation}
 use Rattle.rambo_calls.specs.Calls.{CallState, place_of, find_call, query_in, asked_in, is_missing}
-use Rattle.rambo_node.specs.Changes.{quiet_deed, advanced, stage_met, begun_again, rebid_made, copy_put}
+use Rattle.rambo_node.specs.Changes.{quiet_deed, advanced, stage_met, begun_again, rebid_made}
 use Rattle.rambo_calls.specs.Hearing.{restarted}
 use Rattle.rambo_calls.specs.Kept.{with_call, propagating}
-use Rattle.rambo_node.specs.Kept.{propagation_begun, copy_held, move_deed, answered_in, answered_from}
+use Rattle.rambo_node.specs.Kept.{propagation_begun, move_deed, answered_in, answered_from}
 use Rattle.rambo_node.specs.Nodes.{NodeState, open_call}
-use Rattle.rambo_node.specs.Notes.{answer_in, answer_due, mark_in, mark_due}
 use Rattle.rambo_node.specs.Operations.{taken, with_copy, query_answered, call_closed, called_again}
 
 -- a call that is found by a number has it
@@ -49,12 +44,6 @@ told : (p : Op) (st : Stage) → asked_in p st ≡ None → (kept : Option Versi
 told p Query e = absurd (none-some p (sym e))
 told p (Propagation kept) e = (kept, refl)
 
--- the copy that a set puts is held
-put_held : (r : Copies) (o : Op) (kept : Option Version) → copy_held r (copy_put o kept) ≡ with_copy r o kept
-put_held r (op.Get key) kept = refl
-put_held r (op.Set key value) None = refl
-put_held r (op.Set key value) (Some v) = refl
-
 -- to begin a phase anew is told as nothing else
 pub quiet_again : {Q : Type 0} (x : NodeState Q) (found : Option (CallState Q)) → quiet_deed ≡ (begun_again x found).deed
 quiet_again x None = refl
@@ -73,7 +62,7 @@ abbrev pub next_calls : {Q : Type 0} → List (CallState Q) → NodeState Q → 
 next_calls cs x = record x { number = x.number + 1; calls = cs }
 
 module _ {Q : Type 0} (x : NodeState Q) (id : CallId) where
-  found_here : is_missing (open_call x id) ≡ false → open_call x id ≡ find_call id.number x.calls
+  pub found_here : is_missing (open_call x id) ≡ false → open_call x id ≡ find_call id.number x.calls
   found_here there = found_if (nat_eq id.name x.name) (find_call id.number x.calls) there
 
   own_number : is_missing (open_call x id) ≡ false → (c : CallState Q) → open_call x id ≡ Some c → c.number ≡ id.number
@@ -103,14 +92,13 @@ module _ {Q : Type 0} (x : NodeState Q) (id : CallId) where
 
   -- an answered query: its copy is put, and goes round
   pub query_moves : (o : Op) → query_in (open_call x id) ≡ Some o
-      → (propagation_begun (record x { registers = copy_held x.registers (copy_put o (taken x o)) }) id.number (taken x o) ≡ (advanced x id (open_call x id)).node)
+      → (propagation_begun (record x { registers = with_copy x.registers o (taken x o) }) (place_of id.number x.calls) (taken x o) ≡ (advanced x id (open_call x id)).node)
       × (move_deed id o (taken x o) ≡ (advanced x id (open_call x id)).deed)
   unfolding begun_from
   query_moves o e =
       let there = asked_there o (open_call x id) e in
       let moves = go_on o (open_call x id) (own_number there) e in (
-        ap (λ r. propagation_begun (record x { registers = r }) id.number (taken x o)) (put_held x.registers o (taken x o))
-            ∙ ap (λ f. begun_from f o) (sym (found_here there)) ∙ sym moves.0,
+        ap (λ f. begun_from f o) (sym (found_here there)) ∙ sym moves.0,
         sym moves.1,
       )
 
@@ -147,28 +135,3 @@ module _ {Q : Type 0} (x : NodeState Q) (id : CallId) where
   begins_again there =
       ap (λ f. record x { number = x.number + 1; calls = with_call (place_of id.number x.calls) f (restarted (x.number + 1) x.map x.name) x.calls }) (sym (found_here there))
       ∙ again_from (open_call x id) (own_number there) there
-
--- what is due where a propagation is met is what the advance is told to do
-due_event_in : (Q : Type 0) (id : CallId) (o : Op) (st : Stage) → option_map (event.Answer id) (answer_in o st) ≡ (answered_in {Q = Q} id o st).event
-due_event_in Q id o Query = refl
-due_event_in Q id o (Propagation kept) = refl
-
-due_mark_in : (Q : Type 0) (id : CallId) (o : Op) (st : Stage) → mark_in id o st ≡ (answered_in {Q = Q} id o st).mark
-due_mark_in Q id o Query = refl
-due_mark_in Q id o (Propagation kept) = refl
-
-no_copy_in : (Q : Type 0) (id : CallId) (o : Op) (st : Stage) → None ≡ (answered_in {Q = Q} id o st).copy
-no_copy_in Q id o Query = refl
-no_copy_in Q id o (Propagation kept) = refl
-
-pub due_event : {Q : Type 0} (id : CallId) (found : Option (CallState Q)) → option_map (event.Answer id) (answer_due found) ≡ (answered_from id found).event
-due_event id None = refl
-due_event {Q} id (Some c) = due_event_in Q id c.op c.stage
-
-pub due_mark : {Q : Type 0} (id : CallId) (found : Option (CallState Q)) → mark_due id found ≡ (answered_from id found).mark
-due_mark id None = refl
-due_mark {Q} id (Some c) = due_mark_in Q id c.op c.stage
-
-pub no_copy : {Q : Type 0} (id : CallId) (found : Option (CallState Q)) → None ≡ (answered_from id found).copy
-no_copy id None = refl
-no_copy {Q} id (Some c) = no_copy_in Q id c.op c.stage

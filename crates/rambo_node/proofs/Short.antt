@@ -1,5 +1,5 @@
 -- What is short for a whole letter is heard as that one
-use Rattle.std.proofs.Common.{◌≡◌, List, Option, None, Some, false, refl, sym, ap, ◌∙◌}
+use Rattle.std.proofs.Common.{◌≡◌, Option, None, Some, false, refl, sym, ap, ◌∙◌}
 use Rattle.std.specs.Prelude.{if◌then◌else◌}
 use Rattle.std.specs.FinMap as map
 use Rattle.rambo_tag.specs.Tags.{is_newer, greater}

@@ -1,16 +1,13 @@
 -- How a call goes on
-use Rattle.std.specs.Prelude.{ℕ, ◌+◌, Option, None, Some}
-use Rattle.std.specs.FinMap as map
+use Rattle.std.specs.Prelude.{ℕ, ◌+◌, Option, None, Some, slice_get}
 use Rattle.rambo_phase.specs.Phases.{started}
-use Rattle.rambo_tag.specs.declared.keyed_version.KeyedVersion.{KeyedVersion}
 use Rattle.rambo_tag.specs.declared.version.Version.{Version}
-use Rattle.rambo_tag.specs.Copies.{Copies}
 use Rattle.rambo_atomic.specs.declared.event.CallId.{CallId}
 use Rattle.rambo_atomic.specs.declared.event.Event.TheVariants as event
 use Rattle.rambo_atomic.specs.declared.operation.Op.{Op}
 use Rattle.rambo_calls.specs.declared.stage.Stage.{Stage}
 use Rattle.rambo_calls.specs.declared.stage.Stage.TheVariants.{Query, Propagation}
-use Rattle.rambo_calls.specs.Calls.{CallState, place_of, find_call}
+use Rattle.rambo_calls.specs.Calls.{CallState}
 use Rattle.rambo_calls.specs.Kept.{with_call, propagating}
 use Rattle.rambo_node.specs.declared.deed.Deed.{Deed}
 use Rattle.rambo_node.specs.declared.effect.Effect.TheVariants as effect
@@ -18,11 +15,11 @@ use Rattle.rambo_node.specs.Changes.{quiet_deed, set_mark, get_mark, copy_put}
 use Rattle.rambo_node.specs.Nodes.{NodeState}
 use Rattle.rambo_node.specs.Operations.{answer_of}
 
--- the propagation of a call begins, under a new phase number
+-- the propagation of the call at a place begins, under a new phase number
 abbrev pub propagation_begun : {Q : Type 0} → NodeState Q → ℕ → Option Version → NodeState Q
-propagation_begun x number kept = record x {
+propagation_begun x place kept = record x {
   number = x.number + 1;
-  calls = with_call (place_of number x.calls) (find_call number x.calls) (propagating kept (started (x.number + 1) x.map x.name)) x.calls;
+  calls = with_call place (slice_get x.calls place) (propagating kept (started (x.number + 1) x.map x.name)) x.calls;
 }
 
 -- what a met query does, which keeps a copy
@@ -41,8 +38,3 @@ answered_in id o (Propagation kept) = answer_deed id o kept
 abbrev pub answered_from : {Q : Type 0} → CallId → Option (CallState Q) → Deed Q
 answered_from id None = quiet_deed
 answered_from id (Some c) = answered_in id c.op c.stage
-
--- the copies that are held with one more, if there is one
-abbrev pub copy_held : Copies → Option KeyedVersion → Copies
-copy_held r None = r
-copy_held r (Some c) = map.insert r c.key c.version

@@ -8,4 +8,3 @@ pub mod Reconfigurations
 pub mod Refusals
 pub mod Changes
 pub mod Claims
-pub mod Notes

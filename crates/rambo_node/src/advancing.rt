@@ -1,12 +1,14 @@
 //! How open calls begin and go on.
 ghost use Rattle.std.specs.Prelude.{◌≡◌, ◌+◌, None, Some, false, IfOk, IfErr, OnOk, OnErr};
+ghost use Rattle.std.specs.FinMap as map;
 ghost use Rattle.std.specs.Option.{option_copied};
+ghost use Rattle.rambo_atomic.specs.declared.operation.Op.TheVariants as asked;
 ghost use Rattle.rambo_tag.specs.Tags.{tag_of};
 ghost use Rattle.rambo_node.specs.Changes.{refusal_of, made_by, advanced};
-ghost use Rattle.rambo_node.specs.Kept.{copy_held, propagation_begun};
+ghost use Rattle.rambo_node.specs.Kept.{move_deed, propagation_begun};
 ghost use Rattle.rambo_node.specs.Nodes.{open_call};
-ghost use Rattle.rambo_calls.specs.Calls.{query_in, is_missing};
-ghost use Rattle.rambo_node.specs.Operations.{taken};
+ghost use Rattle.rambo_calls.specs.Calls.{place_of, query_in, is_missing};
+ghost use Rattle.rambo_node.specs.Operations.{new_copy};
 ghost use Rattle.rambo_node.specs.Refusals.{is_last, query_spent, tags_spent};
 ghost use Rattle.rambo_node.specs.declared.change.Change.TheVariants as change;
 
@@ -14,7 +16,8 @@ use crate::deed::{Deed, answered, clone_of};
 use crate::effect::Effect;
 use crate::node::Node;
 use rambo_atomic::{CallId, Event, Op};
-use rambo_names::{Quorums, Refusal};
+use rambo_names::{Bytes, Quorums, Refusal};
+use rambo_sequence::Mark;
 use rambo_tag::{KeyedVersion, Replica, Tag, Version};
 
 impl<Q: Quorums, S: Replica> Node<Q, S> {
@@ -75,103 +78,145 @@ impl<Q: Quorums, S: Replica> Node<Q, S> {
         requires { refusal_of Q.system self.old (change.Again id) ≡ None }
         ensures { self.new ≡ (made_by self.old (change.Again id)).node }
     {
+        let place = self.place_of(&id);
         self.number += 1;
-        self.calls
-            .restart(id.number, self.number, &self.map, self.name);
+        self.calls.restart(place, self.number, &self.map, self.name);
     }
 
-    // A call that isn't refused goes on.
+    /// A call that isn't refused goes on: what `act` does of an advance. The answer is what it did.
+    ///
+    /// `OutOfMemory` where there is no room for what is new; the node is then as it was.
+    // (a deed is large: it is moved wherever one of these isn't inlined)
+    #[inline(always)]
     #[tactic(auto, unfolding(crate::specs::Changes::made_by))]
-    pub(crate) fn do_advance(&mut self, id: CallId) -> Result<Deed<Q>, Refusal>
+    pub fn go_on(&mut self, id: CallId) -> Result<Deed<Q>, Refusal>
         requires { refusal_of Q.system self.old (change.Advance id) ≡ None }
         ensures node { OnOk result (self.new ≡ (made_by self.old (change.Advance id)).node) }
         ensures deed { IfOk result (λ d. d ≡ (made_by self.old (change.Advance id)).deed) }
         ensures refused { IfErr result (λ r. r ≡ Refusal.OutOfMemory) }
         ensures err { OnErr result (self.new ≡ self.old) }
     {
-        let asked = match self.query(&id) {
+        let place = self.place_of(&id);
+        let asked = match self.query_at(place) {
             Some(op) => op.clone()?,
-            None => return self.close(id),
+            None => return self.close(id, place),
         };
-        self.answer_query(id, &asked)
+        self.answer_query(id, place, asked)
     }
 
-    // A met propagation is answered.
-    fn close(&mut self, id: CallId) -> Result<Deed<Q>, Refusal>
+    // A met propagation at this place is answered.
+    #[inline(always)]
+    fn close(&mut self, id: CallId, place: usize) -> Result<Deed<Q>, Refusal>
         requires open { is_missing (open_call self.old id) ≡ false }
         requires told { query_in (open_call self.old id) ≡ None }
+        requires place { place ≡ place_of id.number self.old.calls }
         ensures node { OnOk result (self.new ≡ (advanced self.old id (open_call self.old id)).node) }
         ensures deed { IfOk result (λ d. d ≡ (advanced self.old id (open_call self.old id)).deed) }
         ensures refused { IfErr result (λ r. r ≡ Refusal.OutOfMemory) }
         ensures err { OnErr result (self.new ≡ self.old) }
     {
-        let number = id.number;
-        let deed = answered(id, self.calls.find(number))?;
-        self.calls.close(number);
+        let deed = answered(id, self.calls.get(place))?;
+        self.calls.close(place);
         Ok(deed)
     }
 
-    // A query that asked for this is answered, and its propagation begins. All that can fail comes first.
-    fn answer_query(&mut self, id: CallId, asked: &Op) -> Result<Deed<Q>, Refusal>
-        requires asked { query_in (open_call self.old id) ≡ Some asked.now }
-        requires next { query_spent self.old (Some asked.now) ≡ false }
+    // A query at this place that asked for this is answered, and its propagation begins.
+    #[inline(always)]
+    fn answer_query(&mut self, id: CallId, place: usize, asked: Op) -> Result<Deed<Q>, Refusal>
+        requires asked { query_in (open_call self.old id) ≡ Some asked }
+        requires place { place ≡ place_of id.number self.old.calls }
+        requires next { query_spent self.old (Some asked) ≡ false }
         ensures node { OnOk result (self.new ≡ (advanced self.old id (open_call self.old id)).node) }
         ensures deed { IfOk result (λ d. d ≡ (advanced self.old id (open_call self.old id)).deed) }
         ensures refused { IfErr result (λ r. r ≡ Refusal.OutOfMemory) }
         ensures err { OnErr result (self.new ≡ self.old) }
     {
-        let number = id.number;
-        let kept = self.taken(asked)?;
-        let deed = Deed::moved(id, asked, &kept)?;
-        self.put(&deed.copy)?;
-        self.propagate(number, kept);
-        Ok(deed)
+        match asked {
+            Op::Get(key) => {
+                let held = clone_of(self.registers.copy(key.as_slice()))?;
+                self.propagate(place, held);
+                Ok(Deed::told(Effect::Moved))
+            }
+            Op::Set(key, value) => self.set(id, place, key, value),
+        }
     }
 
-    // The propagation of a call begins.
-    pub(crate) fn propagate(&mut self, number: u64, kept: Option<Version>)
+    // A set takes the next tag of its key, and its new copy is put and goes round. All that can fail comes first.
+    #[inline(always)]
+    fn set(
+        &mut self,
+        id: CallId,
+        place: usize,
+        key: Bytes,
+        value: Bytes,
+    ) -> Result<Deed<Q>, Refusal>
+        requires next { is_last self.old.number ≡ false }
+        requires tags { tags_spent self.old (asked.Set key value) ≡ false }
+        ensures node { OnOk result (self.new ≡ propagation_begun (record self.old { registers = map.insert self.old.registers key (new_copy self.old key value) }) place (Some (new_copy self.old key value))) }
+        ensures deed { IfOk result (λ d. d ≡ move_deed id (asked.Set key value) (Some (new_copy self.old key value))) }
+        ensures refused { IfErr result (λ r. r ≡ Refusal.OutOfMemory) }
+        ensures err { OnErr result (self.new ≡ self.old) }
+    {
+        let tag = Tag {
+            sequence: sequence_of(self.registers.copy(key.as_slice())) + 1,
+            name: self.name,
+        };
+        let kept = version(tag, &value)?;
+        let sent = version(tag, &value)?;
+        let copy = KeyedVersion {
+            key: key.clone()?,
+            version: version(tag, &value)?,
+        };
+        let own = key.clone()?;
+        let held = version(tag, &value)?;
+        self.hold(own, held)?;
+        self.propagate(place, Some(sent));
+        Ok(Deed {
+            effect: Effect::Moved,
+            event: None,
+            mark: Some(Mark {
+                id,
+                op: Op::Set(key, value),
+                kept: Some(kept),
+            }),
+            copy: Some(copy),
+        })
+    }
+
+    // Holds this copy of a key.
+    fn hold(&mut self, key: Bytes, version: Version) -> Result<(), Refusal>
+        ensures ok { OnOk result (self.new ≡ record self.old { registers = map.insert self.old.registers key version }) }
+        ensures refused { IfErr result (λ r. r ≡ Refusal.OutOfMemory) }
+        ensures err { OnErr result (self.new ≡ self.old) }
+    {
+        self.registers.put(key, version)?;
+        Ok(())
+    }
+
+    // The propagation of the call at a place begins.
+    pub(crate) fn propagate(&mut self, place: usize, kept: Option<Version>)
         requires { is_last self.old.number ≡ false }
-        ensures { self.new ≡ propagation_begun self.old number kept }
+        ensures { self.new ≡ propagation_begun self.old place kept }
     {
         self.number += 1;
         self.calls
-            .propagate(number, kept, self.number, &self.map, self.name);
-    }
-
-    // The copy that a met query keeps, if a set has a next tag.
-    fn taken(&self, op: &Op) -> Result<Option<Version>, Refusal>
-        ensures ok { IfOk result (λ v. tags_spent self.now op.now ≡ false → v ≡ taken self.now op.now) }
-        ensures refused { IfErr result (λ r. r ≡ Refusal.OutOfMemory) }
-    {
-        let held = self.registers.copy(op.key().as_slice());
-        match op {
-            Op::Get(_) => clone_of(held),
-            Op::Set(_, value) => Ok(Some(Version {
-                tag: Tag {
-                    sequence: sequence_of(held).saturating_add(1),
-                    name: self.name,
-                },
-                value: Some(value.clone()?),
-            })),
-        }
-    }
-
-    // Puts a copy, if there is one.
-    fn put(&mut self, copy: &Option<KeyedVersion>) -> Result<(), Refusal>
-        ensures ok { OnOk result (self.new ≡ record self.old { registers = copy_held self.old.registers copy.now }) }
-        ensures refused { IfErr result (λ r. r ≡ Refusal.OutOfMemory) }
-        ensures err { OnErr result (self.new ≡ self.old) }
-    {
-        if let Some(copy) = copy {
-            self.registers
-                .put(copy.key.clone()?, copy.version.clone()?)?;
-        }
-        Ok(())
+            .propagate(place, kept, self.number, &self.map, self.name);
     }
 }
 
+// A value under a tag.
+fn version(tag: Tag, value: &Bytes) -> Result<Version, Refusal>
+    ensures made { IfOk result (λ v. v ≡ record { tag = tag; value = Some value.now }) }
+    ensures refused { IfErr result (λ r. r ≡ Refusal.OutOfMemory) }
+{
+    Ok(Version {
+        tag,
+        value: Some(value.clone()?),
+    })
+}
+
 // The sequence number of what a key holds: 0 where it is absent.
-pub(crate) fn sequence_of(version: Option<&Version>) -> u64
+fn sequence_of(version: Option<&Version>) -> u64
     ensures { result ≡ (tag_of (option_copied version.entry)).sequence }
 {
     match version {

@@ -1,8 +1,8 @@
 //! What a change did.
 ghost use Rattle.std.specs.Prelude.{◌≡◌, IfOk, IfErr};
 ghost use Rattle.rambo_calls.specs.Kept.{call_found};
-ghost use Rattle.rambo_node.specs.Changes.{told, quiet_deed, set_mark, get_mark, copy_put};
-ghost use Rattle.rambo_node.specs.Kept.{move_deed, answer_deed, answered_from};
+ghost use Rattle.rambo_node.specs.Changes.{told, quiet_deed, get_mark};
+ghost use Rattle.rambo_node.specs.Kept.{answer_deed, answered_from};
 ghost use Rattle.rambo_node.specs.Operations.{answer_of};
 ghost use Rattle.std.specs.Option.{option_copied};
 
@@ -46,20 +46,8 @@ impl<Q: Copy> Deed<Q> {
         Deed::told(Effect::Done)
     }
 
-    // That of a met query, which keeps a copy.
-    pub(crate) fn moved(id: CallId, op: &Op, kept: &Option<Version>) -> Result<Deed<Q>, Refusal>
-        ensures ok { IfOk result (λ d. d ≡ move_deed id op.now kept.now) }
-        ensures refused { IfErr result (λ r. r ≡ Refusal.OutOfMemory) }
-    {
-        Ok(Deed {
-            effect: Effect::Moved,
-            event: None,
-            mark: set_mark(id, op, kept)?,
-            copy: copy_put(op, kept)?,
-        })
-    }
-
     // That of a met propagation, which sent a copy round.
+    #[inline(always)]
     pub(crate) fn answered(id: CallId, op: &Op, kept: &Option<Version>) -> Result<Deed<Q>, Refusal>
         ensures ok { IfOk result (λ d. d ≡ answer_deed id op.now kept.now) }
         ensures refused { IfErr result (λ r. r ≡ Refusal.OutOfMemory) }
@@ -76,6 +64,7 @@ impl<Q: Copy> Deed<Q> {
 }
 
 // What a call does when its propagation is met, if there is one that is in it.
+#[inline(always)]
 pub(crate) fn answered<Q: Quorums>(
     id: CallId,
     call: Option<&OpenCall<Q>>,
@@ -89,35 +78,6 @@ pub(crate) fn answered<Q: Quorums>(
             Stage::Propagation(kept) => Deed::answered(id, &call.op, kept),
         },
         None => Ok(Deed::quiet()),
-    }
-}
-
-// The copy that a set puts.
-fn copy_put(op: &Op, kept: &Option<Version>) -> Result<Option<KeyedVersion>, Refusal>
-    ensures ok { IfOk result (λ copy. copy ≡ copy_put op.now kept.now) }
-    ensures refused { IfErr result (λ r. r ≡ Refusal.OutOfMemory) }
-{
-    match (op, kept) {
-        (Op::Set(key, _), Some(version)) => Ok(Some(KeyedVersion {
-            key: key.clone()?,
-            version: version.clone()?,
-        })),
-        _ => Ok(None),
-    }
-}
-
-// A set is marked when it takes its tag.
-fn set_mark(id: CallId, op: &Op, kept: &Option<Version>) -> Result<Option<Mark>, Refusal>
-    ensures ok { IfOk result (λ mark. mark ≡ set_mark id op.now kept.now) }
-    ensures refused { IfErr result (λ r. r ≡ Refusal.OutOfMemory) }
-{
-    match op {
-        Op::Get(_) => Ok(None),
-        Op::Set(_, _) => Ok(Some(Mark {
-            id,
-            op: op.clone()?,
-            kept: clone_of(kept.as_ref())?,
-        })),
     }
 }
 
@@ -137,7 +97,7 @@ fn get_mark(id: CallId, op: &Op, kept: &Option<Version>) -> Result<Option<Mark>,
 }
 
 // The answer to an operation that sent a copy round.
-pub(crate) fn answer_of(op: &Op, kept: &Option<Version>) -> Result<Answer, Refusal>
+fn answer_of(op: &Op, kept: &Option<Version>) -> Result<Answer, Refusal>
     ensures ok { IfOk result (λ answer. answer ≡ answer_of op.now kept.now) }
     ensures refused { IfErr result (λ r. r ≡ Refusal.OutOfMemory) }
 {

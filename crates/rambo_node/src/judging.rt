@@ -6,14 +6,16 @@ ghost use Rattle.rambo_atomic.specs.Calls.{key_of};
 ghost use Rattle.rambo_names.specs.Refusals.{least};
 ghost use Rattle.rambo_gossip.specs.Outlines.{outlined};
 ghost use Rattle.rambo_node.specs.Refusals.{join_causes, call_causes, send_causes, advance_causes, again_causes, stop_causes, tags_spent, value_is_long, restarts, query_spent, is_last};
-ghost use Rattle.rambo_calls.specs.Calls.{is_missing, is_unmet, query_in};
-ghost use Rattle.rambo_node.specs.Nodes.{open_call};
+ghost use Rattle.std.specs.Option.{option_copied};
+ghost use Rattle.rambo_calls.specs.Calls.{is_missing, is_unmet};
+ghost use Rattle.rambo_calls.specs.Kept.{call_found};
 ghost use Rattle.rambo_node.specs.Changes.{refusal_of};
 ghost use Rattle.rambo_node.specs.declared.change.Change.TheVariants as change;
 
 use crate::change::Change;
-use crate::node::Node;
+use crate::node::{Node, query_of};
 use rambo_atomic::{CallId, Op};
+use rambo_calls::OpenCall;
 use rambo_gossip::{GossipOutline, Kind, Letter, LetterOutline};
 use rambo_names::{Members, Name, Quorums, Refusal};
 use rambo_tag::Replica;
@@ -222,25 +224,11 @@ impl<Q: Quorums, S: Replica> Node<Q, S> {
         Ok(())
     }
 
-    // Whether there is no open call of an id.
-    fn is_missing(&self, id: &CallId) -> bool
-        ensures { result ≡ is_missing (open_call self.now id.now) }
+    // Whether an answered query that asked for this, if it is one, can't go on.
+    fn query_is_spent(&self, asked: Option<&Op>) -> bool
+        ensures { result ≡ query_spent self.now (option_copied asked.entry) }
     {
-        id.name != self.name || self.calls.is_missing(id.number)
-    }
-
-    // Whether there is an open call of an id whose phase isn't met.
-    fn is_unmet(&self, id: &CallId) -> bool
-        ensures { result ≡ is_unmet Q.system (open_call self.now id.now) }
-    {
-        id.name == self.name && self.calls.is_unmet(id.number)
-    }
-
-    // Whether an answered query can't go on.
-    fn query_is_spent(&self, id: &CallId) -> bool
-        ensures { result ≡ query_spent self.now (query_in (open_call self.now id.now)) }
-    {
-        match self.query(id) {
+        match asked {
             Some(op) => is_last(self.number) || self.tags_are_spent(op),
             None => false,
         }
@@ -259,13 +247,14 @@ impl<Q: Quorums, S: Replica> Node<Q, S> {
         if self.status.is_stopped() {
             return Err(Refusal::Stopped);
         }
-        if self.is_missing(id) {
+        let call = self.find(id);
+        if is_missing(call) {
             return Err(Refusal::NoSuchCall);
         }
-        if self.is_unmet(id) {
+        if is_unmet(call) {
             return Err(Refusal::NotYet);
         }
-        if self.query_is_spent(id) {
+        if self.query_is_spent(query_of(call)) {
             return Err(Refusal::NumbersSpent);
         }
         Ok(())
@@ -282,7 +271,7 @@ impl<Q: Quorums, S: Replica> Node<Q, S> {
         if self.status.is_stopped() {
             return Err(Refusal::Stopped);
         }
-        if self.is_missing(id) {
+        if is_missing(self.find(id)) {
             return Err(Refusal::NoSuchCall);
         }
         if is_last(self.number) {
@@ -303,6 +292,26 @@ impl<Q: Quorums, S: Replica> Node<Q, S> {
             return Err(Refusal::Stopped);
         }
         Ok(())
+    }
+}
+
+// Whether there is no open call.
+fn is_missing<Q: Quorums>(call: Option<&OpenCall<Q>>) -> bool
+    ensures { result ≡ is_missing (call_found (option_copied call.entry)) }
+{
+    match call {
+        Some(_) => false,
+        None => true,
+    }
+}
+
+// Whether there is an open call whose phase isn't met.
+fn is_unmet<Q: Quorums>(call: Option<&OpenCall<Q>>) -> bool
+    ensures { result ≡ is_unmet Q.system (call_found (option_copied call.entry)) }
+{
+    match call {
+        Some(call) => !call.phase.met(),
+        None => false,
     }
 }
 

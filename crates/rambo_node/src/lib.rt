@@ -6,7 +6,6 @@ mod change;
 mod decided;
 mod deed;
 mod effect;
-mod going_on;
 mod heard_numbers;
 mod hearing;
 mod judging;

@@ -1,13 +1,14 @@
 //! Nodes.
-ghost use Rattle.std.specs.Prelude.{◌≡◌, length, slice_get};
+ghost use Rattle.std.specs.Prelude.{◌≡◌, false, length, slice_get};
 ghost use Rattle.std.specs.FinMap as map;
 ghost use Rattle.std.specs.Option.{option_copied};
 ghost use Rattle.rambo_node.specs.Nodes.{first_node, first_status, first_known, open_call, id_of};
-ghost use Rattle.rambo_calls.specs.Calls.{query_in, number_in};
+ghost use Rattle.rambo_calls.specs.Calls.{place_of, is_missing, query_in, number_in};
+ghost use Rattle.rambo_calls.specs.Kept.{call_found};
 
 use crate::heard_numbers::HeardNumbers;
 use rambo_atomic::{CallId, Op};
-use rambo_calls::OpenCalls;
+use rambo_calls::{OpenCall, OpenCalls};
 use rambo_config_map::ConfigMap;
 use rambo_gc::Collection;
 use rambo_joiner::Status;
@@ -144,14 +145,37 @@ impl<Q: Quorums, S: Replica> Node<Q, S> {
         self.status
     }
 
-    /// What the open call of an id asks for, if there is one that is in its query.
-    pub fn query(&self, id: &CallId) -> Option<&Op>
-        ensures { option_copied result ≡ query_in (open_call self.now id.now) }
+    // The open call of an id, if there is one.
+    pub(crate) fn find(&self, id: &CallId) -> Option<&OpenCall<Q>>
+        ensures { call_found (option_copied result) ≡ open_call self.now id.now }
     {
         if id.name != self.name {
             return None;
         }
-        self.calls.query(id.number)
+        self.calls.find(id.number)
+    }
+
+    /// What the open call of an id asks for, if there is one that is in its query.
+    pub fn query(&self, id: &CallId) -> Option<&Op>
+        ensures { option_copied result ≡ query_in (open_call self.now id.now) }
+    {
+        query_of(self.find(id))
+    }
+
+    // The place of the open call of an id, which there is.
+    pub(crate) fn place_of(&self, id: &CallId) -> usize
+        requires { is_missing (open_call self.now id.now) ≡ false }
+        ensures place { result ≡ place_of id.now.number self.now.calls }
+        ensures found { slice_get self.now.calls result ≡ open_call self.now id.now }
+    {
+        self.calls.place_of(id.number)
+    }
+
+    // What the open call at a place asks for, if there is one that is in its query.
+    pub(crate) fn query_at(&self, place: usize) -> Option<&Op>
+        ensures { option_copied result ≡ query_in (slice_get self.now.calls place) }
+    {
+        query_of(self.calls.get(place))
     }
 
     /// How many calls are open.
@@ -172,6 +196,16 @@ impl<Q: Quorums, S: Replica> Node<Q, S> {
             }),
             None => None,
         }
+    }
+}
+
+// What an open call asks for, if there is one that is in its query.
+pub(crate) fn query_of<Q: Quorums>(call: Option<&OpenCall<Q>>) -> Option<&Op>
+    ensures { option_copied result ≡ query_in (call_found (option_copied call.entry)) }
+{
+    match call {
+        Some(call) => call.query(),
+        None => None,
     }
 }
 

@@ -62,7 +62,7 @@ impl<Q: Quorums, S: Replica> Node<Q, S> {
                 self.do_hear(letter)?;
                 Ok(Deed::quiet())
             }
-            Change::Advance(id) => self.do_advance(*id),
+            Change::Advance(id) => self.go_on(*id),
             Change::Again(id) => {
                 self.do_again(*id);
                 Ok(Deed::quiet())
@@ -135,7 +135,7 @@ impl<Q: Quorums, S: Replica> Node<Q, S> {
         ensures err { OnErr result (self.new ≡ self.old) }
     {
         self.may_advance(&id)?;
-        let deed = self.do_advance(id)?;
+        let deed = self.go_on(id)?;
         Ok(deed.effect.into_answer())
     }
 

@@ -6,8 +6,8 @@ use Rattle.rambo_run.specs.Ongoing.{RunningOf}
 use Rattle.rambo_steps.specs.Runs.{TellsFounders, IsFounded}
 
 -- it has these founders, and took no step
-pub founded_by : (bytes : List ℕ) (s founders : Weights) (r : RunningOf Weights) → TellsFounders bytes s → founders ≡ s
+pub founded_by : (bytes : List ℕ) (founders : Weights) (r : RunningOf Weights) → TellsFounders bytes founders
     → r ≡ record { founders = founders; state = first_world weighted_majorities founders } → IsFounded bytes r
-founded_by bytes s founders r told same is =
+founded_by bytes founders r told is =
     let own : r.founders ≡ founders = ap (λ (v : RunningOf Weights). v.founders) is in
-    (subst (TellsFounders bytes) (sym (own ∙ same)) told, ap (λ (v : RunningOf Weights). v.state) is ∙ ap (first_world weighted_majorities) (sym own))
+    (subst (TellsFounders bytes) (sym own) told, ap (λ (v : RunningOf Weights). v.state) is ∙ ap (first_world weighted_majorities) (sym own))

@@ -5,7 +5,6 @@ use Rattle.rambo_node.specs.declared.change.Change.{Change}
 use Rattle.rambo_node.specs.declared.effect.Effect.{Effect}
 use Rattle.rambo_node.specs.Changes.{made_by}
 use Rattle.rambo_node.specs.Nodes.{NodeState}
-use Rattle.rambo_node.specs.Notes.{noted}
 use Rattle.rambo_sequence.specs.declared.mark.Mark.{Mark}
 use Rattle.rambo_run.specs.Steps.{turn_at, with_letter, with_event, with_mark, effect_in}
 use Rattle.rambo_letters.specs.Kept.{SentState}
@@ -32,12 +31,3 @@ changed_world ks new ss h history ms marks n c e x nodes letters found quiet eff
       };
       effect = (ap (effect_in (whole_letters ks ss) (made_by x c).deed.effect) none ∙ sym effect) i;
     }
-
--- what an advance leaves is put where the world has it
-pub noted-event : (h : List Event) (o : Option Event) → noted h o ≡ with_event h o
-noted-event h None = refl
-noted-event h (Some e) = refl
-
-pub noted-mark : (ms : List Mark) (o : Option Mark) → noted ms o ≡ with_mark ms o
-noted-mark ms None = refl
-noted-mark ms (Some m) = refl

@@ -31,15 +31,7 @@ impl<Q: Quorums, S: Replica> State<Q, S> {
         self.history.reserve(1)?;
         self.marks.reserve(1)?;
         let deed = self.nodes.act(name, change)?;
-        let Deed {
-            effect,
-            event,
-            mark,
-            copy: _,
-        } = deed;
-        push_event(&mut self.history, event);
-        push_mark(&mut self.marks, mark);
-        Ok(effect)
+        Ok(note(&mut self.history, &mut self.marks, deed))
     }
 
     // A client asks a node for an operation, which isn't refused: the call.
@@ -68,9 +60,8 @@ impl<Q: Quorums, S: Replica> State<Q, S> {
     {
         self.history.reserve(1)?;
         self.marks.reserve(1)?;
-        let effect = self.nodes.node(id.name).advance_effect(&id)?;
-        self.nodes.go_on(id, &mut self.history, &mut self.marks)?;
-        Ok(effect)
+        let deed = self.nodes.go_on(id)?;
+        Ok(note(&mut self.history, &mut self.marks, deed))
     }
 }
 
@@ -81,6 +72,28 @@ fn push_call(history: &mut History, id: &CallId, op: Op)
     ensures { history.new.events ≡ history.old.events ++ Event.Call id.now op ∷ [] }
 {
     history.push_reserved(Event::Call(*id, op));
+}
+
+// What a deed leaves goes to the ends of a history and of the marks, where there is room for it. The answer is what is told
+// of it.
+#[inline(always)]
+fn note<Q: Quorums>(history: &mut History, marks: &mut Vec<Mark>, deed: Deed<Q>) -> Effect<Q>
+    requires room { 0 < history.old.room }
+    requires fits { (e : Event) → deed.event ≡ Some e → fault_of history.old.events e ≡ None }
+    requires space { vec_len marks.old < vec_capacity marks.old }
+    ensures event { history.new.events ≡ with_event history.old.events deed.event }
+    ensures mark { marks.new.items ≡ with_mark marks.old.items deed.mark }
+    ensures effect { result ≡ deed.effect }
+{
+    let Deed {
+        effect,
+        event,
+        mark,
+        copy: _,
+    } = deed;
+    push_event(history, event);
+    push_mark(marks, mark);
+    effect
 }
 
 // The event of a deed, if it has one, goes to the end, where there is room for it.

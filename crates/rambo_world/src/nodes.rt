@@ -1,6 +1,5 @@
 //! The nodes of a world, and the logs of their copies.
 ghost use Rattle.std.specs.Prelude.{◌≡◌, ◌≢◌, ◌+◌, ◌-◌, ◌<◌, ◌≤◌, max, List, ℕ, None, Some, length, true, slice_get, slice_set, OnOk, OnErr, IfOk, IfErr};
-ghost use Rattle.std.specs.Vec.{vec_len, vec_capacity};
 ghost use Rattle.rambo_names.specs.Names.{IsName, rising};
 ghost use Rattle.rambo_names.specs.Refusals.{least};
 ghost use Rattle.rambo_tag.specs.declared.keyed_version.KeyedVersion.{KeyedVersion};
@@ -12,7 +11,6 @@ ghost use Rattle.rambo_gossip.specs.Letters.{letter_with};
 ghost use Rattle.rambo_logs.specs.NodeLogs.{part, extended};
 ghost use Rattle.rambo_node.specs.Changes.{refusal_of, made_by};
 ghost use Rattle.rambo_node.specs.Nodes.{NodeState, first_node, open_call};
-ghost use Rattle.rambo_node.specs.Notes.{noted, MayStand};
 ghost use Rattle.rambo_run.specs.Runs.{maps_of};
 ghost use Rattle.rambo_run.specs.Steps.{causes_at};
 ghost use Rattle.rambo_run.specs.Worlds.{first_nodes};
@@ -20,7 +18,7 @@ ghost use Rattle.rambo_world.specs.Kept.{KeptNode, states_of, state_at, kept_at,
 ghost use Rattle.rambo_world.specs.Logging.{listed, keeps_copies};
 ghost use Rattle.rambo_world.specs.Direct.{outlined_for, brought_from};
 
-use rambo_atomic::{CallId, History, Op};
+use rambo_atomic::{CallId, Op};
 use rambo_config_map::Places;
 use rambo_gossip::LetterOutline;
 use rambo_letters::Outline;
@@ -28,7 +26,6 @@ use rambo_logs::Logs;
 use rambo_names::{Name, Quorums, Refusal};
 use rambo_node::{Change, Deed, Node};
 use rambo_run::NodeMap;
-use rambo_sequence::Mark;
 use rambo_tag::{KeyedVersion, NoCopies, Pack, Replica};
 use std::alloc::Global;
 use std::marker::Model;
@@ -129,29 +126,32 @@ impl<Q: Quorums, S: Replica> Nodes<Q, S> {
         Ok(id)
     }
 
-    // A call goes on whose advance isn't refused, and what it leaves goes into the history, among the marks, and into
-    // the log of its node.
-    pub(crate) fn go_on(
-        &mut self,
-        id: CallId,
-        history: &mut History,
-        marks: &mut Vec<Mark>,
-    ) -> Result<(), Refusal>
-        requires accepted { least (causes_at Q.system (state_at self.old id.name) (Change.Advance id)) ≡ None }
-        requires room { 0 < history.old.room }
-        requires fits { (x : NodeState Q) → state_at self.old id.name ≡ Some x → MayStand history.old.events (made_by x (Change.Advance id)).deed.event }
-        requires space { vec_len marks.old + 1 ≤ vec_capacity marks.old }
+    // A call goes on whose advance isn't refused, and the copy that it puts goes into the log of its node. The answer is
+    // the rest of what it did.
+    #[inline(always)]
+    pub(crate) fn go_on(&mut self, id: CallId) -> Result<Deed<Q>, Refusal>
+        requires { least (causes_at Q.system (state_at self.old id.name) (Change.Advance id)) ≡ None }
         ensures nodes { OnOk result (states_of self.new ≡ moved self.old id.name (λ x. (made_by x (Change.Advance id)).node)) }
-        ensures event { OnOk result ((x : NodeState Q) → state_at self.old id.name ≡ Some x → history.new.events ≡ noted history.old.events (made_by x (Change.Advance id)).deed.event) }
-        ensures mark { OnOk result ((x : NodeState Q) → state_at self.old id.name ≡ Some x → marks.new.items ≡ noted marks.old.items (made_by x (Change.Advance id)).deed.mark) }
+        ensures deed { IfOk result (λ d. (x : NodeState Q) → state_at self.old id.name ≡ Some x → d ≡ record (made_by x (Change.Advance id)).deed { copy = None }) }
         ensures refused { IfErr result (λ r. r ≡ Refusal.OutOfMemory) }
-        ensures err { OnErr result ((self.new ≡ self.old) × (history.new.events ≡ history.old.events) × (marks.new.items ≡ marks.old.items)) }
+        ensures err { OnErr result (self.new ≡ self.old) }
         ensures grow { AllGrow self.old self.new }
     {
         make_room(&self.list[place_of(id.name)], &id, &mut self.logs)?;
-        let copy = self.list[place_of(id.name)].go_on(id, history, marks)?;
+        let deed = self.list[place_of(id.name)].go_on(id)?;
+        let Deed {
+            effect,
+            event,
+            mark,
+            copy,
+        } = deed;
         log_copy(&mut self.logs, id.name, copy);
-        Ok(())
+        Ok(Deed {
+            effect,
+            event,
+            mark,
+            copy: None,
+        })
     }
 
     // The addressee of a letter that isn't refused hears it, with those copies of its sender's log from one place up to

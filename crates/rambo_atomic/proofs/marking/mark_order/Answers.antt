@@ -1,7 +1,7 @@
 use Rattle.std.proofs.Common.{◌≡◌, not, ◌||◌, Option, None, Some, is_some, refl, sym, ap, subst, ◌∙◌}
 use Rattle.std.specs.Borrow.{Bor}
 use Rattle.std.specs.Option.{option_copied}
-use Rattle.rambo_atomic.specs.Tests.{is_own_op}
+use Rattle.rambo_atomic.specs.Tests.{of_key, is_own_op}
 use Rattle.rambo_atomic.specs.Verdicts.{IsVerdict}
 use Rattle.rambo_atomic.proofs.Marked.{pass_start, pass_on, pass_end}
 use Rattle.rambo_atomic.proofs.marking.mark_order.Goals as goal
@@ -20,7 +20,7 @@ loop-id-preserved c =
     pass_on c.args.history.now.events c.args.key.now c.args.order.now c.loop-id.id-index c.args.marks.now c.loop-id.marks _ (option_copied c.loop-id.held) _ c.loop-id.latest _
     c.loop-id.is_wrong _ c.loop-id.is_late _ c.id-item.result entry.op.now told entry.called entry.answered c.loop-id.invariant c.loop-id-test.true c.id-item.is
     (record { asked = sym c.in_ok-entry.ensures.op; told = sym c.in_ok-entry.ensures.answer; at = c.in_ok-entry.ensures.called; answered_at = sym c.in_ok-entry.ensures.answered; within = c.in_ok-entry.ensures.within })
-    c.if-marks-entry.false (ap (λ t. is_own_op c.args.key.now t (Some entry.op.now)) (some-copied entry.answer) ∙ sym c.is_own.ensures ∙ c.if-not-is_own.false) refl (ap (λ t. c.loop-id.is_wrong || not t) c.is_right.ensures) c.holding-held.ensures
+    c.if-marks-entry.false (ap (λ t. is_own_op (of_key c.args.key.now) t (Some entry.op.now)) (some-copied entry.answer) ∙ sym c.is_own.ensures ∙ c.if-not-is_own.false) refl (ap (λ t. c.loop-id.is_wrong || not t) c.is_right.ensures) c.holding-held.ensures
     (ap (λ t. c.loop-id.is_late || t) c.is_before-is_late.ensures) c.max-latest.ensures
 
 pub returns-clause-verdict : goal.returns-clause-verdict

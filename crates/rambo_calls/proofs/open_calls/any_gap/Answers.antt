@@ -1,5 +1,5 @@
 use Rattle.rambo_names.proofs.Sizes.{up_fits, back_fits}
-use Rattle.std.proofs.Common.{◌≡◌, ℕ, suc, List, [], ◌∷◌, false, arith, refl, sym, ap, ◌∙◌, length}
+use Rattle.std.proofs.Common.{◌≡◌, ℕ, List, [], ◌∷◌, false, arith, refl, sym, ap, ◌∙◌, length}
 use Rattle.rambo_config_map.specs.Maps.{MapState}
 use Rattle.rambo_calls.specs.declared.open_call.OpenCall.{OpenCall}
 use Rattle.rambo_calls.specs.Hearing.{any_gap}

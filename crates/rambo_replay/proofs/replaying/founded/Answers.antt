@@ -5,4 +5,4 @@ use Rattle.rambo_replay.proofs.replaying.founded.Goals as goal
 pub returns-clause-founded : goal.returns-clause-founded
 returns-clause-founded c =
     IfOk-weaker c.in_memory.result _ _ (λ r told.
-    founded_by _ _ _ _ c.in_ok-founders.ensures.founders c.of.ensures (IfOk-at_ok _ told c.new-2.ensures.made)) c.in_memory.ensures.ok
+    founded_by _ _ _ c.in_ok-founders.ensures.founders (IfOk-at_ok _ told c.new-2.ensures.made)) c.in_memory.ensures.ok

@@ -1,14 +1,21 @@
-use Rattle.std.proofs.Common.{rules, arith}
+use Rattle.std.proofs.Common.{rules, arith, true, ◌+◌, ◌<◌, ◌^◌}
 use Rattle.std.proofs.lemmas.Grind.{common_steps}
 use Rattle.rambo_names.proofs.Errors.{err_kept, err_if_ok}
 use Rattle.rambo_atomic.proofs.Tallied.{count-fits}
-use Rattle.rambo_atomic.specs.Tests.{is_due}
+use Rattle.rambo_atomic.specs.Tests.{of_key, is_due}
 use Rattle.rambo_atomic.proofs.checker.Checker.new.Goals as goal
 
 pub count-requires : goal.count-requires
 count-requires c =
-    count-fits (is_due c.args.history.now.events c.as_slice.result.now) _ c.args.history.now.events c.in-Some.event.now c.in-Some.others.now
-    (search rules) (grind (arith, common_steps, c.loop-event.invariant c.as_slice.result.now)) c.events-rest.ensures.fits
+    count-fits (is_due c.args.history.now.events (of_key c.as_slice.result.now)) _ c.args.history.now.events c.in-Some.event.now c.in-Some.others.now
+    (search rules) (grind (arith, common_steps, c.loop-event.invariant.0 c.as_slice.result.now)) c.events-rest.ensures.fits
+
+pub overflow_add-all_answered : goal.overflow_add-all_answered
+overflow_add-all_answered c =
+    let l : c.loop-event.all_answered + 1 < 2 ^ 64 =
+    count-fits (is_due c.args.history.now.events (λ op. true)) c.loop-event.all_answered c.args.history.now.events c.in-Some.event.now c.in-Some.others.now
+    (search rules) (grind (arith, common_steps, c.loop-event.invariant.1)) c.events-rest.ensures.fits in
+    grind (arith, common_steps, l)
 
 pub loop-event-init : goal.loop-event-init
 loop-event-init c = grind arith

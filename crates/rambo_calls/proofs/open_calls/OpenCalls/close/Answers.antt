@@ -6,12 +6,7 @@ use Rattle.rambo_calls.proofs.CallLists.{closed_at}
 use Rattle.rambo_calls.proofs.open_calls.OpenCalls.close.Goals as goal
 
 pub returns : goal.returns
-returns g c =
-    ap calls_of (c.remove.ensures.items ∙ ap (λ cs. remove cs c.place_of-place.result) c.self.view_is)
-    ∙ closed_at c.args.self.now c.args.number c.place_of-place.result c.place_of-place.ensures
-
-pub place_of-place-requires : goal.place_of-place-requires
-place_of-place-requires g c = assumption
+returns g c = ap calls_of (c.remove.ensures.items ∙ ap (λ cs. remove cs c.args.place) c.self.view_is) ∙ closed_at c.args.self.now c.args.place
 
 pub returns-then-place-len : goal.returns-then-place-len
 returns-then-place-len g c = grind (arith, common_steps)

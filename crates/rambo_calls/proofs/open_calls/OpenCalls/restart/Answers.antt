@@ -1,27 +1,23 @@
 use Rattle.rambo_names.proofs.Sizes.{up_fits, back_fits, variant_fits}
-use Rattle.std.proofs.Common.{◌≡◌, sym, ap, ◌∙◌, subst, length, slice_set, get_or, arith}
+use Rattle.std.proofs.Common.{◌≡◌, sym, ap, ◌∙◌, subst, length, slice_get, slice_set, get_or, arith}
 use Rattle.rambo_calls.specs.Hearing.{restarted}
-use Rattle.rambo_calls.specs.Calls.{place_of, find_call}
 use Rattle.rambo_calls.specs.Kept.{call_of, calls_of, with_call}
 use Rattle.rambo_calls.proofs.CallLists.{put_at, put_past}
 use Rattle.rambo_calls.proofs.open_calls.OpenCalls.restart.Goals as goal
-
-pub returns : goal.returns
-returns g c =
-    let f = restarted c.args.phase_number c.args.map.now c.args.me in
-    let count : c.len.result ≡ length c.args.self.now = c.len.ensures ∙ c.self.inside.list.ok.0 ∙ ap length c.self.view_is in
-    subst (λ cs. calls_of (slice_set cs c.place_of-place.result c.restart.new.self) ≡ with_call (place_of c.args.number (calls_of c.args.self.now)) (find_call c.args.number (calls_of c.args.self.now)) f (calls_of c.args.self.now))
-    (sym c.self.view_is) (put_at c.args.self.now c.args.number f c.place_of-place.result c.place_of-place.ensures (omega (arith, c.if-place-len.false, count)) c.restart.new.self c.index_mut.result.now
-    (c.restart.ensures ∙ ap (λ x. f (call_of x)) (c.index_mut.ensures.value ∙ ap (λ cs. get_or cs c.place_of-place.result c.index_mut.result.now) c.self.view_is)))
-
-pub place_of-place-requires : goal.place_of-place-requires
-place_of-place-requires g c = assumption
 
 pub returns-then-place-len : goal.returns-then-place-len
 returns-then-place-len g c =
     let f = restarted c.args.phase_number c.args.map.now c.args.me in
     let count : c.len.result ≡ length c.args.self.now = c.len.ensures ∙ c.self.inside.list.ok.0 ∙ ap length c.self.view_is in
-    put_past c.args.self.now c.args.number f c.place_of-place.result c.place_of-place.ensures (omega (arith, c.if-place-len.true, count))
+    put_past c.args.self.now c.args.place f (omega (arith, c.if-place-len.true, count))
+
+pub returns : goal.returns
+returns g c =
+    let f = restarted c.args.phase_number c.args.map.now c.args.me in
+    let count : c.len.result ≡ length c.args.self.now = c.len.ensures ∙ c.self.inside.list.ok.0 ∙ ap length c.self.view_is in
+    subst (λ cs. calls_of (slice_set cs c.args.place c.restart.new.self) ≡ with_call c.args.place (slice_get (calls_of c.args.self.now) c.args.place) f (calls_of c.args.self.now))
+    (sym c.self.view_is) (put_at c.args.self.now c.args.place f (omega (arith, c.if-place-len.false, count)) c.restart.new.self c.index_mut.result.now
+    (c.restart.ensures ∙ ap (λ x. f (call_of x)) (c.index_mut.ensures.value ∙ ap (λ cs. get_or cs c.args.place c.index_mut.result.now) c.self.view_is)))
 
 pub index_mut-requires : goal.index_mut-requires
 index_mut-requires g c = omega arith

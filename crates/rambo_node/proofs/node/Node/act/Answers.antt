@@ -1,4 +1,4 @@
-use Rattle.std.proofs.Common.{◌≡◌, None, false, IfOk, sym, ap, ◌∙◌, subst, rules}
+use Rattle.std.proofs.Common.{◌≡◌, None, false, IfOk, sym, ap, ◌∙◌, subst}
 use Rattle.std.proofs.lemmas.Bool.{true≢false}
 use Rattle.rambo_node.specs.Changes.{refusal_of, made_by}
 use Rattle.rambo_node.specs.Memory.{needs_memory}
@@ -18,8 +18,8 @@ do_call-requires g c = (
   subst (λ ch. refusal_of g.Q.Quorums.system c.args.self.now ch ≡ None) (c.in-Call.is ∙ ap change.Call (sym c.in_ok-clone-in-Call.ensures.same)) c.requires,
 )
 
-pub do_advance-requires : goal.do_advance-requires
-do_advance-requires g c = (c.requires-raw.1.1.0, subst (λ ch. refusal_of g.Q.Quorums.system c.args.self.now ch ≡ None) c.in-Advance.is c.requires)
+pub go_on-requires : goal.go_on-requires
+go_on-requires g c = (c.requires-raw.1.1.0, subst (λ ch. refusal_of g.Q.Quorums.system c.args.self.now ch ≡ None) c.in-Advance.is c.requires)
 
 pub do_again-requires : goal.do_again-requires
 do_again-requires g c = (c.requires-raw.1.1.0, subst (λ ch. refusal_of g.Q.Quorums.system c.args.self.now ch ≡ None) c.in-Again.is c.requires)
@@ -52,7 +52,7 @@ returns-in_ok-do_hear-in-Deliver-clause-node g c =
     ∙ sym (ap (λ ch. (made_by x ch).node) c.in-Deliver.is)
 
 pub returns-in-Advance-clause-deed : goal.returns-in-Advance-clause-deed
-returns-in-Advance-clause-deed g c = subst (λ ch. IfOk c.do_advance.result (λ d. d ≡ (made_by c.args.self.now ch).deed)) (sym c.in-Advance.is) c.do_advance.ensures.deed
+returns-in-Advance-clause-deed g c = subst (λ ch. IfOk c.go_on.result (λ d. d ≡ (made_by c.args.self.now ch).deed)) (sym c.in-Advance.is) c.go_on.ensures.deed
 
 pub returns-in-Again-clause-deed : goal.returns-in-Again-clause-deed
 unfolding made_by

@@ -26,5 +26,5 @@ returns-in_err-may_advance-clause-answer g c = err_if_ok c.from_residual.result 
 pub returns-in_err-may_advance-clause-err : goal.returns-in_err-may_advance-clause-err
 returns-in_err-may_advance-clause-err g c = on_err c.from_residual.result refl
 
-pub do_advance-requires : goal.do_advance-requires
-do_advance-requires g c = (c.requires-raw.1.1, c.in_ok-may_advance.ensures.ok)
+pub go_on-requires : goal.go_on-requires
+go_on-requires g c = (c.requires-raw.1.1, c.in_ok-may_advance.ensures.ok)

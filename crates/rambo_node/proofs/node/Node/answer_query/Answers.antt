@@ -1,36 +1,68 @@
-use Rattle.std.proofs.Common.{ap, ◌∙◌}
-use Rattle.rambo_node.specs.Changes.{copy_put}
-use Rattle.rambo_node.specs.Kept.{propagation_begun, copy_held, move_deed}
-use Rattle.rambo_node.specs.Refusals.{is_last}
+use Rattle.std.proofs.Common.{◌≡◌, Some, sym, ap, ◌∙◌}
+use Rattle.std.proofs.lemmas.Result.{on_ok_weaker, IfOk-weaker}
+use Rattle.std.specs.FinMap as map
+use Rattle.rambo_atomic.specs.declared.operation.Op.{Op}
+use Rattle.rambo_atomic.specs.declared.operation.Op.TheVariants as op
+use Rattle.rambo_node.specs.Kept.{propagation_begun}
+use Rattle.rambo_node.specs.Operations.{new_copy}
+use Rattle.rambo_node.specs.Refusals.{query_spent}
 use Rattle.rambo_node.proofs.Advances.{query_moves}
 use Rattle.rambo_node.proofs.Judged.{asked_next}
 use Rattle.rambo_node.proofs.node.Node.answer_query.Goals as goal
 
 pub propagate-requires : goal.propagate-requires
-propagate-requires g c = (assumption, ap (λ n. is_last n.number) c.in_ok-put.ensures.ok ∙ (asked_next c.args.self.now c.args.asked.now c.requires.next).0)
-
-pub returns-clause-node : goal.returns-clause-node
-returns-clause-node g c =
+propagate-requires g c =
     let x = c.args.self.now in
-    let n = c.args.id.number in
-    let same = c.in_ok-kept.ensures.ok (asked_next x c.args.asked.now c.requires.next).1 in
-    c.propagate.ensures
-    ∙ ap (λ y. propagation_begun y n c.in_ok-kept.kept) c.in_ok-put.ensures.ok
-    ∙ ap (λ d. propagation_begun (record x { registers = copy_held x.registers d.copy }) n c.in_ok-kept.kept) c.in_ok-deed.ensures.ok
-    ∙ ap (λ k. propagation_begun (record x { registers = copy_held x.registers (copy_put c.args.asked.now k) }) n k) same
-    ∙ (query_moves x c.args.id c.args.asked.now c.requires.asked).0
+    let o : Op = op.Get c.in-Get.key in
+    let next = asked_next x o (sym (ap (λ a. query_spent x (Some a)) c.in-Get.is) ∙ c.requires.next) in
+    (c.requires-raw.1.1.0, next.0)
 
-pub returns-clause-deed : goal.returns-clause-deed
-returns-clause-deed g c =
+pub set-requires : goal.set-requires
+set-requires g c =
     let x = c.args.self.now in
-    let same = c.in_ok-kept.ensures.ok (asked_next x c.args.asked.now c.requires.next).1 in
-    c.in_ok-deed.ensures.ok ∙ ap (move_deed c.args.id c.args.asked.now) same ∙ (query_moves x c.args.id c.args.asked.now c.requires.asked).1
+    let o : Op = op.Set c.in-Set.key c.in-Set.value in
+    let next = asked_next x o (sym (ap (λ a. query_spent x (Some a)) c.in-Set.is) ∙ c.requires.next) in
+    (c.requires-raw.1.1.0, next)
 
-pub moved-requires : goal.moved-requires
-moved-requires g c = assumption
+pub returns-in_ok-held-in-Get-clause-node : goal.returns-in_ok-held-in-Get-clause-node
+returns-in_ok-held-in-Get-clause-node g c =
+    let x = c.args.self.now in
+    let o : Op = op.Get c.in-Get.key in
+    let moves = query_moves x c.args.id o (c.requires.asked ∙ ap Some c.in-Get.is) in
+    let held : c.in_ok-held-in-Get.held ≡ map.get x.registers c.in-Get.key = c.in_ok-held-in-Get.ensures.same ∙ c.copy.ensures ∙ ap (map.get _) c.as_slice.ensures ∙ ap (λ y. map.get y.registers c.in-Get.key) c.self.view_is in
+    c.propagate.ensures ∙ ap (propagation_begun x c.args.place) held ∙ ap (λ p. propagation_begun x p (map.get x.registers c.in-Get.key)) c.requires.place ∙ moves.0
 
-pub put-requires : goal.put-requires
-put-requires g c = assumption
+pub returns-in_ok-held-in-Get-clause-deed : goal.returns-in_ok-held-in-Get-clause-deed
+returns-in_ok-held-in-Get-clause-deed g c =
+    let x = c.args.self.now in
+    let o : Op = op.Get c.in-Get.key in
+    let moves = query_moves x c.args.id o (c.requires.asked ∙ ap Some c.in-Get.is) in
+    c.told.ensures ∙ moves.1
 
-pub taken-requires : goal.taken-requires
-taken-requires g c = assumption
+pub returns-in-Set-clause-node : goal.returns-in-Set-clause-node
+returns-in-Set-clause-node g c =
+    let x = c.args.self.now in
+    let o : Op = op.Set c.in-Set.key c.in-Set.value in
+    let moves = query_moves x c.args.id o (c.requires.asked ∙ ap Some c.in-Set.is) in
+    on_ok_weaker c.set.result
+    (λ e. e ∙ ap (λ p. propagation_begun (record x { registers = map.insert x.registers c.in-Set.key (new_copy x c.in-Set.key c.in-Set.value) }) p (Some (new_copy x c.in-Set.key c.in-Set.value))) c.requires.place ∙ moves.0)
+    c.set.ensures.node
+
+pub returns-in-Set-clause-deed : goal.returns-in-Set-clause-deed
+returns-in-Set-clause-deed g c =
+    let x = c.args.self.now in
+    let o : Op = op.Set c.in-Set.key c.in-Set.value in
+    let moves = query_moves x c.args.id o (c.requires.asked ∙ ap Some c.in-Set.is) in
+    IfOk-weaker c.set.result _ _ (λ d e. e ∙ moves.1) c.set.ensures.deed
+
+pub as_slice-requires : goal.as_slice-requires
+as_slice-requires g c = assumption
+
+pub clone_of-requires : goal.clone_of-requires
+clone_of-requires g c = assumption
+
+pub copy-requires : goal.copy-requires
+copy-requires g c = assumption
+
+pub told-requires : goal.told-requires
+told-requires g c = assumption

@@ -1,6 +1,5 @@
-use Rattle.std.proofs.Common.{ap, ◌∙◌}
+use Rattle.std.proofs.Common.{ap, ◌∙◌, slice_get}
 use Rattle.std.specs.List.{remove}
-use Rattle.rambo_calls.specs.Calls.{place_of, find_call}
 use Rattle.rambo_calls.specs.Kept.{calls_of}
 use Rattle.rambo_node.specs.Kept.{answered_from}
 use Rattle.rambo_node.proofs.Advances.{call_closes, with_calls}
@@ -10,23 +9,23 @@ use Rattle.rambo_node.proofs.node.Node.close.Goals as goal
 pub returns-clause-node : goal.returns-clause-node
 returns-clause-node g c =
     let x = c.args.self.now in
-    let n = c.args.id.number in
+    let p = c.args.place in
     ap (with_calls (calls_of c.close.new.self)) c.self.view_is
-    ∙ ap (λ cs. with_calls cs x) (c.close.ensures ∙ ap (λ y. remove y.calls (place_of n y.calls)) c.self.view_is)
+    ∙ ap (λ cs. with_calls cs x) (c.close.ensures ∙ ap (λ y. remove y.calls p) c.self.view_is ∙ ap (remove x.calls) c.requires.place)
     ∙ (call_closes x c.args.id c.requires.open c.requires.told).0
 
 pub returns-clause-deed : goal.returns-clause-deed
 returns-clause-deed g c =
     let x = c.args.self.now in
     c.in_ok-deed.ensures.ok
-    ∙ ap (answered_from c.args.id) (c.find.ensures ∙ ap (λ y. find_call c.args.id.number y.calls) c.self.view_is)
+    ∙ ap (answered_from c.args.id) (c.get.ensures ∙ ap (λ y. slice_get y.calls c.args.place) c.self.view_is ∙ ap (slice_get x.calls) c.requires.place)
     ∙ (call_closes x c.args.id c.requires.open c.requires.told).1
 
 pub close-requires : goal.close-requires
 close-requires g c = back_fits _ _ _ (next _ _ _ _ (up_fits _ _ _ c.requires-raw.1.1.0))
 
-pub find-requires : goal.find-requires
-find-requires g c =
+pub get-requires : goal.get-requires
+get-requires g c =
     let calls = back_fits _ _ _ (next _ _ _ _ (up_fits _ _ _ c.requires-raw.1.1.0)) in
     (calls, variant_fits _ _ _ _ (back_fits _ _ _ (up_fits _ _ _ calls)))
 

@@ -1,4 +1,4 @@
-use Rattle.std.proofs.Common.{is_none, sym, ap, ◌∙◌, rules}
+use Rattle.std.proofs.Common.{is_none, sym, ap, ◌∙◌}
 use Rattle.std.proofs.lemmas.Bool.{true≢false}
 use Rattle.rambo_node.proofs.Judged.{turn_open}
 use Rattle.rambo_node.proofs.node.Node.do_advance_collect.Goals as goal

@@ -1,4 +1,4 @@
-use Rattle.std.proofs.Common.{is_none, sym, ap, ◌∙◌, rules}
+use Rattle.std.proofs.Common.{is_none, sym, ap, ◌∙◌}
 use Rattle.std.proofs.lemmas.Bool.{true≢false}
 use Rattle.rambo_node.proofs.Judged.{bid_next}
 use Rattle.rambo_node.proofs.node.Node.do_advance_recon.Goals as goal

@@ -1,5 +1,4 @@
-use Rattle.std.proofs.Common.{◌+◌, ap, ◌∙◌}
-use Rattle.rambo_calls.specs.Calls.{place_of, find_call}
+use Rattle.std.proofs.Common.{◌+◌, slice_get, ap, ◌∙◌}
 use Rattle.rambo_node.specs.Changes.{made_by}
 use Rattle.rambo_calls.specs.Hearing.{restarted}
 use Rattle.rambo_calls.specs.Kept.{calls_of, with_call}
@@ -17,11 +16,14 @@ pub returns : goal.returns
 unfolding made_by
 returns g c =
     let x = c.args.self.now in
-    let m = c.args.id.number in
     ap (next_calls (calls_of c.restart.new.self)) c.self.view_is
     ∙ ap (λ cs. next_calls cs x)
-    (c.restart.ensures ∙ ap (λ n. with_call (place_of m n.calls) (find_call m n.calls) (restarted (n.number + 1) n.map n.name) n.calls) c.self.view_is)
+    (c.restart.ensures ∙ ap (λ n. with_call c.place_of-place.result (slice_get n.calls c.place_of-place.result) (restarted (n.number + 1) n.map n.name) n.calls) c.self.view_is
+    ∙ ap (λ p. with_call p (slice_get x.calls p) (restarted (x.number + 1) x.map x.name) x.calls) c.place_of-place.ensures.place)
     ∙ begins_again x c.args.id (again_next x c.args.id c.requires).0
 
 pub restart-requires : goal.restart-requires
 restart-requires g c = (back_fits _ _ _ (next _ _ _ _ (up_fits _ _ _ c.requires-raw.1.1.0)), back_fits _ _ _ (up_fits _ _ _ c.requires-raw.1.1.0))
+
+pub place_of-place-requires : goal.place_of-place-requires
+place_of-place-requires g c = (c.requires-raw.1.1.0, (again_next c.args.self.now c.args.id c.requires).0)

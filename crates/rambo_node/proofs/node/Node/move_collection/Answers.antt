@@ -1,5 +1,5 @@
 use Rattle.rambo_names.proofs.Sizes.{up_fits, back_fits}
-use Rattle.std.proofs.Common.{ap, ◌∙◌, rules}
+use Rattle.std.proofs.Common.{ap, ◌∙◌}
 use Rattle.rambo_node.specs.Refusals.{is_last}
 use Rattle.rambo_node.proofs.Judged.{next_small}
 use Rattle.rambo_gc.specs.Collections.{move_of}
