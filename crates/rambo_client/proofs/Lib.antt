@@ -1,5 +1,6 @@
 pub mod Latest
 pub mod Orders
 pub mod Right
+pub mod Beginnings
 pub mod Gains
 pub mod Pieces

@@ -5,9 +5,6 @@ use Rattle.rambo_atomic.specs.declared.event.CallId.{CallId}
 use Rattle.rambo_atomic.specs.declared.event.Event.{Event}
 use Rattle.rambo_atomic.specs.declared.event.Event.TheVariants as event
 use Rattle.rambo_names.specs.Names.{NameSet, names}
-use Rattle.rambo_names.specs.Weights.{Weights, weighted_majorities}
-use Rattle.rambo_run.specs.declared.step.Step.{Step}
-use Rattle.rambo_run.specs.Runs.{run}
 use Rattle.rambo_commands.specs.declared.request.Request.{Request}
 use Rattle.rambo_commands.specs.declared.request.Request.TheVariants.{Says, Does}
 use Rattle.rambo_client.specs.Maps.{Map, no_values, after, answer_of}
@@ -31,10 +28,6 @@ IsHistory name qs history = Calls name no_values qs history
 -- a beginning of it
 abbrev pub BeginsHistory : ℕ → List Request → List Event → Type 0
 BeginsHistory name qs history = (more : List Event) × Calls name no_values qs (history ++ more)
-
--- a history of some run over weighted majorities
-abbrev pub IsOfRun : List Event → Type 0
-IsOfRun h = (founders : Weights) × (steps : List (Step Weights)) × (h ≡ (run weighted_majorities founders steps).history)
 
 -- the lowest name of a set
 abbrev pub lowest : NameSet → ℕ

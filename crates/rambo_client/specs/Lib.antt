@@ -1,5 +1,6 @@
 pub mod Maps
 pub mod Replies
 pub mod Calls
+pub mod Courses
 pub mod Talks
 pub mod Faults

@@ -1,11 +1,11 @@
 -- An ordinary map, from keys to values
-use Rattle.std.specs.Prelude.{ℕ, if◌then◌else◌, List, Option, None, Some}
-use Rattle.std.specs.Str.{bytes_eq}
+use Rattle.std.specs.Prelude.{ℕ, List, Option, None, Some}
 use Rattle.rambo_atomic.specs.declared.operation.Op.{Op}
 use Rattle.rambo_atomic.specs.declared.operation.Op.TheVariants as op
 use Rattle.rambo_atomic.specs.declared.operation.Answer.{Answer}
 use Rattle.rambo_atomic.specs.declared.operation.Answer.TheVariants as answer
 use Rattle.rambo_atomic.specs.Calls.{answer_for}
+use Rattle.rambo_atomic.specs.Proper.{after_op}
 
 -- the value of each key, if it has one
 abbrev pub Map : Type 0
@@ -17,8 +17,7 @@ no_values = λ key. None
 
 -- the map after an operation
 abbrev pub after : Map → Op → Map
-after m (op.Get key) = m
-after m (op.Set key value) = λ k. if bytes_eq key k then Some value else m k
+after m o = λ key. after_op key (Some o) (m key)
 
 -- what the map answers to it
 abbrev pub answer_of : Map → Op → Answer

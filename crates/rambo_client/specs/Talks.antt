@@ -2,13 +2,14 @@
 use Rattle.std.specs.Prelude.{◌≡◌, ℕ, Bool, true, false, List, [], ◌++◌, Option, None, Some}
 use Rattle.std.specs.Io.KnownBytes.{Appends, Consumes, IsAtEnd}
 use Rattle.rambo_atomic.specs.Streams.{Begins}
-use Rattle.rambo_atomic.specs.declared.event.Event.{Event}
+use Rattle.rambo_names.specs.Weights.{Weights, members_of}
 use Rattle.rambo_resp.specs.declared.fault.Fault.{Fault}
 use Rattle.rambo_resp.specs.Decoders.{DecoderState}
 use Rattle.rambo_resp.specs.Streams.{Ending, open_at, faulty, Reads}
 use Rattle.rambo_client.specs.Maps.{no_values}
 use Rattle.rambo_client.specs.Replies.{requests, replies, text_of}
-use Rattle.rambo_client.specs.Calls.{IsHistory, BeginsHistory}
+use Rattle.rambo_client.specs.Calls.{lowest}
+use Rattle.rambo_client.specs.Courses.{Course, HasDone, HasBegun}
 
 -- the input is at its end, or what was read has a fault
 abbrev pub IsOver : Ending → Option (List ℕ) → Type 0
@@ -33,23 +34,25 @@ pub record Stops (commands : List (List (List ℕ))) (left left_now taken taken_
   pub reads : Reads stream commands ending
   pub written : Begins taken taken_now (text_of commands ending)
 
-abbrev pub Served : Option (List ℕ) → Option (List ℕ) → Option (List ℕ) → Option (List ℕ) → Type 0
-Served left left_now taken taken_now = (commands : List (List (List ℕ))) × Serves commands left left_now taken taken_now
-
-abbrev pub Stopped : Option (List ℕ) → Option (List ℕ) → Option (List ℕ) → Option (List ℕ) → Type 0
-Stopped left left_now taken taken_now = (commands : List (List (List ℕ))) × Stops commands left left_now taken taken_now
-
--- a client of the node of a name was served, and the history has its calls
-pub record ServesAt (name : ℕ) (left left_now taken taken_now : Option (List ℕ)) (history : List Event) : Type 0 where
+-- a client of the node of a name was served by the nodes of these founders, which took the steps that its commands ask
+-- for, and no other
+pub record ServesAt (name : ℕ) (founders : Weights) (left left_now taken taken_now : Option (List ℕ)) (took : Course → Type 0) : Type 0 where
   pub commands : List (List (List ℕ))
   pub serves : Serves commands left left_now taken taken_now
-  pub calls : IsHistory name (requests commands) history
+  pub calls : HasDone name founders (requests commands) took
 
 -- or a beginning of this
-pub record StopsAt (name : ℕ) (left left_now taken taken_now : Option (List ℕ)) (history : List Event) : Type 0 where
+pub record StopsAt (name : ℕ) (founders : Weights) (left left_now taken taken_now : Option (List ℕ)) (took : Course → Type 0) : Type 0 where
   pub commands : List (List (List ℕ))
   pub stops : Stops commands left left_now taken taken_now
-  pub calls : BeginsHistory name (requests commands) history
+  pub calls : HasBegun name founders (requests commands) took
+
+-- the same of nodes of which nothing is known but their founders
+abbrev pub Served : Weights → Option (List ℕ) → Option (List ℕ) → Option (List ℕ) → Option (List ℕ) → Type 0
+Served founders left left_now taken taken_now = ServesAt (lowest (members_of founders)) founders left left_now taken taken_now (λ c. Unit {0})
+
+abbrev pub Stopped : Weights → Option (List ℕ) → Option (List ℕ) → Option (List ℕ) → Option (List ℕ) → Type 0
+Stopped founders left left_now taken taken_now = StopsAt (lowest (members_of founders)) founders left left_now taken taken_now (λ c. Unit {0})
 
 -- the fault of a stream, if it has one
 abbrev pub fault_in : Ending → Option Fault
@@ -61,22 +64,22 @@ is_faulty (open_at bytes place) = false
 is_faulty (faulty fault) = true
 
 -- the decoder has read this stream, and all its commands were given and carried out
-pub record IsTalk (name : ℕ) (d : DecoderState) (history : List Event) (stream : List ℕ) (commands : List (List (List ℕ))) : Type 0 where
+pub record IsTalk (name : ℕ) (founders : Weights) (d : DecoderState) (took : Course → Type 0) (stream : List ℕ) (commands : List (List (List ℕ))) : Type 0 where
   pub reads : Reads stream commands d.ending
   pub given : d.waiting ≡ []
-  pub calls : IsHistory name (requests commands) history
+  pub calls : HasDone name founders (requests commands) took
 
 -- the same after a piece more, where these are the replies to what is new
-pub record Answers (name : ℕ) (d : DecoderState) (history : List Event) (stream : List ℕ) (commands : List (List (List ℕ))) (new : List ℕ) : Type 0 where
+pub record Answers (name : ℕ) (founders : Weights) (d : DecoderState) (took : Course → Type 0) (stream : List ℕ) (commands : List (List (List ℕ))) (new : List ℕ) : Type 0 where
   pub commands_now : List (List (List ℕ))
-  pub talk : IsTalk name d history stream commands_now
+  pub talk : IsTalk name founders d took stream commands_now
   pub text : text_of commands_now d.ending ≡ replies no_values (requests commands) ++ new
 
 -- a piece more was carried out in part
-pub record BreaksOff (name : ℕ) (history : List Event) (stream : List ℕ) (commands : List (List (List ℕ))) : Type 0 where
+pub record BreaksOff (name : ℕ) (founders : Weights) (took : Course → Type 0) (stream : List ℕ) (commands : List (List (List ℕ))) : Type 0 where
   pub commands_now : List (List (List ℕ))
   pub ending : Ending
   pub reads : Reads stream commands_now ending
-  pub calls : BeginsHistory name (requests commands_now) history
+  pub calls : HasBegun name founders (requests commands_now) took
   pub new : List ℕ
   pub text : text_of commands_now ending ≡ replies no_values (requests commands) ++ new

@@ -1,32 +1,36 @@
 //! A client, and what it asks of nodes.
-ghost use Rattle.std.specs.Prelude.{◌≡◌, ◌++◌, ◌∷◌, [], ℕ, List, IfOk, OnOk, OnErr, IfNone, IfSome};
+ghost use Rattle.std.specs.Prelude.{◌≡◌, ◌++◌, ◌∷◌, [], List, Option, Some, fold, IfOk, OnOk, OnErr, IfNone, IfSome};
 ghost use Rattle.rambo_names.specs.Names.{names};
-ghost use Rattle.rambo_atomic.specs.declared.event.Event.TheVariants as event;
+ghost use Rattle.rambo_names.specs.Weights.{members_of};
+ghost use Rattle.rambo_atomic.specs.declared.operation.Answer.{Answer as AnyAnswer};
 ghost use Rattle.rambo_commands.specs.declared.request.Request.{Request as AnyRequest};
 ghost use Rattle.rambo_commands.specs.declared.request.Request.TheVariants.{Does};
-ghost use Rattle.rambo_client.specs.Calls.{lowest, answered, IsHistory, BeginsHistory, IsOfRun};
+ghost use Rattle.rambo_client.specs.Calls.{lowest, answered};
+ghost use Rattle.rambo_client.specs.Courses.{Course, Ends, HasDone, HasBegun, exchanged, others, phase};
 ghost use Rattle.rambo_client.specs.Maps.{no_values, answer_of};
 ghost use Rattle.rambo_client.specs.Replies.{after_all};
 
 use crate::cluster::Cluster;
 use rambo_atomic::{Answer, CallId, Op};
-use rambo_names::{Members, Name, Refusal};
+use rambo_names::{Name, Quorums, Refusal, Weighted};
 
 /// A client of the lowest founder, which asks all founders.
 #[derive(Clone, Copy)]
 pub struct Client {
     /// The node that it asks.
     pub name: Name,
-    founders: Members,
+    /// The founders of the nodes.
+    pub founders: Weighted,
 }
 
 impl Client {
     /// The client of these founders, or none where there is no founder.
-    pub fn new(founders: Members) -> Option<Client>
-        ensures lowest { IfSome result (λ c. c.name ≡ lowest founders) }
-        ensures none { IfNone result (names founders ≡ []) }
+    pub fn new(founders: Weighted) -> Option<Client>
+        ensures lowest { IfSome result (λ c. c.name ≡ lowest (members_of founders)) }
+        ensures founders { IfSome result (λ c. c.founders ≡ founders) }
+        ensures none { IfNone result (names (members_of founders) ≡ []) }
     {
-        let name = founders.iter().next()?;
+        let name = founders.members().iter().next()?;
         Some(Client { name, founders })
     }
 
@@ -39,29 +43,26 @@ impl Client {
         cluster: &mut C,
         op: Op,
     ) -> Result<Answer, Refusal>
-        ensures answer { (qs : List AnyRequest) → IsHistory self.now.name qs (C.history cluster.old)
+        ensures answer { (qs : List AnyRequest) → HasDone self.now.name self.now.founders qs (C.took cluster.old)
             → IfOk result (λ a. a ≡ answer_of (after_all no_values qs) op) }
-        ensures ok { (qs : List AnyRequest) → IsHistory self.now.name qs (C.history cluster.old)
-            → OnOk result (IsHistory self.now.name (qs ++ Does op ∷ []) (C.history cluster.new)) }
-        ensures err { (qs : List AnyRequest) → IsHistory self.now.name qs (C.history cluster.old)
-            → OnErr result (BeginsHistory self.now.name (qs ++ Does op ∷ []) (C.history cluster.new)) }
+        ensures ok { (qs : List AnyRequest) → HasDone self.now.name self.now.founders qs (C.took cluster.old)
+            → OnOk result (HasDone self.now.name self.now.founders (qs ++ Does op ∷ []) (C.took cluster.new)) }
+        ensures err { (qs : List AnyRequest) → HasDone self.now.name self.now.founders qs (C.took cluster.old)
+            → OnErr result (HasBegun self.now.name self.now.founders (qs ++ Does op ∷ []) (C.took cluster.new)) }
     {
         let id = cluster.ask(self.name, op)?;
         self.finish(cluster, &id)
     }
 
-    // Has a call go on until it is answered.
+    // Has a call go on twice: its query ends, and then its propagation, with its answer.
     fn finish<By, C: Cluster<By>>(&self, cluster: &mut C, id: &CallId) -> Result<Answer, Refusal>
-        ensures ok { IfOk result (λ a. C.history cluster.new ≡ C.history cluster.old ++ event.Answer id.now a ∷ []) }
-        ensures run { OnOk result (IsOfRun (C.history cluster.new)) }
-        ensures err { OnErr result (C.history cluster.new ≡ C.history cluster.old) }
+        ensures ok { IfOk result (λ a. (early : Option AnyAnswer) × (C.history cluster.new ≡ (C.history cluster.old ++ answered id.now early) ++ answered id.now (Some a))) }
+        ensures err { OnErr result ((early : Option AnyAnswer) × (C.history cluster.new ≡ C.history cluster.old ++ answered id.now early)) }
+        ensures steps { (c : Course) → C.took cluster.old c → id.now.name ≡ self.now.name
+            → Ends result (C.took cluster.new) (phase (phase c (others self.now.name (names (members_of self.now.founders))) id.now) (others self.now.name (names (members_of self.now.founders))) id.now) }
     {
-        for _ in 0..2 {
-            if let Some(answer) = self.advance(cluster, id)? {
-                return Ok(answer);
-            }
-        }
-        Err(Refusal::NotYet)
+        self.advance(cluster, id)?;
+        self.advance(cluster, id)?.ok_or(Refusal::NotYet)
     }
 
     // Exchanges letters with each other founder, and then has a call go on.
@@ -71,8 +72,9 @@ impl Client {
         id: &CallId,
     ) -> Result<Option<Answer>, Refusal>
         ensures ok { IfOk result (λ a. C.history cluster.new ≡ C.history cluster.old ++ answered id.now a) }
-        ensures run { OnOk result (IsOfRun (C.history cluster.new)) }
         ensures err { OnErr result (C.history cluster.new ≡ C.history cluster.old) }
+        ensures steps { (c : Course) → C.took cluster.old c → id.now.name ≡ self.now.name
+            → Ends result (C.took cluster.new) (phase c (others self.now.name (names (members_of self.now.founders))) id.now) }
     {
         self.ask_all(cluster)?;
         cluster.go_on(id)
@@ -80,9 +82,11 @@ impl Client {
 
     // Exchanges letters with each other founder.
     fn ask_all<By, C: Cluster<By>>(&self, cluster: &mut C) -> Result<(), Refusal>
-        ensures { C.history cluster.new ≡ C.history cluster.old }
+        ensures history { C.history cluster.new ≡ C.history cluster.old }
+        ensures steps { (c : Course) → C.took cluster.old c
+            → Ends result (C.took cluster.new) (fold (exchanged self.now.name) c (others self.now.name (names (members_of self.now.founders)))) }
     {
-        for peer in self.founders.iter() {
+        for peer in self.founders.members().iter() {
             self.ask(cluster, peer)?;
         }
         Ok(())
@@ -90,7 +94,9 @@ impl Client {
 
     // Exchanges letters with a founder, unless it is the node that is asked.
     fn ask<By, C: Cluster<By>>(&self, cluster: &mut C, peer: Name) -> Result<(), Refusal>
-        ensures { C.history cluster.new ≡ C.history cluster.old }
+        ensures history { C.history cluster.new ≡ C.history cluster.old }
+        ensures steps { (c : Course) → C.took cluster.old c
+            → Ends result (C.took cluster.new) (fold (exchanged self.now.name) c (others self.now.name (peer ∷ []))) }
     {
         if peer != self.name {
             cluster.exchange(self.name, peer)?;

@@ -6,7 +6,7 @@ ghost use Rattle.rambo_resp.specs.Streams.{open_at};
 ghost use Rattle.rambo_commands.specs.declared.request.Request.{Request as AnyRequest};
 ghost use Rattle.rambo_commands.specs.Requests.{request_of};
 ghost use Rattle.rambo_commands.specs.Replies as replying;
-ghost use Rattle.rambo_client.specs.Calls.{IsHistory, BeginsHistory};
+ghost use Rattle.rambo_client.specs.Courses.{HasDone, HasBegun, no_steps};
 ghost use Rattle.rambo_client.specs.Faults.{reads_failed, writes_failed};
 ghost use Rattle.rambo_client.specs.Maps.{no_values};
 ghost use Rattle.rambo_client.specs.Replies.{reply_to, after_all, replies, requests};
@@ -25,16 +25,17 @@ use std::alloc::Global;
 /// How many bytes are asked for at once.
 const PIECE: usize = 64 * 1024;
 
-/// Serves a client of nodes that no call was made at yet, until its input ends or has a fault: the commands that a source
-/// gives, in RESP2, are answered into a sink.
+/// Serves a client of nodes that took no step yet, until its input ends or has a fault: the commands that a source gives,
+/// in RESP2, are answered into a sink.
 ///
 /// What is written is what an ordinary map replies, and behind a fault of the input the reply to it, after which no more
 /// is read. A command that the end of the input cuts short is not answered. Those that are whole are answered before
-/// more is read. The history is that of each `GET` and `SET` that isn't refused: its call at the client's node, and its
-/// answer.
+/// more is read. The steps that the nodes take are, for each `GET` and `SET` that isn't refused, its call at the client's
+/// node, and then twice a letter to each other founder and one back, in rising order, and an advance of the call. So the
+/// history is that of the calls, each with its answer.
 ///
 /// `Read` and `Write` where a call of that stream fails; `Memory` where there is no room for what is to be kept. Then a
-/// beginning of the replies was written, and the history is a beginning of that.
+/// beginning of the replies was written, and steps and history are beginnings of these.
 pub fn serve<By, C: Cluster<By>, R: Source, W: Sink>(
     client: &Client,
     alloc: Global,
@@ -42,9 +43,9 @@ pub fn serve<By, C: Cluster<By>, R: Source, W: Sink>(
     reader: &mut R,
     writer: &mut W,
 ) -> Result<(), LocalFault>
-    requires { C.history cluster.old ≡ [] }
-    ensures ok { OnOk result (ServesAt client.now.name (R.left reader.old) (R.left reader.new) (W.taken writer.old) (W.taken writer.new) (C.history cluster.new)) }
-    ensures err { OnErr result (StopsAt client.now.name (R.left reader.old) (R.left reader.new) (W.taken writer.old) (W.taken writer.new) (C.history cluster.new)) }
+    requires { C.took cluster.old (no_steps client.now.founders) }
+    ensures ok { OnOk result (ServesAt client.now.name client.now.founders (R.left reader.old) (R.left reader.new) (W.taken writer.old) (W.taken writer.new) (C.took cluster.new)) }
+    ensures err { OnErr result (StopsAt client.now.name client.now.founders (R.left reader.old) (R.left reader.new) (W.taken writer.old) (W.taken writer.new) (C.took cluster.new)) }
     ensures fine_reader { OnOk result (R.failures reader.new ≡ R.failures reader.old) }
     ensures fine_writer { OnOk result (W.failures writer.new ≡ W.failures writer.old) }
     ensures reads { IfErr result (λ f. R.failures reader.new ≡ reads_failed f (R.failures reader.old)) }
@@ -74,12 +75,12 @@ fn serve_pieces<By, C: Cluster<By>, R: Source, W: Sink>(
     decoder: &mut Decoder,
     piece: &mut [u8],
 ) -> Result<(), LocalFault>
-    requires uncalled { C.history cluster.old ≡ [] }
+    requires fresh { C.took cluster.old (no_steps client.now.founders) }
     requires empty { decoder.old ≡ record { waiting = []; ending = open_at [] 0 } }
     requires taken { HasTaken decoder.old [] 0 }
     requires room { 0 < length piece.old }
-    ensures ok { OnOk result (ServesAt client.now.name (R.left reader.old) (R.left reader.new) (W.taken writer.old) (W.taken writer.new) (C.history cluster.new)) }
-    ensures err { OnErr result (StopsAt client.now.name (R.left reader.old) (R.left reader.new) (W.taken writer.old) (W.taken writer.new) (C.history cluster.new)) }
+    ensures ok { OnOk result (ServesAt client.now.name client.now.founders (R.left reader.old) (R.left reader.new) (W.taken writer.old) (W.taken writer.new) (C.took cluster.new)) }
+    ensures err { OnErr result (StopsAt client.now.name client.now.founders (R.left reader.old) (R.left reader.new) (W.taken writer.old) (W.taken writer.new) (C.took cluster.new)) }
     ensures fine_reader { OnOk result (R.failures reader.new ≡ R.failures reader.old) }
     ensures fine_writer { OnOk result (W.failures writer.new ≡ W.failures writer.old) }
     ensures reads { IfErr result (λ f. R.failures reader.new ≡ reads_failed f (R.failures reader.old)) }
@@ -112,11 +113,11 @@ fn take<By, C: Cluster<By>>(
     out: &mut BytesMut,
 ) -> Result<bool, LocalFault>
     ensures ok { (stream : List ℕ) (commands : List (List (List ℕ)))
-        → IsTalk client.now.name decoder.old (C.history cluster.old) stream commands
-        → OnOk result (Answers client.now.name decoder.new (C.history cluster.new) (stream ++ piece.now) commands out.new.items) }
+        → IsTalk client.now.name client.now.founders decoder.old (C.took cluster.old) stream commands
+        → OnOk result (Answers client.now.name client.now.founders decoder.new (C.took cluster.new) (stream ++ piece.now) commands out.new.items) }
     ensures err { (stream : List ℕ) (commands : List (List (List ℕ)))
-        → IsTalk client.now.name decoder.old (C.history cluster.old) stream commands
-        → OnErr result (BreaksOff client.now.name (C.history cluster.new) (stream ++ piece.now) commands) }
+        → IsTalk client.now.name client.now.founders decoder.old (C.took cluster.old) stream commands
+        → OnErr result (BreaksOff client.now.name client.now.founders (C.took cluster.new) (stream ++ piece.now) commands) }
     ensures over { IfOk result (λ over. over ≡ is_faulty decoder.new.ending) }
     ensures refused { IfErr result (λ f. f ≡ LocalFault.Memory) }
 {
@@ -153,12 +154,12 @@ fn answer_all<By, C: Cluster<By>>(
     decoder: &mut Decoder,
     out: &mut BytesMut,
 ) -> Result<Option<Fault>, LocalFault>
-    ensures ok { (qs : List AnyRequest) → IsHistory client.now.name qs (C.history cluster.old)
-        → OnOk result (IsHistory client.now.name (qs ++ requests decoder.old.waiting) (C.history cluster.new)) }
-    ensures written { (qs : List AnyRequest) → IsHistory client.now.name qs (C.history cluster.old)
+    ensures ok { (qs : List AnyRequest) → HasDone client.now.name client.now.founders qs (C.took cluster.old)
+        → OnOk result (HasDone client.now.name client.now.founders (qs ++ requests decoder.old.waiting) (C.took cluster.new)) }
+    ensures written { (qs : List AnyRequest) → HasDone client.now.name client.now.founders qs (C.took cluster.old)
         → OnOk result (out.new.items ≡ out.old.items ++ replies (after_all no_values qs) (requests decoder.old.waiting)) }
-    ensures err { (qs : List AnyRequest) → IsHistory client.now.name qs (C.history cluster.old)
-        → OnErr result (BeginsHistory client.now.name (qs ++ requests decoder.old.waiting) (C.history cluster.new)) }
+    ensures err { (qs : List AnyRequest) → HasDone client.now.name client.now.founders qs (C.took cluster.old)
+        → OnErr result (HasBegun client.now.name client.now.founders (qs ++ requests decoder.old.waiting) (C.took cluster.new)) }
     ensures given { OnOk result (decoder.new ≡ record decoder.old { waiting = [] }) }
     ensures fault { IfOk result (λ fault. fault ≡ fault_in decoder.old.ending) }
     ensures refused { IfErr result (λ f. f ≡ LocalFault.Memory) }
@@ -180,12 +181,12 @@ fn answer<By, C: Cluster<By>>(
     command: &Command,
     out: &mut BytesMut,
 ) -> Result<(), LocalFault>
-    ensures ok { (qs : List AnyRequest) → IsHistory client.now.name qs (C.history cluster.old)
-        → OnOk result (IsHistory client.now.name (qs ++ request_of command.now ∷ []) (C.history cluster.new)) }
-    ensures written { (qs : List AnyRequest) → IsHistory client.now.name qs (C.history cluster.old)
+    ensures ok { (qs : List AnyRequest) → HasDone client.now.name client.now.founders qs (C.took cluster.old)
+        → OnOk result (HasDone client.now.name client.now.founders (qs ++ request_of command.now ∷ []) (C.took cluster.new)) }
+    ensures written { (qs : List AnyRequest) → HasDone client.now.name client.now.founders qs (C.took cluster.old)
         → OnOk result (out.new.items ≡ out.old.items ++ reply_spelling (reply_to (after_all no_values qs) (request_of command.now))) }
-    ensures err { (qs : List AnyRequest) → IsHistory client.now.name qs (C.history cluster.old)
-        → OnErr result (BeginsHistory client.now.name (qs ++ request_of command.now ∷ []) (C.history cluster.new)) }
+    ensures err { (qs : List AnyRequest) → HasDone client.now.name client.now.founders qs (C.took cluster.old)
+        → OnErr result (HasBegun client.now.name client.now.founders (qs ++ request_of command.now ∷ []) (C.took cluster.new)) }
     ensures refused { IfErr result (λ f. f ≡ LocalFault.Memory) }
 {
     let reply = reply_of(client, alloc, cluster, command)?;
@@ -200,12 +201,12 @@ fn reply_of<By, C: Cluster<By>>(
     cluster: &mut C,
     command: &Command,
 ) -> Result<Reply, Refusal>
-    ensures reply { (qs : List AnyRequest) → IsHistory client.now.name qs (C.history cluster.old)
+    ensures reply { (qs : List AnyRequest) → HasDone client.now.name client.now.founders qs (C.took cluster.old)
         → IfOk result (λ r. r ≡ reply_to (after_all no_values qs) (request_of command.now)) }
-    ensures ok { (qs : List AnyRequest) → IsHistory client.now.name qs (C.history cluster.old)
-        → OnOk result (IsHistory client.now.name (qs ++ request_of command.now ∷ []) (C.history cluster.new)) }
-    ensures err { (qs : List AnyRequest) → IsHistory client.now.name qs (C.history cluster.old)
-        → OnErr result (BeginsHistory client.now.name (qs ++ request_of command.now ∷ []) (C.history cluster.new)) }
+    ensures ok { (qs : List AnyRequest) → HasDone client.now.name client.now.founders qs (C.took cluster.old)
+        → OnOk result (HasDone client.now.name client.now.founders (qs ++ request_of command.now ∷ []) (C.took cluster.new)) }
+    ensures err { (qs : List AnyRequest) → HasDone client.now.name client.now.founders qs (C.took cluster.old)
+        → OnErr result (HasBegun client.now.name client.now.founders (qs ++ request_of command.now ∷ []) (C.took cluster.new)) }
 {
     match Request::of(alloc, command)? {
         Request::Says(reply) => Ok(reply),

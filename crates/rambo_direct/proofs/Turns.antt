@@ -1,10 +1,12 @@
 -- What steps do to the history
-use Rattle.std.proofs.Common.{◌≡◌, ℕ, ◌+◌, List, [], ◌∷◌, ◌++◌, Option, None, Some, refl, sym, ap, ◌∙◌, append-nil}
+use Rattle.std.proofs.Common.{◌≡◌, ℕ, ◌+◌, false, List, [], ◌∷◌, ◌++◌, length, Option, None, Some, refl, sym, ap, ◌∙◌, append-nil}
+use Rattle.std.proofs.lemmas.List.{length_push}
 use Rattle.rambo_atomic.specs.declared.operation.Op.{Op}
 use Rattle.rambo_atomic.specs.declared.event.CallId.{CallId}
 use Rattle.rambo_atomic.specs.declared.event.Event.{Event}
 use Rattle.rambo_atomic.specs.declared.event.Event.TheVariants as event
 use Rattle.rambo_gossip.specs.declared.letter.Letter.{Letter}
+use Rattle.rambo_node.specs.declared.change.Change.{Change}
 use Rattle.rambo_node.specs.declared.change.Change.TheVariants as change
 use Rattle.rambo_node.specs.declared.effect.Effect.{Effect}
 use Rattle.rambo_node.specs.declared.effect.Effect.TheVariants as effect
@@ -12,10 +14,12 @@ use Rattle.rambo_calls.specs.declared.stage.Stage.{Stage}
 use Rattle.rambo_calls.specs.declared.stage.Stage.TheVariants.{Query, Propagation}
 use Rattle.rambo_calls.specs.Calls.{CallState}
 use Rattle.rambo_node.specs.Changes.{stage_met, advanced, made_by}
+use Rattle.rambo_node.specs.Letters.{letter_for}
 use Rattle.rambo_node.specs.Nodes.{NodeState, open_call}
 use Rattle.rambo_run.specs.declared.step.Step.TheVariants as step
 use Rattle.rambo_run.specs.Worlds.{WorldState, node_at, letter_at}
-use Rattle.rambo_run.specs.Steps.{delivery, turn_by, turn_at, turn_of, turn}
+use Rattle.rambo_run.proofs.Quiet.{quiet_made}
+use Rattle.rambo_run.specs.Steps.{delivery, sends, with_letter, turn_by, turn_at, turn_of, turn}
 use Rattle.rambo_client.specs.Calls.{id_at}
 
 -- what a call that goes on adds to the history, by what it does
@@ -112,3 +116,40 @@ module _ {Q : Type 0} (w : WorldState Q) where
   pub advance_told : (id : CallId) → (turn w (step.Advance id)).world.history ≡ w.history ++ answered_by id (turn w (step.Advance id)).effect
   unfolding turn
   advance_told id = advanced_by id (node_at w id.name)
+
+  silent_at : (n : ℕ) (c : Change Q) (x : Option (NodeState Q)) → sends c ≡ false → (turn_at w n x c).world.letters ≡ w.letters
+  silent_at n c None quiet = refl
+  silent_at n c (Some x) quiet = ap (with_letter w.letters) (quiet_made x c quiet)
+
+  came_silent : (l : Option (Letter Q)) → (turn_of w (delivery l)).world.letters ≡ w.letters
+  came_silent None = refl
+  came_silent (Some l) = silent_at l.addressee (change.Deliver l) (node_at w l.addressee) refl
+
+  -- a call sends no letter
+  pub call_silent : (n : ℕ) (o : Op) → (turn w (step.Call n o)).world.letters ≡ w.letters
+  unfolding turn
+  call_silent n o = silent_at n (change.Call o) (node_at w n) refl
+
+  -- nor does one that goes on
+  pub advance_silent : (id : CallId) → (turn w (step.Advance id)).world.letters ≡ w.letters
+  unfolding turn
+  advance_silent id = silent_at id.name (change.Advance id) (node_at w id.name) refl
+
+  -- nor a letter that comes
+  pub deliver_silent : (number : ℕ) → (turn w (step.Deliver number)).world.letters ≡ w.letters
+  unfolding turn
+  deliver_silent number = came_silent (letter_at w.letters number)
+
+  numbered_by : (n to number : ℕ) (x : Option (NodeState Q)) → (turn_at w n x (change.Send to)).effect ≡ effect.Sent number
+      → (number ≡ length w.letters + 1) × (length (turn_at w n x (change.Send to)).world.letters ≡ length w.letters + 1)
+  unfolding made_by
+  numbered_by n to number None e = cc
+  numbered_by n to number (Some x) e =
+      let same : length w.letters + 1 ≡ number = cc in
+      (sym same, length_push w.letters (letter_for x to))
+
+  -- one that is sent has the next number
+  pub send_numbered : (n to number : ℕ) → (turn w (step.Send n to)).effect ≡ effect.Sent number
+      → (number ≡ length w.letters + 1) × (length (turn w (step.Send n to)).world.letters ≡ length w.letters + 1)
+  unfolding turn
+  send_numbered n to number e = numbered_by n to number (node_at w n) e

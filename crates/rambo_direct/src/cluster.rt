@@ -1,6 +1,7 @@
 //! The nodes that a client asks.
 ghost use Rattle.std.specs.Prelude.{◌≡◌};
-ghost use Rattle.rambo_direct.specs.Histories.{direct_history};
+ghost use Rattle.rambo_client.specs.Courses.{Course, Ends, lettered};
+ghost use Rattle.rambo_direct.specs.Histories.{direct_history, took_by, took_ran};
 
 use rambo_atomic::{Answer, CallId, Op};
 use rambo_client::Cluster;
@@ -24,6 +25,8 @@ pub(crate) struct ByLetters;
 impl Cluster<ByLetters> for Nodes {
     ghost history = { λ n. direct_history n.direct };
 
+    ghost took = { λ n. took_by n.direct };
+
     fn ask(&mut self, name: Name, op: Op) -> Result<CallId, Refusal> {
         self.direct.call(name, op)?
     }
@@ -36,11 +39,14 @@ impl Cluster<ByLetters> for Nodes {
     fn go_on(&mut self, id: &CallId) -> Result<Option<Answer>, Refusal> {
         self.direct.advance(*id)?
     }
+
+    ghost ran = { λ n. took_ran n.direct };
 }
 
 // A letter passes from one node to another.
 fn pass(direct: &mut WeightedDirect, from: Name, to: Name) -> Result<(), Refusal>
-    ensures { direct_history direct.new ≡ direct_history direct.old }
+    ensures history { direct_history direct.new ≡ direct_history direct.old }
+    ensures steps { (c : Course) → took_by direct.old c → Ends result (took_by direct.new) (lettered c from to) }
 {
     direct.pass(from, to)?
 }

@@ -1,20 +1,22 @@
 //! Serving a client.
-ghost use Rattle.std.specs.Prelude.{◌≡◌, ◌≤◌, [], IfOk, IfErr, OnOk, OnErr};
+ghost use Rattle.std.specs.Prelude.{◌≡◌, ◌≤◌, IfOk, IfErr, OnOk, OnErr};
 ghost use Rattle.rambo_names.specs.Names.{count_of};
 ghost use Rattle.rambo_names.specs.Weights.{members_of};
 ghost use Rattle.rambo_client.specs.Faults.{reads_failed, writes_failed};
 ghost use Rattle.rambo_client.specs.Talks.{Served, Stopped};
-ghost use Rattle.rambo_direct.specs.Histories.{direct_history};
+ghost use Rattle.rambo_client.specs.Courses.{no_steps};
+ghost use Rattle.rambo_direct.specs.Histories.{took_by};
 
 use crate::cluster::{Nodes, WeightedDirect};
 use rambo_atomic::{Sink, Source};
 use rambo_client::{Client, LocalFault, serve};
-use rambo_names::{Quorums, Refusal, Weighted};
+use rambo_names::{Refusal, Weighted};
 use rambo_tag::Registers;
 use std::alloc::Global;
 use std::hash::{BuildHasherDefault, FoldHasher};
 
-/// Serves one client of a store of its own: the commands that a source gives, in RESP2, are answered into a sink.
+/// Serves one client of a store of its own, which these founders found: the commands that a source gives, in RESP2, are
+/// answered into a sink, as by the lowest founder, which asks all others.
 ///
 /// `PING` answers `PONG`, or its word; `GET` the value of a key, or nil; `SET` sets a key to a value. What is written is
 /// what an ordinary map replies, and behind a fault of the input the reply to it, after which no more is read. A
@@ -29,25 +31,25 @@ pub fn local<R: Source, W: Sink>(
     writer: &mut W,
 ) -> Result<(), LocalFault>
     requires { 1 ≤ count_of (members_of founders) }
-    ensures ok { OnOk result (Served (R.left reader.old) (R.left reader.new) (W.taken writer.old) (W.taken writer.new)) }
-    ensures err { OnErr result (Stopped (R.left reader.old) (R.left reader.new) (W.taken writer.old) (W.taken writer.new)) }
+    ensures ok { OnOk result (Served founders (R.left reader.old) (R.left reader.new) (W.taken writer.old) (W.taken writer.new)) }
+    ensures err { OnErr result (Stopped founders (R.left reader.old) (R.left reader.new) (W.taken writer.old) (W.taken writer.new)) }
     ensures fine_reader { OnOk result (R.failures reader.new ≡ R.failures reader.old) }
     ensures fine_writer { OnOk result (W.failures writer.new ≡ W.failures writer.old) }
     ensures reads { IfErr result (λ f. R.failures reader.new ≡ reads_failed f (R.failures reader.old)) }
     ensures writes { IfErr result (λ f. W.failures writer.new ≡ writes_failed f (W.failures writer.old)) }
 {
-    let Some(client) = Client::new(founders.members()) else {
+    let Some(client) = Client::new(founders) else {
         return Err(LocalFault::Memory);
     };
     let mut cluster = nodes_of(alloc, founders)?;
     serve(&client, alloc, &mut cluster, reader, writer)
 }
 
-// The nodes of these founders, before any call.
+// The nodes of these founders, before any step.
 // (a function of its own: where a run is made and dropped in one, the prover follows each piece of it on each way)
 fn nodes_of(alloc: Global, founders: Weighted) -> Result<Nodes, Refusal>
     requires { 1 ≤ count_of (members_of founders) }
-    ensures { IfOk result (λ nodes. direct_history nodes.direct ≡ []) }
+    ensures { IfOk result (λ nodes. took_by nodes.direct (no_steps founders)) }
 {
     let registers = Registers::new(alloc, BuildHasherDefault::<FoldHasher>::new());
     let direct = WeightedDirect::new(alloc, founders, &registers)?;

@@ -1,13 +1,13 @@
 //! The nodes of a world, which a client asks.
 ghost use Rattle.std.specs.Prelude.{◌≡◌};
-ghost use Rattle.rambo_local.specs.Clusters.{history_of};
+ghost use Rattle.rambo_client.specs.Courses.{Course, Ends, lettered};
+ghost use Rattle.rambo_local.specs.Clusters.{history_of, took_by, took_ran};
 
 use rambo_atomic::{Answer, CallId, Op};
 use rambo_client::Cluster;
 use rambo_names::{Name, Refusal, Weighted};
-use rambo_node::Effect;
 use rambo_tag::Registers;
-use rambo_world::{Step, World};
+use rambo_world::{Effect, Step, World};
 use std::hash::{BuildHasherDefault, FoldHasher};
 
 /// A world over weighted majorities that holds its copies in hash tables.
@@ -18,6 +18,8 @@ pub(crate) struct ByLetters;
 
 impl Cluster<ByLetters> for Host {
     ghost history = { history_of };
+
+    ghost took = { took_by };
 
     fn ask(&mut self, name: Name, op: Op) -> Result<CallId, Refusal> {
         if let Effect::Called(id) = self.step(Step::Call(name, op))? {
@@ -37,14 +39,18 @@ impl Cluster<ByLetters> for Host {
             _ => Ok(None),
         }
     }
+
+    ghost ran = { took_ran };
 }
 
 // A letter goes from one node to another, and comes there.
 fn send(world: &mut Host, from: Name, to: Name) -> Result<(), Refusal>
-    ensures { history_of world.new ≡ history_of world.old }
+    ensures history { history_of world.new ≡ history_of world.old }
+    ensures steps { (c : Course) → took_by world.old c → Ends result (took_by world.new) (lettered c from to) }
 {
     if let Effect::Sent(letter) = world.step(Step::Send(from, to))? {
         world.step(Step::Deliver(letter))?;
+        return Ok(());
     }
-    Ok(())
+    Err(Refusal::NotActive)
 }

@@ -5,7 +5,7 @@ ghost use Rattle.rambo_names.specs.Weights.{members_of};
 ghost use Rattle.rambo_client.specs.Calls.{lowest};
 ghost use Rattle.rambo_client.specs.Faults.{reads_failed, writes_failed};
 ghost use Rattle.rambo_client.specs.Talks.{ServesAt, StopsAt};
-ghost use Rattle.rambo_local.specs.Clusters.{history_of};
+ghost use Rattle.rambo_local.specs.Clusters.{took_by};
 
 use crate::cluster::Host;
 use crate::founding::founders_of;
@@ -15,10 +15,11 @@ use std::alloc::Global;
 
 /// Serves one client, as `local` does, of the nodes of a world just made.
 ///
-/// The world's history is then that of the calls: of each `GET` and `SET` that isn't refused its call at the lowest
-/// founder, and its answer. For each phase the lowest founder exchanges letters with each other founder.
+/// The steps that the world takes are, for each `GET` and `SET` that isn't refused, its call at the lowest founder, and
+/// then twice a letter from there to each other founder and one back, in rising order, and an advance of the call. So its
+/// history is that of the calls, each with its answer.
 ///
-/// After a fault the history is a beginning of that.
+/// After a fault steps and history are beginnings of these.
 pub fn local_on<R: Source, W: Sink>(
     alloc: Global,
     world: &mut Host,
@@ -27,8 +28,8 @@ pub fn local_on<R: Source, W: Sink>(
 ) -> Result<(), LocalFault>
     requires fresh { world.old.steps ≡ [] }
     requires founded { 1 ≤ count_of (members_of world.old.founders) }
-    ensures ok { OnOk result (ServesAt (lowest (members_of world.old.founders)) (R.left reader.old) (R.left reader.new) (W.taken writer.old) (W.taken writer.new) (history_of world.new)) }
-    ensures err { OnErr result (StopsAt (lowest (members_of world.old.founders)) (R.left reader.old) (R.left reader.new) (W.taken writer.old) (W.taken writer.new) (history_of world.new)) }
+    ensures ok { OnOk result (ServesAt (lowest (members_of world.old.founders)) world.old.founders (R.left reader.old) (R.left reader.new) (W.taken writer.old) (W.taken writer.new) (took_by world.new)) }
+    ensures err { OnErr result (StopsAt (lowest (members_of world.old.founders)) world.old.founders (R.left reader.old) (R.left reader.new) (W.taken writer.old) (W.taken writer.new) (took_by world.new)) }
     ensures fine_reader { OnOk result (R.failures reader.new ≡ R.failures reader.old) }
     ensures fine_writer { OnOk result (W.failures writer.new ≡ W.failures writer.old) }
     ensures reads { IfErr result (λ f. R.failures reader.new ≡ reads_failed f (R.failures reader.old)) }

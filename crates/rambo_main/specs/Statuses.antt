@@ -92,18 +92,18 @@ of_local local.Read = Read
 of_local local.Write = Write
 of_local local.Memory = Memory
 
--- a client that was served
-pub record IsServed (status : ℕ) (read write : Stream) : Type 0 where
+-- a client that was served by nodes of these founders
+pub record IsServed (founders : Weights) (status : ℕ) (read write : Stream) : Type 0 where
   pub done : status ≡ 0
   pub reads : IsFine read
   pub writes : IsFine write
-  pub served : Served read.old read.new write.old write.new
+  pub served : Served founders read.old read.new write.old write.new
 
 -- how serving a client ends: done, or by a fault, after which a beginning of the replies was written
-abbrev pub ServesTo : ℕ → Stream → Stream → Stream → Type 0
-ServesTo status read write told =
-    IsServed status read write
-    ⊎ ((f : LocalFault) × EndsBy (of_local f) status read write told × Stopped read.old read.new write.old write.new)
+abbrev pub ServesTo : Weights → ℕ → Stream → Stream → Stream → Type 0
+ServesTo founders status read write told =
+    IsServed founders status read write
+    ⊎ ((f : LocalFault) × EndsBy (of_local f) status read write told × Stopped founders read.old read.new write.old write.new)
 
 -- the line that tells of founders that are none
 abbrev pub bad_founders : List ℕ
@@ -120,7 +120,7 @@ abbrev pub IsRejected : ℕ → Stream → Stream → Stream → Type 0
 IsRejected status read write told = IsRefused status write told × (read.new ≡ read.old) × IsFine read
 
 abbrev pub LocalEnds : Option Weights → ℕ → Stream → Stream → Stream → Type 0
-LocalEnds (Some founders) status read write told = ServesTo status read write told
+LocalEnds (Some founders) status read write told = ServesTo founders status read write told
 LocalEnds None status read write told = IsRejected status read write told
 
 -- how words end that ask for a client to be served, unless there was no room to read them

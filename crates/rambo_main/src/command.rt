@@ -185,7 +185,7 @@ fn checked<R: Source, W: Sink, E: Sink>(
     }
 }
 
-// A client is served by a store of its own.
+// A client is served by a store of its own, which these founders found.
 fn served<R: Source, W: Sink, E: Sink>(
     alloc: Global,
     founders: Weighted,
@@ -194,7 +194,7 @@ fn served<R: Source, W: Sink, E: Sink>(
     errors: &mut E,
 ) -> Ending
     requires { 1 ≤ count_of (members_of founders) }
-    ensures ends { ServesTo result.status (stream R.left R.failures reader.old reader.new)
+    ensures ends { ServesTo founders result.status (stream R.left R.failures reader.old reader.new)
         (stream W.taken W.failures writer.old writer.new)
         (stream E.taken E.failures errors.old errors.new) }
     ensures quiet { (result.status ≡ 0) ⊎ (result.status ≡ 3) → errors.new ≡ errors.old }

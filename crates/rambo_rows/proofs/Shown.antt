@@ -14,6 +14,6 @@ shows_replay (Err e) word ending input output is shown = tt
 
 -- a client that is served
 pub shows_local : {E : Type 0} (right : Result Bool E) (founders : Weights) (word ending input output : List ℕ) → word ≡ codes "local " ++ conf_text founders
-    → IfOk right (λ r. IsTrue r → ending ≡ codes "done" → IsServed input output) → IfOk right (λ r. IsTrue r → Shows word ending input output)
+    → IfOk right (λ r. IsTrue r → ending ≡ codes "done" → IsServed founders input output) → IfOk right (λ r. IsTrue r → Shows word ending input output)
 shows_local (Ok r) founders word ending input output is shown = λ yes. inr (inr (founders, is, shown yes))
 shows_local (Err e) founders word ending input output is shown = tt

@@ -96,7 +96,7 @@ fn founders_of(word: &[u8]) -> Option<Weighted>
 // Where it is done and right, the wanted output is what an ordinary map replies to the commands of the input.
 fn is_right_local(alloc: Global, founders: Weighted, row: Row) -> Result<bool, AllocError>
     requires { 1 ≤ count_of (members_of founders) }
-    ensures done { IfOk result (λ right. IsTrue right → row.entry.ending.now ≡ codes "done" → IsServed row.entry.input.items row.entry.output.items) }
+    ensures done { IfOk result (λ right. IsTrue right → row.entry.ending.now ≡ codes "done" → IsServed founders row.entry.input.items row.entry.output.items) }
 {
     let mut reader = Tape::new(row.input).in_pieces(READ_PIECE);
     let mut writer = Tape::new(Vec::new(alloc)).in_pieces(WRITE_PIECE);
@@ -118,7 +118,7 @@ fn local_all<R: Source, W: Sink>(
     writer: &mut W,
 ) -> Result<bool, ReplayFault>
     requires { 1 ≤ count_of (members_of founders) }
-    ensures { OnOk result (Served (R.left reader.old) (R.left reader.new) (W.taken writer.old) (W.taken writer.new)) }
+    ensures { OnOk result (Served founders (R.left reader.old) (R.left reader.new) (W.taken writer.old) (W.taken writer.new)) }
 {
     match local(alloc, founders, reader, writer) {
         Ok(()) => Ok(true),

@@ -1,7 +1,7 @@
 -- Worlds without their letters: steps go the same way there
 use Rattle.std.proofs.Common.{◌≡◌, ℕ, zero, suc, ◌+◌, ◌-◌, false, List, [], ◌∷◌, ◌++◌, length, Option, None, Some, slice_get, slice_set, refl, sym, ap, ◌∙◌, subst, append-nil, arith}
 use Rattle.std.proofs.lemmas.Bool.{false≢true}
-use Rattle.std.proofs.lemmas.List.{set-get_or}
+use Rattle.std.proofs.lemmas.List.{set-get_or, length_push}
 use Rattle.std.proofs.lemmas.Option.{get_or_from_slice_get}
 use Rattle.std.specs.Option.{is_some}
 use Rattle.rambo_names.specs.declared.refusal.Refusal.{Refusal}
@@ -76,10 +76,19 @@ module _ {Q : Type 0} (s : QuorumSystem Q) where
   quiet_unless (Some r) w next e = refl
 
   -- a step that sends no letter
-  quiet_after : (w : WorldState Q) (st : Step Q) (n : ℕ) (c : Change Q) → meant w st ≡ Some (record { name = n; change = c }) → sends c ≡ false → (after s w st).letters ≡ w.letters
+  pub quiet_after : (w : WorldState Q) (st : Step Q) (n : ℕ) (c : Change Q) → meant w st ≡ Some (record { name = n; change = c }) → sends c ≡ false → (after s w st).letters ≡ w.letters
   unfolding after
   quiet_after w st n c means quiet =
       quiet_unless (refusal s w st) w (turn w st).world (ap (λ t. t.world.letters) (step_turn w st n c means) ∙ quiet_at w n c (node_at w n) quiet)
+
+  -- it is the same where there are none
+  pub bare_after : (w : WorldState Q) (st : Step Q) (n : ℕ) (c : Change Q) → ((v : WorldState Q) → meant v st ≡ Some (record { name = n; change = c })) → sends c ≡ false
+      → after s (without_letters w) st ≡ without_letters (after s w st)
+  bare_after w st n c means quiet =
+      let bare = without_letters w in
+      let new = after s bare st in
+      let none : new.letters ≡ [] = quiet_after bare st n c (means bare) quiet in
+      (λ i. record new { letters = none i }) ∙ same_after w [] st st (means bare ∙ sym (means w))
 
   module _ (founders : Q) where
     pub bar_first : (w : WorldState Q) → w ≡ first_world s founders → IsReachedBarLetters s founders w
@@ -95,11 +104,7 @@ module _ {Q : Type 0} (s : QuorumSystem Q) where
       pub bar_next : (w new : WorldState Q) → IsReachedBarLetters s founders w → sends c ≡ false → new ≡ after s w st → IsReachedBarLetters s founders new
       bar_next w new reached quiet e =
           let v = run s founders reached.0 in
-          let none : new.letters ≡ [] = ap (λ (w : WorldState Q). w.letters) e ∙ quiet_after w st n c (means w) quiet ∙ bar_none w reached in
-          let bare : new ≡ without_letters new = λ i. record new { letters = none i } in (
-            reached.0 ++ st ∷ [],
-            bare ∙ ap without_letters (e ∙ ap (λ w. after s w st) reached.1) ∙ same_after v [] st st (means (without_letters v) ∙ sym (means v)) ∙ ap without_letters (sym (run-after s founders reached.0 st)),
-          )
+          (reached.0 ++ st ∷ [], e ∙ ap (λ w. after s w st) reached.1 ∙ bare_after v st n c means quiet ∙ ap without_letters (sym (run-after s founders reached.0 st)))
 
       -- its event can stand at the history's end
       pub bar_fits : (w : WorldState Q) → IsReachedBarLetters s founders w → refusal s w st ≡ None → EventFits w n c
@@ -130,7 +135,7 @@ module _ {Q : Type 0} (s : QuorumSystem Q) where
   unfolding after turn
   send_letters w from to = sent_unless (refusal s w (step.Send from to)) w from to (node_at w from)
 
-  send_refusal : (w : WorldState Q) (from to : ℕ) → refusal s (without_letters w) (step.Send from to) ≡ refusal s w (step.Send from to)
+  pub send_refusal : (w : WorldState Q) (from to : ℕ) → refusal s (without_letters w) (step.Send from to) ≡ refusal s w (step.Send from to)
   unfolding refusal causes
   send_refusal w from to = refl
 
@@ -139,7 +144,7 @@ module _ {Q : Type 0} (s : QuorumSystem Q) where
   run_two w one two = refl
 
   -- the letter that is sent comes, whatever letters there are
-  same_passing : (w : WorldState Q) (from to : ℕ) → passed s (without_letters w) from to
+  pub same_passing : (w : WorldState Q) (from to : ℕ) → passed s (without_letters w) from to
       ≡ without_letters (after s (after s w (step.Send from to)) (step.Deliver (suc (length w.letters))))
   same_passing w from to =
       let bare = without_letters w in
@@ -155,6 +160,27 @@ module _ {Q : Type 0} (s : QuorumSystem Q) where
       ap without_letters (run_two bare (step.Send from to) (step.Deliver 1))
       ∙ ap (λ z. without_letters (after s z (step.Deliver 1))) is
       ∙ same_after a b.letters (step.Deliver (suc (length w.letters))) (step.Deliver 1) (ap delivery (first ∙ sym last))
+
+  -- a letter that comes is no more
+  came_silent : (w : WorldState Q) (o : Option (Letter Q)) → (turn_of w (delivery o)).world.letters ≡ w.letters
+  came_silent w None = refl
+  came_silent w (Some l) = quiet_at w l.addressee (change.Deliver l) (node_at w l.addressee) refl
+
+  deliver_silent : (w : WorldState Q) (number : ℕ) → (after s w (step.Deliver number)).letters ≡ w.letters
+  unfolding after turn
+  deliver_silent w number = quiet_unless (refusal s w (step.Deliver number)) w (turn w (step.Deliver number)).world (came_silent w (letter_at w.letters number))
+
+  one_sent : (w : WorldState Q) (o : Option (NodeState Q)) (to : ℕ) → least (causes_at s o (change.Send to)) ≡ None → length (w.letters ++ sent_in None o to) ≡ length w.letters + 1
+  one_sent w None to e = absurd (false≢true (ap is_some (sym e)))
+  one_sent w (Some x) to e = length_push w.letters (letter_for x to)
+
+  -- and one is sent where it passes
+  pub passed_letters : (w : WorldState Q) (from to number : ℕ) → refusal s w (step.Send from to) ≡ None
+      → length (after s (after s w (step.Send from to)) (step.Deliver number)).letters ≡ length w.letters + 1
+  unfolding refusal causes
+  passed_letters w from to number e =
+      ap length (deliver_silent (after s w (step.Send from to)) number ∙ send_letters w from to ∙ ap (λ o. w.letters ++ sent_in o (node_at w from) to) e)
+      ∙ one_sent w (node_at w from) to e
 
   -- a letter that passes leads on
   pub bar_passed : (founders : Q) (w new : WorldState Q) (from to : ℕ) → IsReachedBarLetters s founders w → new ≡ passed s w from to → IsReachedBarLetters s founders new

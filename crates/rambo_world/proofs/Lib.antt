@@ -17,6 +17,6 @@ mod Reached
 mod Single
 mod Cutting
 mod Meeting
-mod Letterless
+pub mod Letterless
 mod Passing
 mod Fitting

@@ -11,6 +11,7 @@ mod state;
 mod world;
 
 pub use direct::Direct;
+pub use rambo_node::{Decided, Effect};
 pub use rambo_run::{NodeMap, Outcome, Run, Step};
 pub use rambo_sequence::KeySequence;
 pub use running::Running;

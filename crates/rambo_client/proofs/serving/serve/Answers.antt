@@ -10,7 +10,7 @@ returns-in_err-resize-clause-ok g c = err_ok c.from_residual.result _ _ c.from_r
 
 pub returns-in_err-resize-clause-err : goal.returns-in_err-resize-clause-err
 returns-in_err-resize-clause-err g c =
-    on_err c.from_residual.result (nothing c.args.client.now.name (g.R.Source.left c.args.reader.now) (g.W.Sink.taken c.args.writer.now) (g.C.Cluster.history c.args.cluster.now) c.requires)
+    on_err c.from_residual.result (nothing c.args.client.now.name c.args.client.now.founders (g.R.Source.left c.args.reader.now) (g.W.Sink.taken c.args.writer.now) (g.C.Cluster.took c.args.cluster.now) c.requires)
 
 pub returns-in_err-resize-clause-fine_reader : goal.returns-in_err-resize-clause-fine_reader
 returns-in_err-resize-clause-fine_reader g c = err_ok c.from_residual.result _ _ c.from_residual.ensures.1

@@ -8,6 +8,7 @@ use Rattle.rambo_client.specs.Faults.{of_stream, reads_failed, writes_failed}
 use Rattle.rambo_client.specs.declared.fault.LocalFault.{LocalFault}
 use Rattle.rambo_client.specs.Talks.{is_faulty}
 use Rattle.rambo_names.proofs.Errors.{err_kept, err_ok, on_err}
+use Rattle.rambo_client.proofs.Gains.{none_done}
 use Rattle.rambo_client.proofs.Pieces.{stopped, ended, broken_off, written_in_part, done_by_fault, goes_on}
 use Rattle.rambo_client.proofs.serving.serve_pieces.Goals as goal
 
@@ -22,7 +23,7 @@ loop-count-init g c =
         talk = record {
           reads = subst (λ cs. Reads [] cs d.ending) (sym t.waiting ∙ none) t.reads;
           given = none;
-          calls = c.requires.uncalled;
+          calls = none_done c.args.client.now.name c.args.client.now.founders (g.C.Cluster.took c.args.cluster.now) c.requires.fresh;
         };
         goes_on = ap (λ (d : DecoderState). is_faulty d.ending) c.requires.empty;
         read = Consumes-nil (g.R.Source.left c.args.reader.now);
@@ -40,8 +41,8 @@ returns-in_err-over-clause-err g c =
     let piece = take c.in-Ok.count c.read.new.into in
     let read = c.in-Ok.ensures.bytes in
     on_err c.from_residual.result
-    (broken_off c.args.client.now.name l.decoder (g.C.Cluster.history l.cluster) (g.R.Source.left c.args.reader.now) (g.R.Source.left l.reader) (g.W.Sink.taken c.args.writer.now) (g.W.Sink.taken l.writer) going (g.R.Source.left c.read.new.self) piece read
-    (g.C.Cluster.history c.take.new.cluster) (c.in_err-over.ensures.err going.stream going.commands going.talk))
+    (broken_off c.args.client.now.name c.args.client.now.founders l.decoder (g.C.Cluster.took l.cluster) (g.R.Source.left c.args.reader.now) (g.R.Source.left l.reader) (g.W.Sink.taken c.args.writer.now) (g.W.Sink.taken l.writer) going (g.R.Source.left c.read.new.self) piece read
+    (g.C.Cluster.took c.take.new.cluster) (c.in_err-over.ensures.err going.stream going.commands going.talk))
 
 pub returns-in_err-write_all-clause-err : goal.returns-in_err-write_all-clause-err
 returns-in_err-write_all-clause-err g c =
@@ -50,8 +51,8 @@ returns-in_err-write_all-clause-err g c =
     let piece = take c.in-Ok.count c.read.new.into in
     let read = c.in-Ok.ensures.bytes in
     on_err c.from_residual-in_err-write_all.result
-    (written_in_part c.args.client.now.name l.decoder (g.C.Cluster.history l.cluster) (g.R.Source.left c.args.reader.now) (g.R.Source.left l.reader) (g.W.Sink.taken c.args.writer.now) (g.W.Sink.taken l.writer) going (g.R.Source.left c.read.new.self) piece read
-    c.take.new.decoder (g.C.Cluster.history c.take.new.cluster) c.take.new.out.items (c.in_ok-over.ensures.ok going.stream going.commands going.talk) (g.W.Sink.taken c.write_all.new.writer)
+    (written_in_part c.args.client.now.name c.args.client.now.founders l.decoder (g.C.Cluster.took l.cluster) (g.R.Source.left c.args.reader.now) (g.R.Source.left l.reader) (g.W.Sink.taken c.args.writer.now) (g.W.Sink.taken l.writer) going (g.R.Source.left c.read.new.self) piece read
+    c.take.new.decoder (g.C.Cluster.took c.take.new.cluster) c.take.new.out.items (c.in_ok-over.ensures.ok going.stream going.commands going.talk) (g.W.Sink.taken c.write_all.new.writer)
     (subst (Begins (g.W.Sink.taken l.writer) (g.W.Sink.taken c.write_all.new.writer)) c.as_slice.ensures c.in_err-write_all.ensures.err))
 
 pub returns-then-over-clause-ok : goal.returns-then-over-clause-ok
@@ -60,8 +61,8 @@ returns-then-over-clause-ok g c =
     let going = l.invariant.0 in
     let piece = take c.in-Ok.count c.read.new.into in
     let read = c.in-Ok.ensures.bytes in
-    done_by_fault c.args.client.now.name l.decoder (g.C.Cluster.history l.cluster) (g.R.Source.left c.args.reader.now) (g.R.Source.left l.reader) (g.W.Sink.taken c.args.writer.now) (g.W.Sink.taken l.writer) going (g.R.Source.left c.read.new.self) piece read
-    c.take.new.decoder (g.C.Cluster.history c.take.new.cluster) c.take.new.out.items (c.in_ok-over.ensures.ok going.stream going.commands going.talk) (g.W.Sink.taken c.write_all.new.writer)
+    done_by_fault c.args.client.now.name c.args.client.now.founders l.decoder (g.C.Cluster.took l.cluster) (g.R.Source.left c.args.reader.now) (g.R.Source.left l.reader) (g.W.Sink.taken c.args.writer.now) (g.W.Sink.taken l.writer) going (g.R.Source.left c.read.new.self) piece read
+    c.take.new.decoder (g.C.Cluster.took c.take.new.cluster) c.take.new.out.items (c.in_ok-over.ensures.ok going.stream going.commands going.talk) (g.W.Sink.taken c.write_all.new.writer)
     (subst (Appends (g.W.Sink.taken l.writer) (g.W.Sink.taken c.write_all.new.writer)) c.as_slice.ensures c.in_ok-write_all.ensures.ok) (sym c.in_ok-over.ensures.over ∙ c.if-over.true)
 
 pub loop-count-preserved : goal.loop-count-preserved
@@ -70,8 +71,8 @@ loop-count-preserved g c =
     let going = l.invariant.0 in
     let piece = take c.in-Ok.count c.read.new.into in
     let read = c.in-Ok.ensures.bytes in (
-      goes_on c.args.client.now.name l.decoder (g.C.Cluster.history l.cluster) (g.R.Source.left c.args.reader.now) (g.R.Source.left l.reader) (g.W.Sink.taken c.args.writer.now) (g.W.Sink.taken l.writer) going (g.R.Source.left c.read.new.self) piece read
-          c.take.new.decoder (g.C.Cluster.history c.take.new.cluster) c.take.new.out.items (c.in_ok-over.ensures.ok going.stream going.commands going.talk) (g.W.Sink.taken c.write_all.new.writer)
+      goes_on c.args.client.now.name c.args.client.now.founders l.decoder (g.C.Cluster.took l.cluster) (g.R.Source.left c.args.reader.now) (g.R.Source.left l.reader) (g.W.Sink.taken c.args.writer.now) (g.W.Sink.taken l.writer) going (g.R.Source.left c.read.new.self) piece read
+          c.take.new.decoder (g.C.Cluster.took c.take.new.cluster) c.take.new.out.items (c.in_ok-over.ensures.ok going.stream going.commands going.talk) (g.W.Sink.taken c.write_all.new.writer)
           (subst (Appends (g.W.Sink.taken l.writer) (g.W.Sink.taken c.write_all.new.writer)) c.as_slice.ensures c.in_ok-write_all.ensures.ok) (sym c.in_ok-over.ensures.over ∙ c.if-over.false),
       c.in-Ok.ensures.fine ∙ l.invariant.1,
       c.in_ok-write_all.ensures.fine ∙ l.invariant.2,
@@ -81,7 +82,7 @@ loop-count-preserved g c =
 pub returns-in_default-clause-err : goal.returns-in_default-clause-err
 returns-in_default-clause-err g c =
     let l = c.loop-count in
-    stopped c.args.client.now.name l.decoder (g.C.Cluster.history l.cluster) (g.R.Source.left c.args.reader.now) (g.R.Source.left l.reader) (g.W.Sink.taken c.args.writer.now) (g.W.Sink.taken l.writer) l.invariant.0 (g.R.Source.left c.read.new.self) c.in_default.ensures.kept
+    stopped c.args.client.now.name c.args.client.now.founders l.decoder (g.C.Cluster.took l.cluster) (g.R.Source.left c.args.reader.now) (g.R.Source.left l.reader) (g.W.Sink.taken c.args.writer.now) (g.W.Sink.taken l.writer) l.invariant.0 (g.R.Source.left c.read.new.self) c.in_default.ensures.kept
 
 pub returns-in_default-clause-reads : goal.returns-in_default-clause-reads
 returns-in_default-clause-reads g c = c.in_default.ensures.failed ∙ ap counted c.loop-count.invariant.1
@@ -93,7 +94,7 @@ pub returns-then-count-eq0-clause-ok : goal.returns-then-count-eq0-clause-ok
 returns-then-count-eq0-clause-ok g c =
     let l = c.loop-count in
     let zero : c.in-Ok.count ≡ 0 = omega (arith, c.if-count-eq0.true) in
-    ended c.args.client.now.name l.decoder (g.C.Cluster.history l.cluster) (g.R.Source.left c.args.reader.now) (g.R.Source.left l.reader) (g.W.Sink.taken c.args.writer.now) (g.W.Sink.taken l.writer) l.invariant.0 (g.R.Source.left c.read.new.self) (take c.in-Ok.count c.read.new.into) (ap (λ n. take n c.read.new.into) zero) c.in-Ok.ensures.bytes (c.in-Ok.ensures.end zero)
+    ended c.args.client.now.name c.args.client.now.founders l.decoder (g.C.Cluster.took l.cluster) (g.R.Source.left c.args.reader.now) (g.R.Source.left l.reader) (g.W.Sink.taken c.args.writer.now) (g.W.Sink.taken l.writer) l.invariant.0 (g.R.Source.left c.read.new.self) (take c.in-Ok.count c.read.new.into) (ap (λ n. take n c.read.new.into) zero) c.in-Ok.ensures.bytes (c.in-Ok.ensures.end zero)
 
 pub returns-then-count-eq0-clause-fine_reader : goal.returns-then-count-eq0-clause-fine_reader
 returns-then-count-eq0-clause-fine_reader g c = c.in-Ok.ensures.fine ∙ c.loop-count.invariant.1

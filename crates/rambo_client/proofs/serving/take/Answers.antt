@@ -9,46 +9,50 @@ use Rattle.rambo_client.proofs.serving.take.Goals as goal
 
 pub returns-in_err-feed-clause-err : goal.returns-in_err-feed-clause-err
 returns-in_err-feed-clause-err g c = λ stream commands talk.
-    on_err c.from_residual.result (untaken c.args.client.now.name c.args.decoder.now (g.C.Cluster.history c.args.cluster.now) stream c.args.piece.now commands talk)
+    on_err c.from_residual.result (untaken c.args.client.now.name c.args.client.now.founders c.args.decoder.now (g.C.Cluster.took c.args.cluster.now) stream c.args.piece.now commands talk)
 
 pub returns-in_err-fault-clause-err : goal.returns-in_err-fault-clause-err
 returns-in_err-fault-clause-err g c = λ stream commands talk.
     let name = c.args.client.now.name in
-    let h = g.C.Cluster.history c.args.cluster.now in
-    let taken = c.in_ok-feed.ensures.ok stream (length commands) (taken_of name c.args.decoder.now h stream commands talk) in
+    let founders = c.args.client.now.founders in
+    let h = g.C.Cluster.took c.args.cluster.now in
+    let taken = c.in_ok-feed.ensures.ok stream (length commands) (taken_of name founders c.args.decoder.now h stream commands talk) in
     on_err c.from_residual-in_err-fault.result
-    (begun name c.args.decoder.now h stream c.args.piece.now commands talk c.feed.new.decoder taken (g.C.Cluster.history c.answer_all.new.cluster)
+    (begun name founders c.args.decoder.now h stream c.args.piece.now commands talk c.feed.new.decoder taken (g.C.Cluster.took c.answer_all.new.cluster)
     (c.in_err-fault.ensures.err (requests commands) talk.calls))
 
 pub returns-in_err-write_fault-in-Some-clause-err : goal.returns-in_err-write_fault-in-Some-clause-err
 returns-in_err-write_fault-in-Some-clause-err g c = λ stream commands talk.
     let name = c.args.client.now.name in
-    let h = g.C.Cluster.history c.args.cluster.now in
-    let taken = c.in_ok-feed.ensures.ok stream (length commands) (taken_of name c.args.decoder.now h stream commands talk) in
+    let founders = c.args.client.now.founders in
+    let h = g.C.Cluster.took c.args.cluster.now in
+    let taken = c.in_ok-feed.ensures.ok stream (length commands) (taken_of name founders c.args.decoder.now h stream commands talk) in
     on_err c.from_residual-in_err-write_fault-in-Some.result
-    (begun name c.args.decoder.now h stream c.args.piece.now commands talk c.feed.new.decoder taken (g.C.Cluster.history c.answer_all.new.cluster)
-    (begins-whole name (requests commands ++ requests c.feed.new.decoder.waiting) (g.C.Cluster.history c.answer_all.new.cluster) (c.in_ok-fault.ensures.ok (requests commands) talk.calls)))
+    (begun name founders c.args.decoder.now h stream c.args.piece.now commands talk c.feed.new.decoder taken (g.C.Cluster.took c.answer_all.new.cluster)
+    (begins-whole name founders (requests commands ++ requests c.feed.new.decoder.waiting) (g.C.Cluster.took c.answer_all.new.cluster) (c.in_ok-fault.ensures.ok (requests commands) talk.calls)))
 
 pub returns-in_ok-write_fault-in-Some-clause-ok : goal.returns-in_ok-write_fault-in-Some-clause-ok
 returns-in_ok-write_fault-in-Some-clause-ok g c = λ stream commands talk.
     let name = c.args.client.now.name in
-    let h = g.C.Cluster.history c.args.cluster.now in
-    let taken = c.in_ok-feed.ensures.ok stream (length commands) (taken_of name c.args.decoder.now h stream commands talk) in
+    let founders = c.args.client.now.founders in
+    let h = g.C.Cluster.took c.args.cluster.now in
+    let taken = c.in_ok-feed.ensures.ok stream (length commands) (taken_of name founders c.args.decoder.now h stream commands talk) in
     let out = c.answer_all.new.out.items in
     let last = some_last c.feed.new.decoder.ending c.in-Some.fault (sym c.in-Some.is ∙ c.in_ok-fault.ensures.fault) in
-    subst (Answers name c.answer_all.new.decoder (g.C.Cluster.history c.answer_all.new.cluster) (stream ++ c.args.piece.now) commands)
+    subst (Answers name founders c.answer_all.new.decoder (g.C.Cluster.took c.answer_all.new.cluster) (stream ++ c.args.piece.now) commands)
     (ap (λ l. out ++ l) last ∙ sym c.in_ok-write_fault-in-Some.ensures.ok)
-    (served name c.args.decoder.now h stream c.args.piece.now commands talk c.feed.new.decoder taken c.answer_all.new.decoder (g.C.Cluster.history c.answer_all.new.cluster) out
+    (served name founders c.args.decoder.now h stream c.args.piece.now commands talk c.feed.new.decoder taken c.answer_all.new.decoder (g.C.Cluster.took c.answer_all.new.cluster) out
     c.in_ok-fault.ensures.given (c.in_ok-fault.ensures.ok (requests commands) talk.calls) (c.in_ok-fault.ensures.written (requests commands) talk.calls ∙ ap (λ l. l ++ replies (after_all no_values (requests commands)) (requests c.feed.new.decoder.waiting)) c.clear.ensures.items))
 
 pub returns-in-None-clause-ok : goal.returns-in-None-clause-ok
 returns-in-None-clause-ok g c = λ stream commands talk.
     let name = c.args.client.now.name in
-    let h = g.C.Cluster.history c.args.cluster.now in
-    let taken = c.in_ok-feed.ensures.ok stream (length commands) (taken_of name c.args.decoder.now h stream commands talk) in
+    let founders = c.args.client.now.founders in
+    let h = g.C.Cluster.took c.args.cluster.now in
+    let taken = c.in_ok-feed.ensures.ok stream (length commands) (taken_of name founders c.args.decoder.now h stream commands talk) in
     let out = c.answer_all.new.out.items in
     let last = no_last c.feed.new.decoder.ending (sym c.in-None.is ∙ c.in_ok-fault.ensures.fault) in
-    subst (Answers name c.answer_all.new.decoder (g.C.Cluster.history c.answer_all.new.cluster) (stream ++ c.args.piece.now) commands)
+    subst (Answers name founders c.answer_all.new.decoder (g.C.Cluster.took c.answer_all.new.cluster) (stream ++ c.args.piece.now) commands)
     (ap (λ l. out ++ l) last ∙ append-nil out)
-    (served name c.args.decoder.now h stream c.args.piece.now commands talk c.feed.new.decoder taken c.answer_all.new.decoder (g.C.Cluster.history c.answer_all.new.cluster) out
+    (served name founders c.args.decoder.now h stream c.args.piece.now commands talk c.feed.new.decoder taken c.answer_all.new.decoder (g.C.Cluster.took c.answer_all.new.cluster) out
     c.in_ok-fault.ensures.given (c.in_ok-fault.ensures.ok (requests commands) talk.calls) (c.in_ok-fault.ensures.written (requests commands) talk.calls ∙ ap (λ l. l ++ replies (after_all no_values (requests commands)) (requests c.feed.new.decoder.waiting)) c.clear.ensures.items))

@@ -1,5 +1,5 @@
 use Rattle.std.proofs.Common.{◌≡◌, ℕ, Some, refl, ap, ◌∙◌, arith}
-use Rattle.rambo_names.specs.Weights.{Weights, members_of, weighted_majorities}
+use Rattle.rambo_names.specs.Weights.{Weights, weighted_majorities}
 use Rattle.rambo_config_map.specs.Maps.{entry_at, first_map}
 use Rattle.rambo_config_map.specs.declared.entry.Entry.TheVariants.{Active}
 use Rattle.rambo_node.specs.Nodes.{first_node}
@@ -24,5 +24,4 @@ returns-in-Active c =
     ∙ first_named weighted_majorities w.founders n (omega (arith, one), omega (arith, one)) in
     let is : c.map.result.now ≡ first_map w.founders = c.map.ensures.map (first_node weighted_majorities w.founders n) first ∙ first-map w.founders n in
     let e : Active c.in-Active.founders ≡ Active w.founders = c.in-Active.ensures ∙ ap (λ m. entry_at m 0) is in
-    let same : c.in-Active.founders ≡ w.founders = cc in
-    c.members.ensures ∙ ap members_of same
+    cc

@@ -1,14 +1,20 @@
-use Rattle.rambo_client.specs.Calls.{IsOfRun}
-use Rattle.rambo_direct.specs.Histories.{direct_history}
-use Rattle.rambo_direct.proofs.Directs.{advance_done, advance_refused, direct_ran}
-use Rattle.rambo_client.proofs.Gains.{on_ok}
+use Rattle.rambo_run.specs.declared.step.Step.TheVariants as step
+use Rattle.rambo_client.specs.Courses.{stepped}
+use Rattle.rambo_client.proofs.Beginnings.{begins-itself, begins-stepped, ends_early}
+use Rattle.rambo_direct.specs.Histories.{took_by}
+use Rattle.rambo_direct.proofs.Directs.{advance_done, advance_refused, took_advance, took_none}
 use Rattle.rambo_direct.proofs.cluster.NodesClusterByLetters.go_on.Goals as goal
 
 pub returns-clause-ok : goal.returns-clause-ok
 returns-clause-ok c = advance_done c.args.self.now.direct c.advance.new.self c.args.id.now c.in_ok-advance.field-0 c.in_ok-advance.ensures.told c.in_ok-advance.ensures.after
 
-pub returns-clause-run : goal.returns-clause-run
-returns-clause-run c = on_ok c.in_ok-advance.field-0 (IsOfRun (direct_history c.advance.new.self)) (direct_ran c.advance.new.self c.advance.ensures.reached)
-
 pub returns-clause-err : goal.returns-clause-err
 returns-clause-err c = advance_refused c.args.self.now.direct c.advance.new.self c.args.id.now c.in_ok-advance.field-0 c.in_ok-advance.ensures.told c.in_ok-advance.ensures.after
+
+pub returns-clause-steps : goal.returns-clause-steps
+returns-clause-steps c = λ k took. took_advance c.args.self.now.direct c.advance.new.self c.args.id.now c.in_ok-advance.ensures.after k took c.in_ok-advance.field-0 c.in_ok-advance.ensures.told
+
+pub returns-in_err-advance-clause-steps : goal.returns-in_err-advance-clause-steps
+returns-in_err-advance-clause-steps c = λ k took.
+    ends_early c.from_residual.result _ (took_by c.advance.new.self) k (stepped k (step.Advance c.args.id.now)) c.from_residual.ensures.1
+    (took_none c.args.self.now.direct c.advance.new.self k k c.in_err-advance.ensures.err took (begins-itself k)) (begins-stepped k (step.Advance c.args.id.now))

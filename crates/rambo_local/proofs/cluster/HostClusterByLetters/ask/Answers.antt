@@ -1,4 +1,12 @@
-use Rattle.rambo_local.proofs.Histories.{called, uncalled}
+use Rattle.std.proofs.Common.{[], refl}
+use Rattle.rambo_run.specs.declared.step.Step.TheVariants as step
+use Rattle.rambo_names.specs.Weights.{weighted_majorities}
+use Rattle.rambo_world.specs.Worlds.{state}
+use Rattle.rambo_client.specs.Courses.{stepped}
+use Rattle.rambo_client.proofs.Beginnings.{begins-itself, begins-stepped, ends_early}
+use Rattle.rambo_direct.proofs.Turns.{call_silent}
+use Rattle.rambo_local.specs.Clusters.{took_by}
+use Rattle.rambo_local.proofs.Histories.{called, uncalled, took_none, took_only, took_step}
 use Rattle.rambo_local.proofs.cluster.HostClusterByLetters.ask.Goals as goal
 
 pub returns-in-Called-clause-ok : goal.returns-in-Called-clause-ok
@@ -13,5 +21,15 @@ pub returns : goal.returns
 returns c = record {
   ok = tt;
   named = tt;
+  steps = λ k took. took_only c.args.self.now c.step.new.self (step.Call c.args.name c.args.op) c.in_ok-id.ensures.judged c.in_ok-id.ensures.ok k took [] (stepped k (step.Call c.args.name c.args.op)) refl refl;
   err = uncalled c.args.self.now c.step.new.self c.args.name c.args.op _ c.in_ok-id.ensures.judged c.in_ok-id.ensures.ok c.in_ok-id.ensures.effect (λ id e. c.in_default.not-Called id e);
 }
+
+pub returns-in_err-id-clause-steps : goal.returns-in_err-id-clause-steps
+returns-in_err-id-clause-steps c = λ k took.
+    ends_early c.from_residual.result _ (took_by c.step.new.self) k (stepped k (step.Call c.args.name c.args.op)) c.from_residual.ensures.1
+    (took_none c.args.self.now c.step.new.self k k c.in_err-id.ensures.err took (begins-itself k)) (begins-stepped k (step.Call c.args.name c.args.op))
+
+pub returns-in-Called-clause-steps : goal.returns-in-Called-clause-steps
+returns-in-Called-clause-steps c = λ k took.
+    took_step c.args.self.now c.step.new.self (step.Call c.args.name c.args.op) c.in_ok-id.ensures.judged c.in_ok-id.ensures.ok k took (call_silent (state weighted_majorities c.args.self.now) c.args.name c.args.op)
