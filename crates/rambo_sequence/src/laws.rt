@@ -24,9 +24,9 @@ pub fn one_list()
     ensures { OneList }
 {}
 
-/// The given order of all keys is one: at each place stands the front of one key's remaining sequence, of the key that
-/// holds the one of all remaining operations that was answered first; when none that remains was answered, the keys follow
-/// in byte order.
+/// The given order of all keys is one. Next is the first call that is left of some key: of the one whose calls that are left
+/// include the earliest answered of all. Once nothing that is left has an answer, the keys are emptied one after another,
+/// lesser keys first.
 pub fn given_is_order()
     ensures { GivenIsOrder }
 {}

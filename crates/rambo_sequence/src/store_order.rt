@@ -21,9 +21,9 @@ struct Place {
     behind: usize,
 }
 
-/// One order of the calls of all sequences. At each place stands the front of what remains of one sequence: of the one
-/// that holds the call, of all that remain, that was answered first; when none that remains was answered, the sequences
-/// follow in their order, which is the byte order of their keys. No call stands twice in them.
+/// One order of the calls of all sequences, in which no call stands twice, and which go by the byte order of their keys.
+/// Next is the first call that is left of some sequence: of the one whose calls that are left include the earliest answered
+/// of all. Once nothing that is left has an answer, the sequences are emptied one after another.
 ///
 /// The time is linear in the number of events and of calls. `OutOfMemory` where there is no room for it.
 pub fn one_order(

@@ -25,9 +25,9 @@ use std::hash::{BuildHasherDefault, FoldHasher};
 /// stands before it (Attiya, Bar-Noy and Dolev, "Sharing Memory Robustly in Message-Passing Systems", JACM 1995; Lynch
 /// and Shvartsman, "RAMBO", DISC 2002). No two nodes hold different configurations at one place.
 ///
-/// The outcome also gives one order of the calls of all keys, which explains them together: at each place stands the front
-/// of one key's remaining sequence, of the key that holds the one of all remaining operations that was answered first; when
-/// none that remains was answered, the keys follow in byte order.
+/// The outcome also gives one order of the calls of all keys, which explains them together. Next is the first call that is
+/// left of some key: of the one whose calls that are left include the earliest answered of all. Once nothing that is left
+/// has an answer, the keys are emptied one after another, lesser keys first.
 ///
 /// Refused are 18 where there is no founder, 22 where memory runs out.
 pub fn run<Q: Quorums>(alloc: Global, founders: Q, steps: &[Step<Q>]) -> Result<Outcome<Q>, Refusal>

@@ -13,7 +13,7 @@ returns-clause-right c =
     let v = c.in_ok-verdict.verdict in
     let own : IsVerdict s.events key (order_of s key) v
     = subst (λ o. IsVerdict s.events key o v) c.order.ensures
-      (subst (λ k. IsVerdict s.events k c.order.result.now v) c.as_slice.ensures
-      (subst (λ h. IsVerdict h c.as_slice.result.now c.order.result.now v) c.requires.history c.in_ok-verdict.ensures.verdict)) in
+    (subst (λ k. IsVerdict s.events k c.order.result.now v) c.as_slice.ensures
+    (subst (λ h. IsVerdict h c.as_slice.result.now c.order.result.now v) c.requires.history c.in_ok-verdict.ensures.verdict)) in
     right_on (λ q. IsVerdict s.events q (order_of s q)) key v (λ q. lookup (bytes_eq q) c.args.verdicts.now.entries) (λ q. lookup (bytes_eq q) c.insert.new.self.entries)
     (λ q. c.in_ok-insert.ensures.updates.0 q ∙ ap (λ k. cond (bytes_eq k q) (Some v) (lookup (bytes_eq q) c.args.verdicts.now.entries)) c.in_ok-clone.ensures.cases) own c.requires.right
