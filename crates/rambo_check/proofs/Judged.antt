@@ -1,5 +1,5 @@
 -- Which keys are judged
-use Rattle.std.proofs.Common.{◌≡◌, inl, inr, ℕ, ◌+◌, ◌<◌, ◌≤◌, Bool, true, false, ◌||◌, cond, List, [], ◌∷◌, ◌++◌, length, get_or, take, map, Option, None, Some, is_some, IfSome, refl, sym, ap, ◌∙◌, true≢false}
+use Rattle.std.proofs.Common.{◌≡◌, inl, inr, ℕ, ◌+◌, ◌<◌, ◌≤◌, Bool, true, false, ◌||◌, cond, List, [], ◌∷◌, ◌++◌, length, get_or, take, map, Option, None, Some, is_some, IfSome, refl, sym, ap, ◌∙◌, subst, true≢false}
 use Rattle.std.specs.List.{list_any}
 use Rattle.std.specs.Map.{lookup}
 use Rattle.std.specs.Str.{bytes_eq}
@@ -58,6 +58,15 @@ bytes_same a b = (bytes_eq-Decides a b).0
 
 pub same_bytes : (a b : List ℕ) → a ≡ b → bytes_eq a b ≡ true
 same_bytes a b = (bytes_eq-Decides a b).1
+
+one_right : (P : List ℕ → Verdict → Type 0) (k q : List ℕ) (v : Verdict) (o : Option Verdict) (b : Bool) → bytes_eq k q ≡ b → P k v → IfSome o (P q) → IfSome (cond b (Some v) o) (P q)
+one_right P k q v o true is own others = subst (λ z. P z v) (bytes_same k q is) own
+one_right P k q v o false is own others = others
+
+-- a verdict more
+pub right_on : (P : List ℕ → Verdict → Type 0) (k : List ℕ) (v : Verdict) (old new : List ℕ → Option Verdict) → ((q : List ℕ) → new q ≡ cond (bytes_eq k q) (Some v) (old q))
+    → P k v → ((q : List ℕ) → IfSome (old q) (P q)) → (q : List ℕ) → IfSome (new q) (P q)
+right_on P k v old new now own before q = subst (λ o. IfSome o (P q)) (sym (now q)) (one_right P k q v (old q) (bytes_eq k q) refl own (before q))
 
 pub bytes_eq-turn : (a b : List ℕ) → bytes_eq a b ≡ bytes_eq b a
 bytes_eq-turn a b =

@@ -2,7 +2,7 @@
 ghost use Rattle.std.specs.Prelude.{◌≡◌, ◌≤◌, [], Some, length, slice_get, vec_len, IfOk, IfErr, All};
 ghost use mathlib.Core.List.{IsPrefix};
 ghost use Rattle.rambo_names.specs.Names.{names};
-ghost use Rattle.rambo_names.specs.Weights.{weighted_majorities};
+ghost use Rattle.rambo_names.specs.Weights.{members_of, weighted_majorities};
 ghost use Rattle.rambo_run.specs.Legal.{IsLegal};
 
 use crate::connection::{Flow, Session};
@@ -116,7 +116,7 @@ fn set_up<J: Terms<Weighted>, R: Wait>(
     requires name { opened ≡ J.table }
     requires founders { J.founders ≡ Some founders }
     requires capacity { steps ≡ J.capacity }
-    ensures first { IfOk result (λ s. slice_get (names founders) 0 ≡ Some s.0.first) }
+    ensures first { IfOk result (λ s. slice_get (names (members_of founders)) 0 ≡ Some s.0.first) }
     ensures bells { IfOk result (λ s. vec_len s.0.bells ≡ options.now.clients) }
     ensures doors { IfOk result (λ s. vec_len s.0.doors.streams ≡ options.now.clients) }
     ensures passes { IfOk result (λ s. vec_len s.1 ≡ options.now.clients) }
@@ -173,8 +173,8 @@ fn end<J: Terms<Weighted>>(
 
 // The lowest founder. `EmptyMembers` where there is none.
 fn lowest(founders: Weighted) -> Result<Name, Refusal>
-    ensures ok { IfOk result (λ n. slice_get (names founders) 0 ≡ Some n) }
-    ensures refused { IfErr result (λ r. (r ≡ Refusal.EmptyMembers) × (names founders ≡ [])) }
+    ensures ok { IfOk result (λ n. slice_get (names (members_of founders)) 0 ≡ Some n) }
+    ensures refused { IfErr result (λ r. (r ≡ Refusal.EmptyMembers) × (names (members_of founders) ≡ [])) }
 {
     match founders.members().iter().next() {
         Some(name) => Ok(name),
