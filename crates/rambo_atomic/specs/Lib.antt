@@ -5,7 +5,6 @@ pub mod Held
 pub mod Histories
 pub mod Looks
 pub mod HistoryStates
-pub mod Marks
 pub mod Places
 pub mod Proper
 pub mod Scopes
