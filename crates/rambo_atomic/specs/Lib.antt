@@ -8,6 +8,7 @@ pub mod HistoryStates
 pub mod Places
 pub mod Proper
 pub mod Scopes
+pub mod StreamFaults
 pub mod Streams
 pub mod Tallies
 pub mod Tests
