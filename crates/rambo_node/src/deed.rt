@@ -1,5 +1,5 @@
 //! What a change did.
-ghost use Rattle.std.specs.Prelude.{◌≡◌, IfOk, IfErr, OnOk, OnErr};
+ghost use Rattle.std.specs.Prelude.{◌≡◌, None, IfOk, IfErr, OnOk, OnErr};
 ghost use Rattle.rambo_calls.specs.Kept.{call_found};
 ghost use Rattle.rambo_node.specs.Changes.{told, quiet_deed, get_mark};
 ghost use Rattle.rambo_node.specs.Kept.{answer_deed, answered_from};
@@ -55,10 +55,28 @@ impl<Q: Copy> Deed<Q> {
     {
         let answer = answer_of(op, kept)?;
         let told = answer.clone()?;
-        self.mark = get_mark(&id, op, kept)?;
+        self.mark_get(&id, op, kept)?;
         self.event = Some(Event::Answer(id, told));
         self.effect = Effect::Answered(id, answer);
         Ok(())
+    }
+
+    // Marks a get as it is answered.
+    fn mark_get(&mut self, id: &CallId, op: &Op, kept: &Option<Version>) -> Result<(), Refusal>
+        requires { self.old.mark ≡ None }
+        ensures ok { OnOk result (self.new ≡ record self.old { mark = get_mark id.now op.now kept.now }) }
+        ensures refused { IfErr result (λ r. r ≡ Refusal.OutOfMemory) }
+        ensures err { OnErr result (self.new ≡ self.old) }
+    {
+        match op {
+            Op::Set(_, _) => Ok(()),
+            Op::Get(_) => {
+                let op = op.clone()?;
+                let kept = clone_of(kept.as_ref())?;
+                self.mark = Some(Mark { id: *id, op, kept });
+                Ok(())
+            }
+        }
     }
 }
 
@@ -79,21 +97,6 @@ pub(crate) fn tell_answered<Q: Quorums>(
             Stage::Propagation(kept) => deed.tell_answer(id, &call.op, kept),
         },
         None => Ok(()),
-    }
-}
-
-// A get is marked when it is answered.
-fn get_mark(id: &CallId, op: &Op, kept: &Option<Version>) -> Result<Option<Mark>, Refusal>
-    ensures ok { IfOk result (λ mark. mark ≡ get_mark id.now op.now kept.now) }
-    ensures refused { IfErr result (λ r. r ≡ Refusal.OutOfMemory) }
-{
-    match op {
-        Op::Set(_, _) => Ok(None),
-        Op::Get(_) => Ok(Some(Mark {
-            id: *id,
-            op: op.clone()?,
-            kept: clone_of(kept.as_ref())?,
-        })),
     }
 }
 

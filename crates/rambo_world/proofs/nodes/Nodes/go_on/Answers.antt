@@ -90,7 +90,8 @@ returns-clause-deed g c y found =
     let x = c.index_mut.result.now in
     let below : c.place_of-2.result < length xs = subst (λ n. c.place_of-2.result < n) (sym c.self.invariant.0) c.place_of-2.ensures.within in
     let here = subst (λ now. state_at now c.args.id.name ≡ Some x) c.self.view_is (node_here xs ls c.place_of-2.result c.args.id.name x x c.place_of-2.ensures.place c.place_of-2.ensures.named.0 below c.index_mut.ensures.value) in
-    ap (λ (d : Deed _). record d { copy = None }) (c.in_ok-go_on.ensures.deed ∙ ap (λ y. (made_by y (change.Advance c.args.id)).deed) (some_is x y (sym here ∙ found)))
+    ap (λ o. record c.go_on.new.deed { copy = o }) c.take.ensures.after
+    ∙ ap (λ (d : Deed _). record d { copy = None }) (c.in_ok-go_on.ensures.deed ∙ ap (λ y. (made_by y (change.Advance c.args.id)).deed) (some_is x y (sym here ∙ found)))
 
 pub returns-clause-grow : goal.returns-clause-grow
 returns-clause-grow g c =
