@@ -62,7 +62,7 @@ no_founders_once words f g (inr (inr a)) (inr (inl b)) = absurd (let both = sym 
 no_founders_once words f g (inr (inr a)) (inr (inr b)) = a.1 ∙ sym b.1
 
 -- of a line
-line_once : (Tell : List (List ℕ) → Fault → Type 0) → ((words : List (List ℕ)) (f g : Fault) → Tell words f → Tell words g → f ≡ g)
+pub line_once : (Tell : List (List ℕ) → Fault → Type 0) → ((words : List (List ℕ)) (f g : Fault) → Tell words f → Tell words g → f ≡ g)
     → (line : List ℕ) (f g : Fault) → IsLineFault Tell line f → IsLineFault Tell line g → f ≡ g
 line_once Tell once line f g (inl a) (inl b) = a.1 ∙ sym b.1
 line_once Tell once line f g (inl a) (inr b) = absurd (let long = a.0 in let short = b.0 in omega arith)

@@ -1,11 +1,11 @@
 use Rattle.std.proofs.Common.{◌≡◌}
 use Rattle.rambo_atomic.specs.Unreads.{KnowsEnd, work_left}
 use Rattle.rambo_check.proofs.TextSteps.{ReadSoFar}
-use Rattle.rambo_check.proofs.text.read_outcome.Given as goal
+use Rattle.rambo_check.proofs.text.read_behind.Given as goal
 
 abbrev pub invariant-loop-unread : goal.invariant-loop-unread
 invariant-loop-unread g l = record {
-  read : ReadSoFar (g.R.Source.left l.fn.reader) (g.R.Source.left l.reader) l.evidence l.unread l.line;
+  read : ReadSoFar l.version l.fn.unread (g.R.Source.left l.fn.reader) (g.R.Source.left l.reader) l.evidence l.unread l.line;
   knows : KnowsEnd l.unread (g.R.Source.left l.reader);
   fine : g.R.Source.failures l.reader ≡ g.R.Source.failures l.fn.reader;
 }
