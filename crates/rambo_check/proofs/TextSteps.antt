@@ -3,6 +3,8 @@ use Rattle.std.proofs.Common.{◌≡◌, ◌≢◌, ◌⊎◌, inl, inr, ℕ, �
 use Rattle.std.specs.List.{AllByRecursion}
 use Rattle.std.specs.Io.KnownBytes.{Consumes, IsAtEnd}
 use Rattle.rambo_text.specs.declared.fault.Fault.{Fault}
+use Rattle.rambo_text.specs.declared.fault.ReplayFault.{ReplayFault}
+use Rattle.rambo_text.specs.declared.fault.ReplayFault.TheVariants.{Script}
 use Rattle.rambo_text.specs.declared.fault.ScriptFault.{ScriptFault}
 use Rattle.rambo_text.specs.declared.version.Version.{Version}
 use Rattle.rambo_text.specs.declared.version.Version.TheVariants.{One, Two}
@@ -18,7 +20,7 @@ use Rattle.rambo_check.specs.Items.{IsItem, IsLineIn}
 use Rattle.rambo_check.specs.EvidenceStates.{EvidenceState, no_evidence, with_item, evidence_of, IsBadItem, AreGood}
 use Rattle.rambo_check.specs.Checks.{IsLeft}
 use Rattle.rambo_check.specs.Readings.{IsMore, TakesHead, TakesLine}
-use Rattle.rambo_check.specs.Texts.{IsTold, IsFaultBehind, IsTextFault, IsHeadFault}
+use Rattle.rambo_check.specs.Texts.{IsTold, IsToldIn, IsFaultBehind, IsTextFault, IsHeadFault, IsFaultIn}
 use Rattle.rambo_check.proofs.ItemTexts.{items-append}
 
 -- what holds before a line behind the head is read: what was held at the start, and what was read then, is used or held
@@ -63,7 +65,7 @@ read_start version left s u events orders order = record {
   lines = inl refl;
   text = ([], none_used left, sym (append-nil u.held));
   ended = λ e. (e, refl);
-  number = refl;
+  number = omega arith;
   evidence = λ i. record { events = events i; orders = orders i; order = order i };
 }
 
@@ -194,15 +196,15 @@ read_end version start first left s u line now done known =
       now.text.0 ++ later left,
       more.0,
       subst (λ t. IsTold version t s) (sym (more.1 ∙ whole))
-      (record {
-        items = now.items;
-        good = now.good;
-        lines = elim now.lines [
-          | inl e ↦ inl e
-          | inr e ↦ inr e.1
-        ];
-        evidence = now.evidence;
-      }),
+          (record {
+            items = now.items;
+            good = now.good;
+            lines = elim now.lines [
+              | inl e ↦ inl e
+              | inr e ↦ inr e.1
+            ];
+            evidence = now.evidence;
+          }),
     )
 
 -- bytes behind a line that is held leave it the first
@@ -294,3 +296,17 @@ bad_head_told u first left words rest f taken holds known is_first bad = (
   all_left first left u.held (subst (Consumes first left) (sym taken.2) taken.1),
   record { line = words; rest = rest ++ later left; is_first = line_with u (later left) words rest holds (λ e. none_later left (known e)) is_first; fault = bad; number = refl },
 )
+
+-- what was told behind the head, of the whole text
+module _ (first left : Option (List ℕ)) (version : Version) (u : UnreadState)
+    (head : (more : List ℕ) → IsMore u left more → (text : List ℕ) × IsLeft first text × IsBehindHead version text (u.held ++ more)) where
+  pub told_in : (s : EvidenceState) → (more : List ℕ) × IsMore u left more × IsTold version (u.held ++ more) s → (text : List ℕ) × IsLeft first text × IsToldIn version text s
+  told_in s told = let whole = head told.0 told.1 in (whole.0, whole.1, (u.held ++ told.0, whole.2, told.2))
+
+  pub fault_in : (end : Option (List ℕ)) (f : ReplayFault)
+      → ((g : ScriptFault) → f ≡ Script g → (more : List ℕ) × (h : ScriptFault) × IsMore u left more × IsTextFault version (u.held ++ more) h × (g ≡ in_whole version h) × IsAtEnd end)
+      → (g : ScriptFault) → f ≡ Script g → (text : List ℕ) × IsLeft first text × IsFaultIn text g × IsAtEnd end
+  fault_in end f told g is =
+      let there = told g is in
+      let whole = head there.0 there.2 in
+      (whole.0, whole.1, inr (version, u.held ++ there.0, there.1, whole.2, there.3, there.4), there.5)

@@ -7,7 +7,7 @@ use Rattle.rambo_text.specs.declared.version.Version.{Version}
 use Rattle.rambo_text.specs.Versions.{IsBehindHead, BehindHead, IsBadHead}
 use Rattle.rambo_text.specs.Words.{IsFirstLine, AreWords}
 use Rattle.rambo_check.specs.EvidenceStates.{EvidenceState, evidence_of, IsBadItem, AreGood}
-use Rattle.rambo_check.specs.Items.{IsItem}
+use Rattle.rambo_check.specs.Items.{IsItem, IsLineIn}
 use Rattle.rambo_check.specs.Lines.{Item, item_words, items_text}
 use Rattle.rambo_check.specs.Plans.{IsLineFault}
 
@@ -22,13 +22,13 @@ pub record IsTold (version : Version) (text : List ℕ) (s : EvidenceState) : Ty
   pub lines : AreLinesOf text items
   pub evidence : s ≡ evidence_of items
 
--- the line spells an item that is bad behind those before it
-abbrev pub IsBadLine : EvidenceState → List ℕ → Type 0
-IsBadLine s line = (i : Item) × IsItem i × AreWords line (item_words i) × IsBadItem s i
+-- the line spells an item of this version that is bad behind those before it
+abbrev pub IsBadLine : Version → EvidenceState → List ℕ → Type 0
+IsBadLine version s line = (i : Item) × IsItem i × IsLineIn version i × AreWords line (item_words i) × IsBadItem s i
 
 -- the fault of a line behind good ones: of its words, of what it tells, or that memory ran out while it was read
 abbrev pub IsFaultBehind : Version → EvidenceState → List ℕ → Fault → Type 0
-IsFaultBehind version s line f = (f ≡ OutOfMemory) ⊎ (IsLineFault version line f ⊎ ((f ≡ BadHistory) × IsBadLine s line))
+IsFaultBehind version s line f = (f ≡ OutOfMemory) ⊎ (IsLineFault version line f ⊎ ((f ≡ BadHistory) × IsBadLine version s line))
 
 -- the first faulty line of a text of this version, behind its head, and its fault
 pub record IsTextFault (version : Version) (text : List ℕ) (f : ScriptFault) : Type 0 where

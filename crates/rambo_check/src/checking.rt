@@ -1,11 +1,13 @@
 //! Checking an outcome text.
-ghost use Rattle.std.specs.Prelude.{◌≡◌, ◌≢◌, ℕ, Bool, List, IfOk, IfErr, OnOk};
+ghost use Rattle.std.specs.Prelude.{◌≡◌, ◌≢◌, ◌++◌, ℕ, Bool, List, Option, IfOk, IfErr, OnOk};
 ghost use Rattle.std.specs.Io.KnownBytes.{Appends, IsAtEnd};
 ghost use Rattle.rambo_atomic.specs.Streams.{counted, Begins};
 ghost use Rattle.rambo_text.specs.declared.fault.ReplayFault.TheVariants as fault;
 ghost use Rattle.rambo_text.specs.declared.fault.ScriptFault.{ScriptFault};
 ghost use Rattle.rambo_check.specs.Checks.{IsLeft, IsJudged, IsChecked};
 ghost use Rattle.rambo_check.specs.Texts.{IsFaultIn};
+ghost use Rattle.rambo_check.specs.Verdicts.{IsVerdictOnAll, order_verdict_text, yes_to_all};
+ghost use Rattle.rambo_atomic.specs.declared.verdict.Verdict.{Verdict};
 
 use crate::evidence::Evidence;
 use crate::judging::judge_each;
@@ -78,13 +80,29 @@ fn judged_lines(
     let mut verdicts = IndexMap::new(alloc);
     judge_each(&checker, evidence, &mut verdicts)?;
     let mut lines = verdict_text(alloc, &verdicts)?;
+    let order_yes = judge_order(version, &checker, evidence, &mut lines)?;
     let each_yes = all_yes(&verdicts);
+    Ok((lines, each_yes && order_yes))
+}
+
+// Appends the line for the order of all keys, where a text of the version has one, and answers whether it is yes. It is
+// where there is no line.
+fn judge_order(
+    version: Version,
+    checker: &Checker,
+    evidence: &Evidence,
+    lines: &mut Vec<u8>,
+) -> Result<bool, Refusal>
+    requires { checker.now ≡ evidence.now.events }
+    ensures judged { IfOk result (λ yes. (on_all : Option Verdict) × IsVerdictOnAll version evidence.now on_all
+        × (lines.new.items ≡ lines.old.items ++ order_verdict_text on_all) × (yes ≡ yes_to_all on_all)) }
+{
     match version {
-        Version::One => Ok((lines, each_yes)),
+        Version::One => Ok(true),
         Version::Two => {
             let verdict = checker.judge_all(evidence.store_order())?;
-            write_order_verdict(verdict, &mut lines)?;
-            Ok((lines, each_yes && is_yes(verdict)))
+            write_order_verdict(verdict, lines)?;
+            Ok(is_yes(verdict))
         }
     }
 }

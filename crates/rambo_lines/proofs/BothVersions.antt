@@ -87,3 +87,16 @@ one_fault_in bytes f g (inl a) (inl b) = both_heads bytes f g a b
 one_fault_in bytes f g (inl a) (inr b) = head_or_behind bytes f g a b
 one_fault_in bytes f g (inr a) (inl b) = sym (head_or_behind bytes g f b a)
 one_fault_in bytes f g (inr a) (inr b) = both_behind bytes f g a b
+
+-- what the first line tells of the version
+pub head_fault : (bytes line rest : List ℕ) (f : ScriptFault) → IsFirstLine bytes line rest → f.line ≡ 1 → IsLineFault TellNoVersion line f.fault → IsHeadFault bytes f
+head_fault bytes line rest f first number fault = record { line = line; rest = rest; is_first = first; fault = fault; number = number }
+
+pub behind_one : (v : Version) (bytes line rest : List ℕ) → v ≡ One → IsFirstLine bytes line rest → IsFirstOf v line → IsBehindHead v bytes bytes
+behind_one v bytes line rest is first found =
+    subst (λ u. IsBehindHead u bytes bytes) (sym is)
+    (λ other more there. subst (IsFirstOf One) (same_lines bytes line rest other more first there).0 (subst (λ u. IsFirstOf u line) is found), refl)
+
+pub behind_two : (v : Version) (bytes line rest : List ℕ) → v ≡ Two → IsFirstLine bytes line rest → IsFirstOf v line → IsBehindHead v bytes rest
+behind_two v bytes line rest is first found =
+    subst (λ u. IsBehindHead u bytes rest) (sym is) (subst (λ l. IsFirstLine bytes l rest) (subst (λ u. IsFirstOf u line) is found) first)

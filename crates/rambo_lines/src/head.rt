@@ -16,9 +16,10 @@ pub fn read_head(text: &[u8]) -> Result<(Version, &[u8]), ScriptFault>
     ensures fault { IfErr result (λ f. IsHeadFault text.now f) }
 {
     let (line, rest) = next_line(text);
-    match at_line(1, version_of(line))? {
-        Version::One => Ok((Version::One, text)),
-        Version::Two => Ok((Version::Two, rest)),
+    let version = at_line(1, version_of(line))?;
+    match version {
+        Version::One => Ok((version, text)),
+        Version::Two => Ok((version, rest)),
     }
 }
 

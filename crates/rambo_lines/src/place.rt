@@ -26,8 +26,8 @@ impl Place {
 
     /// The place of the line behind.
     pub fn next(self) -> Place
-        requires line { self.line < 2 ^ 63 }
-        requires step { self.step < 2 ^ 63 }
+        requires line { self.line + 1 < 2 ^ 64 }
+        requires step { self.step + 1 < 2 ^ 64 }
         ensures { result ≡ record { line = self.line + 1; step = self.step + 1 } }
     {
         Place {

@@ -7,6 +7,8 @@ use Rattle.std.proofs.lemmas.List.{take_more}
 use Rattle.rambo_names.specs.Weights.{Weights}
 use Rattle.rambo_atomic.specs.Streams.{Begins}
 use Rattle.rambo_run.specs.declared.step.Step.{Step}
+use Rattle.rambo_text.specs.declared.version.Version.TheVariants.{Two}
+use Rattle.rambo_text.specs.Versions.{head_text}
 use Rattle.rambo_lines.specs.StepLines.{step_line}
 use Rattle.rambo_lines.specs.Scripts.{founders_line, steps_text}
 use Rattle.rambo_trace.specs.Traces.{Moves, trace_text}
@@ -25,9 +27,12 @@ steps_text-append (x ∷ xs) ys =
 -- the text of more steps
 pub trace-append : (founders : Weights) (xs ys : List (Step Weights)) → trace_text founders (xs ++ ys) ≡ trace_text founders xs ++ steps_text ys
 trace-append founders xs ys =
-    ap (λ t. founders_line founders ++ 10 ∷ t) (steps_text-append xs ys) ∙ sym (append_assoc (founders_line founders) (10 ∷ steps_text xs) (steps_text ys))
+    let head = head_text Two in
+    ap (λ t. head ++ (founders_line founders ++ 10 ∷ t)) (steps_text-append xs ys)
+    ∙ ap (λ t. head ++ t) (sym (append_assoc (founders_line founders) (10 ∷ steps_text xs) (steps_text ys)))
+    ∙ sym (append_assoc head (founders_line founders ++ 10 ∷ steps_text xs) (steps_text ys))
 
-pub goes_first : (founders : Weights) (old : Option (List ℕ)) (waits : List ℕ) → waits ≡ founders_line founders ++ 10 ∷ [] → Going founders [] old old waits
+pub goes_first : (founders : Weights) (old : Option (List ℕ)) (waits : List ℕ) → waits ≡ head_text Two ++ (founders_line founders ++ 10 ∷ []) → Going founders [] old old waits
 goes_first founders old waits is = record { gone = []; written = Appends-nil old; whole = sym is }
 
 -- one step more waits

@@ -52,18 +52,18 @@ returns-in_err-read_order-clause-fault c =
     let p = err_from_is_err_and c.from_residual-in_err-read_order.result c.from_residual-in_err-read_order.ensures.1 in
     rw (p.1, p.2)
     (line_fault c.args.version c.args.line.now c.next_word.result.0.now (option_copied c.next_word.result.1) order_plan _ c.next_word.ensures
-    (plan_order c.args.version c.next_word.result.0.now (c.if-tells_order.true ∙ c.tells_order.ensures)) c.in_err-read_order.ensures.fault)
+    (plan_order c.args.version c.next_word.result.0.now c.if-tells_order.ensures) c.in_err-read_order.ensures.fault)
 
 pub returns-then-tells_order-clause-kept : goal.returns-then-tells_order-clause-kept
 returns-then-tells_order-clause-kept c =
     let word = c.next_word.result.0.now in
     let item : Item = OrderedAll c.in_ok-read_order.field-0 in
-    let is = order_word c.args.version word (c.if-tells_order.true ∙ c.tells_order.ensures) in
+    let is = order_word c.args.version word c.if-tells_order.ensures in
     let k = kept_line c.args.line.now word (codes "order") (option_copied c.next_word.result.1) item c.next_word.ensures is.1 c.in_ok-read_order.ensures.spelt in
     (item, k.0, is.0, k.1, refl)
 
 pub read_passed-requires-clause-order : goal.read_passed-requires-clause-order
-read_passed-requires-clause-order c = sym (c.if-tells_order.false ∙ c.tells_order.ensures)
+read_passed-requires-clause-order c = sym c.if-tells_order.ensures
 
 pub read_passed-requires-clause-call : goal.read_passed-requires-clause-call
 read_passed-requires-clause-call c = sym (c.if-eq.ensures ∙ ap (bytes_eq c.next_word.result.0.now) c.as_slice.ensures)
