@@ -6,8 +6,8 @@ use Rattle.rambo_check.proofs.checking.judged_lines.Goals as goal
 and_then : (a b r : Bool) → a ≡ true → r ≡ b → r ≡ (a && b)
 and_then a b r so is = is ∙ ap (λ t. t && b) (sym so)
 
-and_else : (a b r : Bool) → a ≡ false → r ≡ false → r ≡ (a && b)
-and_else a b r so is = is ∙ ap (λ t. t && b) (sym so)
+and_else : (a b r : Bool) → a ≡ false → r ≡ a → r ≡ (a && b)
+and_else a b r so is = is ∙ so ∙ ap (λ t. t && b) (sym so)
 
 pub returns : goal.returns
 returns c =
