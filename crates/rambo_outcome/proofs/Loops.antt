@@ -1,17 +1,18 @@
 -- Texts that a loop writes, item by item
-use Rattle.std.proofs.Common.{◌≡◌, ℕ, ◌+◌, ◌<◌, List, [], ◌∷◌, ◌++◌, length, get_or, drop, sym, ap, ◌∙◌, append_assoc, Result, map}
+use Rattle.std.proofs.Common.{◌≡◌, ℕ, ◌+◌, ◌<◌, List, [], ◌∷◌, ◌++◌, length, get_or, drop, refl, sym, ap, ◌∙◌, append_assoc, append-nil, arith, Result, map}
 use Rattle.std.proofs.lemmas.List.{drop_more}
 use Rattle.rambo_names.specs.declared.refusal.Refusal.{Refusal}
 use Rattle.rambo_names.specs.Weights.{Weights}
+use Rattle.rambo_atomic.specs.declared.event.CallId.{CallId}
 use Rattle.rambo_atomic.specs.declared.event.Event.{Event}
 use Rattle.rambo_node.specs.declared.effect.Effect.{Effect}
 use Rattle.rambo_run.specs.Runs.{OutcomeState}
 use Rattle.rambo_text.specs.declared.version.Version.{Version}
 use Rattle.rambo_text.specs.Versions.{head_text}
 use Rattle.rambo_text.specs.Signs.{Grows}
-use Rattle.rambo_check.specs.Lines.{Item, Ordered, items_text}
+use Rattle.rambo_check.specs.Lines.{Item, Ordered, OrderedAll, item_line, items_text}
 use Rattle.rambo_check.proofs.ItemTexts.{items-append}
-use Rattle.rambo_outcome.specs.Outcomes.{step_items, steps_items, order_items_in, map_item, outcome_lines}
+use Rattle.rambo_outcome.specs.Outcomes.{step_items, steps_items, order_items, order_items_in, map_item, outcome_lines}
 
 -- what is still to be written after one item more
 pub one_on : {X : Type 0} (F : List X → List ℕ) (G : X → List ℕ) → ((x : X) (xs : List X) → F (x ∷ xs) ≡ G x ++ F xs)
@@ -51,3 +52,12 @@ whole_text version o head a b c d first steps sequences order maps =
     items_on (head_text version) c d (told ++ map Ordered o.sequences ++ order_items_in version o.order) (map map_item o.maps)
     (items_on (head_text version) b c (told ++ map Ordered o.sequences) (order_items_in version o.order)
     (items_on (head_text version) a b told (map Ordered o.sequences) front sequences) order) maps
+
+-- an order with no call has no line, and another has its own
+pub order_none : (calls : List CallId) (out : List ℕ) → length calls ≡ 0 → out ≡ out ++ items_text (order_items calls)
+order_none [] out none = sym (append-nil out)
+order_none (c ∷ cs) out none = absurd (omega (arith, none))
+
+pub order_some : (calls : List CallId) (out new : List ℕ) → (length calls ≡ 0 → ⊥) → new ≡ out ++ item_line (OrderedAll calls) → new ≡ out ++ items_text (order_items calls)
+order_some [] out new some is = absurd (some refl)
+order_some (c ∷ cs) out new some is = is ∙ ap (λ t. out ++ t) (sym (append-nil (item_line (OrderedAll (c ∷ cs)))))

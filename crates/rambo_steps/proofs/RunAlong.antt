@@ -1,15 +1,20 @@
 -- A run that goes on as the lines of a script are read
 use Rattle.std.proofs.Common.{◌≡◌, ◌≢◌, ◌⊎◌, ℕ, ◌+◌, ◌<◌, ◌≤◌, ◌^◌, List, [], ◌∷◌, ◌++◌, Option, length, inl, inr, refl, sym, ap, subst, ◌∙◌, arith, length-append, append-nil, map}
+use Rattle.std.specs.Prelude.{Result, Ok, OnOk}
 use Rattle.rambo_names.specs.Weights.{Weights, weighted_majorities}
-use Rattle.rambo_names.specs.WeightLaws.{weighted_sound}
-use Rattle.rambo_sequence.specs.StoreOrders.{NoTwice, all_calls}
+use Rattle.rambo_atomic.specs.declared.event.Event.{Event}
+use Rattle.rambo_atomic.specs.Proper.{IsProper}
+use Rattle.rambo_sequence.specs.declared.mark.Mark.{Mark}
+use Rattle.rambo_sequence.specs.Sequences.{SequenceOf, sequence_in, sequences_of}
+use Rattle.rambo_sequence.specs.StoreOrders.{AreApart, NoTwice, all_calls}
+use Rattle.rambo_sequence.proofs.MergedOrder.{proper_once}
+use Rattle.rambo_sequence.proofs.Outcomes.{sequences_apart}
 use Rattle.rambo_run.specs.declared.step.Step.{Step}
 use Rattle.rambo_run.specs.Worlds.{first_world}
 use Rattle.rambo_run.specs.Steps.{refusal}
-use Rattle.rambo_run.specs.Runs.{after, maps_of, given_sequences, given_order, result_of, run_from, run}
+use Rattle.rambo_run.specs.Runs.{after, maps_of, given_sequences, given_order, result_of, run_from}
 use Rattle.rambo_run.specs.Ongoing.{RunningOf}
 use Rattle.rambo_run.proofs.Runs.{run_from-more, run_from-none}
-use Rattle.rambo_run.proofs.StoreOrder.{calls_once}
 use Rattle.rambo_text.specs.declared.fault.Fault.{Fault}
 use Rattle.rambo_text.specs.declared.fault.Fault.TheVariants.{OutOfMemory}
 use Rattle.rambo_text.specs.declared.fault.ReplayFault.{ReplayFault}
@@ -42,6 +47,10 @@ pub record Runs (version : Version) (bytes : List ℕ) (r : RunningOf Weights) (
   pub told : text ≡ head_text version ++ items_text (told_along weighted_majorities (first_world weighted_majorities r.founders) 1 steps)
   pub at : place ≡ place_of version (length steps)
   pub within : length steps + length rest ≤ length bytes
+
+-- a result that is there meets what is said of it
+pub when_ok : {T E : Type 0} (r : Result T E) (x : T) (P : Type 0) → r ≡ Ok x → OnOk r P → P
+when_ok r x P is holds = subst (λ s. OnOk s P) is holds
 
 -- no more is left than there was
 rest_within : (bytes line rest : List ℕ) → IsFirstLine bytes line rest → length rest ≤ length bytes
@@ -97,11 +106,11 @@ place_fits version bytes rest r place text now few =
     let head = few_heads version in
     (omega (arith, line, head, within, few), omega (arith, step, within, few))
 
--- no call stands twice in the sequences
-pub run_once : (version : Version) (bytes rest : List ℕ) (r : RunningOf Weights) (place : Place) (text : List ℕ) → Runs version bytes r place text rest → NoTwice (all_calls (given_sequences r.state))
-unfolding run
-run_once version bytes rest r place text now =
-    subst (λ w. NoTwice (all_calls (given_sequences w))) (sym now.ran) (calls_once weighted_majorities weighted_sound r.founders now.steps)
+-- no call stands twice in the given sequences
+pub given_once : (h : List Event) (marks : List Mark) (ss told : List SequenceOf) → ss ≡ sequences_of h marks → ((key : List ℕ) → IsProper h key (sequence_in ss key)) → told ≡ ss
+    → NoTwice (all_calls told)
+given_once h marks ss told given proper same =
+    subst (λ t. NoTwice (all_calls t)) (sym same) (proper_once h ss (subst AreApart (sym given) (sequences_apart h marks)) proper)
 
 -- all was read, and the sequences, the order of all keys and the maps came behind it
 pub runs_all : (version : Version) (bytes rest : List ℕ) (r : RunningOf Weights) (place : Place) (text whole : List ℕ) → Runs version bytes r place text rest → length rest ≡ 0

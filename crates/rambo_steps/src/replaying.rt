@@ -5,7 +5,6 @@ ghost use Rattle.rambo_atomic.specs.Histories.{call_in};
 ghost use Rattle.rambo_run.specs.declared.step.Step.TheVariants as step;
 ghost use Rattle.rambo_check.specs.Lines.{items_text};
 ghost use Rattle.rambo_outcome.specs.Outcomes.{call_items, order_items_in};
-ghost use Rattle.rambo_run.specs.Runs.{given_sequences};
 ghost use Rattle.rambo_sequence.specs.StoreOrders.{NoTwice, all_calls, order_of};
 ghost use Rattle.rambo_lines.specs.Faults.{IsLineFault, TellNoStep, TellsBytes};
 ghost use Rattle.rambo_steps.specs.Runs.{TellsFounders, IsFounded, Takes, TakesStep, TakesTold, IsPartsFault, IsReplayBehind, GivesUpBehind, ended, IsFaultAt};
@@ -226,7 +225,6 @@ fn end<R: Run<Weighted>>(
     running: &R,
     text: &mut Vec<u8>,
 ) -> Result<(), ReplayFault>
-    requires { NoTwice (all_calls (given_sequences (R.running running.now).state)) }
     ensures ok { OnOk result (text.new.items ≡ ended version (R.running running.now).state text.old.items) }
     ensures fault { IfErr result (λ f. f ≡ ReplayFault.Memory) }
 {

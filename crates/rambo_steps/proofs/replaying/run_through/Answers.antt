@@ -1,12 +1,12 @@
 use Rattle.std.proofs.Common.{◌≡◌, ◌++◌, length, ap, refl, arith, rules, ◌∙◌}
 use Rattle.std.proofs.lemmas.Bool.Decides.{nat_tests}
-use Rattle.std.proofs.lemmas.Result.{IfOk-at_ok, OnOk-at_ok}
 use Rattle.rambo_text.specs.Versions.{head_text}
-use Rattle.rambo_steps.proofs.RunAlong.{runs_first, runs_next, runs_all, run_once, place_fits, later_fault}
+use Rattle.rambo_steps.proofs.RunAlong.{when_ok, runs_first, runs_next, runs_all, place_fits, later_fault}
 use Rattle.rambo_steps.proofs.replaying.run_through.Goals as goal
 
 pub loop-rest-init : goal.loop-rest-init
-loop-rest-init g c = runs_first _ _ _ _ _ _ _ c.next_line.ensures c.requires HEAD c.first-place.ensures
+loop-rest-init g c = runs_first _ _ _ _ _ _ _ c.next_line.ensures c.requires
+    (when_ok c.write_head.result _ _ c.in_ok-in_memory.ensures.ok c.write_head.ensures.ok ∙ ap (λ t. t ++ head_text c.args.version) c.new-text.ensures.items) c.first-place.ensures
 
 pub next-place-requires-clause-line : goal.next-place-requires-clause-line
 next-place-requires-clause-line g c = (place_fits _ _ _ _ _ _ c.loop-rest.invariant (omega arith)).0
@@ -26,9 +26,6 @@ returns-in_err-take_line-clause-fault g c =
       later_fault _ _ _ _ _ _ _ _ _ _ c.loop-rest.invariant (λ none. let z : length c.loop-rest.rest.now ≡ 0 = ap length none in grind (arith, nat_tests))
           c.next_line-in-loop-rest.ensures c.next-place.ensures c.in_err-take_line.ensures.fault,
     )
-
-pub end-requires : goal.end-requires
-end-requires g c = run_once _ _ _ _ _ _ c.loop-rest.invariant
 
 pub returns-clause-ok : goal.returns-clause-ok
 returns-clause-ok g c = runs_all _ _ _ _ _ _ _ c.loop-rest.invariant (grind (arith, nat_tests)) c.in_ok-end.ensures.ok
