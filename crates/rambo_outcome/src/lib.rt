@@ -10,8 +10,6 @@ mod line;
 mod outcome;
 mod step_line;
 
-pub use outcome::{
-    outcome_text, write_head, write_maps, write_order, write_sequences, write_step,
-};
+pub use outcome::{outcome_text, write_head, write_maps, write_order, write_sequences, write_step};
 pub use rambo_check::{check_text, no_told_is_faulty, one_evidence, one_fault, one_reading};
 pub use step_line::{write_answered, write_called, write_refused};

@@ -19,7 +19,7 @@ returns-then-is_err-clause-refused c = assumption
 
 pub returns-else-is_err-clause-ok : goal.returns-else-is_err-clause-ok
 returns-else-is_err-clause-ok c =
-    on_ok_weaker c.append_order.result (λ is. order_some c.args.calls.now c.args.out.now.items _ (λ none. let z : length c.args.calls.now ≡ 0 = none in grind (arith, nat_tests)) is) c.append_order.ensures.ok
+    on_ok_weaker c.append_order-written.result (λ is. order_some c.args.calls.now c.args.out.now.items _ (λ none. let z : length c.args.calls.now ≡ 0 = none in grind (arith, nat_tests)) is) c.append_order-written.ensures.ok
 
 pub returns-else-is_err-clause-err : goal.returns-else-is_err-clause-err
 returns-else-is_err-clause-err c = grind (arith, common_steps)
