@@ -11,8 +11,8 @@ ghost use Rattle.rambo_steps.specs.Runs.{TellsFounders, IsFounded, Takes, TakesS
 
 use rambo_atomic::{CallId, History, Op};
 use rambo_lines::{
-    Place, StepKind, at_line, get_asked, read_call, read_founders, read_kind, read_letter, read_names,
-    read_parts, set_asked,
+    Place, StepKind, at_line, get_asked, read_call, read_founders, read_kind, read_letter,
+    read_names, read_parts, set_asked,
 };
 use rambo_names::{Name, Refusal, Weighted};
 use rambo_outcome::{
