@@ -24,7 +24,7 @@ import tempfile
 KEYS = 16
 STEPS_A_COMMAND = 11
 PATIENCE = 60
-COMMIT = r"rambo_post::committing::commit\b"
+COMMIT = r"rambo_book::committing::commit\b"
 WORLD = r"rambo_world::state::State::(advance|call|change|deliver|send)\b"
 
 

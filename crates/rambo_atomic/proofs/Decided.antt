@@ -1,7 +1,6 @@
 -- Each rule's test decides the rule
 use Rattle.std.proofs.Common.{◌≡◌, ℕ, List, [], ◌∷◌, ◌++◌, Bool, true, false, cond, not, ◌&&◌, ◌||◌, Option, None, Some, is_some, IsSome, refl, sym, ap, ◌∙◌, inl, inr, true≢false, fold, subst, append_assoc}
 use Rattle.std.specs.Option.{IsSomeAnd}
-use Rattle.std.specs.Str.{bytes_eq}
 use Rattle.std.proofs.lemmas.Slice.Eq.{bytes_eq-Decides}
 use Rattle.rambo_atomic.specs.declared.operation.Op.{Op}
 use Rattle.rambo_atomic.specs.declared.operation.Op.TheVariants as op
@@ -16,8 +15,8 @@ use Rattle.rambo_atomic.specs.declared.scope.Scope.TheVariants as scope
 use Rattle.rambo_atomic.specs.Forms.{CallsOnce, IsWellFormed}
 use Rattle.rambo_atomic.specs.Scopes.{within, IsCompleteIn, HasNoStrangerIn, IsProperIn}
 use Rattle.rambo_atomic.specs.Histories.{call_in, answer_in}
-use Rattle.rambo_atomic.specs.Proper.{EverySplit, Stands, IsDistinct, HasNoStranger, AnswersLatest, KeepsRealTime, after_op, held_after}
-use Rattle.rambo_atomic.specs.Tests.{stands_in, of_key, is_due, is_complete, is_distinct, is_own_op, has_no_stranger, holding, tells, is_right, answers_latest, is_told, all_told, none_held}
+use Rattle.rambo_atomic.specs.Proper.{EverySplit, Stands, IsDistinct, HasNoStranger, AnswersLatest, KeepsRealTime, after_op}
+use Rattle.rambo_atomic.specs.Tests.{stands_in, of_key, is_due, is_complete, is_distinct, is_own_op, has_no_stranger, tells, is_told, all_told, none_held}
 use Rattle.rambo_atomic.proofs.Asked.{some_and, answered_called}
 use Rattle.rambo_atomic.proofs.LookUps.{call_in-append, either}
 use Rattle.rambo_atomic.proofs.Pushes.{same_call-path, same_call-refl}
@@ -183,9 +182,6 @@ stranger-from (scope.Key key) h order all =
 stranger-from scope.AllKeys h order all = own-from h (λ op. true) order (λ front c back split. weaker (call_in h c) _ _ (λ op p. (refl, p)) (all front c back split))
 
 -- gets answer the latest set
-abbrev Right : List Event → List ℕ → Option (List ℕ) → List CallId → CallId → List CallId → Type 0
-Right h key held front c back = call_in h c ≡ Some (op.Get key) → answer_in h c ≡ Some (answer_for (fold (λ v x. after_op key (call_in h x) v) held front))
-
 tells-to : (held : Option (List ℕ)) (a : Option Answer) → tells held a ≡ true → a ≡ Some (answer_for held)
 tells-to held None e = cc
 tells-to held (Some answer.Ok) e = cc
@@ -197,64 +193,6 @@ tells-to (Some v) (Some (answer.Value w)) e = ap (λ x. Some (answer.Value x)) (
 told : (held : Option (List ℕ)) → tells held (Some (answer_for held)) ≡ true
 told None = refl
 told (Some v) = (bytes_eq-Decides v v).1 refl
-
-right-to : (held : Option (List ℕ)) (o : Option Op) (a : Option Answer) → is_right held o a ≡ true
-    → (key : List ℕ) → o ≡ Some (op.Get key) → a ≡ Some (answer_for held)
-right-to held None a e key is = cc
-right-to held (Some (op.Get k)) a e key is = tells-to held a e
-right-to held (Some (op.Set k v)) a e key is = cc
-
-right-from : (key : List ℕ) (held : Option (List ℕ)) (o : Option Op) (a : Option Answer) (t : Bool) → is_own_op (of_key key) t o ≡ true
-    → (o ≡ Some (op.Get key) → a ≡ Some (answer_for held)) → is_right held o a ≡ true
-right-from key held None a t own f = refl
-right-from key held (Some (op.Get k)) a t own f =
-    ap (tells held) (f (ap (λ x. Some (op.Get x)) ((bytes_eq-Decides k key).0 (both _ _ own).0))) ∙ told held
-right-from key held (Some (op.Set k v)) a t own f = refl
-
--- a call of the key does to its value what it does to any one key's
-after-own : (key : List ℕ) (o : Option Op) (t : Bool) (held : Option (List ℕ)) → is_own_op (of_key key) t o ≡ true → after_op key o held ≡ holding o held
-after-own key None t held own = refl
-after-own key (Some (op.Get k)) t held own = refl
-after-own key (Some (op.Set k v)) t held own = ap (λ b. cond b (Some v) held) (both _ _ own).0
-
-right-along : (h : List Event) (key : List ℕ) (held : Option (List ℕ)) (order : List CallId) → has_no_stranger h (of_key key) order ≡ true
-    → answers_latest h held order ≡ true → EverySplit (Right h key held) order
-right-along h key held [] own e = splits-nil (Right h key held)
-right-along h key held (c ∷ cs) own e =
-    let mine = both _ _ own in
-    elim (is_right held (call_in h c) (answer_in h c)) as (λ t. is_right held (call_in h c) (answer_in h c) ≡ t
-    → cond t (answers_latest h (holding (call_in h c) held) cs) false ≡ true → EverySplit (Right h key held) (c ∷ cs)) [
-      | true ↦ λ fine rest. splits-cons (Right h key held) c cs (right-to held (call_in h c) (answer_in h c) fine key)
-          (subst (λ v. EverySplit (Right h key v) cs) (sym (after-own key (call_in h c) (is_some (answer_in h c)) held mine.0))
-          (right-along h key (holding (call_in h c) held) cs mine.1 rest))
-      | false ↦ λ _ stopped. absurd (true≢false (sym stopped))
-    ] refl e
-
-right-back : (h : List Event) (key : List ℕ) (held : Option (List ℕ)) (order : List CallId) → has_no_stranger h (of_key key) order ≡ true
-    → EverySplit (Right h key held) order → answers_latest h held order ≡ true
-right-back h key held [] own all = refl
-right-back h key held (c ∷ cs) own all =
-    let mine = both _ _ own in
-    (λ i. cond (right-from key held (call_in h c) (answer_in h c) (is_some (answer_in h c)) mine.0 (splits-head (Right h key held) c cs all) i)
-    (answers_latest h (holding (call_in h c) held) cs) false)
-    ∙ right-back h key (holding (call_in h c) held) cs mine.1
-    (subst (λ v. EverySplit (Right h key v) cs) (after-own key (call_in h c) (is_some (answer_in h c)) held mine.0) (splits-tail (Right h key held) c cs all))
-
-pub latest-to : (h : List Event) (key : List ℕ) (order : List CallId) → has_no_stranger h (of_key key) order ≡ true
-    → answers_latest h None order ≡ true → AnswersLatest h order
-latest-to h key order own e front c back split k is =
-    let mine = key_stranger-to h key order own front c back split in
-    let same : k ≡ key = of_key (call_in h c) is mine in
-    subst (λ x. answer_in h c ≡ Some (answer_for (held_after h x front))) (sym same)
-    (right-along h key None order own e front c back split (is ∙ ap (λ x. Some (op.Get x)) same))
-  where
-    of_key : (o : Option Op) → o ≡ Some (op.Get k) → IsSomeAnd o (λ op. (key_of op ≡ key) × (is_get op ≡ true → IsSome (answer_in h c))) → k ≡ key
-    of_key None is mine = absurd mine
-    of_key (Some p) is mine = let q : p ≡ op.Get k = cc in ap key_of (sym q) ∙ mine.0
-
-pub latest-from : (h : List Event) (key : List ℕ) (order : List CallId) → has_no_stranger h (of_key key) order ≡ true
-    → AnswersLatest h order → answers_latest h None order ≡ true
-latest-from h key order own all = right-back h key None order own (λ front c back split. all front c back split key)
 
 -- what is told is what the keys hold
 abbrev Told : List Event → (List ℕ → Option (List ℕ)) → List CallId → CallId → List CallId → Type 0
@@ -293,26 +231,6 @@ all_told-to h order e = told-along h none_held order e
 
 pub all_told-from : (h : List Event) (order : List CallId) → AnswersLatest h order → all_told h none_held order ≡ true
 all_told-from h order all = told-back h none_held order all
-
--- the test goes on behind an entry
-module _ (h : List Event) (held : List ℕ → Option (List ℕ)) (c : CallId) (cs : List CallId) where
-  all_told-step : (o : Option Op) (a : Option Answer) → call_in h c ≡ o → answer_in h c ≡ a → all_told h held (c ∷ cs) ≡ cond (is_told held o a) (all_told h (λ key. after_op key o (held key)) cs) false
-  all_told-step o a is was = λ i. cond (is_told held (is i) (was i)) (all_told h (λ key. after_op key (is i) (held key)) cs) false
-
-  pub told_none : call_in h c ≡ None → all_told h held (c ∷ cs) ≡ all_told h held cs
-  told_none is = all_told-step None (answer_in h c) is refl
-
-  pub told_right : (k : List ℕ) (a : Option Answer) → call_in h c ≡ Some (op.Get k) → answer_in h c ≡ a → tells (held k) a ≡ true → all_told h held (c ∷ cs) ≡ all_told h held cs
-  told_right k a is was e = all_told-step (Some (op.Get k)) a is was ∙ ap (λ t. cond t (all_told h held cs) false) e
-
-  pub told_wrong : (k : List ℕ) (a : Option Answer) → call_in h c ≡ Some (op.Get k) → answer_in h c ≡ a → tells (held k) a ≡ false → all_told h held (c ∷ cs) ≡ false
-  told_wrong k a is was e = all_told-step (Some (op.Get k)) a is was ∙ ap (λ t. cond t (all_told h held cs) false) e
-
-  pub told_set : (k v : List ℕ) (new : List ℕ → Option (List ℕ)) → call_in h c ≡ Some (op.Set k v) → ((q : List ℕ) → new q ≡ cond (bytes_eq k q) (Some v) (held q)) → all_told h held (c ∷ cs) ≡ all_told h new cs
-  told_set k v new is e = all_told-step (Some (op.Set k v)) (answer_in h c) is refl ∙ (λ i. all_told h (λ q. sym (e q) i) cs)
-
-  pub told_next : (new : List ℕ → Option (List ℕ)) → is_told held (call_in h c) (answer_in h c) ≡ true → ((q : List ℕ) → new q ≡ after_op q (call_in h c) (held q)) → all_told h held (c ∷ cs) ≡ all_told h new cs
-  told_next new fine e = ap (λ t. cond t (all_told h (next_held h c held) cs) false) fine ∙ (λ i. all_told h (λ q. sym (e q) i) cs)
 
 -- all rules together
 pub proper-in : (s : Scope) (h : List Event) (order : List CallId) → IsCompleteIn s h order → IsDistinct order → HasNoStrangerIn s h order → AnswersLatest h order → KeepsRealTime h order → IsProperIn s h order

@@ -2,7 +2,6 @@ pub mod Asked
 pub mod Decided
 pub mod KnownBytes
 pub mod LookUps
-pub mod Marked
 pub mod Pieces
 pub mod Pushes
 pub mod RealTime

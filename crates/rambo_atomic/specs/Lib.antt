@@ -5,10 +5,10 @@ pub mod Held
 pub mod Histories
 pub mod Looks
 pub mod HistoryStates
-pub mod Marks
 pub mod Places
 pub mod Proper
 pub mod Scopes
+pub mod StreamFaults
 pub mod Streams
 pub mod Tallies
 pub mod Tests

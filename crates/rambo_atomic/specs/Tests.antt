@@ -49,12 +49,6 @@ is_own h within c = is_own_op within (is_some (answer_in h c)) (call_in h c)
 abbrev pub has_no_stranger : List Event → (Op → Bool) → List CallId → Bool
 has_no_stranger h within order = list_all (is_own h within) order
 
--- what the one key of some calls holds after one of them
-abbrev pub holding : Option Op → Option (List ℕ) → Option (List ℕ)
-holding None held = held
-holding (Some (op.Get key)) held = held
-holding (Some (op.Set key value)) held = Some value
-
 -- whether an answer tells what a key holds
 abbrev pub tells : Option (List ℕ) → Option Answer → Bool
 tells held None = false
@@ -63,17 +57,6 @@ tells None (Some answer.Nil) = true
 tells (Some v) (Some answer.Nil) = false
 tells None (Some (answer.Value w)) = false
 tells (Some v) (Some (answer.Value w)) = bytes_eq v w
-
-abbrev pub is_right : Option (List ℕ) → Option Op → Option Answer → Bool
-is_right held None a = true
-is_right held (Some (op.Get key)) a = tells held a
-is_right held (Some (op.Set key value)) a = true
-
--- whether each get of these calls of one key, which holds this before them, is right
-abbrev pub answers_latest : List Event → Option (List ℕ) → List CallId → Bool
-answers_latest h held [] = true
-answers_latest h held (c ∷ cs) =
-    if is_right held (call_in h c) (answer_in h c) then answers_latest h (holding (call_in h c) held) cs else false
 
 -- whether a get was told what its key holds
 abbrev pub is_told : (List ℕ → Option (List ℕ)) → Option Op → Option Answer → Bool

@@ -18,6 +18,21 @@ pub enum StreamFault {
     Memory,
 }
 
+impl StreamFault {
+    ghost use Rattle.rambo_atomic.specs.StreamFaults.{words_of};
+
+    /// The words that tell the fault to a user.
+    pub fn words(self) -> &'static str
+        ensures { result.now ≡ words_of self }
+    {
+        match self {
+            StreamFault::Read => "fault read",
+            StreamFault::Write => "fault write",
+            StreamFault::Memory => "fault memory",
+        }
+    }
+}
+
 impl From<AllocError> for StreamFault {
     ghost use Rattle.rambo_atomic.specs.declared.whole.StreamFault.TheVariants.{Memory};
 

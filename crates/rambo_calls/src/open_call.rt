@@ -69,14 +69,14 @@ impl<Q: Quorums> OpenCall<Q> {
         merged: &ConfigMap<Q>,
         me: Name,
     )
-        ensures { needed self.old.phase.state map.now ≤ self.old.phase.capacity
-            → call_of self.new ≡ heard_call heard from map.now number merged.now me (call_of self.old) }
+        requires { needed self.old.phase.state map.now ≤ self.old.phase.capacity }
+        ensures { call_of self.new ≡ heard_call heard from map.now number merged.now me (call_of self.old) }
     {
         match self.phase.hear(from, heard, map) {
             Ok(Heard::Restart) => self.phase = begun_anew(number, merged, me),
             Ok(Heard::Counted) => {}
             Ok(Heard::Old) => {}
-            Err(_) => {}
+            Err(_) => unreachable!(),
         }
     }
 }

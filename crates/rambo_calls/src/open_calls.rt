@@ -1,5 +1,5 @@
 //! The open calls of a node, the oldest first.
-ghost use Rattle.std.specs.Prelude.{◌≡◌, ◌-◌, ◌^◌, ◌++◌, ◌∷◌, [], length, min, OnOk, OnErr, IfErr, remove, slice_get, map as list_map};
+ghost use Rattle.std.specs.Prelude.{◌≡◌, ◌-◌, ◌^◌, ◌++◌, ◌∷◌, [], length, min, IsOk, OnOk, OnErr, IfErr, remove, slice_get, map as list_map};
 ghost use Rattle.std.specs.Option.{option_copied};
 ghost use Rattle.rambo_calls.specs.Calls.{place_of, find_call, number_in};
 ghost use Rattle.rambo_calls.specs.Hearing.{any_gap, number_after, restarted, heard_call};
@@ -136,10 +136,12 @@ impl<Q: Quorums> OpenCalls<Q> {
 
     /// Makes room for what a map has above the phases, so that to hear it takes no memory.
     ///
-    /// `OutOfMemory` where there is none. The calls are as they were, whatever the answer.
+    /// `OutOfMemory` where there is none; never where the calls have this room already. The calls are as they were,
+    /// whatever the answer.
     pub fn make_room(&mut self, map: &ConfigMap<Q>) -> Result<(), Refusal>
         ensures same { calls_of self.new ≡ calls_of self.old }
         ensures ok { OnOk result (IsRoomy map.now self.new) }
+        ensures succeeds { IsRoomy map.now self.old → IsOk result }
         ensures refused { IfErr result (λ r. r ≡ Refusal.OutOfMemory) }
     {
         make_room(self.list.as_mut_slice(), map)
@@ -158,7 +160,8 @@ impl<Q: Quorums> OpenCalls<Q> {
         merged: &ConfigMap<Q>,
         me: Name,
     )
-        ensures { IsRoomy map.now self.old → calls_of self.new ≡ list_map (heard_call heard from map.now number merged.now me) (calls_of self.old) }
+        requires { IsRoomy map.now self.old }
+        ensures { calls_of self.new ≡ list_map (heard_call heard from map.now number merged.now me) (calls_of self.old) }
     {
         hear(
             self.list.as_mut_slice(),
@@ -264,6 +267,7 @@ fn any_gap<Q: Quorums>(calls: &[OpenCall<Q>], heard: u64, map: &ConfigMap<Q>) ->
 fn make_room<Q: Quorums>(calls: &mut [OpenCall<Q>], map: &ConfigMap<Q>) -> Result<(), Refusal>
     ensures same { calls_of calls.new ≡ calls_of calls.old }
     ensures ok { OnOk result (IsRoomy map.now calls.new) }
+    ensures succeeds { IsRoomy map.now calls.old → IsOk result }
     ensures refused { IfErr result (λ r. r ≡ Refusal.OutOfMemory) }
 {
     for call in calls.iter_mut() {
@@ -283,7 +287,8 @@ fn hear<Q: Quorums>(
     merged: &ConfigMap<Q>,
     me: Name,
 )
-    ensures { IsRoomy map.now calls.old → calls_of calls.new ≡ list_map (heard_call heard from map.now number merged.now me) (calls_of calls.old) }
+    requires { IsRoomy map.now calls.old }
+    ensures { calls_of calls.new ≡ list_map (heard_call heard from map.now number merged.now me) (calls_of calls.old) }
 {
     for call in calls.iter_mut() {
         call.hear(from, heard, map, number, merged, me);

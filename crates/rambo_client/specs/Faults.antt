@@ -1,5 +1,6 @@
 -- Faults, and which calls of the streams failed before them
-use Rattle.std.specs.Prelude.{ℕ}
+use Rattle.std.specs.Prelude.{ℕ, List}
+use Rattle.rambo_atomic.specs.StreamFaults.{words_of}
 use Rattle.rambo_atomic.specs.Streams.{counted}
 use Rattle.rambo_atomic.specs.declared.whole.StreamFault.{StreamFault}
 use Rattle.rambo_atomic.specs.declared.whole.StreamFault.TheVariants as stream
@@ -18,6 +19,13 @@ writes_failed Read n = n
 writes_failed Write n = counted n
 writes_failed Memory n = n
 
+-- how a fault is told
+abbrev pub told : LocalFault → List ℕ
+told Read = words_of stream.Read
+told Write = words_of stream.Write
+told Memory = words_of stream.Memory
+
+-- the same fault of a stream
 abbrev pub of_stream : StreamFault → LocalFault
 of_stream stream.Read = Read
 of_stream stream.Write = Write

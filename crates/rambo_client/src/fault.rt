@@ -4,21 +4,36 @@ ghost use Rattle.std.specs.Prelude.{◌≡◌};
 use rambo_atomic::StreamFault;
 use rambo_names::Refusal;
 use std::alloc::AllocError;
-use thiserror::Error;
+use std::error::Error;
+use std::fmt;
 
 /// Why a client wasn't served to the end of its commands.
-#[derive(Clone, Copy, PartialEq, Eq, Debug, Error)]
+#[derive(Clone, Copy, PartialEq, Eq, Debug)]
 pub enum LocalFault {
     /// The source failed.
-    #[error("fault read")]
     Read,
     /// The sink failed.
-    #[error("fault write")]
     Write,
     /// There is no room for what is to be kept.
-    #[error("fault memory")]
     Memory,
 }
+
+impl fmt::Display for LocalFault {
+    ghost use Rattle.std.specs.Prelude.{Some};
+    ghost use Rattle.rambo_client.specs.Faults.{told};
+
+    ghost output = { λ f. Some (told f) };
+
+    fn fmt<W: fmt::Write>(&self, f: &mut fmt::Formatter<W>) -> fmt::Result {
+        f.write_str(match self {
+            LocalFault::Read => StreamFault::Read.words(),
+            LocalFault::Write => StreamFault::Write.words(),
+            LocalFault::Memory => StreamFault::Memory.words(),
+        })
+    }
+}
+
+impl Error for LocalFault {}
 
 impl From<StreamFault> for LocalFault {
     ghost use Rattle.rambo_client.specs.Faults.{of_stream};

@@ -1,10 +1,10 @@
 //! What a client has the nodes do.
 
-use crate::bell::Bell;
 use crate::hub::Hub;
 use rambo_atomic::{Answer, CallId, Op};
 use rambo_names::{Name, Refusal, Weighted};
 use rambo_post::{Gate, Pass, Terms};
+use rambo_rooms::Bell;
 use rambo_run::Step;
 use std::sync::Wait;
 use std::time::Clock;

@@ -1,12 +1,10 @@
 //! What all threads of a server share.
 ghost use Rattle.std.specs.Prelude.{◌≡◌, vec_len, IfOk, IfErr};
 
-use crate::bell::Bell;
-use crate::doors::Doors;
 use crate::fault::ServeFault;
-use crate::rooms::Rooms;
 use rambo_names::{Name, Weighted};
 use rambo_post::{Post, Terms};
+use rambo_rooms::{Bell, Doors, Rooms};
 use rambo_tag::Registers;
 use std::alloc::Global;
 use std::hash::RandomState;
@@ -44,7 +42,7 @@ impl<J: Terms<Weighted>> Hub<J> {
     ) -> Result<Hub<J>, ServeFault>
         ensures first { IfOk result (λ h. h.first ≡ first) }
         ensures bells { IfOk result (λ h. vec_len h.bells ≡ clients) }
-        ensures doors { IfOk result (λ h. vec_len h.doors.streams ≡ clients) }
+        ensures doors { IfOk result (λ h. h.doors ≡ clients) }
         ensures fault { IfErr result (λ f. f ≡ ServeFault.Memory) }
     {
         let mut bells = Vec::new(alloc);

@@ -5,15 +5,11 @@
 //! - `ServeFault`: why nothing was served.
 #![tactic(auto)]
 
-mod bell;
+mod client;
 mod clients;
-mod connection;
-mod doors;
 mod fault;
 mod hub;
 mod options;
-mod quorums;
-mod rooms;
 mod serving;
 mod visits;
 mod workers;

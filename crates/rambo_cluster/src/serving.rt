@@ -1,16 +1,19 @@
 //! Serving clients over sockets.
-ghost use Rattle.std.specs.Prelude.{◌≡◌, ◌≤◌, [], Some, length, slice_get, vec_len, IfOk, IfErr, All};
+ghost use Rattle.std.specs.Prelude.{◌≡◌, ◌≤◌, [], Some, length, slice_get, vec_len, IfOk, IfErr, IfSome, All};
 ghost use mathlib.Core.List.{IsPrefix};
 ghost use Rattle.rambo_names.specs.Names.{names};
 ghost use Rattle.rambo_names.specs.Weights.{members_of, weighted_majorities};
+ghost use Rattle.rambo_atomic.specs.Proper.{IsProperForAll};
 ghost use Rattle.rambo_run.specs.Legal.{IsLegal};
+ghost use Rattle.rambo_run.specs.Runs.{run, given_order};
 
-use crate::connection::{Flow, Session};
+use crate::client::Client;
 use crate::fault::ServeFault;
 use crate::hub::{Copies, Hub};
 use crate::options::Options;
 use crossbeam_channel::{Receiver, Sender, bounded};
 use rambo_atomic::Wrapped;
+use rambo_connection::{Flow, Session};
 use rambo_names::{Name, Quorums, Refusal, Weighted};
 use rambo_post::{Actor, Closed, Gate, Pass, Post, Terms};
 use rambo_roll::Opened;
@@ -35,7 +38,8 @@ const TRIES: u64 = 1000;
 
 /// Serves clients over the sockets of a listener until one asks for the end, and gives all steps: each in its turn was not
 /// refused, and there are as many as the options allow at most. The founders have members, there is room for 1 to 32
-/// clients, and for 1 to 1,000,000 steps.
+/// clients, and for 1 to 1,000,000 steps. And one order of the calls of all keys, which explains their answers together; it is
+/// None where there is no room for it.
 ///
 /// A socket that fails ends its own connection alone. `Socket` where the listener has no address or the system gives no
 /// random numbers, `Memory` where there is no room for the nodes or a thread; then nobody was served.
@@ -55,6 +59,8 @@ where
         + Sync,
     ensures legal { IfOk result (λ c. IsLegal weighted_majorities options.now.founders c.steps.items) }
     ensures fits { IfOk result (λ c. length c.steps.items ≤ options.now.steps) }
+    ensures order { IfOk result (λ c. IfSome c.order (λ o. o.items ≡ given_order (run weighted_majorities options.now.founders c.steps.items))) }
+    ensures explained { IfOk result (λ c. IfSome c.order (λ o. IsProperForAll (run weighted_majorities options.now.founders c.steps.items).history o.items)) }
 {
     let opened = Opened::new(alloc)?;
     serve_as::<Brand, G, R>(
@@ -91,6 +97,8 @@ where
     requires capacity { steps ≡ J.capacity }
     ensures legal { IfOk result (λ c. IsLegal weighted_majorities founders c.steps.items) }
     ensures fits { IfOk result (λ c. length c.steps.items ≤ steps) }
+    ensures order { IfOk result (λ c. IfSome c.order (λ o. o.items ≡ given_order (run weighted_majorities founders c.steps.items))) }
+    ensures explained { IfOk result (λ c. IfSome c.order (λ o. IsProperForAll (run weighted_majorities founders c.steps.items).history o.items)) }
 {
     let own = listener.local_addr()?;
     let (to, from) = bounded(alloc, WAITING)?;
@@ -118,7 +126,7 @@ fn set_up<J: Terms<Weighted>, R: Wait>(
     requires capacity { steps ≡ J.capacity }
     ensures first { IfOk result (λ s. slice_get (names (members_of founders)) 0 ≡ Some s.0.first) }
     ensures bells { IfOk result (λ s. vec_len s.0.bells ≡ options.now.clients) }
-    ensures doors { IfOk result (λ s. vec_len s.0.doors.streams ≡ options.now.clients) }
+    ensures doors { IfOk result (λ s. s.0.doors ≡ options.now.clients) }
     ensures passes { IfOk result (λ s. vec_len s.1 ≡ options.now.clients) }
     ensures fresh { IfOk result (λ s. All (λ p. p ≡ record { seen = []; mine = [] }) s.1.items) }
     ensures fault { IfErr result (λ f. f ≡ ServeFault.Memory) }
@@ -166,6 +174,8 @@ fn end<J: Terms<Weighted>>(
     ensures legal { IsLegal weighted_majorities founders result.steps.items }
     ensures fits { length result.steps.items ≤ J.capacity }
     ensures begins { All (λ p. IsPrefix p.seen result.steps.items) passes.items }
+    ensures order { IfSome result.order (λ o. o.items ≡ given_order (run weighted_majorities founders result.steps.items)) }
+    ensures explained { IfSome result.order (λ o. IsProperForAll (run weighted_majorities founders result.steps.items).history o.items) }
 {
     let Hub { post, .. } = hub;
     post.close(passes)
@@ -276,16 +286,13 @@ where
         let Ok(stream) = streams.recv(rt) else {
             return;
         };
-        let mut session = Session {
-            rt,
+        let mut client = Client {
             gate,
-            alloc,
             hub,
             pass: &mut *pass,
             place,
-            name: hub.first,
         };
-        if serve_stream(&mut session, &stream) == Flow::EndsAll {
+        if serve_stream(rt, alloc, &mut client, &stream) == Flow::EndsAll {
             hub.close(rt);
             wake_acceptor(rt, own);
         }
@@ -294,20 +301,29 @@ where
 
 // Serves one connection, unless the server ends.
 fn serve_stream<J: Terms<Weighted>, G: Gate, R: Wait + Clock>(
-    session: &mut Session<'_, J, G, R>,
+    rt: &R,
+    alloc: Global,
+    client: &mut Client<'_, J, G>,
     stream: &TcpStream,
 ) -> Flow {
     let Ok(door) = stream.try_clone() else {
         return Flow::Ends;
     };
     let _ = stream.set_nodelay(true);
-    let hub = session.hub;
-    hub.doors.put(session.rt, session.place, Some(door));
+    let hub = client.hub;
+    let place = client.place;
+    hub.doors.put(rt, place, Some(door));
     let flow = if hub.is_closing() {
         Flow::Ends
     } else {
+        let mut session = Session {
+            rt,
+            alloc,
+            service: client,
+            name: hub.first,
+        };
         session.talk(&mut Wrapped::new(stream), &mut Wrapped::new(stream))
     };
-    hub.doors.put(session.rt, session.place, None);
+    hub.doors.put(rt, place, None);
     flow
 }

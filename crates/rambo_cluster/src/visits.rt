@@ -1,11 +1,10 @@
 //! What a thread does at the nodes.
 
 use crate::hub::Hub;
-use crate::quorums::quorum_behind;
-use crate::rooms::bit;
 use rambo_desk::Asks;
 use rambo_names::{Members, Name, Refusal, Weighted};
 use rambo_post::{Gate, Terms, Turn};
+use rambo_rooms::{bit, quorum_behind};
 use rambo_run::Step;
 use std::sync::Wait;
 use std::sync::atomic::Ordering;

@@ -1,5 +1,5 @@
 -- Keys and their numbers
-use Rattle.std.proofs.Common.{◌≡◌, ◌⊎◌, ℕ, zero, suc, ◌+◌, ◌<◌, ◌^◌, false, cond, List, [], ◌∷◌, ◌++◌, map, length, nat_eq, None, Some, is_some, sym, ap, ◌∙◌, true≢false, inl, inr, arith}
+use Rattle.std.proofs.Common.{◌≡◌, ◌⊎◌, ℕ, zero, suc, ◌+◌, ◌<◌, false, cond, List, [], ◌∷◌, ◌++◌, map, length, nat_eq, None, Some, is_some, sym, ap, ◌∙◌, true≢false, inl, inr, arith}
 use Rattle.std.specs.Prelude.{slice_index_or, slice_get}
 use Rattle.std.specs.List.{IsDistinct, range_with_len}
 use Rattle.std.specs.Map.{keys_of, lookup}
@@ -103,9 +103,8 @@ module _ (es fs : List (List ℕ × ℕ)) (key : List ℕ) (h : AreNumbers es) (
         | inr old ↦ sym ((h.known _ _ old).1)
       ]
 
-  pub AreNumbers-put : length es + 1 < 2 ^ 32 → AreNumbers fs
-  AreNumbers-put few = record {
-    few = omega (arith, few, count);
+  pub AreNumbers-put : AreNumbers fs
+  AreNumbers-put = record {
     known = λ q n stands. elim (either q n stands) [
       | inl its ↦ let its_number = its.1 in (omega (arith, its_number, count), ap (key_of fs) its.1 ∙ new_key ∙ its.0)
       | inr old ↦ let was = h.known q n old in let below = was.0 in (omega (arith, below, count), kept n was.0 ∙ was.1)

@@ -1,5 +1,5 @@
 -- What holds of the stored logs, as keys, hints and copies are put and logged
-use Rattle.std.proofs.Common.{◌≡◌, ◌≢◌, ℕ, ◌+◌, ◌-◌, ◌<◌, ◌≤◌, ◌^◌, cond, List, [], ◌∷◌, ◌++◌, length, map, replicate, Some, None, Vec, get_or, set, refl, sym, ap, subst, ◌∙◌, append-nil, append_assoc, inl, inr, zero, suc, arith}
+use Rattle.std.proofs.Common.{◌≡◌, ◌≢◌, ℕ, ◌+◌, ◌-◌, ◌<◌, ◌≤◌, cond, List, [], ◌∷◌, ◌++◌, length, map, replicate, Some, None, Vec, get_or, set, refl, sym, ap, subst, ◌∙◌, append-nil, append_assoc, inl, inr, zero, suc, arith}
 use Rattle.std.specs.Prelude.{All, slice_index_or}
 use Rattle.std.specs.declared.alloc.Global.{Global}
 use Rattle.std.specs.FinMap.{get, get-empty}
@@ -47,17 +47,14 @@ module _ (puts : List KeyedVersion) (c : KeyedVersion) (keys : List (List ℕ)) 
         (sym (copies_of-put puts c es (All-weaker (IsEntry puts keys hints) (λ e. e.place < length puts) (λ e h. h.within.place) es log.entries)));
   }
 
-  pub AreStored-put : (logs : List (List Entry)) → length puts + 1 < 2 ^ 32 → AreStored puts keys hints logs → AreStored (puts ++ c ∷ []) keys hints logs
-  AreStored-put logs few s =
-      let more = length_push puts c in
-      record {
-        few = omega (arith, few, more);
-        nodes = s.nodes;
-        distinct = s.distinct;
-        rows = s.rows;
-        told = AreHints-put puts c hints s.told;
-        each = λ node below. IsLog-put node (slice_index_or logs node []) s.told (s.each node below);
-      }
+  pub AreStored-put : (logs : List (List Entry)) → AreStored puts keys hints logs → AreStored (puts ++ c ∷ []) keys hints logs
+  AreStored-put logs s = record {
+    nodes = s.nodes;
+    distinct = s.distinct;
+    rows = s.rows;
+    told = AreHints-put puts c hints s.told;
+    each = λ node below. IsLog-put node (slice_index_or logs node []) s.told (s.each node below);
+  }
 
 -- more keys have numbers
 module _ (puts : List KeyedVersion) (keys more : List (List ℕ)) (hints : List ℕ) where
@@ -98,7 +95,6 @@ module _ (puts : List KeyedVersion) (keys more : List (List ℕ)) (hints : List 
       let longer = length-append keys more in
       let rows = s.rows in
       record {
-        few = s.few;
         nodes = s.nodes;
         distinct = distinct;
         rows = omega (arith, rows, longer);
@@ -116,7 +112,6 @@ module _ (puts : List KeyedVersion) (keys : List (List ℕ)) (hints : List ℕ) 
 
   pub AreStored-zeros : (logs : List (List Entry)) → length (hints ++ replicate n 0) ≤ hint_place (length keys) 0 → AreStored puts keys hints logs → AreStored puts keys (hints ++ replicate n 0) logs
   AreStored-zeros logs rows s = record {
-    few = s.few;
     nodes = s.nodes;
     distinct = s.distinct;
     rows = rows;
@@ -175,7 +170,6 @@ module _ (puts : List KeyedVersion) (keys : List (List ℕ)) (hints : List ℕ) 
       let rows = s.rows in
       let within : node < length logs = omega (arith, below, nodes) in
       record {
-        few = s.few;
         nodes = length-set logs node (es ++ e ∷ []) ∙ nodes;
         distinct = s.distinct;
         rows = omega (arith, rows, same);
@@ -284,13 +278,13 @@ module _ (puts : List KeyedVersion) (c : KeyedVersion) (keys : List (List ℕ)) 
       let more = length_push puts c in
       record { within = record { place = omega (arith, place, more); row = row }; number = known; key = key ∙ ap (λ x. x.key) (sym its_copy) }
 
-  pub stored_put : (all : List KeyedVersion) (after : List ℕ) (node : ℕ) → node < 64 → length puts + 1 < 2 ^ 32 → all ≡ puts ++ c ∷ []
+  pub stored_put : (all : List KeyedVersion) (after : List ℕ) (node : ℕ) → node < 64 → all ≡ puts ++ c ∷ []
       → e.number < length keys → slice_index_or keys e.number [] ≡ c.key → hint_place e.number 64 ≤ length hints
       → log ≡ get_or logs node log → next.items ≡ log.items ++ e ∷ [] → after ≡ raised all node hints e
       → AreStored all keys after (entries_of (set logs node next))
-  stored_put all after node below few put known key row read grows raises =
+  stored_put all after node below put known key row read grows raises =
       subst (λ p. AreStored p keys after (entries_of (set logs node next))) (sym put)
-      (stored_logged (puts ++ c ∷ []) logs log next (e ∷ []) keys hints after node (AreStored-put puts c keys hints (entries_of logs) few s) below
+      (stored_logged (puts ++ c ∷ []) logs log next (e ∷ []) keys hints after node (AreStored-put puts c keys hints (entries_of logs) s) below
       (All-cons (IsEntry (puts ++ c ∷ []) keys hints) e [] (its_entry known key row) (All-nil (IsEntry (puts ++ c ∷ []) keys hints)))
       read grows (raises ∙ ap (λ p. raised p node hints e) put))
 
@@ -316,7 +310,6 @@ stored_first_of : (logs : List (List Entry)) → logs ≡ replicate 64 [] → Ar
 stored_first_of logs is =
     let none : (node : ℕ) → node < 64 → slice_index_or logs node [] ≡ [] = λ node below. ap (λ (l : List (List Entry)). slice_index_or l node []) is ∙ get_or-replicate 64 node [] [] below in
     record {
-      few = omega arith;
       nodes = ap length is ∙ length-replicate {A = List Entry} 64 [];
       distinct = λ i j h k same. absurd (omega (arith, h));
       rows = omega arith;

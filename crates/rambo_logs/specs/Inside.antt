@@ -1,5 +1,5 @@
 -- What is seen of the logs as they are stored, and what holds of them
-use Rattle.std.specs.Prelude.{◌≡◌, ℕ, ◌+◌, ◌-◌, ◌<◌, ◌≤◌, ◌^◌, List, [], map, length, Option, None, Some, All, Vec, slice_index_or}
+use Rattle.std.specs.Prelude.{◌≡◌, ℕ, ◌+◌, ◌-◌, ◌<◌, ◌≤◌, List, [], map, length, Option, None, Some, All, Vec, slice_index_or}
 use Rattle.std.specs.declared.alloc.Global.{Global}
 use Rattle.std.specs.Vec.{vec_len, vec_capacity}
 use Rattle.rambo_tag.specs.Logs.{greatest_of}
@@ -30,7 +30,6 @@ seen l = record {
 -- there is room for a copy of the key of this number in the log of a name
 pub record HasRoom (l : Inside) (name number : ℕ) : Type 0 where
   pub put : vec_len l.puts < vec_capacity l.puts
-  pub few : length l.puts.items + 1 < 2 ^ 32
   pub known : number < length l.keys
   pub row : hint_place number 64 ≤ length l.hints.items
   pub log : (d : Vec Entry Global) → vec_len (slice_index_or l.logs.items (name - 1) d) < vec_capacity (slice_index_or l.logs.items (name - 1) d)

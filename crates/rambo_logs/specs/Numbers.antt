@@ -1,5 +1,5 @@
 -- Lists that grow at their ends, and keys by their numbers
-use Rattle.std.specs.Prelude.{◌≡◌, ℕ, ◌<◌, ◌^◌, List, [], ◌∷◌, ◌++◌, map, length, nat_eq, if◌then◌else◌, Some}
+use Rattle.std.specs.Prelude.{◌≡◌, ℕ, ◌<◌, List, [], ◌∷◌, ◌++◌, map, length, nat_eq, if◌then◌else◌, Some}
 use Rattle.std.specs.List.{range_with_len}
 use Rattle.std.specs.Map.{lookup}
 use Rattle.std.specs.Str.{bytes_eq}
@@ -19,6 +19,5 @@ by_number es = map (key_of es) (range_with_len 0 (length es))
 
 -- the numbers are those below the number of keys, and each is that of one key
 pub record AreNumbers (es : List (List ℕ × ℕ)) : Type 0 where
-  pub few : length es < 2 ^ 32
   pub known : (key : List ℕ) (n : ℕ) → lookup (bytes_eq key) es ≡ Some n → (n < length es) × (key_of es n ≡ key)
   pub each : (n : ℕ) → n < length es → lookup (bytes_eq (key_of es n)) es ≡ Some n

@@ -1,5 +1,5 @@
 -- How the logs are stored: each copy once, entries that tell its place, and of each key and node a hint
-use Rattle.std.specs.Prelude.{◌≡◌, ℕ, zero, suc, ◌+◌, ◌*◌, ◌<◌, ◌≤◌, ◌^◌, Bool, if◌then◌else◌, List, [], ◌∷◌, map, length, Option, None, Some, All, Vec, slice_index, slice_index_or, slice_set}
+use Rattle.std.specs.Prelude.{◌≡◌, ℕ, zero, suc, ◌+◌, ◌*◌, ◌<◌, ◌≤◌, Bool, if◌then◌else◌, List, [], ◌∷◌, map, length, Option, None, Some, All, Vec, slice_index, slice_index_or, slice_set}
 use Rattle.std.specs.declared.alloc.Global.{Global}
 use Rattle.std.specs.FinMap.{get}
 use Rattle.rambo_tag.specs.declared.keyed_version.KeyedVersion.{KeyedVersion}
@@ -73,7 +73,6 @@ pub record IsLog (puts : List KeyedVersion) (keys : List (List ℕ)) (hints : Li
 
 -- what holds of the logs at any time
 pub record AreStored (puts : List KeyedVersion) (keys : List (List ℕ)) (hints : List ℕ) (logs : List (List Entry)) : Type 0 where
-  pub few : length puts < 2 ^ 32
   pub nodes : length logs ≡ 64
   pub distinct : AreDistinct keys
   pub rows : length hints ≤ hint_place (length keys) 0

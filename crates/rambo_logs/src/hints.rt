@@ -23,7 +23,7 @@ pub(crate) fn place_of(name: Name) -> usize
 }
 
 // Whether the node at a place lacks a copy: its hint of the key tells of none, or of a lesser one.
-pub(crate) fn is_lacked(puts: &[KeyedVersion], hints: &[u32], node: usize, entry: &Entry) -> bool
+pub(crate) fn is_lacked(puts: &[KeyedVersion], hints: &[usize], node: usize, entry: &Entry) -> bool
     requires node { node < 64 }
     requires within { IsWithin puts.now hints.now entry.now }
     requires hints { AreHints puts.now hints.now }
@@ -36,16 +36,15 @@ pub(crate) fn is_lacked(puts: &[KeyedVersion], hints: &[u32], node: usize, entry
     if hint - 1 == entry.place {
         return false;
     }
-    let greatest = &puts[(hint - 1) as usize].version;
-    greatest.is_before(&puts[entry.place as usize].version)
+    let greatest = &puts[hint - 1].version;
+    greatest.is_before(&puts[entry.place].version)
 }
 
 // A copy was logged by the node at a place.
-pub(crate) fn raise(hints: &mut Vec<u32>, puts: &[KeyedVersion], node: usize, entry: &Entry)
+pub(crate) fn raise(hints: &mut Vec<usize>, puts: &[KeyedVersion], node: usize, entry: &Entry)
     requires node { node < 64 }
     requires within { IsWithin puts.now hints.old.items entry.now }
     requires hints { AreHints puts.now hints.old.items }
-    requires few { length puts.now < 2 ^ 32 }
     ensures hints { hints.new.items ≡ raised puts.now node hints.old.items entry.now }
 {
     if is_lacked(puts, hints.as_slice(), node, entry) {
@@ -54,23 +53,25 @@ pub(crate) fn raise(hints: &mut Vec<u32>, puts: &[KeyedVersion], node: usize, en
 }
 
 // Makes the rows up to that of a key's number, where there are fewer. New hints are 0.
-pub(crate) fn make_rows(hints: &mut Vec<u32>, number: u32) -> Result<(), Refusal>
+pub(crate) fn make_rows(hints: &mut Vec<usize>, number: usize) -> Result<(), Refusal>
     ensures grows { hints.new.items ≡ hints.old.items ++ replicate (length hints.new.items - length hints.old.items) 0 }
     ensures row { OnOk result (hint_place number NODES ≤ length hints.new.items) }
     ensures rows { length hints.new.items ≤ max (length hints.old.items) (hint_place number NODES) }
     ensures refused { IfErr result (λ r. r ≡ Refusal.OutOfMemory) }
 {
-    let rows = (number as usize + 1) * NODES;
-    if hints.len() < rows {
-        hints.resize(rows, 0)?;
+    // (hints of which a number can't tell how many there are have no room in any memory)
+    let end = number.saturating_add(1).saturating_mul(NODES);
+    if hints.len() < end {
+        hints.resize(end, 0)?;
     }
     Ok(())
 }
 
 // Where the hint of an entry's key stands.
 fn hint_place(node: usize, entry: &Entry) -> usize
-    requires { node < 64 }
+    requires node { node < 64 }
+    requires row { hint_place entry.now.number 64 < 2 ^ 64 }
     ensures { result ≡ hint_place entry.now.number node }
 {
-    entry.number as usize * NODES + node
+    entry.number * NODES + node
 }

@@ -11,7 +11,7 @@ use std::marker::Model;
 // Keys, numbered from 0 on as they came. Seen as the list of them.
 #[derive(Drop)]
 pub(crate) struct KeyNumbers {
-    numbers: HashMap<Bytes, u32>,
+    numbers: HashMap<Bytes, usize>,
 }
 
 impl Model for KeyNumbers {
@@ -36,8 +36,8 @@ impl KeyNumbers {
 
     // The number of a key, which gets the next one if it has none yet.
     //
-    // `OutOfMemory` where there is no room for it, or all numbers are given.
-    pub(crate) fn number_of(&mut self, key: &Bytes) -> Result<u32, Refusal>
+    // `OutOfMemory` where there is no room for it.
+    pub(crate) fn number_of(&mut self, key: &Bytes) -> Result<usize, Refusal>
         ensures known { IfOk result (λ n. n < length self.new) }
         ensures number { IfOk result (λ n. slice_index_or self.new n [] ≡ key.now) }
         ensures grows { Extends self.old self.new }
@@ -47,11 +47,7 @@ impl KeyNumbers {
         if let Some(number) = self.numbers.get(key) {
             return Ok(*number);
         }
-        let count = self.numbers.len();
-        if count >= u32::MAX as usize {
-            return Err(Refusal::OutOfMemory);
-        }
-        let number = count as u32;
+        let number = self.numbers.len();
         self.numbers.insert(key.clone()?, number)?;
         Ok(number)
     }

@@ -1,5 +1,5 @@
 //! What a node lacks of a part of a log.
-ghost use Rattle.std.specs.Prelude.{◌≡◌, ◌<◌, ◌≤◌, ◌++◌, ◌∷◌, ◌^◌, ◌+◌, [], filter, length, take, drop, All, IsOk, IfErr, OnOk};
+ghost use Rattle.std.specs.Prelude.{◌≡◌, ◌<◌, ◌≤◌, ◌++◌, ◌∷◌, ◌+◌, [], filter, length, take, drop, All, IsOk, IfErr, OnOk};
 ghost use Rattle.std.specs.Vec.{vec_len, vec_capacity};
 ghost use Rattle.rambo_tag.specs.Logs.{greatest_of};
 ghost use Rattle.rambo_logs.specs.Stored.{copies_of, is_lacked, raised, all_raised, IsWithin, AreHints};
@@ -14,7 +14,7 @@ use std::mem;
 pub(crate) fn list_lacked(
     lacked: &mut Vec<Entry>,
     puts: &[KeyedVersion],
-    hints: &[u32],
+    hints: &[usize],
     node: usize,
     entries: &[Entry],
 ) -> Result<(), Refusal>
@@ -71,7 +71,7 @@ fn list_copies(
     ensures refused { IfErr result (λ r. r ≡ Refusal.OutOfMemory) }
 {
     for entry in entries {
-        copies.push(puts[entry.place as usize].clone()?)?;
+        copies.push(puts[entry.place].clone()?)?;
     }
     Ok(())
 }
@@ -79,14 +79,13 @@ fn list_copies(
 // Puts an entry at the end of the log of the node at a place, which has room for it.
 pub(crate) fn log_entry(
     log: &mut Vec<Entry>,
-    hints: &mut Vec<u32>,
+    hints: &mut Vec<usize>,
     puts: &[KeyedVersion],
     node: usize,
     entry: Entry,
 )
     requires room { vec_len log.old < vec_capacity log.old }
     requires node { node < 64 }
-    requires few { length puts.now < 2 ^ 32 }
     requires within { IsWithin puts.now hints.old.items entry }
     requires hints { AreHints puts.now hints.old.items }
     ensures log { log.new.items ≡ log.old.items ++ entry ∷ [] }
@@ -101,14 +100,13 @@ pub(crate) fn log_entry(
 // Puts entries at the end of the log of the node at a place, which has room for them.
 pub(crate) fn log_entries(
     log: &mut Vec<Entry>,
-    hints: &mut Vec<u32>,
+    hints: &mut Vec<usize>,
     puts: &[KeyedVersion],
     node: usize,
     entries: &[Entry],
 )
     requires room { vec_len log.old + length entries.now ≤ vec_capacity log.old }
     requires node { node < 64 }
-    requires few { length puts.now < 2 ^ 32 }
     requires within { All (IsWithin puts.now hints.old.items) entries.now }
     requires hints { AreHints puts.now hints.old.items }
     ensures log { log.new.items ≡ log.old.items ++ entries.now }

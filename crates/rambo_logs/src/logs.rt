@@ -25,7 +25,7 @@ pub struct Logs {
     puts: Vec<KeyedVersion>,
     keys: KeyNumbers,
     // A row of 64 for each key's number, and none for a key that was never put.
-    hints: Vec<u32>,
+    hints: Vec<usize>,
     logs: Vec<Vec<Entry>>,
     // What was brought last, and its copies.
     lacked: Vec<Entry>,
@@ -101,9 +101,6 @@ impl Logs {
         ensures refused { IfErr result (λ r. r ≡ Refusal.OutOfMemory) }
     {
         self.pending = Pending::Nothing;
-        if self.puts.len() >= u32::MAX as usize {
-            return Err(Refusal::OutOfMemory);
-        }
         let number = self.keys.number_of(key)?;
         make_rows(&mut self.hints, number)?;
         self.puts.reserve(1)?;
@@ -123,7 +120,7 @@ impl Logs {
         };
         self.pending = Pending::Nothing;
         let entry = Entry {
-            place: self.puts.len() as u32,
+            place: self.puts.len(),
             number,
         };
         self.puts.push_reserved(copy);

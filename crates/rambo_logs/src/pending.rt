@@ -7,7 +7,7 @@ use rambo_names::Name;
 pub(crate) enum Pending {
     Nothing,
     // One copy of the key of this number, in the log of a node.
-    Put(Name, u32),
+    Put(Name, usize),
     // The copies that a node lacks, in its log.
     TakeOn(Name),
 }

@@ -4,7 +4,7 @@ ghost use Rattle.std.specs.FinMap as map;
 ghost use Rattle.std.specs.Option.{option_copied};
 ghost use Rattle.rambo_atomic.specs.declared.operation.Op.TheVariants as asked;
 ghost use Rattle.rambo_tag.specs.Tags.{tag_of};
-ghost use Rattle.rambo_node.specs.Changes.{refusal_of, made_by, advanced};
+ghost use Rattle.rambo_node.specs.Changes.{refusal_of, made_by, advanced, quiet_deed};
 ghost use Rattle.rambo_node.specs.Kept.{move_deed, propagation_begun};
 ghost use Rattle.rambo_node.specs.Nodes.{open_call};
 ghost use Rattle.rambo_calls.specs.Calls.{place_of, query_in, is_missing};
@@ -12,7 +12,7 @@ ghost use Rattle.rambo_node.specs.Operations.{new_copy};
 ghost use Rattle.rambo_node.specs.Refusals.{is_last, query_spent, tags_spent};
 ghost use Rattle.rambo_node.specs.declared.change.Change.TheVariants as change;
 
-use crate::deed::{Deed, answered, clone_of};
+use crate::deed::{Deed, clone_of, tell_answered};
 use crate::effect::Effect;
 use crate::node::Node;
 use rambo_atomic::{CallId, Event, Op};
@@ -83,79 +83,87 @@ impl<Q: Quorums, S: Replica> Node<Q, S> {
         self.calls.restart(place, self.number, &self.map, self.name);
     }
 
-    /// A call that isn't refused goes on: what `act` does of an advance. The answer is what it did.
+    /// A call that isn't refused goes on: what `act` does of an advance. What it did is told in this deed, which told of
+    /// nothing before: so a large deed is written where its owner has it, and isn't handed on from one to another.
     ///
-    /// `OutOfMemory` where there is no room for what is new; the node is then as it was.
-    // (a deed is large: it is moved wherever one of these isn't inlined)
-    #[inline(always)]
+    /// `OutOfMemory` where there is no room for what is new; the node and the deed are then as they were.
     #[tactic(auto, unfolding(crate::specs::Changes::made_by))]
-    pub fn go_on(&mut self, id: CallId) -> Result<Deed<Q>, Refusal>
-        requires { refusal_of Q.system self.old (change.Advance id) ≡ None }
+    pub fn go_on(&mut self, id: CallId, deed: &mut Deed<Q>) -> Result<(), Refusal>
+        requires accepted { refusal_of Q.system self.old (change.Advance id) ≡ None }
+        requires quiet { deed.old ≡ quiet_deed }
         ensures node { OnOk result (self.new ≡ (made_by self.old (change.Advance id)).node) }
-        ensures deed { IfOk result (λ d. d ≡ (made_by self.old (change.Advance id)).deed) }
+        ensures deed { OnOk result (deed.new ≡ (made_by self.old (change.Advance id)).deed) }
         ensures refused { IfErr result (λ r. r ≡ Refusal.OutOfMemory) }
-        ensures err { OnErr result (self.new ≡ self.old) }
+        ensures err { OnErr result ((self.new ≡ self.old) × (deed.new ≡ deed.old)) }
     {
         let place = self.place_of(&id);
         let asked = match self.query_at(place) {
             Some(op) => op.clone()?,
-            None => return self.close(id, place),
+            None => return self.close(id, place, deed),
         };
-        self.answer_query(id, place, asked)
+        self.answer_query(id, place, asked, deed)
     }
 
     // A met propagation at this place is answered.
-    #[inline(always)]
-    fn close(&mut self, id: CallId, place: usize) -> Result<Deed<Q>, Refusal>
+    fn close(&mut self, id: CallId, place: usize, deed: &mut Deed<Q>) -> Result<(), Refusal>
         requires open { is_missing (open_call self.old id) ≡ false }
         requires told { query_in (open_call self.old id) ≡ None }
         requires place { place ≡ place_of id.number self.old.calls }
+        requires quiet { deed.old ≡ quiet_deed }
         ensures node { OnOk result (self.new ≡ (advanced self.old id (open_call self.old id)).node) }
-        ensures deed { IfOk result (λ d. d ≡ (advanced self.old id (open_call self.old id)).deed) }
+        ensures deed { OnOk result (deed.new ≡ (advanced self.old id (open_call self.old id)).deed) }
         ensures refused { IfErr result (λ r. r ≡ Refusal.OutOfMemory) }
-        ensures err { OnErr result (self.new ≡ self.old) }
+        ensures err { OnErr result ((self.new ≡ self.old) × (deed.new ≡ deed.old)) }
     {
-        let deed = answered(id, self.calls.get(place))?;
+        tell_answered(deed, id, self.calls.get(place))?;
         self.calls.close(place);
-        Ok(deed)
+        Ok(())
     }
 
     // A query at this place that asked for this is answered, and its propagation begins.
-    #[inline(always)]
-    fn answer_query(&mut self, id: CallId, place: usize, asked: Op) -> Result<Deed<Q>, Refusal>
+    fn answer_query(
+        &mut self,
+        id: CallId,
+        place: usize,
+        asked: Op,
+        deed: &mut Deed<Q>,
+    ) -> Result<(), Refusal>
         requires asked { query_in (open_call self.old id) ≡ Some asked }
         requires place { place ≡ place_of id.number self.old.calls }
         requires next { query_spent self.old (Some asked) ≡ false }
+        requires quiet { deed.old ≡ quiet_deed }
         ensures node { OnOk result (self.new ≡ (advanced self.old id (open_call self.old id)).node) }
-        ensures deed { IfOk result (λ d. d ≡ (advanced self.old id (open_call self.old id)).deed) }
+        ensures deed { OnOk result (deed.new ≡ (advanced self.old id (open_call self.old id)).deed) }
         ensures refused { IfErr result (λ r. r ≡ Refusal.OutOfMemory) }
-        ensures err { OnErr result (self.new ≡ self.old) }
+        ensures err { OnErr result ((self.new ≡ self.old) × (deed.new ≡ deed.old)) }
     {
         match asked {
             Op::Get(key) => {
                 let held = clone_of(self.registers.copy(key.as_slice()))?;
                 self.propagate(place, held);
-                Ok(Deed::told(Effect::Moved))
+                deed.effect = Effect::Moved;
+                Ok(())
             }
-            Op::Set(key, value) => self.set(id, place, key, value),
+            Op::Set(key, value) => self.set(id, place, key, value, deed),
         }
     }
 
     // A set takes the next tag of its key, and its new copy is put and goes round. All that can fail comes first.
-    #[inline(always)]
     fn set(
         &mut self,
         id: CallId,
         place: usize,
         key: Bytes,
         value: Bytes,
-    ) -> Result<Deed<Q>, Refusal>
+        deed: &mut Deed<Q>,
+    ) -> Result<(), Refusal>
         requires next { is_last self.old.number ≡ false }
         requires tags { tags_spent self.old (asked.Set key value) ≡ false }
+        requires quiet { deed.old ≡ quiet_deed }
         ensures node { OnOk result (self.new ≡ propagation_begun (record self.old { registers = map.insert self.old.registers key (new_copy self.old key value) }) place (Some (new_copy self.old key value))) }
-        ensures deed { IfOk result (λ d. d ≡ move_deed id (asked.Set key value) (Some (new_copy self.old key value))) }
+        ensures deed { OnOk result (deed.new ≡ move_deed id (asked.Set key value) (Some (new_copy self.old key value))) }
         ensures refused { IfErr result (λ r. r ≡ Refusal.OutOfMemory) }
-        ensures err { OnErr result (self.new ≡ self.old) }
+        ensures err { OnErr result ((self.new ≡ self.old) × (deed.new ≡ deed.old)) }
     {
         let tag = Tag {
             sequence: sequence_of(self.registers.copy(key.as_slice())) + 1,
@@ -171,16 +179,14 @@ impl<Q: Quorums, S: Replica> Node<Q, S> {
         let held = version(tag, &value)?;
         self.hold(own, held)?;
         self.propagate(place, Some(sent));
-        Ok(Deed {
-            effect: Effect::Moved,
-            event: None,
-            mark: Some(Mark {
-                id,
-                op: Op::Set(key, value),
-                kept: Some(kept),
-            }),
-            copy: Some(copy),
-        })
+        deed.effect = Effect::Moved;
+        deed.mark = Some(Mark {
+            id,
+            op: Op::Set(key, value),
+            kept: Some(kept),
+        });
+        deed.copy = Some(copy);
+        Ok(())
     }
 
     // Holds this copy of a key.

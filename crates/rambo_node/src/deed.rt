@@ -1,5 +1,5 @@
 //! What a change did.
-ghost use Rattle.std.specs.Prelude.{◌≡◌, IfOk, IfErr};
+ghost use Rattle.std.specs.Prelude.{◌≡◌, None, IfOk, IfErr, OnOk, OnErr};
 ghost use Rattle.rambo_calls.specs.Kept.{call_found};
 ghost use Rattle.rambo_node.specs.Changes.{told, quiet_deed, get_mark};
 ghost use Rattle.rambo_node.specs.Kept.{answer_deed, answered_from};
@@ -39,60 +39,64 @@ impl<Q: Copy> Deed<Q> {
         }
     }
 
-    // That of which nothing is told.
-    pub(crate) fn quiet() -> Deed<Q>
+    /// That of a change that only changed its node.
+    pub fn quiet() -> Deed<Q>
         ensures { result ≡ quiet_deed }
     {
         Deed::told(Effect::Done)
     }
 
-    // That of a met propagation, which sent a copy round.
-    #[inline(always)]
-    pub(crate) fn answered(id: CallId, op: &Op, kept: &Option<Version>) -> Result<Deed<Q>, Refusal>
-        ensures ok { IfOk result (λ d. d ≡ answer_deed id op.now kept.now) }
+    // Tells of a met propagation, which sent a copy round.
+    fn tell_answer(&mut self, id: CallId, op: &Op, kept: &Option<Version>) -> Result<(), Refusal>
+        requires { self.old ≡ quiet_deed }
+        ensures ok { OnOk result (self.new ≡ answer_deed id op.now kept.now) }
         ensures refused { IfErr result (λ r. r ≡ Refusal.OutOfMemory) }
+        ensures err { OnErr result (self.new ≡ self.old) }
     {
         let answer = answer_of(op, kept)?;
-        let event = Event::Answer(id, answer.clone()?);
-        Ok(Deed {
-            effect: Effect::Answered(id, answer),
-            event: Some(event),
-            mark: get_mark(id, op, kept)?,
-            copy: None,
-        })
+        let told = answer.clone()?;
+        self.mark_get(&id, op, kept)?;
+        self.event = Some(Event::Answer(id, told));
+        self.effect = Effect::Answered(id, answer);
+        Ok(())
+    }
+
+    // Marks a get as it is answered.
+    fn mark_get(&mut self, id: &CallId, op: &Op, kept: &Option<Version>) -> Result<(), Refusal>
+        requires { self.old.mark ≡ None }
+        ensures ok { OnOk result (self.new ≡ record self.old { mark = get_mark id.now op.now kept.now }) }
+        ensures refused { IfErr result (λ r. r ≡ Refusal.OutOfMemory) }
+        ensures err { OnErr result (self.new ≡ self.old) }
+    {
+        match op {
+            Op::Set(_, _) => Ok(()),
+            Op::Get(_) => {
+                let op = op.clone()?;
+                let kept = clone_of(kept.as_ref())?;
+                self.mark = Some(Mark { id: *id, op, kept });
+                Ok(())
+            }
+        }
     }
 }
 
-// What a call does when its propagation is met, if there is one that is in it.
-#[inline(always)]
-pub(crate) fn answered<Q: Quorums>(
+// Tells in a deed what a call does when its propagation is met, if there is one that is in it.
+pub(crate) fn tell_answered<Q: Quorums>(
+    deed: &mut Deed<Q>,
     id: CallId,
     call: Option<&OpenCall<Q>>,
-) -> Result<Deed<Q>, Refusal>
-    ensures ok { IfOk result (λ d. d ≡ answered_from id (call_found (option_copied call.entry))) }
+) -> Result<(), Refusal>
+    requires { deed.old ≡ quiet_deed }
+    ensures ok { OnOk result (deed.new ≡ answered_from id (call_found (option_copied call.entry))) }
     ensures refused { IfErr result (λ r. r ≡ Refusal.OutOfMemory) }
+    ensures err { OnErr result (deed.new ≡ deed.old) }
 {
     match call {
         Some(call) => match &call.stage {
-            Stage::Query => Ok(Deed::quiet()),
-            Stage::Propagation(kept) => Deed::answered(id, &call.op, kept),
+            Stage::Query => Ok(()),
+            Stage::Propagation(kept) => deed.tell_answer(id, &call.op, kept),
         },
-        None => Ok(Deed::quiet()),
-    }
-}
-
-// A get is marked when it is answered.
-fn get_mark(id: CallId, op: &Op, kept: &Option<Version>) -> Result<Option<Mark>, Refusal>
-    ensures ok { IfOk result (λ mark. mark ≡ get_mark id op.now kept.now) }
-    ensures refused { IfErr result (λ r. r ≡ Refusal.OutOfMemory) }
-{
-    match op {
-        Op::Set(_, _) => Ok(None),
-        Op::Get(_) => Ok(Some(Mark {
-            id,
-            op: op.clone()?,
-            kept: clone_of(kept.as_ref())?,
-        })),
+        None => Ok(()),
     }
 }
 

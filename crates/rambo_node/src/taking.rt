@@ -62,7 +62,11 @@ impl<Q: Quorums, S: Replica> Node<Q, S> {
                 self.do_hear(letter)?;
                 Ok(Deed::quiet())
             }
-            Change::Advance(id) => self.go_on(*id),
+            Change::Advance(id) => {
+                let mut deed = Deed::quiet();
+                self.go_on(*id, &mut deed)?;
+                Ok(deed)
+            }
             Change::Again(id) => {
                 self.do_again(*id);
                 Ok(Deed::quiet())
@@ -135,7 +139,8 @@ impl<Q: Quorums, S: Replica> Node<Q, S> {
         ensures err { OnErr result (self.new ≡ self.old) }
     {
         self.may_advance(&id)?;
-        let deed = self.go_on(id)?;
+        let mut deed = Deed::quiet();
+        self.go_on(id, &mut deed)?;
         Ok(deed.effect.into_answer())
     }
 

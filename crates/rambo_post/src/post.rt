@@ -1,45 +1,33 @@
 //! The locks.
-ghost use Rattle.std.specs.Prelude.{◌≡◌, ◌<◌, ◌≤◌, ◌⊎◌, [], None, Some, true, false, length, vec_len, IsOk, OnOk, OnErr, IfOk, IfErr, All};
+ghost use Rattle.std.specs.Prelude.{◌≡◌, ◌<◌, ◌≤◌, ◌⊎◌, [], None, Some, true, false, length, vec_len, IsOk, OnOk, OnErr, IfOk, IfErr, IfSome, All};
 ghost use Rattle.std.specs.FinMap as map;
 ghost use Rattle.std.specs.FinSet as set;
 ghost use Rattle.rambo_names.specs.Refusals.{least, IsRefusal};
 ghost use Rattle.rambo_run.specs.Worlds.{founding_causes};
 ghost use Rattle.std.specs.Sync.Mutex.{mutex_guard_value};
 ghost use mathlib.Core.List.{IsPrefix};
-ghost use Rattle.rambo_run.specs.Runs.{run};
+ghost use Rattle.rambo_run.specs.Runs.{run, given_order};
 ghost use Rattle.rambo_run.specs.Steps.{refusal};
-ghost use Rattle.rambo_post.specs.Kept.{IsServedBy, Told, state};
+ghost use Rattle.rambo_book.specs.Kept.{IsServedBy, Told, state};
 ghost use Rattle.rambo_run.specs.Legal.{IsLegal};
 ghost use Rattle.rambo_atomic.specs.Histories.{answer_in};
-ghost use Rattle.rambo_post.specs.Passes.{Acted, IsNoted, WhyNot};
+ghost use Rattle.rambo_atomic.specs.Proper.{IsProperForAll};
+ghost use Rattle.rambo_pass.specs.Passes.{Acted, IsNoted, WhyNot};
 
-use crate::answer::take_in;
-use crate::book::Book;
 use crate::gate::Gate;
-use crate::keeper::{Actor, Keeper};
-use crate::pass::{Pass, act_in, call_in, close_in, meet_in};
-use crate::sending::send_in;
-use crate::terms::Terms;
-use crate::turn::{Turn, turn_in};
-use crate::waiting::Mails;
 use rambo_atomic::{Answer, CallId, Op};
+use rambo_book::{Actor, Book, Keeper, Terms};
 use rambo_config_map::ConfigMap;
+use rambo_mail::Mails;
 use rambo_names::{Members, Name, Quorums, Refusal};
 use rambo_node::Effect;
+use rambo_pass::{Closed, Pass, act_in, call_in, close_in, meet_in, take_in};
 use rambo_roll::Opened;
 use rambo_run::{Step, may_found};
 use rambo_tag::Replica;
+use rambo_turn::{Turn, send_in, turn_in};
 use std::alloc::Global;
 use std::sync::{Mutex, MutexGuard, Wait};
-
-/// What a post leaves when it is closed.
-#[derive(Drop)]
-pub struct Closed<Q: Quorums> {
-    /// All steps that were done, in their order.
-    pub steps: Vec<Step<Q>>,
-    /// One order of the calls of all keys. It isn't given yet.
-    pub order: Option<Vec<CallId>>,
-}
 
 /// A lock for each keeper, and one for the book: a keeper's is taken before the book's, and no thread holds two keepers'.
 ///
@@ -119,7 +107,7 @@ impl<J: Terms<Q>, Q: Quorums, S: Replica> Post<J, Q, S> {
     pub fn pass<R: Wait>(&self, rt: &R, alloc: Global) -> Result<Pass<J, Q>, Refusal>
         ensures { IfOk result (λ p. p ≡ record { seen = []; mine = [] }) }
     {
-        self.book.lock(rt).new_pass(alloc)
+        Pass::new(alloc, &mut self.book.lock(rt))
     }
 
     /// Makes a call at a node for a client: its id. The client has then seen all steps up to it, and it stands last.
@@ -293,19 +281,21 @@ impl<J: Terms<Q>, Q: Quorums, S: Replica> Post<J, Q, S> {
         Ok(())
     }
 
-    /// All steps: none was refused in its turn, and what each client has seen begins them. It takes no memory.
+    /// All steps: none was refused in its turn, and what each client has seen begins them. And the one order of the calls in
+    /// them, which is None where there is no room for it; nothing else here takes memory.
     pub fn close(self, passes: Vec<Pass<J, Q>>) -> Closed<Q>
         ensures legal { (f : Q) → J.founders ≡ Some f → IsLegal Q.system f result.steps.items }
         ensures fits { length result.steps.items ≤ J.capacity }
         ensures begins { All (λ p. IsPrefix p.seen result.steps.items) passes.items }
+        ensures order { IfSome result.order (λ o. (f : Q) → J.founders ≡ Some f → o.items ≡ given_order (run Q.system f result.steps.items)) }
+        ensures explained { IfSome result.order (λ o. (f : Q) → J.founders ≡ Some f → IsProperForAll (run Q.system f result.steps.items).history o.items) }
     {
         let Post {
             keepers: _keepers,
             book,
             spare: _spare,
         } = self;
-        let steps = close_in(book.into_inner(), passes);
-        Closed { steps, order: None }
+        close_in(book.into_inner(), passes)
     }
 }
 

@@ -12,7 +12,7 @@ use Rattle.rambo_atomic.proofs.LookUps.{either, call_in-append, answer_in-append
 use Rattle.rambo_atomic.proofs.Pushes.{same_call-path, same_call-refl}
 use Rattle.rambo_sequence.specs.Sequences.{call_place}
 use Rattle.rambo_run.proofs.Lists.{pick, some_inj, none-some}
-pub use Rattle.rambo_sequence.proofs.MergedOrder.{call_kept}
+pub use Rattle.rambo_atomic.proofs.Asked.{call_kept}
 
 pub none_or_some : {A : Type 0} (o : Option A) → (o ≡ None) ⊎ ((a : A) × (o ≡ Some a))
 none_or_some None = inl refl

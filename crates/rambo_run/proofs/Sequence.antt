@@ -17,7 +17,7 @@ use Rattle.rambo_node.specs.Operations.{answer_of}
 use Rattle.rambo_sequence.specs.declared.mark.Mark.{Mark}
 use Rattle.rambo_sequence.specs.Sequences.{call_place, rank, sorted_marks, sequence_of}
 use Rattle.rambo_run.specs.Worlds.{WorldState}
-use Rattle.rambo_sequence.proofs.Members.{some_and}
+use Rattle.rambo_atomic.proofs.Asked.{some_and}
 use Rattle.rambo_run.proofs.Lists.{pick, some_inj, Member, member_stands, stands_member, member_map, map_member, member_left, member_right, member_cases}
 use Rattle.rambo_run.proofs.Events.{place_same}
 use Rattle.rambo_run.proofs.Sights.{Worlds}

@@ -1,6 +1,5 @@
 -- Members of lists, and items in their places
 use Rattle.std.proofs.Common.{◌≡◌, ◌⊎◌, ℕ, zero, suc, ◌<◌, length, Bool, true, false, if◌then◌else◌, List, [], ◌∷◌, ◌++◌, Option, Some, None, slice_get, slice_set, refl, sym, ap, subst, inl, inr, ⊎_elim, true≢false, arith}
-use Rattle.std.specs.Option.{IsSomeAnd}
 use Rattle.rambo_atomic.specs.Proper.{Stands}
 
 -- which branch was taken, with the test
@@ -51,10 +50,6 @@ member_right d (x ∷ xs) ys h = inr (member_right d xs ys h)
 pub member_cases : {A : Type 0} (d : A) (xs ys : List A) → Member d (xs ++ ys) → Member d xs ⊎ Member d ys
 member_cases d [] ys h = inr h
 member_cases d (x ∷ xs) ys h = elim h [ inl e ↦ inl (inl e) | inr m ↦ ⊎_elim (λ a. inl (inr a)) inr (member_cases d xs ys m) ]
-
-pub some_and : {A : Type 0} (P : A → Type 0) (o : Option A) → IsSomeAnd o P → (a : A) × (o ≡ Some a) × P a
-some_and P None h = absurd h
-some_and P (Some a) h = (a, refl, h)
 
 -- a list with one item in another's place
 pub set_here : {A : Type 0} (xs : List A) (i : ℕ) (a b : A) → slice_get xs i ≡ Some a → slice_get (slice_set xs i b) i ≡ Some b

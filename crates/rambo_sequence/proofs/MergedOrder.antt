@@ -16,12 +16,12 @@ use Rattle.rambo_atomic.specs.Histories.{call_in, answer_in, answered_at, called
 use Rattle.rambo_atomic.specs.Proper.{Stands, IsProper, IsDistinct, KeepsRealTime, IsProperForAll, after_op}
 use Rattle.rambo_atomic.specs.Tallies.{is_of_key}
 use Rattle.rambo_atomic.specs.Tests.{is_before}
-use Rattle.rambo_atomic.proofs.LookUps.{either, call_in-append}
+use Rattle.rambo_atomic.proofs.Asked.{some_and, call_kept, answered_called}
 use Rattle.rambo_atomic.proofs.Pushes.{same_call-path}
 use Rattle.rambo_atomic.proofs.RealTime.{answered_before-places}
 use Rattle.rambo_atomic.proofs.Splits.{splits-tail}
 use Rattle.rambo_sequence.specs.Sequences.{SequenceOf, sequence_in}
-use Rattle.rambo_sequence.proofs.Members.{some_and, Member, pick, none-some, member_middle, member_stands, stands_member, member_cases}
+use Rattle.rambo_sequence.proofs.Members.{Member, pick, none-some, member_middle, member_stands, stands_member, member_cases}
 use Rattle.rambo_sequence.proofs.GivenOrder.{cut}
 use Rattle.rambo_sequence.specs.StoreOrders.{AreApart, NoTwice, all_calls, IsLeft, IsFirstAnswered, IsOrder}
 
@@ -226,9 +226,6 @@ module _ (h : List Event) where
       sym (entries_of order ss key k o) ∙ ap (filter (of_key key)) e ∙ filter-middle (of_key key) front c back own
 
 -- ---- histories
-pub call_kept : (h es : List Event) (c : CallId) (o : Op) → call_in h c ≡ Some o → call_in (h ++ es) c ≡ Some o
-call_kept h es c o e = call_in-append h es c ∙ ap (λ p. either p (call_in es c)) e
-
 found_call : (es : List Event) (c : CallId) → is_some (call_in es c) ≡ true → (front : List Event) × (d : CallId) × (p : Op) × (back : List Event) × (es ≡ front ++ event.Call d p ∷ back) × (d ≡ c)
 found_call [] c e = absurd (true≢false (sym e))
 found_call (event.Call d p ∷ es) c e = elim (pick (same_call d c) (Some p) (call_in es c)) [
@@ -236,14 +233,6 @@ found_call (event.Call d p ∷ es) c e = elim (pick (same_call d c) (Some p) (ca
   | inr q ↦ (let r = found_call es c (ap is_some (sym q.1) ∙ e) in (event.Call d p ∷ r.0, r.1, r.2, r.3, ap (λ l. event.Call d p ∷ l) r.4, r.5))
 ]
 found_call (event.Answer d a ∷ es) c e = let r = found_call es c e in (event.Answer d a ∷ r.0, r.1, r.2, r.3, ap (λ l. event.Answer d a ∷ l) r.4, r.5)
-
-found_answer : (es : List Event) (c : CallId) (b : Answer) → answer_in es c ≡ Some b → (front : List Event) × (d : CallId) × (a : Answer) × (back : List Event) × (es ≡ front ++ event.Answer d a ∷ back) × (d ≡ c)
-found_answer [] c b e = absurd (none-some b e)
-found_answer (event.Call d p ∷ es) c b e = let r = found_answer es c b e in (event.Call d p ∷ r.0, r.1, r.2, r.3, ap (λ l. event.Call d p ∷ l) r.4, r.5)
-found_answer (event.Answer d a ∷ es) c b e = elim (pick (same_call d c) (Some a) (answer_in es c)) [
-  | inl q ↦ ([], d, a, es, refl, same_call-path d c q.0)
-  | inr q ↦ (let r = found_answer es c b (sym q.1 ∙ e) in (event.Answer d a ∷ r.0, r.1, r.2, r.3, ap (λ l. event.Answer d a ∷ l) r.4, r.5))
-]
 
 found_before : (es : List Event) (c d : CallId) → answered_before es c d ≡ true → (front : List Event) × (x : CallId) × (a : Answer) × (back : List Event) × (es ≡ front ++ event.Answer x a ∷ back) × (x ≡ c) × (is_some (call_in back d) ≡ true)
 found_before [] c d e = absurd (true≢false (sym e))
@@ -253,14 +242,7 @@ found_before (event.Answer x a ∷ es) c d e = elim (pick (same_call x c) (is_so
   | inr q ↦ (let r = found_before es c d (sym q.1 ∙ e) in (event.Answer x a ∷ r.0, r.1, r.2, r.3, ap (λ l. event.Answer x a ∷ l) r.4, r.5, r.6))
 ]
 
--- an answered call was made
-answered_called : (h : List Event) → IsWellFormed h → (c : CallId) (b : Answer) → answer_in h c ≡ Some b → (p : Op) × (call_in h c ≡ Some p)
-answered_called h w c b e =
-    let r = found_answer h c b e in
-    let made = some_and _ (call_in r.0 r.1) ((w.answers_open r.0 (event.Answer r.1 r.2) r.3 r.4 r.1 r.2 refl).0) in
-    (made.0, ap (λ h. call_in h c) r.4 ∙ call_kept r.0 (event.Answer r.1 r.2 ∷ r.3) c made.0 (subst (λ d. call_in r.0 d ≡ Some made.0) r.5 made.1))
-
--- and not answered before it was made
+-- a call wasn't answered before it was made
 not_before_itself : (h : List Event) → IsWellFormed h → (c : CallId) → answered_before h c c ≡ true → ⊥
 not_before_itself h w c b =
     let r = found_before h c c b in

@@ -1,9 +1,14 @@
 -- What a stream took, part by part
-use Rattle.std.proofs.Common.{◌≡◌, ℕ, List, ◌++◌, sym, ap, subst, ◌∙◌, append_assoc}
-use Rattle.std.specs.Prelude.{Option, Some, None}
+use Rattle.std.proofs.Common.{◌≡◌, ℕ, List, ◌++◌, Result, Ok, Err, sym, ap, subst, ◌∙◌, append_assoc, inl, inr}
+use Rattle.std.specs.Prelude.{Option, Some, None, OnOk, OnErr}
 use Rattle.std.specs.Io.KnownBytes.{Appends}
 use Rattle.rambo_atomic.specs.Streams.{counted, Begins}
-use Rattle.rambo_telling.specs.Telling.{Breaks, Takes, stream}
+use Rattle.rambo_telling.specs.Telling.{Stream, Breaks, Takes, Tells, stream}
+
+-- a text is told by a call, whether that succeeds or fails
+pub told_by : {T E : Type 0} (r : Result T E) (text : List ℕ) (s : Stream) → OnOk r (Takes text s) → OnErr r (Breaks text s) → Tells text s
+told_by (Ok x) text s takes breaks = inl takes
+told_by (Err f) text s takes breaks = inr breaks
 
 -- one text behind another
 appends_both : (a b : List ℕ) (x y z : Option (List ℕ)) → Appends x y a → Appends y z b → Appends x z (a ++ b)

@@ -4,7 +4,7 @@ use Rattle.std.specs.Io.KnownBytes.{Appends}
 use Rattle.clap.specs.declared.error.kind.ErrorKind.{ErrorKind}
 use Rattle.clap.specs.declared.error.kind.ErrorKind.TheVariants.{DisplayHelp, DisplayVersion}
 use Rattle.rambo_atomic.specs.Streams.{counted, Begins}
-use Rattle.rambo_text.specs.Faults.{told}
+use Rattle.rambo_text.specs.Faults.{told_of_replay}
 use Rattle.rambo_text.specs.declared.fault.ReplayFault.{ReplayFault}
 use Rattle.rambo_text.specs.declared.fault.ReplayFault.TheVariants.{Script, Read, Write, Memory}
 
@@ -40,10 +40,7 @@ Tells text told = Takes text told ⊎ Breaks text told
 
 -- the line that tells a fault
 abbrev pub fault_line : ReplayFault → List ℕ
-fault_line (Script f) = told f ++ 10 ∷ []
-fault_line Read = codes "fault read" ++ 10 ∷ []
-fault_line Write = codes "fault write" ++ 10 ∷ []
-fault_line Memory = codes "fault memory" ++ 10 ∷ []
+fault_line f = told_of_replay f ++ 10 ∷ []
 
 -- the line that tells that a socket failed
 abbrev pub socket_line : List ℕ

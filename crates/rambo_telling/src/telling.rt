@@ -1,6 +1,7 @@
 //! What is told to the user.
 ghost use Rattle.std.specs.Prelude.{◌≡◌, ◌⊎◌, ◌++◌, [], ◌∷◌, codes, OnOk, OnErr};
 ghost use Rattle.clap.specs.Words.{kind_of};
+ghost use Rattle.rambo_atomic.specs.StreamFaults.{words_of};
 ghost use Rattle.rambo_text.specs.Faults.{told};
 ghost use Rattle.rambo_telling.specs.Telling.{
   Breaks,
@@ -52,19 +53,29 @@ pub fn tell<E: Sink>(fault: ReplayFault, errors: &mut E) -> u8
             let _ = write_line(fault, errors);
             FAULTY
         }
-        ReplayFault::Read => {
-            let _ = write_all(errors, b"fault read\n");
-            FAILED
-        }
-        ReplayFault::Write => {
-            let _ = write_all(errors, b"fault write\n");
-            FAILED
-        }
-        ReplayFault::Memory => {
-            let _ = write_all(errors, b"fault memory\n");
-            FAILED
-        }
+        ReplayFault::Read => tell_stream(StreamFault::Read, errors),
+        ReplayFault::Write => tell_stream(StreamFault::Write, errors),
+        ReplayFault::Memory => tell_stream(StreamFault::Memory, errors),
     }
+}
+
+// Tells the fault of a stream, or that memory ran out.
+fn tell_stream<E: Sink>(fault: StreamFault, errors: &mut E) -> u8
+    ensures status { result ≡ 1 }
+    ensures line { Tells (words_of fault ++ 10 ∷ []) (stream E.taken E.failures errors.old errors.new) }
+{
+    let _ = write_words(fault, errors);
+    FAILED
+}
+
+// Writes the line of such a fault. It takes no memory.
+fn write_words<E: Sink>(fault: StreamFault, errors: &mut E) -> Result<(), StreamFault>
+    ensures ok { OnOk result (Takes (words_of fault ++ 10 ∷ []) (stream E.taken E.failures errors.old errors.new)) }
+    ensures err { OnErr result (Breaks (words_of fault ++ 10 ∷ []) (stream E.taken E.failures errors.old errors.new)) }
+{
+    write_all(errors, fault.words().as_bytes())?;
+    write_all(errors, b"\n")?;
+    Ok(())
 }
 
 // Writes the line of a fault of a text. It takes no memory.

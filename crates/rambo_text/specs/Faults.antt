@@ -2,6 +2,7 @@
 use Rattle.std.specs.Prelude.{ℕ, List, ◌++◌, codes, decimal}
 use Rattle.rambo_atomic.specs.declared.whole.StreamFault.{StreamFault}
 use Rattle.rambo_atomic.specs.declared.whole.StreamFault.TheVariants as stream
+use Rattle.rambo_atomic.specs.StreamFaults.{words_of}
 use Rattle.rambo_text.specs.declared.fault.Fault.{Fault}
 use Rattle.rambo_text.specs.declared.fault.Fault.TheVariants.{NoFounders, UnknownWord, WrongCount, BadNumber, BadHex, LineTooLong, OutOfMemory, BadHistory}
 use Rattle.rambo_text.specs.declared.fault.ScriptFault.{ScriptFault}
@@ -21,6 +22,13 @@ number_of BadHistory = 8
 -- how a fault of a line is told
 abbrev pub told : ScriptFault → List ℕ
 told f = codes "script fault S" ++ decimal (number_of f.fault) ++ codes " at line " ++ decimal f.line
+
+-- how the fault of a replay is told
+abbrev pub told_of_replay : ReplayFault → List ℕ
+told_of_replay (replay.Script f) = told f
+told_of_replay replay.Read = words_of stream.Read
+told_of_replay replay.Write = words_of stream.Write
+told_of_replay replay.Memory = words_of stream.Memory
 
 -- the same fault of a stream, in the words of a replay
 abbrev pub of_stream : StreamFault → ReplayFault

@@ -3,8 +3,8 @@ ghost use Rattle.std.specs.Prelude.{◌≡◌};
 
 use rambo_atomic::StreamFault;
 use std::alloc::{AllocError, AllocFailed};
+use std::error::Error;
 use std::fmt;
-use thiserror::Error;
 
 /// Why a line of a text is faulty. Of several faults in a line the first in the text's own order is told.
 #[derive(Clone, Copy, PartialEq, Eq, Debug)]
@@ -60,21 +60,35 @@ impl fmt::Display for ScriptFault {
 }
 
 /// Why a text wasn't made into another.
-#[derive(Clone, Copy, PartialEq, Eq, Debug, Error)]
+#[derive(Clone, Copy, PartialEq, Eq, Debug)]
 pub enum ReplayFault {
     /// A line is faulty.
-    #[error("{0}")]
     Script(ScriptFault),
     /// The source failed.
-    #[error("fault read")]
     Read,
     /// The sink failed.
-    #[error("fault write")]
     Write,
     /// There is no room for what is to be kept.
-    #[error("fault memory")]
     Memory,
 }
+
+impl fmt::Display for ReplayFault {
+    ghost use Rattle.std.specs.Prelude.{Some};
+    ghost use Rattle.rambo_text.specs.Faults.{told_of_replay};
+
+    ghost output = { λ f. Some (told_of_replay f) };
+
+    fn fmt<W: fmt::Write>(&self, f: &mut fmt::Formatter<W>) -> fmt::Result {
+        match self {
+            ReplayFault::Script(fault) => write!(f, "{fault}"),
+            ReplayFault::Read => f.write_str(StreamFault::Read.words()),
+            ReplayFault::Write => f.write_str(StreamFault::Write.words()),
+            ReplayFault::Memory => f.write_str(StreamFault::Memory.words()),
+        }
+    }
+}
+
+impl Error for ReplayFault {}
 
 impl From<StreamFault> for ReplayFault {
     ghost use Rattle.rambo_text.specs.Faults.{of_stream};

@@ -60,7 +60,8 @@ impl<Q: Quorums, S: Replica> State<Q, S> {
     {
         self.history.reserve(1)?;
         self.marks.reserve(1)?;
-        let deed = self.nodes.go_on(id)?;
+        let mut deed = Deed::quiet();
+        self.nodes.go_on(id, &mut deed)?;
         Ok(note(&mut self.history, &mut self.marks, deed))
     }
 }

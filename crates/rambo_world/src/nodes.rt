@@ -9,7 +9,7 @@ ghost use Rattle.rambo_atomic.specs.declared.operation.Op.TheVariants as asked;
 ghost use Rattle.rambo_calls.specs.Calls.{query_in};
 ghost use Rattle.rambo_gossip.specs.Letters.{letter_with};
 ghost use Rattle.rambo_logs.specs.NodeLogs.{part, extended};
-ghost use Rattle.rambo_node.specs.Changes.{refusal_of, made_by};
+ghost use Rattle.rambo_node.specs.Changes.{refusal_of, made_by, quiet_deed};
 ghost use Rattle.rambo_node.specs.Nodes.{NodeState, first_node, open_call};
 ghost use Rattle.rambo_run.specs.Runs.{maps_of};
 ghost use Rattle.rambo_run.specs.Steps.{causes_at};
@@ -126,32 +126,21 @@ impl<Q: Quorums, S: Replica> Nodes<Q, S> {
         Ok(id)
     }
 
-    // A call goes on whose advance isn't refused, and the copy that it puts goes into the log of its node. The answer is
-    // the rest of what it did.
-    #[inline(always)]
-    pub(crate) fn go_on(&mut self, id: CallId) -> Result<Deed<Q>, Refusal>
-        requires { least (causes_at Q.system (state_at self.old id.name) (Change.Advance id)) ≡ None }
+    // A call goes on whose advance isn't refused, and the copy that it puts goes into the log of its node. The rest of what
+    // it did is told in this deed, which told of nothing before.
+    pub(crate) fn go_on(&mut self, id: CallId, deed: &mut Deed<Q>) -> Result<(), Refusal>
+        requires accepted { least (causes_at Q.system (state_at self.old id.name) (Change.Advance id)) ≡ None }
+        requires quiet { deed.old ≡ quiet_deed }
         ensures nodes { OnOk result (states_of self.new ≡ moved self.old id.name (λ x. (made_by x (Change.Advance id)).node)) }
-        ensures deed { IfOk result (λ d. (x : NodeState Q) → state_at self.old id.name ≡ Some x → d ≡ record (made_by x (Change.Advance id)).deed { copy = None }) }
+        ensures deed { OnOk result ((x : NodeState Q) → state_at self.old id.name ≡ Some x → deed.new ≡ record (made_by x (Change.Advance id)).deed { copy = None }) }
         ensures refused { IfErr result (λ r. r ≡ Refusal.OutOfMemory) }
-        ensures err { OnErr result (self.new ≡ self.old) }
+        ensures err { OnErr result ((self.new ≡ self.old) × (deed.new ≡ deed.old)) }
         ensures grow { AllGrow self.old self.new }
     {
         make_room(&self.list[place_of(id.name)], &id, &mut self.logs)?;
-        let deed = self.list[place_of(id.name)].go_on(id)?;
-        let Deed {
-            effect,
-            event,
-            mark,
-            copy,
-        } = deed;
-        log_copy(&mut self.logs, id.name, copy);
-        Ok(Deed {
-            effect,
-            event,
-            mark,
-            copy: None,
-        })
+        self.list[place_of(id.name)].go_on(id, deed)?;
+        log_copy(&mut self.logs, id.name, deed.copy.take());
+        Ok(())
     }
 
     // The addressee of a letter that isn't refused hears it, with those copies of its sender's log from one place up to

@@ -14,22 +14,24 @@ heard_all h (c ∷ cs) zero past = absurd (omega (arith, past))
 heard_all h (c ∷ cs) (suc i) past = ap (λ xs. call_of c ∷ xs) (heard_all h cs i (omega (arith, past)))
 
 pub loop-call-preserved : goal.loop-call-preserved
-loop-call-preserved g c room =
+loop-call-preserved g c =
     let below : c.loop-call.call-index < length c.loop-call.calls = omega (arith, c.loop-call-test.true, c.loop-call.auto.calls) in
-    let before = c.loop-call.invariant room in (
+    let before = c.loop-call.invariant in (
       heard_more (heard_call c.args.heard c.args.from c.args.map.now c.args.number c.args.merged.now c.args.me) c.loop-call.calls c.loop-call.call-index c.hear.new.self c.call-item.result below
-          (c.hear.ensures (roomy_at c.args.map.now c.loop-call.calls c.loop-call.call-index c.call-item.result below before.1)) ∙ before.0,
+          c.hear.ensures ∙ before.0,
       roomy_rest c.args.map.now c.loop-call.calls c.loop-call.call-index c.hear.new.self below before.1,
     )
 
 pub loop-call-init : goal.loop-call-init
-loop-call-init g c = (λ room. (refl, room))
+loop-call-init g c = (refl, c.requires)
 
 pub hear-requires : goal.hear-requires
-hear-requires g c = assumption
+hear-requires g c =
+    let below : c.loop-call.call-index < length c.loop-call.calls = omega (arith, c.loop-call-test.true, c.loop-call.auto.calls) in
+    (c.requires-raw.1.0, (c.requires-raw.1.1.0, roomy_at c.args.map.now c.loop-call.calls c.loop-call.call-index c.call-item.result below c.loop-call.invariant.1))
 
 pub returns : goal.returns
-returns g c room = heard_all (heard_call c.args.heard c.args.from c.args.map.now c.args.number c.args.merged.now c.args.me) c.loop-call.calls c.loop-call.call-index (omega (arith, c.loop-call-test.false, c.loop-call.auto.calls)) ∙ (c.loop-call.invariant room).0
+returns g c = heard_all (heard_call c.args.heard c.args.from c.args.map.now c.args.number c.args.merged.now c.args.me) c.loop-call.calls c.loop-call.call-index (omega (arith, c.loop-call-test.false, c.loop-call.auto.calls)) ∙ c.loop-call.invariant.0
 
 pub offset_bounds-calls-call-index : goal.offset_bounds-calls-call-index
 offset_bounds-calls-call-index g c = search rules

@@ -42,9 +42,6 @@ log_entry-requires-clause-room c = grind (arith, common_steps)
 pub log_entry-requires-clause-node : goal.log_entry-requires-clause-node
 log_entry-requires-clause-node c = assumption
 
-pub log_entry-requires-clause-few : goal.log_entry-requires-clause-few
-log_entry-requires-clause-few c = assumption
-
 pub log_entry-requires-clause-within : goal.log_entry-requires-clause-within
 log_entry-requires-clause-within c = grind (arith, common_steps)
 

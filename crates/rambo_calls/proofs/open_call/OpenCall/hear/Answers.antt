@@ -11,22 +11,22 @@ abbrev in_phase : {Q : Type 0} → OpenCall Q → PhaseState Q → CallState Q
 in_phase c p = record { number = c.number; op = c.op; stage = c.stage; phase = p }
 
 pub returns-in-Ok-Restart : goal.returns-in-Ok-Restart
-returns-in-Ok-Restart g c room =
+returns-in-Ok-Restart g c =
     ap (in_phase c.args.self.now) (c.begun_anew.ensures.state ∙ sym (phase_restarts c.args.heard c.args.from c.args.map.now c.args.number c.args.merged.now c.args.me c.args.self.now.phase.state
     (sym c.in-Ok-Restart.ensures.answer ∙ c.in-Ok-Restart.field-0-is)))
 
 pub returns-in-Ok-Counted : goal.returns-in-Ok-Counted
-returns-in-Ok-Counted g c room =
+returns-in-Ok-Counted g c =
     ap (in_phase c.args.self.now) (c.in-Ok-Counted.ensures.ok ∙ sym (phase_counts c.args.heard c.args.from c.args.map.now c.args.number c.args.merged.now c.args.me c.args.self.now.phase.state
     (sym c.in-Ok-Counted.ensures.answer ∙ c.in-Ok-Counted.field-0-is)))
 
 pub returns-in-Ok-Old : goal.returns-in-Ok-Old
-returns-in-Ok-Old g c room =
+returns-in-Ok-Old g c =
     ap (in_phase c.args.self.now) (c.in-Ok-Old.ensures.ok ∙ sym (phase_stays c.args.heard c.args.from c.args.map.now c.args.number c.args.merged.now c.args.me c.args.self.now.phase.state
     (sym c.in-Ok-Old.ensures.answer ∙ c.in-Ok-Old.field-0-is)))
 
 pub hear-requires : goal.hear-requires
-hear-requires g c = (back_fits _ _ _ (up_fits _ _ _ c.requires-raw.1.0), c.requires-raw.1.1)
+hear-requires g c = (back_fits _ _ _ (up_fits _ _ _ c.requires-raw.1.0), c.requires-raw.1.1.0)
 
-pub returns-in-Err : goal.returns-in-Err
-returns-in-Err g c room = absurd (false≢true (c.in-Err.ensures.succeeds room))
+pub unreachable-unreachable : goal.unreachable-unreachable
+unreachable-unreachable g c = false≢true (c.in-Err.ensures.succeeds c.requires)

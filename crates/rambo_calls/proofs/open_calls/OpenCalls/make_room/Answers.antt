@@ -22,5 +22,8 @@ returns-clause-ok g c =
     let whole = written c.make_room.new.calls c.self.inside.list.items c.self.inside.list.len (omega (arith, c.make_room.auto.calls, c.as_mut_slice.ensures.len)) in
     subst (λ cs. OnOk c.make_room.result (IsRoomy c.args.map.now cs)) (sym whole) c.make_room.ensures.ok
 
+pub returns-clause-succeeds : goal.returns-clause-succeeds
+returns-clause-succeeds g c = λ room. c.make_room.ensures.succeeds (subst (IsRoomy c.args.map.now) (sym (c.as_mut_slice.ensures.value ∙ c.self.view_is)) room)
+
 pub returns-clause-refused : goal.returns-clause-refused
 returns-clause-refused g c = c.make_room.ensures.refused

@@ -1,4 +1,4 @@
-use Rattle.std.proofs.Common.{◌≡◌, ◌+◌, ◌<◌, ◌∷◌, ◌++◌, ◌∙◌, ℕ, List, Some, None, is_some, cond, sym, ap, subst, length, [], arith}
+use Rattle.std.proofs.Common.{◌≡◌, ◌+◌, ◌<◌, ◌∷◌, ◌++◌, ◌∙◌, ℕ, List, Some, None, is_some, cond, sym, ap, subst, length, []}
 use Rattle.std.specs.Prelude.{slice_index_or}
 use Rattle.std.specs.Map.{lookup}
 use Rattle.std.specs.Str.{bytes_eq}
@@ -17,9 +17,6 @@ returns-in-Some-clause-number c =
 
 pub returns-in-Some-clause-distinct : goal.returns-in-Some-clause-distinct
 returns-in-Some-clause-distinct c = subst AreDistinct c.self.view_is (one_number c.self.inside.numbers.entries c.self.invariant)
-
-pub returns-then-count-clause-distinct : goal.returns-then-count-clause-distinct
-returns-then-count-clause-distinct c = subst AreDistinct c.self.view_is (one_number c.self.inside.numbers.entries c.self.invariant)
 
 pub returns-in_err-clone-clause-distinct : goal.returns-in_err-clone-clause-distinct
 returns-in_err-clone-clause-distinct c = one_number c.self.inside.numbers.entries c.self.invariant
@@ -43,14 +40,13 @@ module _ (c : goal.In_ok-insert) where
   put : (q : List ℕ) → lookup (bytes_eq q) c.insert.new.self.entries ≡ cond (bytes_eq c.args.key.now q) (Some (length c.self.inside.numbers.entries)) (lookup (bytes_eq q) c.self.inside.numbers.entries)
   put q =
       c.in_ok-insert.ensures.updates.0 q
-      ∙ λ i. cond (bytes_eq (copied i) q) (Some (c.len-count.ensures.len i)) (lookup (bytes_eq q) c.self.inside.numbers.entries)
+      ∙ λ i. cond (bytes_eq (copied i) q) (Some (c.len-number.ensures.len i)) (lookup (bytes_eq q) c.self.inside.numbers.entries)
 
   numbers : AreNumbers c.insert.new.self.entries
   numbers =
       AreNumbers-put c.self.inside.numbers.entries c.insert.new.self.entries c.args.key.now c.self.invariant count absent put c.insert.ensures.unique
-      (let few = c.if-count.false in omega (arith, few, c.len-count.ensures.len))
 
-  stands : lookup (bytes_eq c.args.key.now) c.insert.new.self.entries ≡ Some c.len-count.result
+  stands : lookup (bytes_eq c.args.key.now) c.insert.new.self.entries ≡ Some c.len-number.result
   stands = ap (λ k. lookup (bytes_eq k) c.insert.new.self.entries) (sym copied) ∙ c.in_ok-insert.ensures.updates.1
 
   grown : by_number c.insert.new.self.entries ≡ by_number c.self.inside.numbers.entries ++ c.args.key.now ∷ []
@@ -63,10 +59,10 @@ pub invariant_of-self-2 : goal.invariant_of-self-2
 invariant_of-self-2 = numbers
 
 pub returns-clause-known : goal.returns-clause-known
-returns-clause-known c = known_number c.insert.new.self.entries (numbers c) c.args.key.now c.len-count.result (stands c)
+returns-clause-known c = known_number c.insert.new.self.entries (numbers c) c.args.key.now c.len-number.result (stands c)
 
 pub returns-clause-number : goal.returns-clause-number
-returns-clause-number c = found_key c.insert.new.self.entries (numbers c) c.args.key.now c.len-count.result (stands c)
+returns-clause-number c = found_key c.insert.new.self.entries (numbers c) c.args.key.now c.len-number.result (stands c)
 
 pub returns-clause-grows : goal.returns-clause-grows
 returns-clause-grows c = (c.args.key.now ∷ [], grown c ∙ ap (λ keys. keys ++ c.args.key.now ∷ []) c.self.view_is)

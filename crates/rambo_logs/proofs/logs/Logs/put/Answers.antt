@@ -15,7 +15,7 @@ invariant_of-self c =
     let ready : HasRoom l c.in-Put.field-0 c.in-Put.number = room_of l l.pending c.in-Put.field-0 c.in-Put.number c.self.invariant.ready is in
     record {
       stored = stored_put l.puts.items c.args.copy l.keys l.hints.items l.logs.items c.index_mut.result.now c.log_entry.new.log (record { place = c.len.result; number = c.in-Put.number })
-          c.self.invariant.stored (c.len.ensures ∙ l.puts.ok.0) c.push_reserved.new.self.items c.log_entry.new.hints.items c.place_of-node.result c.place_of-node.ensures.within ready.few
+          c.self.invariant.stored (c.len.ensures ∙ l.puts.ok.0) c.push_reserved.new.self.items c.log_entry.new.hints.items c.place_of-node.result c.place_of-node.ensures.within
           c.push_reserved.ensures.items ready.known (room_key l.keys l.pending c.in-Put.field-0 c.in-Put.number c.args.name c.args.copy.key is room) ready.row
           c.index_mut.ensures.value c.log_entry.ensures.log (c.log_entry.ensures.hints ∙ ap (λ p. raised p c.place_of-node.result l.hints.items (record { place = c.len.result; number = c.in-Put.number })) c.as_slice.ensures.value);
       ready = tt;

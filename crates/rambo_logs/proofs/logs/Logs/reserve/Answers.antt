@@ -1,4 +1,4 @@
-use Rattle.std.proofs.Common.{◌≡◌, ◌∙◌, ◌-◌, ◌+◌, ◌<◌, ◌≤◌, ◌^◌, List, Vec, Global, length, map, set, sym, ap, subst, arith}
+use Rattle.std.proofs.Common.{◌≡◌, ◌∙◌, ◌-◌, ◌+◌, ◌<◌, ◌≤◌, List, Vec, Global, length, map, set, sym, ap, subst, arith}
 use Rattle.std.specs.Prelude.{slice_index_or}
 use Rattle.std.specs.Vec.{vec_len, vec_capacity}
 use Rattle.rambo_logs.specs.declared.entry.Entry.{Entry}
@@ -10,8 +10,8 @@ use Rattle.rambo_logs.proofs.Reserving.{stored_keys, stored_rows, stored_puts}
 use Rattle.rambo_names.proofs.Errors.{on_err}
 use Rattle.rambo_logs.proofs.logs.Logs.reserve.Goals as goal
 
-pub invariant_of-self-in_err-number : goal.invariant_of-self-in_err-number
-invariant_of-self-in_err-number c =
+pub invariant_of-self : goal.invariant_of-self
+invariant_of-self c =
     let l = c.self.inside in
     let logs = entries_of l.logs.items in
     let numbered : AreStored l.puts.items c.number_of.new.self l.hints.items logs =
@@ -79,15 +79,11 @@ invariant_of-self-2 c =
     let nodes : length l.logs.items ≡ 64 = sym (length-entries_of l.logs.items) ∙ c.self.invariant.stored.nodes in
     let below : c.place_of.result < 64 = c.place_of.ensures.within in
     let room : vec_len c.reserve.new.self + 1 ≤ vec_capacity c.reserve.new.self = c.in_ok-reserve.ensures.ok in
-    let count : c.len.result ≡ length l.puts.items = c.len.ensures ∙ l.puts.ok.0 in
-    let few : c.len.result < 2 ^ 32 - 1 = c.if-len.false in
     let next : List (Vec Entry Global) = set l.logs.items c.place_of.result c.reserve-2.new.self in
-    let kept : length c.reserve.new.self.items ≡ length l.puts.items = ap length c.reserve.ensures.items in
     record {
       stored = stored_same c.reserve.new.self.items c.number_of.new.self c.make_rows.new.hints.items l.logs.items c.place_of.result c.index_mut.result.now c.reserve-2.new.self c.place_of.ensures.within c.index_mut.ensures.value c.reserve-2.ensures.items put;
       ready = record {
         put = omega (arith, room);
-        few = omega (arith, few, count, kept);
         known = c.in_ok-number.ensures.known;
         row = c.in_ok-make_rows.ensures.row;
         log = subst (λ n. (d : Vec Entry Global) → vec_len (slice_index_or next n d) < vec_capacity (slice_index_or next n d)) c.place_of.ensures.place

@@ -19,7 +19,7 @@ do_call-requires g c = (
 )
 
 pub go_on-requires : goal.go_on-requires
-go_on-requires g c = (c.requires-raw.1.1.0, subst (λ ch. refusal_of g.Q.Quorums.system c.args.self.now ch ≡ None) c.in-Advance.is c.requires)
+go_on-requires g c = (c.requires-raw.1.1.0, (subst (λ ch. refusal_of g.Q.Quorums.system c.args.self.now ch ≡ None) c.in-Advance.is c.requires, c.quiet-deed.ensures))
 
 pub do_again-requires : goal.do_again-requires
 do_again-requires g c = (c.requires-raw.1.1.0, subst (λ ch. refusal_of g.Q.Quorums.system c.args.self.now ch ≡ None) c.in-Again.is c.requires)
@@ -51,8 +51,8 @@ returns-in_ok-do_hear-in-Deliver-clause-node g c =
     c.in_ok-do_hear-in-Deliver.ensures.ok (subst (λ ch. refusal_of g.Q.Quorums.system x ch ≡ None) c.in-Deliver.is c.requires)
     ∙ sym (ap (λ ch. (made_by x ch).node) c.in-Deliver.is)
 
-pub returns-in-Advance-clause-deed : goal.returns-in-Advance-clause-deed
-returns-in-Advance-clause-deed g c = subst (λ ch. IfOk c.go_on.result (λ d. d ≡ (made_by c.args.self.now ch).deed)) (sym c.in-Advance.is) c.go_on.ensures.deed
+pub returns-in_ok-go_on-in-Advance-clause-deed : goal.returns-in_ok-go_on-in-Advance-clause-deed
+returns-in_ok-go_on-in-Advance-clause-deed g c = c.in_ok-go_on-in-Advance.ensures.deed ∙ sym (ap (λ ch. (made_by c.args.self.now ch).deed) c.in-Advance.is)
 
 pub returns-in-Again-clause-deed : goal.returns-in-Again-clause-deed
 unfolding made_by

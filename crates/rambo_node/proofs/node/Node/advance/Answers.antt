@@ -27,4 +27,4 @@ pub returns-in_err-may_advance-clause-err : goal.returns-in_err-may_advance-clau
 returns-in_err-may_advance-clause-err g c = on_err c.from_residual.result refl
 
 pub go_on-requires : goal.go_on-requires
-go_on-requires g c = (c.requires-raw.1.1, c.in_ok-may_advance.ensures.ok)
+go_on-requires g c = (c.requires-raw.1.1, (c.in_ok-may_advance.ensures.ok, c.quiet-deed.ensures))

@@ -1,9 +1,11 @@
 use Rattle.std.proofs.Common.{◌≡◌, Some, sym, ap, ◌∙◌}
-use Rattle.std.proofs.lemmas.Result.{on_ok_weaker, IfOk-weaker}
+use Rattle.std.proofs.lemmas.Result.{on_ok_weaker}
 use Rattle.std.specs.FinMap as map
 use Rattle.rambo_atomic.specs.declared.operation.Op.{Op}
 use Rattle.rambo_atomic.specs.declared.operation.Op.TheVariants as op
 use Rattle.rambo_node.specs.Kept.{propagation_begun}
+use Rattle.rambo_node.specs.declared.deed.Deed.{Deed}
+use Rattle.rambo_node.specs.declared.effect.Effect.TheVariants as effect
 use Rattle.rambo_node.specs.Operations.{new_copy}
 use Rattle.rambo_node.specs.Refusals.{query_spent}
 use Rattle.rambo_node.proofs.Advances.{query_moves}
@@ -22,7 +24,7 @@ set-requires g c =
     let x = c.args.self.now in
     let o : Op = op.Set c.in-Set.key c.in-Set.value in
     let next = asked_next x o (sym (ap (λ a. query_spent x (Some a)) c.in-Set.is) ∙ c.requires.next) in
-    (c.requires-raw.1.1.0, next)
+    (c.requires-raw.1.1.0, (next.0, (next.1, c.requires.quiet)))
 
 pub returns-in_ok-held-in-Get-clause-node : goal.returns-in_ok-held-in-Get-clause-node
 returns-in_ok-held-in-Get-clause-node g c =
@@ -37,7 +39,7 @@ returns-in_ok-held-in-Get-clause-deed g c =
     let x = c.args.self.now in
     let o : Op = op.Get c.in-Get.key in
     let moves = query_moves x c.args.id o (c.requires.asked ∙ ap Some c.in-Get.is) in
-    c.told.ensures ∙ moves.1
+    ap (λ (d : Deed _). record d { effect = effect.Moved }) c.requires.quiet ∙ moves.1
 
 pub returns-in-Set-clause-node : goal.returns-in-Set-clause-node
 returns-in-Set-clause-node g c =
@@ -53,7 +55,7 @@ returns-in-Set-clause-deed g c =
     let x = c.args.self.now in
     let o : Op = op.Set c.in-Set.key c.in-Set.value in
     let moves = query_moves x c.args.id o (c.requires.asked ∙ ap Some c.in-Set.is) in
-    IfOk-weaker c.set.result _ _ (λ d e. e ∙ moves.1) c.set.ensures.deed
+    on_ok_weaker c.set.result (λ e. e ∙ moves.1) c.set.ensures.deed
 
 pub as_slice-requires : goal.as_slice-requires
 as_slice-requires g c = assumption
@@ -63,6 +65,3 @@ clone_of-requires g c = assumption
 
 pub copy-requires : goal.copy-requires
 copy-requires g c = assumption
-
-pub told-requires : goal.told-requires
-told-requires g c = assumption

@@ -17,7 +17,7 @@ returns-clause-node g c =
 pub returns-clause-deed : goal.returns-clause-deed
 returns-clause-deed g c =
     let x = c.args.self.now in
-    c.in_ok-deed.ensures.ok
+    c.in_ok-tell_answered.ensures.ok
     ∙ ap (answered_from c.args.id) (c.get.ensures ∙ ap (λ y. slice_get y.calls c.args.place) c.self.view_is ∙ ap (slice_get x.calls) c.requires.place)
     ∙ (call_closes x c.args.id c.requires.open c.requires.told).1
 
@@ -29,5 +29,5 @@ get-requires g c =
     let calls = back_fits _ _ _ (next _ _ _ _ (up_fits _ _ _ c.requires-raw.1.1.0)) in
     (calls, variant_fits _ _ _ _ (back_fits _ _ _ (up_fits _ _ _ calls)))
 
-pub answered-requires : goal.answered-requires
-answered-requires g c = variant_fits _ _ _ _ (back_fits _ _ _ (up_fits _ _ _ (back_fits _ _ _ (next _ _ _ _ (up_fits _ _ _ c.requires-raw.1.1.0)))))
+pub tell_answered-requires : goal.tell_answered-requires
+tell_answered-requires g c = (variant_fits _ _ _ _ (back_fits _ _ _ (up_fits _ _ _ (back_fits _ _ _ (next _ _ _ _ (up_fits _ _ _ c.requires-raw.1.1.0))))), c.requires.quiet)

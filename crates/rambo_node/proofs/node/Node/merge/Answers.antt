@@ -21,7 +21,7 @@ returns-clause-ok g c next =
     let number = c.number_after-own.ensures next in
     let merged = c.merge-2.ensures ∙ ap (λ n. merged_map n.map gossip.map.now) v in
     let kept = c.make_room.ensures.same ∙ ap (λ n. n.calls) v in
-    let calls = c.hear.ensures c.in_ok-make_room.ensures.ok ∙ λ i. map (heard_call gossip.heard from gossip.map.now (number i) (merged i) (name i)) (kept i) in
+    let calls = c.hear.ensures ∙ λ i. map (heard_call gossip.heard from gossip.map.now (number i) (merged i) (name i)) (kept i) in
     λ i. record {
       name = name i;
       status = (c.wake.ensures ∙ ap (λ n. woken n.status) v) i;
@@ -44,7 +44,10 @@ pub make_room-requires : goal.make_room-requires
 make_room-requires g c = (back_fits _ _ _ (next _ _ _ _ (up_fits _ _ _ c.requires-raw.1.1)), back_fits _ _ _ (up_fits _ _ _ c.requires-raw.1.1))
 
 pub hear-requires : goal.hear-requires
-hear-requires g c = (back_fits _ _ _ (next _ _ _ _ (up_fits _ _ _ c.requires-raw.1.1)), back_fits _ _ _ (up_fits _ _ _ c.requires-raw.1.1))
+hear-requires g c = (
+  back_fits _ _ _ (next _ _ _ _ (up_fits _ _ _ c.requires-raw.1.1)),
+  (back_fits _ _ _ (up_fits _ _ _ c.requires-raw.1.1), c.in_ok-make_room.ensures.ok),
+)
 
 pub invariant_of-self-2 : goal.invariant_of-self-2
 invariant_of-self-2 g c = subst (λ m. AttemptFits m c.hear_vote.new.attempt) (sym c.merge-2.ensures) (c.hear_vote.ensures.fits c.self.invariant)

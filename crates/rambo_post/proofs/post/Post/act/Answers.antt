@@ -1,8 +1,8 @@
 use Rattle.std.proofs.Common.{sym, subst}
 use Rattle.rambo_names.proofs.Sizes.{up_fits, back_fits, variant_fits}
 use Rattle.std.specs.Sync.Mutex.{mutex_guard_value}
-use Rattle.rambo_post.specs.Kept.{KeeperView, IsServedBy, state}
-use Rattle.rambo_post.proofs.Acts.{acted, caused}
+use Rattle.rambo_book.specs.Kept.{KeeperView, IsServedBy, state}
+use Rattle.rambo_pass.proofs.Acts.{acted, caused}
 use Rattle.rambo_post.proofs.post.Post.act.Goals as goal
 
 pub both-keeper-requires : goal.both-keeper-requires

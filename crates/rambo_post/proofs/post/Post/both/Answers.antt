@@ -1,7 +1,7 @@
 use Rattle.std.proofs.Common.{ap, ◌∙◌, subst}
 use Rattle.rambo_names.proofs.Sizes.{up_fits, back_fits, variant_fits}
 use Rattle.std.specs.Sync.Mutex.{mutex_guard_value}
-use Rattle.rambo_post.specs.Kept.{KeeperView, IsServedBy, state}
+use Rattle.rambo_book.specs.Kept.{KeeperView, IsServedBy, state}
 use Rattle.rambo_post.proofs.post.Post.both.Goals as goal
 
 pub loop-init : goal.loop-init

@@ -3,8 +3,8 @@ use Rattle.rambo_names.proofs.Sizes.{up_fits, back_fits, variant_fits}
 use Rattle.rambo_run.specs.declared.step.Step.TheVariants as step
 use Rattle.rambo_run.specs.Steps.{Meant}
 use Rattle.rambo_run.proofs.Lists.{some_inj}
-use Rattle.rambo_post.specs.Kept.{KeeperView}
-use Rattle.rambo_post.proofs.Acts.{called, caused}
+use Rattle.rambo_book.specs.Kept.{KeeperView}
+use Rattle.rambo_pass.proofs.Acts.{called, caused}
 use Rattle.rambo_post.proofs.post.Post.call.Goals as goal
 
 pub keeper_of-keeper-requires : goal.keeper_of-keeper-requires

@@ -1,6 +1,6 @@
 use Rattle.std.proofs.Common.{ap, ◌∙◌}
 use Rattle.rambo_names.proofs.Sizes.{up_fits, back_fits, variant_fits}
-use Rattle.rambo_post.specs.Kept.{KeeperView}
+use Rattle.rambo_book.specs.Kept.{KeeperView}
 use Rattle.rambo_post.proofs.post.Post.send.Goals as goal
 
 pub keeper_of-keeper-requires : goal.keeper_of-keeper-requires

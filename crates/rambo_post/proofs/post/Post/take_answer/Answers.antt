@@ -1,7 +1,7 @@
 use Rattle.std.proofs.Common.{ap, ◌∙◌}
 use Rattle.rambo_names.proofs.Sizes.{up_fits, back_fits, variant_fits}
-use Rattle.rambo_post.specs.Kept.{KeeperView}
-use Rattle.rambo_post.proofs.Taken.{legal_of, answer_of, why_not}
+use Rattle.rambo_book.specs.Kept.{KeeperView}
+use Rattle.rambo_pass.proofs.Taken.{legal_of, answer_of, why_not}
 use Rattle.rambo_post.proofs.post.Post.take_answer.Goals as goal
 
 pub keeper_of-keeper-requires : goal.keeper_of-keeper-requires

@@ -35,25 +35,25 @@ go_on-requires g c =
     let x = c.index_mut.result.now in
     let below : c.place_of-2.result < length xs = subst (λ n. c.place_of-2.result < n) (sym c.self.invariant.0) c.place_of-2.ensures.within in
     let here = subst (λ now. state_at now c.args.id.name ≡ Some x) c.self.view_is (node_here xs ls c.place_of-2.result c.args.id.name x x c.place_of-2.ensures.place c.place_of-2.ensures.named.0 below c.index_mut.ensures.value) in
-    (back_fits _ _ _ (up_fits _ _ _ c.requires-raw.1.1.0), (subst (λ o. least (causes_at g.Q.Quorums.system o (change.Advance c.args.id)) ≡ None) here c.requires))
+    (back_fits _ _ _ (up_fits _ _ _ c.requires-raw.1.1.0), (subst (λ o. least (causes_at g.Q.Quorums.system o (change.Advance c.args.id)) ≡ None) here c.requires.accepted, c.requires.quiet))
 
-pub invariant_of-self-in_err-deed : goal.invariant_of-self-in_err-deed
-invariant_of-self-in_err-deed g c = (length-set c.self.inside.list.items _ _ ∙ c.self.invariant.0, ap length c.make_room.ensures.same ∙ c.self.invariant.1)
+pub invariant_of-self-in_err-go_on : goal.invariant_of-self-in_err-go_on
+invariant_of-self-in_err-go_on g c = (length-set c.self.inside.list.items _ _ ∙ c.self.invariant.0, ap length c.make_room.ensures.same ∙ c.self.invariant.1)
 
-err_same : (g : _) (c : goal.After-from_residual-in_err-deed g) → kept_of (slice_set c.self.inside.list.items c.place_of-2.result c.go_on.new.self) c.make_room.new.logs.logs ≡ c.args.self.now
+err_same : (g : _) (c : goal.After-from_residual-in_err-go_on g) → kept_of (slice_set c.self.inside.list.items c.place_of-2.result c.go_on.new.self) c.make_room.new.logs.logs ≡ c.args.self.now
 err_same g c =
     let xs = c.self.inside.list.items in
     let ls = c.self.inside.logs.logs in
     let x = c.index_mut.result.now in
     let below : c.place_of-2.result < length xs = subst (λ n. c.place_of-2.result < n) (sym c.self.invariant.0) c.place_of-2.ensures.within in
     ap (kept_of (slice_set xs c.place_of-2.result c.go_on.new.self)) c.make_room.ensures.same
-    ∙ node_unchanged xs ls c.place_of-2.result c.args.id.name x c.go_on.new.self c.place_of-2.ensures.place c.place_of-2.ensures.named.0 below c.index_mut.ensures.value c.in_err-deed.ensures.err ∙ c.self.view_is
+    ∙ node_unchanged xs ls c.place_of-2.result c.args.id.name x c.go_on.new.self c.place_of-2.ensures.place c.place_of-2.ensures.named.0 below c.index_mut.ensures.value c.in_err-go_on.ensures.err.0 ∙ c.self.view_is
 
-pub returns-in_err-deed-clause-err : goal.returns-in_err-deed-clause-err
-returns-in_err-deed-clause-err g c = on_err c.from_residual-in_err-deed.result (err_same g c)
+pub returns-in_err-go_on-clause-err : goal.returns-in_err-go_on-clause-err
+returns-in_err-go_on-clause-err g c = on_err c.from_residual-in_err-go_on.result (err_same g c, c.in_err-go_on.ensures.err.1)
 
-pub returns-in_err-deed-clause-grow : goal.returns-in_err-deed-clause-grow
-returns-in_err-deed-clause-grow g c = all_same c.args.self.now _ (err_same g c)
+pub returns-in_err-go_on-clause-grow : goal.returns-in_err-go_on-clause-grow
+returns-in_err-go_on-clause-grow g c = all_same c.args.self.now _ (err_same g c)
 
 -- the room is for the key of the copy
 pub log_copy-requires : goal.log_copy-requires
@@ -65,11 +65,11 @@ log_copy-requires g c cp found =
     let below : c.place_of-2.result < length xs = subst (λ n. c.place_of-2.result < n) (sym c.self.invariant.0) c.place_of-2.ensures.within in
     let first : c.place_of.result < length xs = subst (λ n. c.place_of.result < n) (sym c.self.invariant.0) c.place_of.ensures.within in
     let same = some_is x asking (sym (node_here xs ls c.place_of-2.result c.args.id.name x x c.place_of-2.ensures.place c.place_of-2.ensures.named.0 below c.index_mut.ensures.value) ∙ node_here xs ls c.place_of.result c.args.id.name asking asking c.place_of.ensures.place c.place_of.ensures.named.0 first c.index.ensures) in
-    let own = put_key x c.args.id cp (sym (ap (λ d. d.copy) c.in_ok-deed.ensures.deed) ∙ found) in
+    let own = put_key x c.args.id cp (sym (c.take.ensures.value ∙ ap (λ d. d.copy) c.in_ok-go_on.ensures.deed) ∙ found) in
     c.in_ok-make_room.ensures.room cp.key own.0 (ap (λ y. query_in (open_call y c.args.id)) (sym same) ∙ own.1)
 
 logs_after : (g : _) (c : goal.After-log_copy g) → c.log_copy.new.logs.logs ≡ extended c.self.inside.logs.logs c.args.id.name (listed (made_by c.index_mut.result.now (change.Advance c.args.id)).deed.copy)
-logs_after g c = c.log_copy.ensures ∙ λ i. extended (c.make_room.ensures.same i) c.args.id.name (listed (c.in_ok-deed.ensures.deed i).copy)
+logs_after g c = c.log_copy.ensures ∙ λ i. extended (c.make_room.ensures.same i) c.args.id.name (listed ((c.take.ensures.value ∙ ap (λ d. d.copy) c.in_ok-go_on.ensures.deed) i))
 
 pub invariant_of-self-2 : goal.invariant_of-self-2
 invariant_of-self-2 g c = (length-set c.self.inside.list.items _ _ ∙ c.self.invariant.0, ap length (logs_after g c) ∙ length-set c.self.inside.logs.logs _ _ ∙ c.self.invariant.1)
@@ -80,7 +80,7 @@ returns-clause-nodes g c =
     let ls = c.self.inside.logs.logs in
     let x = c.index_mut.result.now in
     let below : c.place_of-2.result < length xs = subst (λ n. c.place_of-2.result < n) (sym c.self.invariant.0) c.place_of-2.ensures.within in
-    put_node xs ls c.place_of-2.result c.args.id.name x c.go_on.new.self c.place_of-2.ensures.place c.place_of-2.ensures.named.0 below c.index_mut.ensures.value c.log_copy.new.logs.logs (λ y. (made_by y (change.Advance c.args.id)).node) c.in_ok-deed.ensures.node
+    put_node xs ls c.place_of-2.result c.args.id.name x c.go_on.new.self c.place_of-2.ensures.place c.place_of-2.ensures.named.0 below c.index_mut.ensures.value c.log_copy.new.logs.logs (λ y. (made_by y (change.Advance c.args.id)).node) c.in_ok-go_on.ensures.node
     ∙ ap (λ now. moved now c.args.id.name (λ y. (made_by y (change.Advance c.args.id)).node)) c.self.view_is
 
 pub returns-clause-deed : goal.returns-clause-deed
@@ -90,7 +90,8 @@ returns-clause-deed g c y found =
     let x = c.index_mut.result.now in
     let below : c.place_of-2.result < length xs = subst (λ n. c.place_of-2.result < n) (sym c.self.invariant.0) c.place_of-2.ensures.within in
     let here = subst (λ now. state_at now c.args.id.name ≡ Some x) c.self.view_is (node_here xs ls c.place_of-2.result c.args.id.name x x c.place_of-2.ensures.place c.place_of-2.ensures.named.0 below c.index_mut.ensures.value) in
-    ap (λ (d : Deed _). record d { copy = None }) (c.in_ok-deed.ensures.deed ∙ ap (λ y. (made_by y (change.Advance c.args.id)).deed) (some_is x y (sym here ∙ found)))
+    ap (λ o. record c.go_on.new.deed { copy = o }) c.take.ensures.after
+    ∙ ap (λ (d : Deed _). record d { copy = None }) (c.in_ok-go_on.ensures.deed ∙ ap (λ y. (made_by y (change.Advance c.args.id)).deed) (some_is x y (sym here ∙ found)))
 
 pub returns-clause-grow : goal.returns-clause-grow
 returns-clause-grow g c =
@@ -104,9 +105,9 @@ returns-clause-grow g c =
     subst (λ now. AllGrow now (kept_of (slice_set xs c.place_of-2.result c.go_on.new.self) c.log_copy.new.logs.logs)) c.self.view_is
     (subst (λ ms. AllGrow (kept_of xs ls) (kept_of (slice_set xs c.place_of-2.result c.go_on.new.self) ms)) (sym (logs_after g c))
     (log_grows xs ls c.place_of-2.result c.args.id.name x c.go_on.new.self c.place_of-2.ensures.place c.place_of-2.ensures.named.0 below c.index_mut.ensures.value (own ++ more) within (record {
-      name = ap (λ y. y.name) c.in_ok-deed.ensures.node ∙ made_name x (change.Advance c.args.id);
+      name = ap (λ y. y.name) c.in_ok-go_on.ensures.node ∙ made_name x (change.Advance c.args.id);
       extends = (more, refl);
-      recorded = λ before. ap (λ y. y.registers) c.in_ok-deed.ensures.node ∙ made_recorded x own [] (change.Advance c.args.id) before (ap (joined x.registers) greatest_of-nil);
+      recorded = λ before. ap (λ y. y.registers) c.in_ok-go_on.ensures.node ∙ made_recorded x own [] (change.Advance c.args.id) before (ap (joined x.registers) greatest_of-nil);
     })))
 
 pub index-requires : goal.index-requires

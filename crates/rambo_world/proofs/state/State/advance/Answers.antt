@@ -18,7 +18,7 @@ pub go_on-requires : goal.go_on-requires
 go_on-requires g c =
     let s = g.Q.Quorums.system in
     let accepted : least (causes_at s (state_at c.self.inside.nodes c.args.id.name) (change.Advance c.args.id)) ≡ None = subst (λ w. least (causes_at s (node_at w c.args.id.name) (change.Advance c.args.id)) ≡ None) (sym c.self.view_is) c.requires.accepted in
-    (back_fits _ _ _ (next _ _ _ _ (next _ _ _ _ (next _ _ _ _ (next _ _ _ _ (next _ _ _ _ (up_fits _ _ _ c.requires-raw.1.1.0)))))), accepted)
+    (back_fits _ _ _ (next _ _ _ _ (next _ _ _ _ (next _ _ _ _ (next _ _ _ _ (next _ _ _ _ (up_fits _ _ _ c.requires-raw.1.1.0)))))), (accepted, c.quiet-deed.ensures))
 
 pub note-requires-clause-fits : goal.note-requires-clause-fits
 note-requires-clause-fits g c =
@@ -29,7 +29,7 @@ note-requires-clause-fits g c =
     let accepted : least (causes_at s (state_at ks n) ch) ≡ None = subst (λ w. least (causes_at s (node_at w n) ch) ≡ None) (sym c.self.view_is) c.requires.accepted in
     let x = there s (state_at ks n) ch accepted in
     let fits = subst (λ w. EventFits w n ch) (sym c.self.view_is) c.requires.fits in
-    λ e found. ap (λ h. fault_of h e) c.in_ok-reserve.ensures.events ∙ fits x.0 e x.1 (sym (ap (λ d. d.event) (c.in_ok-deed.ensures.deed x.0 x.1)) ∙ found)
+    λ e found. ap (λ h. fault_of h e) c.in_ok-reserve.ensures.events ∙ fits x.0 e x.1 (sym (ap (λ d. d.event) (c.in_ok-go_on.ensures.deed x.0 x.1)) ∙ found)
 
 pub invariant_of-self-2 : goal.invariant_of-self-2
 invariant_of-self-2 g c = kept_stays c.self.inside.nodes c.go_on.new.self c.go_on.ensures.grow c.self.inside.letters c.self.inside.merged c.self.invariant
@@ -42,16 +42,16 @@ returns-clause-ok g c =
     let ch = change.Advance c.args.id in
     let accepted : least (causes_at s (state_at ks n) ch) ≡ None = subst (λ w. least (causes_at s (node_at w n) ch) ≡ None) (sym c.self.view_is) c.requires.accepted in
     let x = there s (state_at ks n) ch accepted in
-    let deed = c.in_ok-deed.ensures.deed x.0 x.1 in
+    let deed = c.in_ok-go_on.ensures.deed x.0 x.1 in
     ap (λ w. turn_at w n (node_at w n) ch) (sym c.self.view_is)
     ∙ changed_world ks c.go_on.new.self c.self.inside.letters c.self.inside.history.events c.note.new.history.events c.self.inside.marks.items c.note.new.marks.items n ch
-    c.note.result x.0 c.in_ok-deed.ensures.nodes (letters_stay ks c.go_on.new.self c.go_on.ensures.grow c.self.inside.letters c.self.invariant.sent) x.1 refl (c.note.ensures.effect ∙ ap (λ d. d.effect) deed)
+    c.note.result x.0 c.in_ok-go_on.ensures.nodes (letters_stay ks c.go_on.new.self c.go_on.ensures.grow c.self.inside.letters c.self.invariant.sent) x.1 refl (c.note.ensures.effect ∙ ap (λ d. d.effect) deed)
     (c.note.ensures.event ∙ (λ i. with_event (c.in_ok-reserve.ensures.events i) (deed i).event)) (c.note.ensures.mark ∙ (λ i. with_mark (c.in_ok-reserve-2.ensures.items i) (deed i).mark))
 
 pub reserve-requires : goal.reserve-requires
 reserve-requires g c = tt
 
-pub returns-in_err-deed-clause-err : goal.returns-in_err-deed-clause-err
-returns-in_err-deed-clause-err g c =
-    on_err c.from_residual-in_err-deed.result
-    ((λ i. world_of (c.in_err-deed.ensures.err i) c.self.inside.letters (c.in_ok-reserve.ensures.events i) (c.in_ok-reserve-2.ensures.items i)) ∙ c.self.view_is)
+pub returns-in_err-go_on-clause-err : goal.returns-in_err-go_on-clause-err
+returns-in_err-go_on-clause-err g c =
+    on_err c.from_residual-in_err-go_on.result
+    ((λ i. world_of (c.in_err-go_on.ensures.err.0 i) c.self.inside.letters (c.in_ok-reserve.ensures.events i) (c.in_ok-reserve-2.ensures.items i)) ∙ c.self.view_is)

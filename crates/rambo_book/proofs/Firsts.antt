@@ -1,0 +1,70 @@
+-- The book and the keepers before any step, and whom a step is for
+use Rattle.std.proofs.Common.{◌≡◌, ℕ, zero, suc, List, [], length, Option, None, Some, All, slice_get, refl, sym, ap, ◌∙◌, subst, arith}
+use Rattle.rambo_names.specs.Names.{IsName}
+use Rattle.rambo_names.specs.Quorums.{QuorumSystem}
+use Rattle.rambo_atomic.specs.declared.event.Event.{Event}
+use Rattle.rambo_gossip.specs.declared.letter.Letter.{Letter}
+use Rattle.rambo_node.specs.Nodes.{NodeState, first_node}
+use Rattle.rambo_run.specs.declared.step.Step.{Step}
+use Rattle.rambo_run.specs.Worlds.{WorldState, node_at, first_world}
+use Rattle.rambo_run.specs.Steps.{meant_in}
+use Rattle.rambo_run.specs.Runs.{run}
+use Rattle.rambo_run.proofs.FirstWorlds.{first_named}
+use Rattle.rambo_run.proofs.Lists.{none-some, some_inj, there_below}
+use Rattle.rambo_sequence.specs.declared.mark.Mark.{Mark}
+use Rattle.rambo_deeds.specs.declared.mail.Mail.{Mail}
+use Rattle.rambo_run.specs.Legal.{IsLegal}
+use Rattle.rambo_deeds.specs.Deeds.{name_in}
+use Rattle.rambo_book.specs.Kept.{AreSent, IsMailOf, IsKeeper, IsBook, IsServedBy}
+use Rattle.rambo_run.proofs.GoingOn.{run_none}
+use Rattle.rambo_run.proofs.Legal.{legal_none}
+use Rattle.rambo_book.proofs.Standing.{same_name}
+
+no_letters : {Q : Type 0} (s : QuorumSystem Q) (f : Q) → (first_world s f).letters ≡ []
+unfolding first_world
+no_letters s f = refl
+
+no_history : {Q : Type 0} (s : QuorumSystem Q) (f : Q) → (first_world s f).history ≡ []
+unfolding first_world
+no_history s f = refl
+
+no_marks : {Q : Type 0} (s : QuorumSystem Q) (f : Q) → (first_world s f).marks ≡ []
+unfolding first_world
+no_marks s f = refl
+
+none_sent : {Q : Type 0} (w : WorldState Q) (letters : List (Letter Q)) → letters ≡ [] → w.letters ≡ [] → AreSent w letters
+none_sent w letters l n = (ap length l ∙ sym (ap length n), λ place a b e h. absurd (none-some a (sym (ap (λ ls. slice_get ls place) l) ∙ e)))
+
+pub first_book : {Q : Type 0} (s : QuorumSystem Q) (agreed : Option Q) (most : ℕ) (rolled : List (Step Q)) (f : Q) (steps : List (Step Q)) (letters : List (Letter Q)) (history : List Event) (marks : List Mark) (capacity : ℕ)
+    → agreed ≡ Some f → capacity ≡ most → rolled ≡ [] → steps ≡ [] → letters ≡ [] → history ≡ [] → marks ≡ [] → IsBook s agreed most rolled f steps letters history marks capacity
+first_book s agreed most rolled f steps letters history marks capacity founded terms r e l h m = record {
+  founded = founded;
+  terms = terms;
+  all = r ∙ sym e;
+  fits = omega (arith, ap length e);
+  legal = subst (IsLegal s f) (sym e) (legal_none s f);
+  sent = subst (λ steps. AreSent (run s f steps) letters) (sym e) (subst (λ w. AreSent w letters) (sym (run_none s f)) (none_sent (first_world s f) letters l (no_letters s f)));
+  told = h ∙ sym (no_history s f) ∙ sym (ap (λ (w : WorldState _). w.history) (run_none s f)) ∙ ap (λ steps. (run s f steps).history) (sym e);
+  marked = m ∙ sym (no_marks s f) ∙ sym (ap (λ (w : WorldState _). w.marks) (run_none s f)) ∙ ap (λ steps. (run s f steps).marks) (sym e);
+}
+
+pub first_keeper : {Q : Type 0} (s : QuorumSystem Q) (agreed : Option Q) (f : Q) (holds name : ℕ) (node : NodeState Q) (tray : List (Mail Q)) (seen : List (Step Q))
+    → agreed ≡ Some f → IsName name → holds ≡ name → node ≡ first_node s f name → tray ≡ [] → seen ≡ [] → IsKeeper s agreed holds name node tray seen
+first_keeper s agreed f holds name node tray seen founded is same first empty none = record {
+  named = same;
+  replays = λ g e.
+      let fg = some_inj f g (sym founded ∙ e) in
+      ap (λ l. node_at (run s g l) name) none ∙ ap (λ w. node_at w name) (run_none s g) ∙ first_named s g name is ∙ ap Some (ap (λ g. first_node s g name) (sym fg) ∙ sym first);
+  mail = λ g e. subst (All (IsMailOf (run s g seen) name)) (sym empty) (λ k d lt. absurd (omega (arith, lt)));
+}
+
+pub serving : {Q : Type 0} (w : WorldState Q) (ls : List (Letter Q)) (st : Step Q) (own name : ℕ) → AreSent w ls → Some own ≡ name_in (meant_in ls st) → own ≡ name → IsServedBy w st name
+serving w ls st own name sent is same m e = some_inj m.name name (sym (ap Some (sym same) ∙ is ∙ same_name w ls st sent ∙ ap name_in e))
+
+pub unserved : {Q : Type 0} (w : WorldState Q) (ls : List (Letter Q)) (st : Step Q) (name : ℕ) → AreSent w ls → None ≡ name_in (meant_in ls st) → IsServedBy w st name
+unserved w ls st name sent is m e = absurd (none-some m.name (is ∙ same_name w ls st sent ∙ ap name_in e))
+
+-- who has a node in a run has a name
+pub is_named : {Q : Type 0} (w : WorldState Q) (n : ℕ) (x : NodeState Q) → length w.nodes ≡ 64 → node_at w n ≡ Some x → IsName n
+is_named w zero x l e = absurd (none-some x e)
+is_named w (suc i) x l e = (omega arith, omega (arith, l, there_below w.nodes i x e))

@@ -1,0 +1,136 @@
+-- What a keeper's node says of a step is what the run of the book says
+use Rattle.std.proofs.Common.{◌≡◌, ℕ, List, [], ◌∷◌, ◌++◌, Option, None, Some, is_some, slice_set, ◌-◌, refl, sym, ap, ◌∙◌, subst}
+use Rattle.std.proofs.lemmas.Bool.{true≢false}
+use mathlib.Core.List.{IsPrefix}
+use Rattle.rambo_names.specs.Quorums.{QuorumSystem}
+use Rattle.rambo_names.specs.Refusals.{least}
+use Rattle.rambo_atomic.specs.declared.event.Event.{Event}
+use Rattle.rambo_atomic.specs.Faults.{fault_of}
+use Rattle.rambo_gossip.specs.declared.letter.Letter.{Letter}
+use Rattle.rambo_node.specs.Changes.{Made, made_by}
+use Rattle.rambo_node.specs.Nodes.{NodeState}
+use Rattle.rambo_run.specs.declared.step.Step.{Step}
+use Rattle.rambo_run.specs.Worlds.{WorldState, node_at}
+use Rattle.rambo_run.specs.Steps.{Meant, meant, meant_in, causes_at, causes_of, causes, refusal, with_letter, with_event, with_mark, Turn, turn_by, turn_at, turn_of, turn}
+use Rattle.rambo_run.specs.Runs.{run}
+use Rattle.rambo_run.specs.Legal.{IsLegal}
+use Rattle.rambo_run.specs.Actors.{actor}
+use Rattle.rambo_run.proofs.Lists.{some_inj}
+use Rattle.rambo_run.proofs.Replays.{own_put}
+use Rattle.rambo_run.proofs.GoingOn.{run-more}
+use Rattle.rambo_run.proofs.Legal.{legal-more, events_fit_run}
+use Rattle.rambo_run.proofs.Actors.{acts, addressees}
+use Rattle.rambo_roll.specs.Rolls.{Idle}
+use Rattle.rambo_sequence.specs.declared.mark.Mark.{Mark}
+use Rattle.rambo_deeds.specs.declared.deeds.Done.{Done}
+use Rattle.rambo_deeds.specs.declared.mail.Mail.{Mail}
+use Rattle.rambo_deeds.specs.Deeds.{judged, done}
+use Rattle.rambo_book.specs.Kept.{AreSent, IsKeeper, IsBook, IsServedBy}
+use Rattle.rambo_book.proofs.Idle.{idle_node}
+use Rattle.rambo_book.proofs.Standing.{Alike, alike, sent_more, done_counts, mail_longer}
+
+judge_of : {Q : Type 0} (s : QuorumSystem Q) (w : WorldState Q) (x : NodeState Q) (name : ℕ) (o : Option (Meant Q)) → node_at w name ≡ Some x → ((m : Meant Q) → o ≡ Some m → m.name ≡ name)
+    → least (causes_of s w o) ≡ judged s x o
+judge_of s w x name None here served = refl
+judge_of s w x name (Some m) here served = ap (λ o. least (causes_at s o m.change)) (ap (node_at w) (served m refl) ∙ here)
+
+pub refusal_is : {Q : Type 0} (s : QuorumSystem Q) (w : WorldState Q) (st : Step Q) → refusal s w st ≡ least (causes_of s w (meant w st))
+unfolding refusal causes
+refusal_is s w st = refl
+
+-- the keeper's node is the one of the book's run, and so it judges as that says, and makes of the kept letters what it
+-- would make of those that were sent
+pub record Judged {Q : Type 0} (s : QuorumSystem Q) (f : Q) (steps : List (Step Q)) (st : Step Q) (name : ℕ) (node : NodeState Q) (letters : List (Letter Q)) : Type 0 where
+  pub here : node_at (run s f steps) name ≡ Some node
+  pub verdict : refusal s (run s f steps) st ≡ judged s node (meant_in letters st)
+  pub same : Alike s node (meant_in letters st) (meant (run s f steps) st)
+
+module _ {Q : Type 0} (s : QuorumSystem Q) (agreed : Option Q) (most : ℕ) (rolled : List (Step Q)) (f : Q) (steps : List (Step Q)) (letters : List (Letter Q)) (history : List Event) (marks : List Mark) (capacity : ℕ)
+    (holds name : ℕ) (node : NodeState Q) (tray : List (Mail Q)) (seen : List (Step Q))
+    (b : IsBook s agreed most rolled f steps letters history marks capacity) (k : IsKeeper s agreed holds name node tray seen) (idle : Idle actor holds seen rolled) where
+  pub still : node_at (run s f steps) name ≡ Some node
+  still =
+      let legal : IsLegal s f rolled = subst (IsLegal s f) (sym b.all) b.legal in
+      ap (λ l. node_at (run s f l) name) (sym b.all)
+      ∙ ap (node_at (run s f rolled)) (sym k.named)
+      ∙ idle_node s f holds seen rolled legal idle
+      ∙ ap (node_at (run s f seen)) k.named
+      ∙ k.replays f b.founded
+
+  pub judged_by : (st : Step Q) → IsServedBy (run s f steps) st name → Judged s f steps st name node letters
+  judged_by st served =
+      let w = run s f steps in
+      let same : Alike s node (meant_in letters st) (meant w st) = alike s w letters name node st b.sent still served in
+      record {
+        here = still;
+        verdict = refusal_is s w st ∙ judge_of s w node name (meant w st) still served ∙ sym same.judges;
+        same = same;
+      }
+
+  pub begun : IsPrefix seen steps
+  begun = (idle.0, idle.1 ∙ b.all)
+
+some_meant : {Q : Type 0} (s : QuorumSystem Q) (x : NodeState Q) (o : Option (Meant Q)) → judged s x o ≡ None → (m : Meant Q) × (o ≡ Some m)
+some_meant s x None e = absurd (true≢false (ap is_some e))
+some_meant s x (Some m) e = (m, refl)
+
+-- what holds once the step is done
+pub record Finished {Q : Type 0} (s : QuorumSystem Q) (f : Q) (steps : List (Step Q)) (st : Step Q) (name : ℕ) (letters : List (Letter Q)) (history : List Event) (marks : List Mark) (new : NodeState Q) (d : Done Q) : Type 0 where
+  pub accepted : refusal s (run s f steps) st ≡ None
+  pub legal : IsLegal s f (steps ++ st ∷ [])
+  pub sent : AreSent (run s f (steps ++ st ∷ [])) (with_letter letters d.letter)
+  pub told : with_event history d.event ≡ (run s f (steps ++ st ∷ [])).history
+  pub marked : with_mark marks d.mark ≡ (run s f (steps ++ st ∷ [])).marks
+  pub fits : (e : Event) → d.event ≡ Some e → fault_of history e ≡ None
+  pub effect : d.effect ≡ (turn (run s f steps) st).effect
+  pub node : node_at (run s f (steps ++ st ∷ [])) name ≡ Some new
+  pub acts : actor steps st ≡ name
+
+turn_is : {Q : Type 0} (w : WorldState Q) (st : Step Q) (m : Meant Q) (x : NodeState Q) → meant w st ≡ Some m → node_at w m.name ≡ Some x → turn w st ≡ turn_by w m.name (made_by x m.change)
+unfolding turn
+turn_is w st m x means there = ap (turn_of w) means ∙ ap (λ o. turn_at w m.name o m.change) there
+
+module _ {Q : Type 0} (s : QuorumSystem Q) (f : Q) (steps : List (Step Q)) (st : Step Q) (name : ℕ) (node : NodeState Q) (letters : List (Letter Q)) (history : List Event) (marks : List Mark) (new : NodeState Q) (d : Done Q) where
+  pub finished : Judged s f steps st name node letters → IsServedBy (run s f steps) st name → judged s node (meant_in letters st) ≡ None → IsLegal s f steps
+      → AreSent (run s f steps) letters → history ≡ (run s f steps).history → marks ≡ (run s f steps).marks
+      → ((m : Meant Q) → meant_in letters st ≡ Some m → new ≡ (made_by node m.change).node)
+      → ((m : Meant Q) → meant_in letters st ≡ Some m → d ≡ done letters (made_by node m.change))
+      → Finished s f steps st name letters history marks new d
+  finished j served none legal sent told marked after did =
+      let w = run s f steps in
+      let accepted : refusal s w st ≡ None = j.verdict ∙ none in
+      let kept = some_meant s node (meant_in letters st) none in
+      let found = some_meant s node (meant w st) (sym j.same.judges ∙ none) in
+      let m = found.0 in
+      let means : meant w st ≡ Some m = found.1 in
+      let own : m.name ≡ name = served m means in
+      let made = made_by node m.change in
+      let makes : made_by node kept.0.change ≡ made = j.same.makes kept.0 m kept.1 means in
+      let t : turn w st ≡ turn_by w m.name made = turn_is w st m node means (ap (node_at w) own ∙ j.here) in
+      let e : d ≡ done w.letters made = did kept.0 kept.1 ∙ ap (done letters) makes ∙ done_counts letters w.letters made sent.0 in
+      let more : run s f (steps ++ st ∷ []) ≡ (turn w st).world = run-more s f steps st accepted in
+      let nodes : (turn w st).world.nodes ≡ slice_set w.nodes (name - 1) made.node = ap (λ (t : Turn _). t.world.nodes) t ∙ ap (λ n. slice_set w.nodes (n - 1) made.node) own in
+      let list : (run s f (steps ++ st ∷ [])).letters ≡ with_letter w.letters d.letter =
+      ap (λ (w : WorldState _). w.letters) more ∙ ap (λ (t : Turn _). t.world.letters) t ∙ sym (ap (λ (d : Done _). with_letter w.letters d.letter) e) in
+      record {
+        accepted = accepted;
+        legal = legal-more s f steps st legal accepted;
+        sent = sent_more s f steps (steps ++ st ∷ []) (st ∷ [], refl) letters d.letter sent list;
+        told = ap (λ es. with_event es d.event) told ∙ ap (λ (d : Done _). with_event w.history d.event) e ∙ sym (ap (λ (t : Turn _). t.world.history) t) ∙ sym (ap (λ (w : WorldState _). w.history) more);
+        marked = ap (λ ms. with_mark ms d.mark) marked ∙ ap (λ (d : Done _). with_mark w.marks d.mark) e ∙ sym (ap (λ (t : Turn _). t.world.marks) t) ∙ sym (ap (λ (w : WorldState _). w.marks) more);
+        fits = λ v is.
+            let grown : (turn w st).world.history ≡ w.history ++ v ∷ [] = ap (λ (t : Turn _). t.world.history) t ∙ ap (with_event w.history) (sym (ap (λ (d : Done _). d.event) e) ∙ is) in
+            ap (λ h. fault_of h v) told ∙ events_fit_run s f steps st v accepted grown;
+        effect = ap (λ (d : Done _). d.effect) e ∙ sym (ap (λ (t : Turn _). t.effect) t);
+        node = ap (λ w. node_at w name) more ∙ own_put w (turn w st).world name node made.node j.here nodes ∙ ap Some (sym (after kept.0 kept.1 ∙ ap (λ (m : Made _). m.node) makes));
+        acts = acts steps w st m (addressees s f steps legal) means ∙ own;
+      }
+
+-- a keeper that has seen more, whose node is that of what it has seen
+pub kept_on : {Q : Type 0} (s : QuorumSystem Q) (agreed : Option Q) (f : Q) (holds held name : ℕ) (node new : NodeState Q) (tray : List (Mail Q)) (seen longer : List (Step Q))
+    → agreed ≡ Some f → IsKeeper s agreed holds name node tray seen → held ≡ holds → IsPrefix seen longer → node_at (run s f longer) name ≡ Some new → IsKeeper s agreed held name new tray longer
+kept_on s agreed f holds held name node new tray seen longer founded k same p there = record {
+  named = same ∙ k.named;
+  replays = λ g e. subst (λ g. node_at (run s g longer) name ≡ Some new) (some_inj f g (sym founded ∙ e)) there;
+  mail = λ g e. mail_longer s g seen longer p name tray (k.mail g e);
+}

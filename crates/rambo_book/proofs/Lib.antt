@@ -1,0 +1,10 @@
+pub mod Idle
+pub mod Standing
+pub mod Judging
+pub mod Commits
+pub mod Refused
+pub mod Firsts
+pub mod Trays
+pub mod Taking
+pub mod Clearing
+pub mod OneOrder

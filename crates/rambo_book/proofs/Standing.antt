@@ -1,0 +1,189 @@
+-- Kept letters stand for those that were sent: they mean the same, and go on to do so
+use Rattle.std.proofs.Common.{◌≡◌, ◌⊎◌, ℕ, zero, suc, ◌+◌, List, [], ◌∷◌, length, get_or, All, Option, None, Some, false, slice_get, refl, sym, ap, ◌∙◌, subst, inl, inr, arith}
+use Rattle.std.proofs.lemmas.List.{length-append}
+use mathlib.Core.List.{IsPrefix}
+use Rattle.std.specs.FinMap as map
+use Rattle.rambo_names.specs.Quorums.{QuorumSystem}
+use Rattle.rambo_names.specs.Refusals.{least}
+use Rattle.rambo_tag.specs.Copies.{Copies, joined}
+use Rattle.rambo_tag.proofs.CopyOrder.{is_below, is_newer-is_below, not_below-trans, greater-right}
+use Rattle.rambo_tag.proofs.Joins.{get-joined}
+use Rattle.rambo_gossip.specs.declared.letter.Letter.{Letter}
+use Rattle.rambo_gossip.specs.Short.{IsShort}
+use Rattle.rambo_node.specs.declared.change.Change.TheVariants as change
+use Rattle.rambo_node.specs.declared.effect.Effect.{Effect}
+use Rattle.rambo_node.specs.Changes.{Made, made_by, refusal_of}
+use Rattle.rambo_node.specs.Nodes.{NodeState}
+use Rattle.rambo_node.proofs.Short.{heard_as_whole, whole_is_short}
+use Rattle.rambo_run.specs.declared.step.Step.{Step}
+use Rattle.rambo_run.specs.declared.step.Step.TheVariants as step
+use Rattle.rambo_run.specs.Worlds.{WorldState, node_at, copies_of, held_by, letter_at}
+use Rattle.rambo_run.specs.Steps.{Meant, meant, meant_in, delivery, with_letter, effect_in}
+use Rattle.rambo_run.specs.Runs.{run}
+use Rattle.rambo_run.proofs.Lists.{some_inj, get_more}
+use Rattle.rambo_run.proofs.Growing.{copies_are_kept}
+use Rattle.rambo_run.proofs.Legal.{get-left, run-grows}
+use Rattle.rambo_deeds.specs.declared.mail.Mail.{Mail}
+use Rattle.rambo_deeds.specs.Deeds.{judged, done, name_in}
+use Rattle.rambo_book.specs.Kept.{StandsFor, AreSent, IsMailOf, IsServedBy}
+
+-- two changes that a step may mean come to the same for a node
+pub record Alike {Q : Type 0} (s : QuorumSystem Q) (x : NodeState Q) (o p : Option (Meant Q)) : Type 0 where
+  pub judges : judged s x o ≡ judged s x p
+  pub makes : (m k : Meant Q) → o ≡ Some m → p ≡ Some k → made_by x m.change ≡ made_by x k.change
+
+itself : {Q : Type 0} (s : QuorumSystem Q) (x : NodeState Q) (o : Option (Meant Q)) → Alike s x o o
+itself s x o = record { judges = refl; makes = λ m k e f. ap (λ (m : Meant _). made_by x m.change) (some_inj m k (sym e ∙ f)) }
+
+-- lists of one length have items at the same places
+pub paired : {A B : Type 0} (xs : List A) (ys : List B) → length xs ≡ length ys → (i : ℕ)
+    → ((slice_get xs i ≡ None) × (slice_get ys i ≡ None)) ⊎ ((a : A) × (b : B) × (slice_get xs i ≡ Some a) × (slice_get ys i ≡ Some b))
+paired [] [] e i = inl (refl, refl)
+paired [] (y ∷ ys) e i = absurd (omega (arith, e))
+paired (x ∷ xs) [] e i = absurd (omega (arith, e))
+paired (x ∷ xs) (y ∷ ys) e zero = inr (x, y, refl, refl)
+paired (x ∷ xs) (y ∷ ys) e (suc i) = paired xs ys (omega (arith, e)) i
+
+-- of each number there is a kept letter and one that it stands for, or neither
+pub letters_paired : {Q : Type 0} (w : WorldState Q) (letters : List (Letter Q)) → AreSent w letters → (n : ℕ)
+    → ((letter_at letters n ≡ None) × (letter_at w.letters n ≡ None))
+    ⊎ ((l : Letter Q) × (whole : Letter Q) × (letter_at letters n ≡ Some l) × (letter_at w.letters n ≡ Some whole) × StandsFor w l whole)
+letters_paired w letters sent zero = inl (refl, refl)
+letters_paired w letters sent (suc i) = elim (paired letters w.letters sent.0 i) [
+  | inl n ↦ inl n
+  | inr p ↦ inr (p.0, p.1, p.2, p.3, sent.1 i p.0 p.1 p.2 p.3)
+]
+
+-- a letter goes where the one goes for which it stands
+pub goes_alike : {Q : Type 0} (l whole : Letter Q) (held : Copies) → IsShort l whole held → l.addressee ≡ whole.addressee
+goes_alike l whole held short = ap (λ (l : Letter _). l.addressee) short.rest
+
+-- and comes from there
+pub comes_alike : {Q : Type 0} (l whole : Letter Q) (held : Copies) → IsShort l whole held → l.sender ≡ whole.sender
+comes_alike l whole held short = ap (λ (l : Letter _). l.sender) short.rest
+
+module _ {Q : Type 0} (s : QuorumSystem Q) (x : NodeState Q) where
+  pub verdict_alike : (l whole : Letter Q) → IsShort l whole x.registers → refusal_of s x (change.Deliver l) ≡ refusal_of s x (change.Deliver whole)
+  verdict_alike l whole short = ap least (heard_as_whole x l whole short).1
+
+  unfolding_made : (l whole : Letter Q) → IsShort l whole x.registers → made_by x (change.Deliver l) ≡ made_by x (change.Deliver whole)
+  unfolding made_by
+  unfolding_made l whole short = ap Rattle.rambo_node.specs.Changes.quiet (heard_as_whole x l whole short).0
+
+  coming : (l whole : Letter Q) → IsShort l whole x.registers
+      → Alike s x (Some (record { name = l.addressee; change = change.Deliver l })) (Some (record { name = whole.addressee; change = change.Deliver whole }))
+  coming l whole short = record {
+    judges = verdict_alike l whole short;
+    makes = λ m k e f.
+        sym (ap (λ (m : Meant _). made_by x m.change) (some_inj _ m e)) ∙ unfolding_made l whole short ∙ ap (λ (m : Meant _). made_by x m.change) (some_inj _ k f);
+  }
+
+-- of a letter to the node of this name
+pub short_here : {Q : Type 0} (w : WorldState Q) (name : ℕ) (x : NodeState Q) → node_at w name ≡ Some x → (l whole : Letter Q) → StandsFor w l whole → whole.addressee ≡ name → IsShort l whole x.registers
+short_here w name x here l whole short own = subst (IsShort l whole) (ap (held_by w) own ∙ ap copies_of here) short
+
+module _ {Q : Type 0} (s : QuorumSystem Q) (w : WorldState Q) (letters : List (Letter Q)) (name : ℕ) (x : NodeState Q) (here : node_at w name ≡ Some x) where
+  delivered_alike : (n : ℕ) → AreSent w letters → ((m : Meant Q) → delivery (letter_at w.letters n) ≡ Some m → m.name ≡ name)
+      → Alike s x (delivery (letter_at letters n)) (delivery (letter_at w.letters n))
+  delivered_alike n sent served = elim (letters_paired w letters sent n) [
+    | inl e ↦ subst (λ o. Alike s x (delivery (letter_at letters n)) (delivery o)) (e.0 ∙ sym e.1) (itself s x (delivery (letter_at letters n)))
+    | inr p ↦ (let own : p.1.addressee ≡ name = served (record { name = p.1.addressee; change = change.Deliver p.1 }) (ap delivery p.3) in
+        subst (λ o. Alike s x (delivery o) (delivery (letter_at w.letters n))) (sym p.2)
+        (subst (λ o. Alike s x (delivery (Some p.0)) (delivery o)) (sym p.3) (coming s x p.0 p.1 (short_here w name x here p.0 p.1 p.4 own))))
+  ]
+
+pub alike : {Q : Type 0} (s : QuorumSystem Q) (w : WorldState Q) (letters : List (Letter Q)) (name : ℕ) (x : NodeState Q) (st : Step Q) → AreSent w letters → node_at w name ≡ Some x → IsServedBy w st name
+    → Alike s x (meant_in letters st) (meant w st)
+alike s w letters name x (step.Deliver n) sent here served = delivered_alike s w letters name x here n sent served
+alike s w letters name x (step.Join n contacts) sent here served = itself s x _
+alike s w letters name x (step.Call n o) sent here served = itself s x _
+alike s w letters name x (step.Send n to) sent here served = itself s x _
+alike s w letters name x (step.Advance id) sent here served = itself s x _
+alike s w letters name x (step.Again id) sent here served = itself s x _
+alike s w letters name x (step.Collect n) sent here served = itself s x _
+alike s w letters name x (step.AdvanceCollect n) sent here served = itself s x _
+alike s w letters name x (step.Recon n wish) sent here served = itself s x _
+alike s w letters name x (step.Rebid n) sent here served = itself s x _
+alike s w letters name x (step.AdvanceRecon n) sent here served = itself s x _
+alike s w letters name x (step.Stop n) sent here served = itself s x _
+
+-- whose step it is
+names_alike : {Q : Type 0} (w : WorldState Q) (letters : List (Letter Q)) (n : ℕ) → AreSent w letters → name_in (delivery (letter_at letters n)) ≡ name_in (delivery (letter_at w.letters n))
+names_alike w letters n sent = elim (letters_paired w letters sent n) [
+  | inl e ↦ ap (λ o. name_in (delivery o)) (e.0 ∙ sym e.1)
+  | inr p ↦ ap (λ o. name_in (delivery o)) p.2 ∙ ap Some (goes_alike p.0 p.1 _ p.4) ∙ sym (ap (λ o. name_in (delivery o)) p.3)
+]
+
+pub same_name : {Q : Type 0} (w : WorldState Q) (letters : List (Letter Q)) (st : Step Q) → AreSent w letters → name_in (meant_in letters st) ≡ name_in (meant w st)
+same_name w letters (step.Deliver n) sent = names_alike w letters n sent
+same_name w letters (step.Join n contacts) sent = refl
+same_name w letters (step.Call n o) sent = refl
+same_name w letters (step.Send n to) sent = refl
+same_name w letters (step.Advance id) sent = refl
+same_name w letters (step.Again id) sent = refl
+same_name w letters (step.Collect n) sent = refl
+same_name w letters (step.AdvanceCollect n) sent = refl
+same_name w letters (step.Recon n wish) sent = refl
+same_name w letters (step.Rebid n) sent = refl
+same_name w letters (step.AdvanceRecon n) sent = refl
+same_name w letters (step.Stop n) sent = refl
+
+-- what is told counts the letters alone
+effect_counts : {Q : Type 0} (ls ms : List (Letter Q)) (e : Effect Q) (o : Option (Letter Q)) → length ls ≡ length ms → effect_in ls e o ≡ effect_in ms e o
+effect_counts ls ms e None same = refl
+effect_counts ls ms e (Some l) same = ap (λ n. Rattle.rambo_node.specs.declared.effect.Effect.TheVariants.Sent (n + 1)) same
+
+pub done_counts : {Q : Type 0} (ls ms : List (Letter Q)) (m : Made Q) → length ls ≡ length ms → done ls m ≡ done ms m
+done_counts ls ms m same = λ i. record { effect = effect_counts ls ms m.deed.effect m.letter same i; event = m.deed.event; mark = m.deed.mark; letter = m.letter }
+
+-- where the addressee holds more, a letter stands as it stood
+pub short_longer : {Q : Type 0} (l whole : Letter Q) (held more : Copies) → joined more held ≡ more → IsShort l whole held → IsShort l whole more
+short_longer l whole held more grows short = record {
+  rest = short.rest;
+  part = short.part;
+  held_anyway = λ key v e f.
+      let above : is_below (map.get more key) (map.get held key) ≡ false =
+      subst (λ o. is_below o (map.get held key) ≡ false) (sym (get-joined more held key) ∙ ap (λ r. map.get r key) grows) (greater-right (map.get more key) (map.get held key)) in
+      is_newer-is_below (map.get more key) v ∙ not_below-trans (map.get more key) (map.get held key) (Some v) above (sym (is_newer-is_below (map.get held key) v) ∙ short.held_anyway key v e f);
+}
+
+module _ {Q : Type 0} (s : QuorumSystem Q) (f : Q) (xs ys : List (Step Q)) (p : IsPrefix xs ys) where
+  pub stands_longer : (l whole : Letter Q) → StandsFor (run s f xs) l whole → StandsFor (run s f ys) l whole
+  stands_longer l whole short = short_longer l whole (held_by (run s f xs) whole.addressee) (held_by (run s f ys) whole.addressee) (copies_are_kept s f xs ys p whole.addressee) short
+
+  letter-left : (i : ℕ) (l : Letter Q) → letter_at (run s f xs).letters i ≡ Some l → letter_at (run s f ys).letters i ≡ Some l
+  letter-left zero l e = e
+  letter-left (suc i) l e =
+      let g = (run-grows s f xs ys p).letters in
+      ap (λ ls. slice_get ls i) (sym g.1) ∙ get-left (run s f xs).letters g.0 i l e
+
+  -- the letters of a tray stay letters
+  pub mail_longer : (name : ℕ) (tray : List (Mail Q)) → All (IsMailOf (run s f xs) name) tray → All (IsMailOf (run s f ys) name) tray
+  mail_longer name tray all = λ k d lt.
+      let m = all k d lt in
+      (m.0, letter-left (get_or tray k d).number m.0 m.1, stands_longer (get_or tray k d).letter m.0 m.2, m.3)
+
+  -- and those of the book, with what is sent behind them
+  pub sent_more : (letters : List (Letter Q)) (o : Option (Letter Q)) → AreSent (run s f xs) letters → (run s f ys).letters ≡ with_letter (run s f xs).letters o
+      → AreSent (run s f ys) (with_letter letters o)
+  sent_more letters None sent same = (
+    sent.0 ∙ sym (ap length same),
+    λ place l whole e h. stands_longer l whole (sent.1 place l whole e (ap (λ ls. slice_get ls place) (sym same) ∙ h)),
+  )
+  sent_more letters (Some new) sent same = (
+    length-append letters (new ∷ []) ∙ ap (λ n. n + 1) sent.0 ∙ sym (length-append (run s f xs).letters (new ∷ [])) ∙ sym (ap length same),
+    λ place l whole e h. at_place place l whole (get_more letters new l place e) (get_more (run s f xs).letters new whole place (ap (λ ls. slice_get ls place) (sym same) ∙ h)),
+  )
+    where
+      apart : (place : ℕ) → place ≡ length letters → (whole : Letter Q) → slice_get (run s f xs).letters place ≡ Some whole → ⊥
+      apart place at whole e = let b = Rattle.rambo_run.proofs.Lists.there_below (run s f xs).letters place whole e in omega (arith, b, at, sent.0)
+
+      apart_too : (place : ℕ) → place ≡ length (run s f xs).letters → (l : Letter Q) → slice_get letters place ≡ Some l → ⊥
+      apart_too place at l e = let b = Rattle.rambo_run.proofs.Lists.there_below letters place l e in omega (arith, b, at, sent.0)
+
+      at_place : (place : ℕ) (l whole : Letter Q) → (slice_get letters place ≡ Some l) ⊎ ((place ≡ length letters) × (new ≡ l))
+          → (slice_get (run s f xs).letters place ≡ Some whole) ⊎ ((place ≡ length (run s f xs).letters) × (new ≡ whole)) → StandsFor (run s f ys) l whole
+      at_place place l whole (inl e) (inl h) = stands_longer l whole (sent.1 place l whole e h)
+      at_place place l whole (inl e) (inr h) = absurd (apart_too place h.0 l e)
+      at_place place l whole (inr e) (inl h) = absurd (apart place e.0 whole h)
+      at_place place l whole (inr e) (inr h) = subst (λ l. StandsFor (run s f ys) l whole) (sym h.1 ∙ e.1) (whole_is_short whole _)

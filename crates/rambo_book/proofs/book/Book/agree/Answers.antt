@@ -1,0 +1,21 @@
+use Rattle.std.proofs.Common.{◌≡◌, Some, subst}
+use Rattle.rambo_roll.specs.Rolls.{Idle}
+use Rattle.rambo_run.specs.Actors.{actor}
+use Rattle.rambo_run.specs.Worlds.{node_at}
+use Rattle.rambo_book.specs.Kept.{BookView, KeeperView, state}
+use Rattle.rambo_book.proofs.Judging.{still}
+use Rattle.rambo_book.proofs.book.Book.agree.Goals as goal
+
+pub returns-clause-idle : goal.returns-clause-idle
+returns-clause-idle g c =
+    let k = c.keeper.inside in
+    subst (λ (b : BookView _). Idle actor c.args.keeper.now.name c.args.keeper.now.seen b.steps) c.self.view_is
+    (subst (λ (v : KeeperView _). Idle actor v.name v.seen c.self.inside.steps.items) c.keeper.view_is
+    (subst (λ n. Idle actor n k.holder.1 c.self.inside.steps.items) c.keeper.invariant.named (subst (Idle actor k.holder.0 k.holder.1) c.self.invariant.all c.agree.ensures.idle)))
+
+pub returns-clause-node : goal.returns-clause-node
+returns-clause-node g c =
+    let s = g.Q.Quorums.system in
+    let here = still _ _ _ _ _ _ _ _ _ _ _ _ _ _ _ c.self.invariant c.keeper.invariant c.agree.ensures.idle in
+    subst (λ b. node_at (state s b) c.args.keeper.now.name ≡ Some c.args.keeper.now.node) c.self.view_is
+    (subst (λ (k : KeeperView _). node_at (state s (record { founders = c.self.inside.founders; steps = c.self.inside.steps.items; capacity = c.self.inside.capacity; waiting = c.self.inside.mails })) k.name ≡ Some k.node) c.keeper.view_is here)

@@ -1,0 +1,10 @@
+use Rattle.std.proofs.Common.{subst, arith}
+use Rattle.rambo_run.specs.Legal.{IsLegal}
+use Rattle.rambo_book.specs.Kept.{BookView}
+use Rattle.rambo_book.proofs.book.Book.into_steps.Goals as goal
+
+pub returns-clause-legal : goal.returns-clause-legal
+returns-clause-legal g c = subst (λ (b : BookView _). IsLegal g.Q.Quorums.system b.founders c.self.inside.steps.items) c.self.view_is c.self.invariant.legal
+
+pub returns-clause-fits : goal.returns-clause-fits
+returns-clause-fits g c = omega (arith, c.self.invariant.fits, c.self.invariant.terms)

@@ -1,0 +1,74 @@
+-- What a keeper and the book are, whenever their lock is free
+use Rattle.std.specs.Prelude.{◌≡◌, ℕ, ◌≤◌, ◌<◌, ◌⊎◌, List, length, slice_get, All, Option, Some, None}
+use Rattle.rambo_names.specs.declared.refusal.Refusal.{Refusal}
+use Rattle.rambo_names.specs.declared.refusal.Refusal.TheVariants.{HistoryFull, OutOfMemory}
+use Rattle.rambo_names.specs.Quorums.{QuorumSystem}
+use Rattle.rambo_atomic.specs.declared.event.Event.{Event}
+use Rattle.rambo_gossip.specs.declared.letter.Letter.{Letter}
+use Rattle.rambo_gossip.specs.Short.{IsShort}
+use Rattle.rambo_node.specs.Nodes.{NodeState}
+use Rattle.rambo_run.specs.declared.step.Step.{Step}
+use Rattle.rambo_run.specs.Worlds.{WorldState, node_at, held_by, letter_at}
+use Rattle.rambo_run.specs.Steps.{Meant, meant}
+use Rattle.rambo_run.specs.Runs.{run}
+use Rattle.rambo_deeds.specs.declared.mail.Mail.{Mail}
+use Rattle.rambo_run.specs.Legal.{IsLegal}
+use Rattle.rambo_sequence.specs.declared.mark.Mark.{Mark}
+
+pub record KeeperView (Q : Type 0) : Type 0 where
+  pub name : ℕ
+  pub node : NodeState Q
+  pub tray : List (Mail Q)
+  pub seen : List (Step Q)
+
+-- waiting: of the names 1, 2, .. the numbers of the letters that wait for each, the oldest first
+pub record BookView (Q : Type 0) : Type 0 where
+  pub founders : Q
+  pub steps : List (Step Q)
+  pub capacity : ℕ
+  pub waiting : List (List ℕ)
+
+-- the world that the steps of a book make
+abbrev pub state : {Q : Type 0} → QuorumSystem Q → BookView Q → WorldState Q
+state s b = run s b.founders b.steps
+
+-- a kept letter stands for this one of a world: it may leave out copies that the addressee holds there
+abbrev pub StandsFor : {Q : Type 0} → WorldState Q → Letter Q → Letter Q → Type 0
+StandsFor w l whole = IsShort l whole (held_by w whole.addressee)
+
+-- the kept letters stand for those that a world was sent, one for one
+abbrev pub AreSent : {Q : Type 0} → WorldState Q → List (Letter Q) → Type 0
+AreSent {Q} w letters =
+    (length letters ≡ length w.letters)
+    × ((place : ℕ) (l whole : Letter Q) → slice_get letters place ≡ Some l → slice_get w.letters place ≡ Some whole → StandsFor w l whole)
+
+-- a letter to this name, which stands for that of its number
+abbrev pub IsMailOf : {Q : Type 0} → WorldState Q → ℕ → Mail Q → Type 0
+IsMailOf {Q} w name m = (whole : Letter Q) × (letter_at w.letters m.number ≡ Some whole) × StandsFor w m.letter whole × (whole.addressee ≡ name)
+
+-- the node of a keeper is that of the run of what it has seen, and its letters were sent to it there
+pub record IsKeeper {Q : Type 0} (s : QuorumSystem Q) (agreed : Option Q) (holds name : ℕ) (node : NodeState Q) (tray : List (Mail Q)) (seen : List (Step Q)) : Type 0 where
+  pub named : holds ≡ name
+  pub replays : (f : Q) → agreed ≡ Some f → node_at (run s f seen) name ≡ Some node
+  pub mail : (f : Q) → agreed ≡ Some f → All (IsMailOf (run s f seen) name) tray
+
+-- a book is of the founders and the capacity that it was opened with; its steps, which all tokens speak of, are legal and at
+-- most as many; and its letters, its history and its marks are those of their run
+pub record IsBook {Q : Type 0} (s : QuorumSystem Q) (agreed : Option Q) (most : ℕ) (rolled : List (Step Q)) (founders : Q) (steps : List (Step Q)) (letters : List (Letter Q)) (history : List Event) (marks : List Mark) (capacity : ℕ) : Type 0 where
+  pub founded : agreed ≡ Some founders
+  pub terms : capacity ≡ most
+  pub all : rolled ≡ steps
+  pub fits : length steps ≤ capacity
+  pub legal : IsLegal s founders steps
+  pub sent : AreSent (run s founders steps) letters
+  pub told : history ≡ (run s founders steps).history
+  pub marked : marks ≡ (run s founders steps).marks
+
+-- the node that the step means, if it means one, is that of the name
+abbrev pub IsServedBy : {Q : Type 0} → WorldState Q → Step Q → ℕ → Type 0
+IsServedBy {Q} w st name = (m : Meant Q) → meant w st ≡ Some m → m.name ≡ name
+
+-- which refusal is told: that of the step, or that the book is full, or want of memory
+abbrev pub Told : Option Refusal → ℕ → ℕ → Refusal → Type 0
+Told (Some d) count capacity r = r ≡ d
+Told None count capacity r = ((r ≡ HistoryFull) × (count ≡ capacity)) ⊎ ((r ≡ OutOfMemory) × (count < capacity))

@@ -1,0 +1,37 @@
+-- Which letters went to a tray, and which left it
+use Rattle.std.specs.Prelude.{◌≡◌, ℕ, Bool, false, nat_eq, if◌then◌else◌, List, [], ◌∷◌, ◌++◌, map, take, drop, length, Option, None, Some}
+use Rattle.rambo_gossip.specs.declared.letter.Letter.{Letter}
+use Rattle.rambo_joiner.specs.Statuses.{is_stopped}
+use Rattle.rambo_run.specs.Worlds.{WorldState, letter_at}
+use Rattle.rambo_mail.specs.Waiting.{waiting_for, with_waiting}
+use Rattle.rambo_deeds.specs.declared.mail.Mail.{Mail}
+use Rattle.rambo_book.specs.Kept.{KeeperView}
+
+abbrev pub goes_to : {Q : Type 0} → ℕ → Option (Letter Q) → Bool
+goes_to name None = false
+goes_to name (Some l) = nat_eq l.addressee name
+
+-- of these letters those that were sent to this name
+abbrev pub sent_to : {Q : Type 0} → WorldState Q → ℕ → List ℕ → List ℕ
+sent_to w name [] = []
+sent_to w name (n ∷ ns) = if goes_to name (letter_at w.letters n) then n ∷ sent_to w name ns else sent_to w name ns
+
+-- the letters of these numbers are in a tray behind those that were in it
+pub record IsBehind {Q : Type 0} (before : List (Mail Q)) (numbers : List ℕ) (after : List (Mail Q)) : Type 0 where
+  pub more : List (Mail Q)
+  pub tray : after ≡ before ++ more
+  pub numbered : map (λ (m : Mail Q). m.number) more ≡ numbers
+
+-- so many of the letters that wait for a name, the oldest, went to its tray, and the others wait
+pub record AreTaken {Q : Type 0} (w : WorldState Q) (name count : ℕ) (lists left : List (List ℕ)) (before after : List (Mail Q)) : Type 0 where
+  pub taken : IsBehind before (sent_to w name (take count (waiting_for lists name))) after
+  pub others : left ≡ with_waiting lists name (drop count (waiting_for lists name))
+
+-- how many letters a keeper takes: all that wait for its node, or none once that has stopped
+abbrev pub all_for : {Q : Type 0} → KeeperView Q → List (List ℕ) → ℕ
+all_for k lists = if is_stopped k.node.status then 0 else length (waiting_for lists k.name)
+
+-- a tray without the first letter of this number
+abbrev pub without : {Q : Type 0} → List (Mail Q) → ℕ → List (Mail Q)
+without [] number = []
+without (m ∷ ms) number = if nat_eq m.number number then ms else m ∷ without ms number

@@ -1,0 +1,185 @@
+//! A step goes into the book, and its node takes it.
+ghost use Rattle.std.specs.Prelude.{◌≡◌, ◌≢◌, ◌<◌, ◌++◌, ◌∷◌, [], None, Some, length, option_to_list, OnOk, OnErr, IfOk, IfErr};
+ghost use Rattle.std.specs.Vec.{vec_len, vec_capacity};
+ghost use Rattle.rambo_atomic.specs.Faults.{fault_of};
+ghost use Rattle.rambo_run.specs.Actors.{sent_by};
+ghost use Rattle.rambo_run.specs.Runs.{run};
+ghost use Rattle.rambo_run.specs.Steps.{refusal, turn, with_letter, with_event, with_mark};
+ghost use Rattle.rambo_run.specs.Worlds.{node_at};
+ghost use Rattle.rambo_book.specs.Kept.{KeeperView, IsServedBy, Told, state};
+
+use crate::book::Book;
+use crate::keeper::Keeper;
+use crate::terms::Terms;
+use rambo_atomic::{Event, History};
+use rambo_deeds::{Done, SharedLetter, Worker, letter_of};
+use rambo_mail::{Mails, Posting};
+use rambo_names::{Name, Quorums, Refusal};
+use rambo_node::Effect;
+use rambo_run::Step;
+use rambo_sequence::Mark;
+use rambo_tag::Replica;
+
+/// Why a step of the keeper's node is refused, if it is: what the rules of its kind say, by the least number; else 23 where
+/// the book is full.
+pub fn may_commit<J: Terms<Q>, Q: Quorums, S: Replica>(
+    book: &mut Book<J, Q>,
+    keeper: &mut Keeper<J, Q, S>,
+    step: &Step<Q>,
+) -> Result<(), Refusal>
+    requires { IsServedBy (state Q.system book.old) step.now keeper.old.name }
+    ensures same { (book.new ≡ book.old) × (keeper.new ≡ keeper.old) }
+    ensures legal { OnOk result (refusal Q.system (state Q.system book.old) step.now ≡ None) }
+    ensures room { OnOk result (length book.old.steps < book.old.capacity) }
+    ensures told { IfErr result (λ r. Told (refusal Q.system (state Q.system book.old) step.now) (length book.old.steps) book.old.capacity r) }
+    ensures memory { IfErr result (λ r. r ≢ Refusal.OutOfMemory) }
+{
+    book.roll.agree(&mut keeper.holder);
+    if let Err(refusal) = keeper.worker.judge(book.letters.as_slice(), step) {
+        return Err(refusal);
+    }
+    if book.steps.len() >= book.capacity {
+        return Err(Refusal::HistoryFull);
+    }
+    Ok(())
+}
+
+/// Does a step of the keeper's node, or refuses it.
+///
+/// At `Ok` the book has the step behind the others, the keeper's node is that of their run, and the effect is the run's. At
+/// `Err` both are as before. Refused is what the rules of the step's kind say, by the least number; else 23 exactly where
+/// the book is full; else 22, where there is no room for the step.
+///
+/// The keeper is that of the step's node; for a letter that was never sent, any one.
+pub fn commit<J: Terms<Q>, Q: Quorums, S: Replica>(
+    book: &mut Book<J, Q>,
+    keeper: &mut Keeper<J, Q, S>,
+    step: Step<Q>,
+) -> Result<Effect<Q>, Refusal>
+    requires { IsServedBy (state Q.system book.old) step keeper.old.name }
+    ensures legal { OnOk result (refusal Q.system (state Q.system book.old) step ≡ None) }
+    ensures effect { IfOk result (λ e. e ≡ (turn (state Q.system book.old) step).effect) }
+    ensures book { OnOk result (book.new ≡ record book.old { steps = book.old.steps ++ step ∷ []; waiting = book.new.waiting }) }
+    ensures waiting { OnOk result (sent_by step ≡ [] → book.new.waiting ≡ book.old.waiting) }
+    ensures keeper { OnOk result (keeper.new ≡ record keeper.old { node = keeper.new.node; seen = book.old.steps ++ step ∷ [] }) }
+    ensures node { OnOk result (node_at (state Q.system book.new) keeper.old.name ≡ Some keeper.new.node) }
+    ensures same { OnErr result ((book.new ≡ book.old) × (keeper.new ≡ keeper.old)) }
+    ensures told { IfErr result (λ r. Told (refusal Q.system (state Q.system book.old) step) (length book.old.steps) book.old.capacity r) }
+{
+    let Book {
+        roll,
+        founders: _,
+        steps,
+        letters,
+        history,
+        marks,
+        mails,
+        capacity,
+    } = book;
+    let alloc = *steps.allocator();
+    roll.agree(&mut keeper.holder);
+    if let Err(refusal) = keeper.worker.judge(letters.as_slice(), &step) {
+        return Err(refusal);
+    }
+    if steps.len() >= *capacity {
+        return Err(Refusal::HistoryFull);
+    }
+    let Ok(()) = make_room(steps, letters, history, marks, mails, &step) else {
+        return Err(Refusal::OutOfMemory);
+    };
+    let posting = posting_of(keeper.name, &keeper.worker, letters.as_slice(), &step);
+    let Ok(done) = keeper.worker.act(alloc, letters.as_slice(), &step) else {
+        return Err(Refusal::OutOfMemory);
+    };
+    roll.add(&mut keeper.holder, &step);
+    steps.push_reserved(step);
+    let Done {
+        effect,
+        event,
+        mark,
+        letter,
+    } = done;
+    push_event(history, event);
+    push_mark(marks, mark);
+    push_letter(letters, letter);
+    mails.post(&posting, letters.len());
+    Ok(effect)
+}
+
+// Takes room for one more of each.
+fn make_room<Q: Quorums>(
+    steps: &mut Vec<Step<Q>>,
+    letters: &mut Vec<SharedLetter<Q>>,
+    history: &mut History,
+    marks: &mut Vec<Mark>,
+    mails: &mut Mails,
+    step: &Step<Q>,
+) -> Result<(), Refusal>
+    ensures same { (steps.new.items ≡ steps.old.items) × (letters.new.items ≡ letters.old.items) × (history.new.events ≡ history.old.events) × (marks.new.items ≡ marks.old.items) × (mails.new ≡ mails.old) }
+    ensures room { OnOk result ((vec_len steps.new < vec_capacity steps.new) × (vec_len letters.new < vec_capacity letters.new) × (0 < history.new.room) × (vec_len marks.new < vec_capacity marks.new)) }
+{
+    mails.make_room(step)?;
+    steps.reserve(1)?;
+    letters.reserve(1)?;
+    marks.reserve(1)?;
+    if let Step::Call(name, _) = step {
+        history.prepare(*name)?;
+    }
+    history.reserve(1)?;
+    Ok(())
+}
+
+// The event goes to the end of the history, if there is one: there is room for it, and it can stand there.
+fn push_event(history: &mut History, event: Option<Event>)
+    requires room { 0 < history.old.room }
+    requires fits { (e : Event) → event ≡ Some e → fault_of history.old.events e ≡ None }
+    ensures { history.new.events ≡ with_event history.old.events event }
+{
+    if let Some(event) = event {
+        history.push_reserved(event);
+    }
+}
+
+// So does the mark.
+fn push_mark(marks: &mut Vec<Mark>, mark: Option<Mark>)
+    requires { vec_len marks.old < vec_capacity marks.old }
+    ensures { marks.new.items ≡ with_mark marks.old.items mark }
+{
+    if let Some(mark) = mark {
+        marks.push_reserved(mark);
+    }
+}
+
+// And so does the letter.
+fn push_letter<Q: Quorums>(letters: &mut Vec<SharedLetter<Q>>, letter: Option<SharedLetter<Q>>)
+    requires { vec_len letters.old < vec_capacity letters.old }
+    ensures { letters.new.items ≡ with_letter letters.old.items letter }
+{
+    if let Some(letter) = letter {
+        letters.push_reserved(letter);
+    }
+}
+
+// What the step of the node of this name means for the mail.
+fn posting_of<Q: Quorums, S: Replica>(
+    by: Name,
+    worker: &Worker<Q, S>,
+    letters: &[SharedLetter<Q>],
+    step: &Step<Q>,
+) -> Posting
+    ensures { option_to_list result.to ≡ sent_by step.now }
+{
+    let came = match step {
+        Step::Deliver(number) => sender_of(letters, *number),
+        _ => None,
+    };
+    Posting::new(by, step, worker.is_open(), came)
+}
+
+// The number of a letter and who sent it, if it was sent.
+fn sender_of<Q: Quorums>(letters: &[SharedLetter<Q>], number: u64) -> Option<(u64, Name)> {
+    match letter_of(letters, number) {
+        Some(letter) => Some((number, letter.get().sender)),
+        None => None,
+    }
+}

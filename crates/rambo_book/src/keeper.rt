@@ -1,0 +1,144 @@
+//! One node with its mail, and what it has seen.
+ghost use Rattle.std.specs.Prelude.{◌≡◌, [], Some, All};
+ghost use Rattle.std.specs.FinMap as map;
+ghost use Rattle.rambo_names.specs.Names.{IsName};
+ghost use Rattle.rambo_joiner.specs.Statuses.{is_stopped};
+ghost use Rattle.rambo_node.specs.Changes.{replayed};
+ghost use Rattle.rambo_node.specs.Nodes.{first_node};
+ghost use Rattle.rambo_run.specs.Journals.{journal};
+ghost use Rattle.rambo_run.specs.Runs.{run};
+ghost use Rattle.rambo_run.specs.Worlds.{node_at};
+ghost use Rattle.rambo_book.specs.Kept.{IsMailOf};
+
+use crate::terms::Terms;
+use rambo_config_map::ConfigMap;
+use rambo_deeds::{Mail, Worker};
+use rambo_names::{Members, Name, Quorums};
+use rambo_node::Node;
+use rambo_roll::{Acts, Holder};
+use rambo_run::Step;
+use rambo_tag::Replica;
+use std::alloc::Global;
+use std::marker::Model;
+
+/// Whose step a step is.
+pub struct Actor;
+
+impl<Q: Quorums> Acts<Step<Q>> for Actor {
+    ghost use Rattle.rambo_run.specs.Actors.{actor};
+
+    ghost actor = { actor };
+}
+
+/// A node, the letters that came for it, and the token of what it has seen.
+pub struct Keeper<J: Terms<Q>, Q: Quorums, S: Replica> {
+    pub(crate) name: Name,
+    pub(crate) tray: Vec<Mail<Q>>,
+    pub(crate) holder: Holder<J, Step<Q>>,
+    pub(crate) worker: Worker<Q, S>,
+}
+
+// By hand, so that those who drop it needn't follow all that is in it.
+impl<J: Terms<Q>, Q: Quorums, S: Replica> Drop for Keeper<J, Q, S> {
+    fn drop(self) {
+        let Keeper {
+            name: _name,
+            tray: _tray,
+            holder: _holder,
+            worker: _worker,
+        } = self;
+    }
+}
+
+impl<J: Terms<Q>, Q: Quorums, S: Replica> Model for Keeper<J, Q, S> {
+    ghost use Rattle.std.specs.Coded.{codes};
+    ghost use Rattle.rambo_names.specs.Names.{names_code};
+    ghost use Rattle.rambo_tag.specs.Copies.{copies_code};
+    ghost use Rattle.rambo_book.specs.Kept.{KeeperView, IsKeeper};
+
+    ghost Value = { KeeperView Q };
+
+    ghost coded = { Prim.hlevel (codes, names_code, copies_code, Q.code) };
+
+    ghost view = { λ k. record { name = k.name; node = k.worker; tray = k.tray.items; seen = k.holder.1 } };
+
+    ghost invariant = { λ k. IsKeeper Q.system J.founders k.holder.0 k.name k.worker k.tray.items k.holder.1 };
+}
+
+impl<J: Terms<Q>, Q: Quorums, S: Replica> Keeper<J, Q, S> {
+    /// The keeper of a node that has done nothing. It takes no memory.
+    pub fn new(
+        alloc: Global,
+        name: Name,
+        founders: Q,
+        registers: S,
+        holder: Holder<J, Step<Q>>,
+    ) -> Keeper<J, Q, S>
+        requires named { IsName name }
+        requires copies { S.copies registers ≡ map.empty }
+        requires holder { holder ≡ (name, []) }
+        requires founders { J.founders ≡ Some founders }
+    {
+        Keeper {
+            worker: Worker::new(Node::new(alloc, name, founders, registers)),
+            name,
+            tray: Vec::new(alloc),
+            holder,
+        }
+    }
+
+    /// What holds of every keeper, whatever happened before: its node is that of the run of what it has seen, which is the
+    /// replay of its own changes in that run; and each letter of its tray stands for one that was sent to it there.
+    pub fn facts(&self)
+        ensures node { (f : Q) → J.founders ≡ Some f → node_at (run Q.system f self.now.seen) self.now.name ≡ Some self.now.node }
+        ensures replay { (f : Q) → J.founders ≡ Some f → self.now.node ≡ replayed (first_node Q.system f self.now.name) (journal Q.system f self.now.name self.now.seen) }
+        ensures tray { (f : Q) → J.founders ≡ Some f → All (IsMailOf (run Q.system f self.now.seen) self.now.name) self.now.tray }
+    {
+        let _ = &self.worker;
+    }
+
+    /// The name of its node.
+    pub fn name(&self) -> Name
+        ensures { result ≡ self.now.name }
+    {
+        self.name
+    }
+
+    /// Its node, as it takes steps.
+    pub fn worker(&self) -> &Worker<Q, S>
+        ensures { result.now ≡ self.now.node }
+    {
+        &self.worker
+    }
+
+    /// The letters that came for its node, the oldest first.
+    pub fn tray(&self) -> &[Mail<Q>]
+        ensures { result.now ≡ self.now.tray }
+    {
+        self.tray.as_slice()
+    }
+
+    /// The map of its node.
+    pub fn map(&self) -> ConfigMap<Q>
+        ensures { result ≡ self.now.node.map }
+    {
+        self.worker.map()
+    }
+
+    /// Whether its node is joining, or has a call, a collection or an attempt open.
+    pub fn is_open(&self) -> bool {
+        self.worker.is_open()
+    }
+
+    /// The names that its node can write to.
+    pub fn known(&self) -> Members {
+        self.worker.known()
+    }
+
+    /// Whether its node has stopped, for good.
+    pub fn has_stopped(&self) -> bool
+        ensures { result ≡ is_stopped self.now.node.status }
+    {
+        self.worker.has_stopped()
+    }
+}

@@ -1,0 +1,198 @@
+//! One connection.
+ghost use Rattle.std.specs.Prelude.{◌≤◌, length};
+
+use crate::service::Service;
+use bytes::BytesMut;
+use rambo_atomic::{Op, Sink, Source, write_all};
+use rambo_commands::{
+    Request, ServerRequest, append_refusal, append_reply, fault_reply, map_reply, telling,
+};
+use rambo_config_map::ConfigMap;
+use rambo_names::{Name, Refusal, Weighted};
+use rambo_resp::{Command, Decoder, Fault, Reply};
+use rambo_run::Step;
+use std::alloc::{AllocError, Global};
+use std::sync::Wait;
+use std::time::Clock;
+
+// How many bytes are asked for at once.
+const PIECE: usize = 16 * 1024;
+
+/// How a connection goes on after a command.
+#[derive(Clone, Copy, PartialEq, Eq)]
+pub enum Flow {
+    /// More commands are read.
+    GoesOn,
+    /// It is closed.
+    Ends,
+    /// It is closed, and the server ends.
+    EndsAll,
+}
+
+/// A connection under way: who serves it, and the node that it uses.
+#[derive(Drop)]
+pub struct Session<'h, S: Service, R> {
+    pub rt: &'h R,
+    pub alloc: Global,
+    pub service: &'h mut S,
+    pub name: Name,
+}
+
+impl<'h, S: Service, R: Wait + Clock> Session<'h, S, R> {
+    /// Answers the commands of a source into a sink, until one of them ends.
+    pub fn talk<I: Source, O: Sink>(&mut self, reader: &mut I, writer: &mut O) -> Flow {
+        match self.talk_on(reader, writer) {
+            Ok(flow) => flow,
+            Err(_) => Flow::Ends,
+        }
+    }
+
+    fn talk_on<I: Source, O: Sink>(
+        &mut self,
+        reader: &mut I,
+        writer: &mut O,
+    ) -> Result<Flow, AllocError> {
+        let mut piece = Vec::new(self.alloc);
+        piece.resize(PIECE, 0u8)?;
+        let mut decoder = Decoder::new(self.alloc);
+        let mut out = BytesMut::new(self.alloc);
+        for _ in self.rt.forever() {
+            let count = read_some(reader, piece.as_mut_slice());
+            if count == 0 {
+                return Ok(Flow::Ends);
+            }
+            let _ = decoder.feed(&piece[..count]);
+            out.clear();
+            let flow = self.answer_all(&mut decoder, &mut out);
+            let written = write_all(writer, out.as_slice());
+            if flow != Flow::GoesOn {
+                return Ok(flow);
+            }
+            if written.is_err() {
+                return Ok(Flow::Ends);
+            }
+        }
+        Ok(Flow::Ends)
+    }
+
+    // Answers the commands that are whole.
+    fn answer_all(&mut self, decoder: &mut Decoder, out: &mut BytesMut) -> Flow {
+        for _ in self.rt.forever() {
+            let flow = match decoder.next() {
+                Ok(Some(command)) => self.answer(&command, out),
+                Ok(None) => return Flow::GoesOn,
+                Err(fault) => {
+                    let _ = write_fault(self.alloc, fault, out);
+                    Flow::Ends
+                }
+            };
+            if flow != Flow::GoesOn {
+                return flow;
+            }
+        }
+        Flow::Ends
+    }
+
+    // Answers a command: by a refusal, where it is refused.
+    fn answer(&mut self, command: &Command, out: &mut BytesMut) -> Flow {
+        match self.obey(command, out) {
+            Ok(flow) => flow,
+            Err(refusal) => told(append_refusal(refusal, out)),
+        }
+    }
+
+    // Does what a command asks for, and appends the reply to it.
+    fn obey(&mut self, command: &Command, out: &mut BytesMut) -> Result<Flow, Refusal> {
+        let request = ServerRequest::of(self.alloc, command)?;
+        match &request {
+            ServerRequest::Common(common) => self.answer_common(common, out),
+            ServerRequest::Use(name) => {
+                self.name = *name;
+                append(&Reply::Ok, out)
+            }
+            ServerRequest::Join(name, contacts) => {
+                self.change(*name, Step::Join(*name, *contacts), out)
+            }
+            ServerRequest::Recon(wish) => {
+                self.change(self.name, Step::Recon(self.name, *wish), out)
+            }
+            ServerRequest::Collect => self.change(self.name, Step::Collect(self.name), out),
+            ServerRequest::Stop(name) => self.change(*name, Step::Stop(*name), out),
+            ServerRequest::Config => self.tell_map(out),
+            ServerRequest::Shutdown => {
+                let _ = append_reply(&Reply::Ok, out);
+                Ok(Flow::EndsAll)
+            }
+        }
+    }
+
+    // Does what any client may ask for.
+    fn answer_common(&mut self, common: &Request, out: &mut BytesMut) -> Result<Flow, Refusal> {
+        match common {
+            Request::Says(reply) => append(reply, out),
+            Request::Does(op) => self.operate(op, out),
+        }
+    }
+
+    fn operate(&mut self, op: &Op, out: &mut BytesMut) -> Result<Flow, Refusal> {
+        let op = op.clone()?;
+        match self.service.operate(self.rt, self.name, op)? {
+            Some(answer) => append(&telling(answer), out),
+            None => Ok(Flow::Ends),
+        }
+    }
+
+    fn change(
+        &mut self,
+        name: Name,
+        step: Step<Weighted>,
+        out: &mut BytesMut,
+    ) -> Result<Flow, Refusal> {
+        self.service.change(self.rt, name, step)?;
+        append(&Reply::Ok, out)
+    }
+
+    fn tell_map(&mut self, out: &mut BytesMut) -> Result<Flow, Refusal> {
+        let map = self.service.map(self.rt, self.name);
+        append(&map_told(self.alloc, &map)?, out)
+    }
+}
+
+// Reads what there is: so many bytes, none where the source is at its end or fails.
+fn read_some<I: Source>(reader: &mut I, piece: &mut [u8]) -> usize
+    ensures { result ≤ length piece.new }
+{
+    if piece.is_empty() {
+        return 0;
+    }
+    reader.read(piece).unwrap_or(0)
+}
+
+// Appends a reply after which more commands are read.
+fn append(reply: &Reply, out: &mut BytesMut) -> Result<Flow, Refusal> {
+    append_reply(reply, out)?;
+    Ok(Flow::GoesOn)
+}
+
+// More commands are read if this was told.
+fn told(appended: Result<(), Refusal>) -> Flow {
+    match appended {
+        Ok(()) => Flow::GoesOn,
+        Err(_) => Flow::Ends,
+    }
+}
+
+// Appends the reply to a fault of the input.
+fn write_fault(alloc: Global, fault: Fault, out: &mut BytesMut) -> Result<(), Refusal> {
+    append_reply(&fault_reply(alloc, fault)?, out)
+}
+
+fn map_told(alloc: Global, map: &ConfigMap<Weighted>) -> Result<Reply, Refusal> {
+    let mut configs = Vec::new(alloc);
+    for place in 0..map.places().len() {
+        if let Some(config) = map.places().get(place) {
+            configs.push(config)?;
+        }
+    }
+    map_reply(alloc, map.floor(), configs.as_slice())
+}

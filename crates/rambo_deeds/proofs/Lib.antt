@@ -1,0 +1,3 @@
+pub mod Fitting
+pub mod Letters
+pub mod Means

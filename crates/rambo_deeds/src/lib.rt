@@ -1,0 +1,16 @@
+//! Steps as the node takes them that each means: why it refuses one, and what it makes of one.
+//!
+//! - `Worker`: a node that takes steps; `Done`: what a step did besides changing its node.
+//! - `SharedLetter`: a letter that several own; `Mail`: one in a tray, with its number.
+//! - `letter_of`: the letter of a number; `named_by`: whose step a step is.
+#![tactic(auto)]
+
+mod deeds;
+mod letter;
+mod mail;
+mod worker;
+
+pub use deeds::{Done, letter_of, named_by};
+pub use letter::SharedLetter;
+pub use mail::Mail;
+pub use worker::Worker;

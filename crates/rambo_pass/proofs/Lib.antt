@@ -1,0 +1,4 @@
+pub mod Acts
+pub mod Taken
+pub mod Found
+pub mod Told

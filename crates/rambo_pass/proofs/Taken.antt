@@ -1,0 +1,44 @@
+-- What taking an answer says of what the client has then seen
+use Rattle.std.proofs.Common.{◌≡◌, ◌⊎◌, Option, Some, None, Result, Ok, Err, OnOk, IfOk, IfErr, sym, ◌∙◌, subst, inl, inr}
+use mathlib.Core.List.{IsPrefix}
+use Rattle.rambo_names.specs.declared.refusal.Refusal.{Refusal}
+use Rattle.rambo_names.specs.declared.refusal.Refusal.TheVariants.{OutOfMemory, NoSuchCall, Stopped}
+use Rattle.rambo_names.specs.Quorums.{QuorumSystem}
+use Rattle.rambo_atomic.specs.declared.event.CallId.{CallId}
+use Rattle.rambo_atomic.specs.declared.operation.Answer.{Answer}
+use Rattle.rambo_atomic.specs.Histories.{answer_in}
+use Rattle.rambo_run.specs.Runs.{run}
+use Rattle.rambo_run.proofs.Lists.{some_inj}
+use Rattle.rambo_book.specs.Kept.{BookView, state}
+use Rattle.rambo_run.specs.Legal.{IsLegal}
+use Rattle.rambo_pass.specs.Passes.{PassView, IsNone, HasStopped, WhyNot}
+
+module _ {Q : Type 0} (s : QuorumSystem Q) (agreed : Option Q) (b : BookView Q) (before after : PassView Q) (id : CallId) (founded : agreed ≡ Some b.founders) where
+  pub legal_of : {A : Type 0} (r : Result A Refusal) → OnOk r (IsLegal s b.founders after.seen) → OnOk r ((f : Q) → agreed ≡ Some f → IsLegal s f after.seen)
+  legal_of (Ok a) h = λ f e. subst (λ f. IsLegal s f after.seen) (some_inj b.founders f (sym founded ∙ e)) h
+  legal_of (Err r) h = h
+
+  pub answer_of : (r : Result (Option Answer) Refusal) → OnOk r (after.seen ≡ b.steps) → IfOk r (λ a. a ≡ answer_in (state s b).history id) → IfOk r (λ a. (f : Q) → agreed ≡ Some f → a ≡ answer_in (run s f after.seen).history id)
+  answer_of (Ok a) seen h = λ f e. h ∙ λ i. answer_in (run s (some_inj b.founders f (sym founded ∙ e) i) (sym seen i)).history id
+  answer_of (Err r) seen h = h
+
+  pub why_not : {A : Type 0} (r : Result A Refusal)
+      → IfErr r (λ r. ((r ≡ OutOfMemory) × (after ≡ before))
+      ⊎ (((r ≡ NoSuchCall) × (after ≡ before) × IsNone before.mine id)
+      ⊎ ((r ≡ Stopped) × (after.seen ≡ b.steps) × IsPrefix before.seen after.seen × (answer_in (state s b).history id ≡ None) × HasStopped (state s b) id.name)))
+      → IfErr r (λ r. (f : Q) → agreed ≡ Some f → WhyNot s f before after id r)
+  why_not (Ok a) h = tt
+  why_not (Err r) h = λ f e. elim h [
+    | inl m ↦ inl m
+    | inr rest ↦ elim rest [
+      | inl n ↦ inr (inl (n.0, (n.1, n.2)))
+      | inr t ↦ inr (inr (
+        t.0,
+        (
+          t.2,
+          subst (λ l. (answer_in (run s f l).history id ≡ None) × HasStopped (run s f l) id.name) (sym t.1)
+              (subst (λ f. (answer_in (run s f b.steps).history id ≡ None) × HasStopped (run s f b.steps) id.name) (some_inj b.founders f (sym founded ∙ e)) (t.3, t.4)),
+        ),
+      ))
+    ]
+  ]

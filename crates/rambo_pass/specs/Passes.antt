@@ -1,0 +1,92 @@
+-- What a client has seen
+use mathlib.Core.List.{IsPrefix}
+use Rattle.std.specs.Prelude.{◌≡◌, ◌⊎◌, ℕ, List, [], ◌∷◌, ◌++◌, ◌<◌, ◌≢◌, true, length, slice_set, slice_index_or, All, MatchOption, Option, None, Some}
+use Rattle.std.specs.Map.{lookup}
+use Rattle.rambo_atomic.specs.declared.operation.Answer.{Answer}
+use Rattle.rambo_names.specs.declared.refusal.Refusal.{Refusal}
+use Rattle.rambo_names.specs.declared.refusal.Refusal.TheVariants as refused
+use Rattle.rambo_names.specs.Quorums.{QuorumSystem}
+use Rattle.rambo_atomic.specs.Calls.{same_call}
+use Rattle.rambo_atomic.specs.Histories.{answer_in}
+use Rattle.rambo_joiner.specs.Statuses.{is_stopped}
+use Rattle.rambo_atomic.specs.declared.event.CallId.{CallId}
+use Rattle.rambo_node.specs.Nodes.{NodeState}
+use Rattle.rambo_run.specs.Worlds.{WorldState, node_at}
+use Rattle.rambo_node.specs.declared.effect.Effect.{Effect}
+use Rattle.rambo_node.specs.declared.effect.Effect.TheVariants as effect
+use Rattle.rambo_run.specs.declared.step.Step.{Step}
+use Rattle.rambo_run.specs.Steps.{refusal, turn}
+use Rattle.rambo_run.specs.Runs.{run}
+use Rattle.rambo_pass.specs.declared.mine.Entry.{Entry}
+use Rattle.rambo_run.specs.Legal.{IsLegal}
+
+pub record PassView (Q : Type 0) : Type 0 where
+  pub seen : List (Step Q)
+  pub mine : List Entry
+
+-- a call adds one entry, at the place of its step
+abbrev pub mine_with : {Q : Type 0} → List Entry → ℕ → Effect Q → List Entry
+mine_with mine place (effect.Called id) = mine ++ record { place = place; id = id; answer = None } ∷ []
+mine_with mine place effect.Done = mine
+mine_with mine place (effect.Sent number) = mine
+mine_with mine place effect.Moved = mine
+mine_with mine place (effect.Answered id answer) = mine
+mine_with mine place (effect.Collected n p) = mine
+mine_with mine place (effect.Decided n d) = mine
+
+-- what was seen goes on by some steps and then this one, which was accepted and had this effect; a call is one entry more,
+-- at its place
+pub record Acted {Q : Type 0} (s : QuorumSystem Q) (founders : Q) (before after : PassView Q) (st : Step Q) (e : Effect Q) : Type 0 where
+  pub between : List (Step Q)
+  pub seen : after.seen ≡ (before.seen ++ between) ++ st ∷ []
+  pub legal : IsLegal s founders after.seen
+  pub accepted : refusal s (run s founders (before.seen ++ between)) st ≡ None
+  pub told : e ≡ (turn (run s founders (before.seen ++ between)) st).effect
+  pub mine : after.mine ≡ mine_with before.mine (length (before.seen ++ between)) e
+
+-- a client's calls, and whether there is room for one more
+pub record MineState : Type 0 where
+  pub entries : List Entry
+  pub room : ℕ
+
+abbrev pub answered : Entry → Answer → Entry
+answered e a = record e { answer = Some a }
+
+abbrev pub nobody : Entry
+nobody = record { place = 0; id = record { name = 0; number = 0 }; answer = None }
+
+abbrev pub entry_at : List Entry → ℕ → Entry
+entry_at es at = slice_index_or es at nobody
+
+-- the entry of this place has the answer, if there is one
+abbrev pub noted : List Entry → ℕ → Option Answer → List Entry
+noted es at None = es
+noted es at (Some a) = slice_set es at (answered (entry_at es at) a)
+
+-- an entry of this list, at this place, is that of the call
+abbrev pub IsEntry : List Entry → CallId → ℕ → Type 0
+IsEntry es id at = (at < length es) × ((entry_at es at).id ≡ id)
+
+-- the list after the answer of the call, if there is one, was noted at an entry of it
+abbrev pub IsNoted : List Entry → CallId → Option Answer → List Entry → Type 0
+IsNoted es id a later = (at : ℕ) × (IsEntry es id at × (later ≡ noted es at a))
+
+-- none of these entries is that of the call
+abbrev pub IsNone : List Entry → CallId → Type 0
+IsNone es id = All (λ e. e.id ≢ id) es
+
+-- the places tell where each call stands that is one of these
+abbrev pub AreFound : List Entry → List (CallId × ℕ) → Type 0
+AreFound es places = (id : CallId) → MatchOption (lookup (same_call id) places) (IsNone es id) (IsEntry es id)
+
+-- the node of a name has stopped
+abbrev pub HasStopped : {Q : Type 0} → WorldState Q → ℕ → Type 0
+HasStopped {Q} w name = (x : NodeState Q) × ((node_at w name ≡ Some x) × (is_stopped x.status ≡ true))
+
+-- why there is no answer: want of memory; or the call isn't this client's; or its node has stopped in what was seen, where
+-- it has no answer
+abbrev pub WhyNot : {Q : Type 0} → QuorumSystem Q → Q → PassView Q → PassView Q → CallId → Refusal → Type 0
+WhyNot s founders before after id r =
+    ((r ≡ refused.OutOfMemory) × (after ≡ before))
+    ⊎ (((r ≡ refused.NoSuchCall) × ((after ≡ before) × IsNone before.mine id))
+    ⊎ ((r ≡ refused.Stopped) × (IsPrefix before.seen after.seen × ((answer_in (run s founders after.seen).history id ≡ None) × HasStopped (run s founders after.seen) id.name))))

@@ -1,0 +1,101 @@
+//! What was answered, as a client sees it.
+ghost use Rattle.std.specs.Prelude.{◌≡◌, ◌<◌, ◌⊎◌, ℕ, Some, None, true, length, OnOk, OnErr, IfOk, IfErr};
+ghost use Rattle.std.specs.Option.{option_copied};
+ghost use mathlib.Core.List.{IsPrefix};
+ghost use Rattle.rambo_atomic.specs.Histories.{answer_in};
+ghost use Rattle.rambo_book.specs.Kept.{state};
+ghost use Rattle.rambo_run.specs.Worlds.{node_at};
+ghost use Rattle.rambo_joiner.specs.Statuses.{is_stopped};
+ghost use Rattle.rambo_run.specs.Legal.{IsLegal};
+ghost use Rattle.rambo_pass.specs.Passes.{noted, entry_at, IsNoted, IsNone, HasStopped};
+
+use crate::pass::Pass;
+use rambo_atomic::{Answer, CallId};
+use rambo_book::{Book, Keeper, Terms};
+use rambo_names::{Quorums, Refusal};
+use rambo_tag::Replica;
+
+// The same answer, if there is one, which shares its bytes.
+fn share(answer: Option<&Answer>) -> Result<Option<Answer>, Refusal>
+    ensures same { IfOk result (λ a. a ≡ option_copied answer.entry) }
+    ensures refused { IfErr result (λ r. r ≡ Refusal.OutOfMemory) }
+{
+    match answer {
+        Some(answer) => Ok(Some(answer.clone()?)),
+        None => Ok(None),
+    }
+}
+
+/// The answer of the call of an entry, for a client who has then seen all steps.
+///
+/// `OutOfMemory` where an answer can't be shared; the pass is then as it was.
+pub fn answer_in<J: Terms<Q>, Q: Quorums>(
+    book: &mut Book<J, Q>,
+    pass: &mut Pass<J, Q>,
+    at: usize,
+) -> Result<Option<Answer>, Refusal>
+    requires { at < length pass.old.mine }
+    ensures book { book.new ≡ book.old }
+    ensures seen { OnOk result (pass.new.seen ≡ book.old.steps) }
+    ensures begins { OnOk result (IsPrefix pass.old.seen pass.new.seen) }
+    ensures legal { OnOk result (IsLegal Q.system book.old.founders pass.new.seen) }
+    ensures answer { IfOk result (λ a. a ≡ answer_in (state Q.system book.old).history (entry_at pass.old.mine at).id) }
+    ensures mine { IfOk result (λ a. pass.new.mine ≡ noted pass.old.mine at a) }
+    ensures err { IfErr result (λ r. (r ≡ Refusal.OutOfMemory) × (pass.new ≡ pass.old)) }
+{
+    let Pass { seen, count, mine } = pass;
+    let id = mine.id_at(at);
+    let answer = share(book.answer(&id))?;
+    let kept = share(answer.as_ref())?;
+    *count = book.show(seen);
+    mine.note(at, kept);
+    Ok(answer)
+}
+
+/// Whether the node of the keeper has stopped.
+pub fn has_stopped<J: Terms<Q>, Q: Quorums, S: Replica>(
+    book: &mut Book<J, Q>,
+    keeper: &mut Keeper<J, Q, S>,
+) -> bool
+    ensures same { (book.new ≡ book.old) × (keeper.new ≡ keeper.old) }
+    ensures node { node_at (state Q.system book.old) keeper.old.name ≡ Some keeper.old.node }
+    ensures stopped { result ≡ is_stopped keeper.old.node.status }
+{
+    book.agree(keeper);
+    keeper.has_stopped()
+}
+
+/// The answer of a call of this client, who has then seen all steps.
+///
+/// `NoSuchCall` where the call isn't this client's; `Stopped` where it has no answer and its node has stopped;
+/// `OutOfMemory` where the answer can't be shared. None where the steps have no answer of it yet.
+pub fn take_in<J: Terms<Q>, Q: Quorums, S: Replica>(
+    book: &mut Book<J, Q>,
+    keeper: &mut Keeper<J, Q, S>,
+    pass: &mut Pass<J, Q>,
+    id: CallId,
+) -> Result<Option<Answer>, Refusal>
+    requires { keeper.old.name ≡ id.name }
+    ensures founders { J.founders ≡ Some book.old.founders }
+    ensures same { (book.new ≡ book.old) × (keeper.new ≡ keeper.old) }
+    ensures seen { OnOk result (pass.new.seen ≡ book.old.steps) }
+    ensures begins { OnOk result (IsPrefix pass.old.seen pass.new.seen) }
+    ensures legal { OnOk result (IsLegal Q.system book.old.founders pass.new.seen) }
+    ensures answer { IfOk result (λ a. a ≡ answer_in (state Q.system book.old).history id) }
+    ensures mine { IfOk result (λ a. IsNoted pass.old.mine id a pass.new.mine) }
+    ensures err { OnErr result (pass.new.mine ≡ pass.old.mine) }
+    ensures cause { IfErr result (λ r. ((r ≡ Refusal.OutOfMemory) × (pass.new ≡ pass.old))
+        ⊎ ((r ≡ Refusal.NoSuchCall) × (pass.new ≡ pass.old) × IsNone pass.old.mine id)
+        ⊎ ((r ≡ Refusal.Stopped) × (pass.new.seen ≡ book.old.steps) × IsPrefix pass.old.seen pass.new.seen × (answer_in (state Q.system book.old).history id ≡ None) × HasStopped (state Q.system book.old) id.name)) }
+{
+    book.facts();
+    let Some(at) = pass.mine.find(&id) else {
+        return Err(Refusal::NoSuchCall);
+    };
+    let answer = answer_in(book, pass, at)?;
+    let stopped = has_stopped(book, keeper);
+    if answer.is_none() && stopped {
+        return Err(Refusal::Stopped);
+    }
+    Ok(answer)
+}

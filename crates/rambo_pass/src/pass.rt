@@ -1,0 +1,184 @@
+//! What a client has seen of the book, and its calls.
+ghost use Rattle.std.specs.Prelude.{◌≡◌, ◌++◌, ◌∷◌, [], None, Some, length, ◌<◌, ◌⊎◌, OnOk, OnErr, IfOk, IfErr};
+ghost use mathlib.Core.List.{IsPrefix};
+ghost use Rattle.rambo_run.specs.Runs.{run};
+ghost use Rattle.rambo_run.specs.Steps.{refusal, turn};
+ghost use Rattle.rambo_book.specs.Kept.{IsServedBy, Told, state};
+ghost use Rattle.rambo_run.specs.Legal.{IsLegal};
+ghost use Rattle.rambo_pass.specs.Passes.{mine_with, PassView};
+
+use crate::mine::{Entry, Mine};
+use rambo_atomic::{CallId, Op};
+use rambo_book::{Book, Keeper, Terms, commit, may_commit};
+use rambo_names::{Name, Quorums, Refusal};
+use rambo_node::Effect;
+use rambo_roll::Front;
+use rambo_run::Step;
+use rambo_tag::Replica;
+use std::alloc::Global;
+use std::marker::Model;
+
+/// What one client has seen of the steps, and its own calls in them.
+pub struct Pass<J: Terms<Q>, Q: Quorums> {
+    pub(crate) seen: Front<J, Step<Q>>,
+    pub(crate) count: usize,
+    pub(crate) mine: Mine,
+}
+
+impl<J: Terms<Q>, Q: Quorums> Drop for Pass<J, Q> {
+    fn drop(self) {
+        let Pass {
+            seen: _seen,
+            count: _count,
+            mine: _mine,
+        } = self;
+    }
+}
+
+impl<J: Terms<Q>, Q: Quorums> Model for Pass<J, Q> {
+    ghost use Rattle.std.specs.Prelude.{◌≡◌, length};
+    ghost use Rattle.std.specs.Coded.{codes};
+    ghost use Rattle.rambo_names.specs.Names.{names_code};
+    ghost use Rattle.rambo_pass.specs.Passes.{PassView};
+
+    ghost Value = { PassView Q };
+
+    ghost coded = { Prim.hlevel (codes, names_code, Q.code) };
+
+    ghost view = { λ p. record { seen = p.seen; mine = p.mine.entries } };
+
+    ghost invariant = { λ p. p.count ≡ length p.seen };
+}
+
+impl<J: Terms<Q>, Q: Quorums> Pass<J, Q> {
+    /// A pass of a book that has seen nothing and made no call. It takes no memory.
+    ///
+    /// `NoPassLeft` where 32 were given.
+    pub fn new(alloc: Global, book: &mut Book<J, Q>) -> Result<Pass<J, Q>, Refusal>
+        ensures book { book.new ≡ book.old }
+        ensures pass { IfOk result (λ p. p ≡ record { seen = []; mine = [] }) }
+        ensures refused { IfErr result (λ r. r ≡ Refusal.NoPassLeft) }
+    {
+        book.count_pass()?;
+        Ok(Pass {
+            seen: book.nothing(),
+            count: 0,
+            mine: Mine::new(alloc),
+        })
+    }
+
+    /// What it has seen begins the steps of the book.
+    pub fn begins(&mut self, book: &mut Book<J, Q>)
+        ensures book { book.new ≡ book.old }
+        ensures pass { self.new ≡ self.old }
+        ensures begins { IsPrefix self.old.seen book.old.steps }
+    {
+        book.begun(&mut self.seen);
+    }
+
+    // It sees what `from` has seen.
+    fn copy(&mut self, book: &Book<J, Q>, from: &mut Pass<J, Q>)
+        ensures from { from.new ≡ from.old }
+        ensures to { self.new ≡ record { seen = from.old.seen; mine = self.old.mine } }
+    {
+        self.seen = book.again(&mut from.seen);
+        self.count = from.count;
+    }
+}
+
+// One entry more where the step was a call. There has to be room for it.
+fn note_call<Q: Quorums>(mine: &mut Mine, place: usize, effect: &Effect<Q>)
+    requires { 0 < mine.old.room }
+    ensures { mine.new.entries ≡ mine_with mine.old.entries place effect.now }
+{
+    if let Effect::Called(id) = effect {
+        mine.push_reserved(Entry {
+            place,
+            id: *id,
+            answer: None,
+        });
+    }
+}
+
+/// Does a step for this client, who has then seen it.
+pub fn act_in<J: Terms<Q>, Q: Quorums, S: Replica>(
+    book: &mut Book<J, Q>,
+    keeper: &mut Keeper<J, Q, S>,
+    pass: &mut Pass<J, Q>,
+    step: Step<Q>,
+) -> Result<Effect<Q>, Refusal>
+    requires { IsServedBy (state Q.system book.old) step keeper.old.name }
+    ensures begins { IsPrefix pass.old.seen pass.new.seen }
+    ensures between { IsPrefix pass.old.seen book.old.steps }
+    ensures terms { (J.founders ≡ Some book.old.founders) × (book.old.capacity ≡ J.capacity) }
+    ensures last { OnOk result (pass.new.seen ≡ book.old.steps ++ step ∷ []) }
+    ensures legal { OnOk result (IsLegal Q.system book.old.founders pass.new.seen) }
+    ensures accepted { OnOk result (refusal Q.system (state Q.system book.old) step ≡ None) }
+    ensures effect { IfOk result (λ e. e ≡ (turn (state Q.system book.old) step).effect) }
+    ensures mine { IfOk result (λ e. pass.new.mine ≡ mine_with pass.old.mine (length book.old.steps) e) }
+    ensures err { OnErr result (pass.new.mine ≡ pass.old.mine) }
+    ensures memory { IfErr result (λ r. r ≡ Refusal.OutOfMemory → pass.new ≡ pass.old) }
+    ensures cause { IfErr result (λ r. (r ≡ Refusal.OutOfMemory) ⊎ ((pass.new.seen ≡ book.old.steps) × Told (refusal Q.system (state Q.system book.old) step) (length book.old.steps) book.old.capacity r)) }
+{
+    let Pass { seen, count, mine } = pass;
+    let place = book.begun(seen);
+    if let Err(refusal) = may_commit(book, keeper, &step) {
+        *count = book.show(seen);
+        return Err(refusal);
+    }
+    let Ok(()) = mine.reserve() else {
+        return Err(Refusal::OutOfMemory);
+    };
+    let Ok(effect) = commit(book, keeper, step) else {
+        return Err(Refusal::OutOfMemory);
+    };
+    *count = book.show(seen);
+    note_call(mine, place, &effect);
+    Ok(effect)
+}
+
+/// Makes a call for this client, who has then seen it: its id.
+pub fn call_in<J: Terms<Q>, Q: Quorums, S: Replica>(
+    book: &mut Book<J, Q>,
+    keeper: &mut Keeper<J, Q, S>,
+    pass: &mut Pass<J, Q>,
+    name: Name,
+    op: Op,
+) -> Result<CallId, Refusal>
+    requires { IsServedBy (state Q.system book.old) (Step.Call name op) keeper.old.name }
+    ensures begins { IsPrefix pass.old.seen pass.new.seen }
+    ensures between { IsPrefix pass.old.seen book.old.steps }
+    ensures terms { (J.founders ≡ Some book.old.founders) × (book.old.capacity ≡ J.capacity) }
+    ensures last { OnOk result (pass.new.seen ≡ book.old.steps ++ Step.Call name op ∷ []) }
+    ensures legal { OnOk result (IsLegal Q.system book.old.founders pass.new.seen) }
+    ensures accepted { OnOk result (refusal Q.system (state Q.system book.old) (Step.Call name op) ≡ None) }
+    ensures effect { IfOk result (λ id. Effect.Called id ≡ (turn (state Q.system book.old) (Step.Call name op)).effect) }
+    ensures mine { IfOk result (λ id. pass.new.mine ≡ pass.old.mine ++ record { place = length book.old.steps; id = id; answer = None } ∷ []) }
+    ensures err { OnErr result (pass.new.mine ≡ pass.old.mine) }
+    ensures memory { IfErr result (λ r. r ≡ Refusal.OutOfMemory → pass.new ≡ pass.old) }
+    ensures cause { IfErr result (λ r. (r ≡ Refusal.OutOfMemory) ⊎ ((pass.new.seen ≡ book.old.steps) × Told (refusal Q.system (state Q.system book.old) (Step.Call name op)) (length book.old.steps) book.old.capacity r)) }
+{
+    match act_in(book, keeper, pass, Step::Call(name, op))? {
+        Effect::Called(id) => Ok(id),
+        _ => unreachable!(),
+    }
+}
+
+/// Both have then seen what the longer one had, which the other begins.
+pub fn meet_in<J: Terms<Q>, Q: Quorums>(
+    book: &mut Book<J, Q>,
+    one: &mut Pass<J, Q>,
+    other: &mut Pass<J, Q>,
+)
+    ensures book { book.new ≡ book.old }
+    ensures same { (one.new.seen ≡ other.new.seen) × (one.new.mine ≡ one.old.mine) × (other.new.mine ≡ other.old.mine) }
+    ensures longer { ((one.new.seen ≡ one.old.seen) × IsPrefix other.old.seen one.old.seen) ⊎ ((one.new.seen ≡ other.old.seen) × IsPrefix one.old.seen other.old.seen) }
+{
+    one.begins(book);
+    other.begins(book);
+    if one.count < other.count {
+        one.copy(book, other);
+    } else {
+        other.copy(book, one);
+    }
+}

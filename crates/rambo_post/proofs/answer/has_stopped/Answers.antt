@@ -1,7 +1,0 @@
-use Rattle.rambo_post.proofs.answer.has_stopped.Goals as goal
-
-pub agree-requires : goal.agree-requires
-agree-requires g c = c.requires-raw.1.1.1
-
-pub has_stopped-requires : goal.has_stopped-requires
-has_stopped-requires g c = c.requires-raw.1.1.1

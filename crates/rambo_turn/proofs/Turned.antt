@@ -1,0 +1,124 @@
+-- What a keeper may do by itself, and what its turn comes to
+use Rattle.std.proofs.Common.{◌≡◌, ◌≢◌, ◌⊎◌, inl, inr, ℕ, ◌<◌, List, [], ◌∷◌, ◌++◌, length, Option, None, Some, Result, Ok, Err, OnErr, IfOk, IfErr, IfSome, refl, sym, ap, ◌∙◌, subst}
+use Rattle.rambo_names.specs.declared.refusal.Refusal.{Refusal}
+use Rattle.rambo_names.specs.declared.refusal.Refusal.TheVariants.{OutOfMemory}
+use Rattle.rambo_names.specs.Quorums.{QuorumSystem}
+use Rattle.rambo_atomic.specs.declared.operation.Op.{Op}
+use Rattle.rambo_calls.specs.Calls.{CallState}
+use Rattle.rambo_node.specs.Nodes.{NodeState}
+use Rattle.rambo_run.specs.declared.step.Step.{Step}
+use Rattle.rambo_run.specs.declared.step.Step.TheVariants as step
+use Rattle.rambo_run.specs.Actors.{sent_by}
+use Rattle.rambo_run.specs.Worlds.{WorldState}
+use Rattle.rambo_run.specs.Steps.{refusal}
+use Rattle.rambo_run.proofs.Lists.{none-some, some_inj}
+use Rattle.rambo_deeds.specs.declared.mail.Mail.{Mail}
+use Rattle.rambo_turn.specs.declared.turn.Turn.{Turn}
+use Rattle.rambo_book.specs.Kept.{BookView, KeeperView, Told, state}
+use Rattle.rambo_book.specs.Mailing.{AreTaken, all_for}
+use Rattle.rambo_pick.specs.Picking.{chosen}
+use Rattle.rambo_turn.specs.Turns.{first_of, deliveries, advances, candidates, cleared, next_of, HasDone, CannotDo, mailed, informed, IsTurn, IsRefusedTurn}
+use Rattle.rambo_turn.proofs.Picks.{Each, each_append, first_has}
+
+chosen_is : {A : Type 0} (o : Option Refusal) (a b : A) (rest : Option A) → chosen o a rest ≡ Some b → ((o ≡ None) × (a ≡ b)) ⊎ (rest ≡ Some b)
+chosen_is None a b rest e = inl (refl, some_inj a b e)
+chosen_is (Some r) a b rest e = inr e
+
+-- what comes first isn't refused
+pub first_accepted : {Q : Type 0} (s : QuorumSystem Q) (w : WorldState Q) (sts : List (Step Q)) (st : Step Q) → first_of s w sts ≡ Some st → refusal s w st ≡ None
+first_accepted s w [] st e = absurd (none-some st e)
+first_accepted s w (x ∷ xs) st e = elim (chosen_is (refusal s w x) x st (first_of s w xs) e) [
+  | inl h ↦ ap (refusal s w) (sym h.1) ∙ h.0
+  | inr rest ↦ first_accepted s w xs st rest
+]
+
+-- a next step that is refused is refused by the book alone
+pub cannot_do : {Q : Type 0} (s : QuorumSystem Q) (b : BookView Q) (k : KeeperView Q) (st : Step Q) (e : Refusal) → next_of s b k ≡ Some st → Told (refusal s (state s b) st) (length b.steps) b.capacity e → CannotDo s b k e
+cannot_do s b k st e first told = (st, first, subst (λ o. Told o (length b.steps) b.capacity e) (first_accepted s (state s b) (candidates k.name k.node k.tray) st first) told)
+
+-- a step that delivers no letter leaves a tray as it is
+pub cleared_other : {Q : Type 0} (tray : List (Mail Q)) (st : Step Q) → ((number : ℕ) → st ≡ step.Deliver number → ⊥) → cleared tray st ≡ tray
+cleared_other tray (step.Deliver number) not = absurd (not number refl)
+cleared_other tray (step.Join n contacts) not = refl
+cleared_other tray (step.Call n o) not = refl
+cleared_other tray (step.Send n to) not = refl
+cleared_other tray (step.Advance id) not = refl
+cleared_other tray (step.Again id) not = refl
+cleared_other tray (step.Collect n) not = refl
+cleared_other tray (step.AdvanceCollect n) not = refl
+cleared_other tray (step.Recon n wish) not = refl
+cleared_other tray (step.Rebid n) not = refl
+cleared_other tray (step.AdvanceRecon n) not = refl
+cleared_other tray (step.Stop n) not = refl
+
+-- it has no bytes, and sends no letter
+pub record IsQuiet {Q : Type 0} (st : Step Q) : Type 0 where
+  pub no_call : (name : ℕ) (op : Op) → st ≢ step.Call name op
+  pub unsent : sent_by st ≡ []
+
+quiet_deliveries : {Q : Type 0} (tray : List (Mail Q)) → Each IsQuiet (deliveries tray)
+quiet_deliveries [] = tt
+quiet_deliveries (m ∷ ms) = (record { no_call = λ name op e. absurd cc; unsent = refl }, quiet_deliveries ms)
+
+quiet_advances : {Q : Type 0} (name : ℕ) (cs : List (CallState Q)) → Each IsQuiet (advances {Q = Q} name cs)
+quiet_advances name [] = tt
+quiet_advances name (c ∷ cs) = (record { no_call = λ name op e. absurd cc; unsent = refl }, quiet_advances name cs)
+
+quiet_last : {Q : Type 0} (name : ℕ) → Each {Q = Q} IsQuiet (step.AdvanceCollect name ∷ step.AdvanceRecon name ∷ [])
+quiet_last name = (record { no_call = λ name op e. absurd cc; unsent = refl }, (record { no_call = λ name op e. absurd cc; unsent = refl }, tt))
+
+pub first_quiet : {Q : Type 0} (s : QuorumSystem Q) (w : WorldState Q) (name : ℕ) (x : NodeState Q) (tray : List (Mail Q)) (st : Step Q) → first_of s w (candidates name x tray) ≡ Some st → IsQuiet st
+first_quiet s w name x tray st e =
+    subst (λ o. IfSome o IsQuiet) e
+    (first_has s w IsQuiet (candidates name x tray)
+    (each_append IsQuiet (deliveries tray) (advances name x.calls ++ step.AdvanceCollect name ∷ step.AdvanceRecon name ∷ []) (quiet_deliveries tray)
+    (each_append IsQuiet (advances name x.calls) (step.AdvanceCollect name ∷ step.AdvanceRecon name ∷ []) (quiet_advances name x.calls) (quiet_last name))))
+
+-- a turn of a keeper that has seen all steps (b, k to c, l), has then taken its mail (to d, m), and has done this
+module _ {Q : Type 0} (s : QuorumSystem Q) (b c d after : BookView Q) (k l m later : KeeperView Q) (see_book : c ≡ b) (see_keeper : l ≡ record k { seen = b.steps })
+    (mail_book : d ≡ record c { waiting = d.waiting }) (mail_keeper : m ≡ record l { tray = m.tray }) where
+  all_book : d ≡ mailed b d.waiting
+  all_book = mail_book ∙ ap (λ b. mailed b d.waiting) see_book
+
+  all_keeper : m ≡ informed b k m.tray
+  all_keeper = mail_keeper ∙ ap (λ (k : KeeperView _). record k { tray = m.tray }) see_keeper
+
+  taken_of : (count : ℕ) → AreTaken (state s c) l.name count c.waiting d.waiting l.tray m.tray → AreTaken (state s b) k.name count b.waiting d.waiting k.tray m.tray
+  taken_of count h =
+      subst (λ b. AreTaken (state s b) k.name count b.waiting d.waiting k.tray m.tray) see_book
+      (subst (λ (k : KeeperView _). AreTaken (state s c) k.name count c.waiting d.waiting k.tray m.tray) see_keeper h)
+
+  all_of : all_for l c.waiting ≡ all_for k b.waiting
+  all_of = λ i. all_for (see_keeper i) (see_book i).waiting
+
+  pub turn_done : (r : Result (Turn Q) Refusal) → AreTaken (state s c) l.name (all_for l c.waiting) c.waiting d.waiting l.tray m.tray
+      → IfOk r (λ t. HasDone s d after m later t) → IfOk r (λ t. IsTurn s b after k later t)
+  turn_done (Ok t) taken did = record {
+    lists = d.waiting;
+    tray = m.tray;
+    taken = subst (λ n. AreTaken (state s b) k.name n b.waiting d.waiting k.tray m.tray) all_of (taken_of (all_for l c.waiting) taken);
+    did = subst (λ x. HasDone s x after (informed b k m.tray) later t) all_book (subst (λ y. HasDone s d after y later t) all_keeper did);
+  }
+  turn_done (Err e) taken did = tt
+
+  refused_of : (e : Refusal) (count : ℕ) → AreTaken (state s c) l.name count c.waiting d.waiting l.tray m.tray → ((e ≡ OutOfMemory) × (count < all_for l c.waiting)) ⊎ ((count ≡ all_for l c.waiting) × CannotDo s d m e)
+      → IsRefusedTurn s b d k m e
+  refused_of e count taken cause = record {
+    count = count;
+    taken = taken_of count taken;
+    book = all_book;
+    keeper = all_keeper;
+    cause = subst (λ n. ((e ≡ OutOfMemory) × (count < n)) ⊎ ((count ≡ n) × CannotDo s d m e)) all_of cause;
+  }
+
+  -- it found no memory for its mail
+  pub mail_refused : (e : Refusal) → e ≡ OutOfMemory → (count : ℕ) × (count < all_for l c.waiting) × AreTaken (state s c) l.name count c.waiting d.waiting l.tray m.tray → IsRefusedTurn s b d k m e
+  mail_refused e is some = refused_of e some.0 some.2 (inl (is, some.1))
+
+  -- or couldn't do its next step
+  pub step_refused : (r : Result (Turn Q) Refusal) → AreTaken (state s c) l.name (all_for l c.waiting) c.waiting d.waiting l.tray m.tray
+      → OnErr r ((after ≡ d) × (later ≡ m)) → IfErr r (CannotDo s d m) → IfErr r (IsRefusedTurn s b after k later)
+  step_refused (Ok t) taken same cause = tt
+  step_refused (Err e) taken same cause =
+      subst (λ d. IsRefusedTurn s b d k later e) (sym same.0)
+      (subst (λ m. IsRefusedTurn s b d k m e) (sym same.1) (refused_of e (all_for l c.waiting) taken (inr (refl, cause))))

@@ -1,0 +1,21 @@
+//! What a keeper does by itself.
+ghost use Rattle.std.specs.Prelude.{◌≡◌, Some};
+ghost use Rattle.rambo_run.specs.Runs.{run};
+ghost use Rattle.rambo_turn.specs.Turns.{first_of, candidates};
+
+use rambo_book::{Keeper, Terms};
+use rambo_names::Quorums;
+use rambo_pick::first_step;
+use rambo_run::Step;
+use rambo_tag::Replica;
+
+/// The step that a keeper does by itself: the first that isn't refused of the delivery of each letter in the tray, the
+/// oldest first, the advance of each open call, the oldest first, and the advances of its collection and its attempt.
+///
+/// It takes no memory.
+pub fn pick<J: Terms<Q>, Q: Quorums, S: Replica>(keeper: &Keeper<J, Q, S>) -> Option<Step<Q>>
+    ensures { (f : Q) → J.founders ≡ Some f → result ≡ first_of Q.system (run Q.system f keeper.now.seen) (candidates keeper.now.name keeper.now.node keeper.now.tray) }
+{
+    keeper.facts();
+    first_step(keeper.worker(), keeper.name(), keeper.tray())
+}

@@ -1,0 +1,31 @@
+//! A letter is sent.
+ghost use Rattle.std.specs.Prelude.{◌≡◌, ◌++◌, ◌∷◌, [], None, length, OnOk, OnErr, IfOk, IfErr};
+ghost use Rattle.rambo_run.specs.Steps.{refusal, turn};
+ghost use Rattle.rambo_book.specs.Kept.{IsServedBy, Told, state};
+
+use rambo_book::{Book, Keeper, Terms, commit};
+use rambo_names::{Name, Quorums, Refusal};
+use rambo_node::Effect;
+use rambo_run::Step;
+use rambo_tag::Replica;
+
+/// Sends a letter from the keeper's node to another: its number.
+///
+/// Refused is what the rules of a send say, by the least number; else 23 where the book is full; else 22.
+pub fn send_in<J: Terms<Q>, Q: Quorums, S: Replica>(
+    book: &mut Book<J, Q>,
+    keeper: &mut Keeper<J, Q, S>,
+    from: Name,
+    to: Name,
+) -> Result<u64, Refusal>
+    requires { keeper.old.name ≡ from }
+    ensures effect { IfOk result (λ number. Effect.Sent number ≡ (turn (state Q.system book.old) (Step.Send from to)).effect) }
+    ensures book { OnOk result (book.new ≡ record book.old { steps = book.old.steps ++ Step.Send from to ∷ []; waiting = book.new.waiting }) }
+    ensures same { OnErr result ((book.new ≡ book.old) × (keeper.new ≡ keeper.old)) }
+    ensures told { IfErr result (λ r. Told (refusal Q.system (state Q.system book.old) (Step.Send from to)) (length book.old.steps) book.old.capacity r) }
+{
+    match commit(book, keeper, Step::Send(from, to))? {
+        Effect::Sent(number) => Ok(number),
+        _ => unreachable!(),
+    }
+}
