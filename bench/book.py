@@ -70,9 +70,9 @@ def serve(words, count, trace):
 
 
 def steps_of(trace):
-    """All lines but the first are steps."""
+    """All lines but the first two are steps."""
     with open(trace, "rb") as reader:
-        return sum(1 for _ in reader) - 1
+        return sum(1 for _ in reader) - 2
 
 
 class Profile:

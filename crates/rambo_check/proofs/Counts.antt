@@ -6,7 +6,8 @@ use Rattle.rambo_text.specs.declared.fault.Fault.TheVariants.{WrongCount}
 use Rattle.rambo_text.specs.Forms.{Form}
 use Rattle.rambo_text.specs.Words.{AreMore, IsFirstWord}
 use Rattle.rambo_check.specs.Plans.{Forms, IsFaulty}
-use Rattle.rambo_check.proofs.LineWords.{more_has_words, some_joined}
+use Rattle.rambo_text.proofs.WordsThere.{more_has_words}
+use Rattle.rambo_check.proofs.LineWords.{some_joined}
 
 -- another number of words behind a first
 pub other_count : (ms : List Form) (id : List ℕ) (more : Option (List ℕ)) (n : ℕ) → length ms ≡ n + 1

@@ -1,6 +1,6 @@
 -- An item is known by its words, which have no fault
 use Rattle.std.proofs.Common.{◌≡◌, ◌≢◌, ℕ, suc, ◌<◌, cond, List, [], ◌∷◌, length, map, decimal, codes, inl, inr, refl, sym, ap, subst, ◌∙◌, arith, lit<}
-use Rattle.std.specs.List.{AllByRecursion}
+use Rattle.std.specs.List.{All, AllByRecursion}
 use Rattle.std.specs.Str.{bytes_eq}
 use Rattle.std.proofs.lemmas.Fmt.{decimal_injective}
 use Rattle.std.proofs.lemmas.List.Elements.{recursion_from_All}
@@ -16,6 +16,8 @@ use Rattle.rambo_atomic.specs.declared.event.CallId.{CallId}
 use Rattle.rambo_atomic.specs.declared.event.Event.{Event}
 use Rattle.rambo_atomic.specs.declared.event.Event.TheVariants as event
 use Rattle.rambo_text.specs.declared.fault.Fault.{Fault}
+use Rattle.rambo_text.specs.declared.version.Version.{Version}
+use Rattle.rambo_text.specs.declared.version.Version.TheVariants.{One, Two}
 use Rattle.rambo_text.specs.Forms.{Form, Num, Name, Conf, Call, Hex, Standing, AreSpelt, IsBadWord}
 use Rattle.rambo_text.specs.Signs.{call_text, hex_text, standing_text, IsCall}
 use Rattle.rambo_text.specs.Words.{Lacks, AreWords, words_text}
@@ -25,9 +27,9 @@ use Rattle.rambo_text.proofs.Plain.{lacks-conf, lacks-hex, lacks-call, lacks-tes
 use Rattle.rambo_text.proofs.Standings.{lacks-standing, same_standing}
 use Rattle.rambo_text.proofs.WordSplits.{same_words}
 use Rattle.rambo_check.specs.EvidenceStates.{EvidenceState, with_item, IsBadItem}
-use Rattle.rambo_check.specs.Items.{IsItem, IsEvent, IsOp, IsAnswer}
+use Rattle.rambo_check.specs.Items.{IsItem, IsLineIn, IsEvent, IsOp, IsAnswer}
 use Rattle.rambo_check.specs.Laws.{HasNames}
-use Rattle.rambo_check.specs.Lines.{Item, Happened, Collected, Settled, Refused, Ordered, Mapped, op_words, answer_words, item_words}
+use Rattle.rambo_check.specs.Lines.{Item, Happened, Collected, Settled, Refused, Ordered, OrderedAll, Mapped, op_words, answer_words, item_words}
 use Rattle.rambo_check.specs.Plans.{Forms, each, plan, IsPlanFault}
 use Rattle.rambo_check.proofs.Rows.{AllSpelt, calls_spelt, confs_spelt}
 
@@ -63,6 +65,7 @@ lacks-item b (Refused step number) low is =
     (lacks-tested b (codes "refused") low refl, (lacks-decimal b step (omega arith) is.0, (lacks-decimal b number (omega arith) is.1, tt)))
 lacks-item b (Ordered s) low is =
     (lacks-tested b (codes "sequence") low refl, (lacks-hex b s.key low, lacks-calls b s.calls low (recursion_from_All IsCall s.calls is.1)))
+lacks-item b (OrderedAll calls) low is = (lacks-tested b (codes "order") low refl, lacks-calls b calls low (recursion_from_All IsCall calls is))
 lacks-item b (Mapped name floor confs) low is =
     (lacks-tested b (codes "map") low refl, (lacks-name b name low is.0, (lacks-decimal b floor (omega arith) is.1, lacks-confs b confs low)))
 
@@ -73,6 +76,7 @@ some_words (Collected name place) e = cc
 some_words (Settled name place conf) e = cc
 some_words (Refused step number) e = cc
 some_words (Ordered s) e = cc
+some_words (OrderedAll calls) e = cc
 some_words (Mapped name floor confs) e = cc
 
 -- an item's line, without its line feed
@@ -95,6 +99,7 @@ kept_of (Collected name place) = Refused 0 0
 kept_of (Settled name place conf) = Refused 0 0
 kept_of (Refused step number) = Refused 0 0
 kept_of (Ordered s) = Ordered s
+kept_of (OrderedAll calls) = OrderedAll calls
 kept_of (Mapped name floor confs) = Refused 0 0
 
 with_kept : (s : EvidenceState) (i : Item) → with_item s i ≡ with_item s (kept_of i)
@@ -103,6 +108,7 @@ with_kept s (Collected name place) = refl
 with_kept s (Settled name place conf) = refl
 with_kept s (Refused step number) = refl
 with_kept s (Ordered o) = refl
+with_kept s (OrderedAll calls) = refl
 with_kept s (Mapped name floor confs) = refl
 
 bad_kept : (s : EvidenceState) (i : Item) → (IsBadItem s i → IsBadItem s (kept_of i)) × (IsBadItem s (kept_of i) → IsBadItem s i)
@@ -111,18 +117,20 @@ bad_kept s (Collected name place) = (λ b. b, λ b. b)
 bad_kept s (Settled name place conf) = (λ b. b, λ b. b)
 bad_kept s (Refused step number) = (λ b. b, λ b. b)
 bad_kept s (Ordered o) = (λ b. b, λ b. b)
+bad_kept s (OrderedAll calls) = (λ b. b, λ b. b)
 bad_kept s (Mapped name floor confs) = (λ b. b, λ b. b)
 
 -- the kind of an item is known by its first word
 abbrev kind_of_words : List (List ℕ) → ℕ
-kind_of_words [] = 7
+kind_of_words [] = 8
 kind_of_words (w ∷ ws) =
     cond (bytes_eq w (codes "call")) 0
     (cond (bytes_eq w (codes "answer")) 1
     (cond (bytes_eq w (codes "collected")) 2
     (cond (bytes_eq w (codes "decided")) 3
     (cond (bytes_eq w (codes "refused")) 4
-    (cond (bytes_eq w (codes "sequence")) 5 6)))))
+    (cond (bytes_eq w (codes "sequence")) 5
+    (cond (bytes_eq w (codes "order")) 7 6))))))
 
 abbrev event_kind : Event → ℕ
 event_kind (event.Call c o) = 0
@@ -134,6 +142,7 @@ kind_of (Collected name place) = 2
 kind_of (Settled name place conf) = 3
 kind_of (Refused step number) = 4
 kind_of (Ordered s) = 5
+kind_of (OrderedAll calls) = 7
 kind_of (Mapped name floor confs) = 6
 
 kind_by_words : (i : Item) → kind_of_words (item_words i) ≡ kind_of i
@@ -143,6 +152,7 @@ kind_by_words (Collected name place) = refl
 kind_by_words (Settled name place conf) = refl
 kind_by_words (Refused step number) = refl
 kind_by_words (Ordered s) = refl
+kind_by_words (OrderedAll calls) = refl
 kind_by_words (Mapped name floor confs) = refl
 
 low_kind : (e : Event) → event_kind e < 2
@@ -193,24 +203,28 @@ kept_by_words (Happened e) (Collected m q) a b k w = absurd (omega (arith, k, lo
 kept_by_words (Happened e) (Settled m q y) a b k w = absurd (omega (arith, k, low_kind e))
 kept_by_words (Happened e) (Refused m q) a b k w = absurd (omega (arith, k, low_kind e))
 kept_by_words (Happened e) (Ordered o) a b k w = absurd (omega (arith, k, low_kind e))
+kept_by_words (Happened e) (OrderedAll ds) a b k w = absurd (omega (arith, k, low_kind e))
 kept_by_words (Happened e) (Mapped m q ts) a b k w = absurd (omega (arith, k, low_kind e))
 kept_by_words (Collected n p) (Happened f) a b k w = absurd (omega (arith, k, low_kind f))
 kept_by_words (Collected n p) (Collected m q) a b k w = refl
 kept_by_words (Collected n p) (Settled m q y) a b k w = refl
 kept_by_words (Collected n p) (Refused m q) a b k w = refl
 kept_by_words (Collected n p) (Ordered o) a b k w = absurd (omega (arith, k))
+kept_by_words (Collected n p) (OrderedAll ds) a b k w = absurd (omega (arith, k))
 kept_by_words (Collected n p) (Mapped m q ts) a b k w = refl
 kept_by_words (Settled n p x) (Happened f) a b k w = absurd (omega (arith, k, low_kind f))
 kept_by_words (Settled n p x) (Collected m q) a b k w = refl
 kept_by_words (Settled n p x) (Settled m q y) a b k w = refl
 kept_by_words (Settled n p x) (Refused m q) a b k w = refl
 kept_by_words (Settled n p x) (Ordered o) a b k w = absurd (omega (arith, k))
+kept_by_words (Settled n p x) (OrderedAll ds) a b k w = absurd (omega (arith, k))
 kept_by_words (Settled n p x) (Mapped m q ts) a b k w = refl
 kept_by_words (Refused n r) (Happened f) a b k w = absurd (omega (arith, k, low_kind f))
 kept_by_words (Refused n r) (Collected m q) a b k w = refl
 kept_by_words (Refused n r) (Settled m q y) a b k w = refl
 kept_by_words (Refused n r) (Refused m q) a b k w = refl
 kept_by_words (Refused n r) (Ordered o) a b k w = absurd (omega (arith, k))
+kept_by_words (Refused n r) (OrderedAll ds) a b k w = absurd (omega (arith, k))
 kept_by_words (Refused n r) (Mapped m q ts) a b k w = refl
 kept_by_words (Ordered s) (Happened f) a b k w = absurd (omega (arith, k, low_kind f))
 kept_by_words (Ordered s) (Collected m q) a b k w = absurd (omega (arith, k))
@@ -221,12 +235,21 @@ kept_by_words (Ordered s) (Ordered o) a b k w =
       key = same_hex s.key o.key a.0 b.0 (cc) i;
       calls = same_calls s.calls o.calls (recursion_from_All IsCall s.calls a.1) (recursion_from_All IsCall o.calls b.1) (cc) i;
     }))
+kept_by_words (Ordered s) (OrderedAll ds) a b k w = absurd (omega (arith, k))
 kept_by_words (Ordered s) (Mapped m q ts) a b k w = absurd (omega (arith, k))
+kept_by_words (OrderedAll cs) (Happened f) a b k w = absurd (omega (arith, k, low_kind f))
+kept_by_words (OrderedAll cs) (Collected m q) a b k w = absurd (omega (arith, k))
+kept_by_words (OrderedAll cs) (Settled m q y) a b k w = absurd (omega (arith, k))
+kept_by_words (OrderedAll cs) (Refused m q) a b k w = absurd (omega (arith, k))
+kept_by_words (OrderedAll cs) (Ordered o) a b k w = absurd (omega (arith, k))
+kept_by_words (OrderedAll cs) (OrderedAll ds) a b k w = ap OrderedAll (same_calls cs ds (recursion_from_All IsCall cs a) (recursion_from_All IsCall ds b) (cc))
+kept_by_words (OrderedAll cs) (Mapped m q ts) a b k w = absurd (omega (arith, k))
 kept_by_words (Mapped n p ss) (Happened f) a b k w = absurd (omega (arith, k, low_kind f))
 kept_by_words (Mapped n p ss) (Collected m q) a b k w = refl
 kept_by_words (Mapped n p ss) (Settled m q y) a b k w = refl
 kept_by_words (Mapped n p ss) (Refused m q) a b k w = refl
 kept_by_words (Mapped n p ss) (Ordered o) a b k w = absurd (omega (arith, k))
+kept_by_words (Mapped n p ss) (OrderedAll ds) a b k w = absurd (omega (arith, k))
 kept_by_words (Mapped n p ss) (Mapped m q ts) a b k w = refl
 
 same_kind : (i j : Item) → item_words i ≡ item_words j → kind_of i ≡ kind_of j
@@ -249,36 +272,49 @@ by_kept (Happened e) (Collected m q) a b x y k w h = absurd (omega (arith, k, lo
 by_kept (Happened e) (Settled m q v) a b x y k w h = absurd (omega (arith, k, low_kind e))
 by_kept (Happened e) (Refused m q) a b x y k w h = absurd (omega (arith, k, low_kind e))
 by_kept (Happened e) (Ordered o) a b x y k w h = absurd (omega (arith, k, low_kind e))
+by_kept (Happened e) (OrderedAll ds) a b x y k w h = absurd (omega (arith, k, low_kind e))
 by_kept (Happened e) (Mapped m q ts) a b x y k w h = absurd (omega (arith, k, low_kind e))
 by_kept (Collected n p) (Happened f) a b x y k w h = absurd (omega (arith, k, low_kind f))
 by_kept (Collected n p) (Collected m q) a b x y k w h = (λ i. Collected (same_name n m a.0 b.0 (cc) i) (decimal_injective p q a.1 b.1 (cc) i))
 by_kept (Collected n p) (Settled m q v) a b x y k w h = absurd (omega (arith, k))
 by_kept (Collected n p) (Refused m q) a b x y k w h = absurd (omega (arith, k))
 by_kept (Collected n p) (Ordered o) a b x y k w h = absurd (omega (arith, k))
+by_kept (Collected n p) (OrderedAll ds) a b x y k w h = absurd (omega (arith, k))
 by_kept (Collected n p) (Mapped m q ts) a b x y k w h = absurd (omega (arith, k))
 by_kept (Settled n p u) (Happened f) a b x y k w h = absurd (omega (arith, k, low_kind f))
 by_kept (Settled n p u) (Collected m q) a b x y k w h = absurd (omega (arith, k))
 by_kept (Settled n p u) (Settled m q v) a b x y k w h = (λ i. Settled (same_name n m a.0 b.0 (cc) i) (decimal_injective p q a.1 b.1 (cc) i) (same_standing u v x y (cc) i))
 by_kept (Settled n p u) (Refused m q) a b x y k w h = absurd (omega (arith, k))
 by_kept (Settled n p u) (Ordered o) a b x y k w h = absurd (omega (arith, k))
+by_kept (Settled n p u) (OrderedAll ds) a b x y k w h = absurd (omega (arith, k))
 by_kept (Settled n p u) (Mapped m q ts) a b x y k w h = absurd (omega (arith, k))
 by_kept (Refused n r) (Happened f) a b x y k w h = absurd (omega (arith, k, low_kind f))
 by_kept (Refused n r) (Collected m q) a b x y k w h = absurd (omega (arith, k))
 by_kept (Refused n r) (Settled m q v) a b x y k w h = absurd (omega (arith, k))
 by_kept (Refused n r) (Refused m q) a b x y k w h = (λ i. Refused (decimal_injective n m a.0 b.0 (cc) i) (decimal_injective r q a.1 b.1 (cc) i))
 by_kept (Refused n r) (Ordered o) a b x y k w h = absurd (omega (arith, k))
+by_kept (Refused n r) (OrderedAll ds) a b x y k w h = absurd (omega (arith, k))
 by_kept (Refused n r) (Mapped m q ts) a b x y k w h = absurd (omega (arith, k))
 by_kept (Ordered s) (Happened f) a b x y k w h = absurd (omega (arith, k, low_kind f))
 by_kept (Ordered s) (Collected m q) a b x y k w h = absurd (omega (arith, k))
 by_kept (Ordered s) (Settled m q v) a b x y k w h = absurd (omega (arith, k))
 by_kept (Ordered s) (Refused m q) a b x y k w h = absurd (omega (arith, k))
 by_kept (Ordered s) (Ordered o) a b x y k w h = h
+by_kept (Ordered s) (OrderedAll ds) a b x y k w h = absurd (omega (arith, k))
 by_kept (Ordered s) (Mapped m q ts) a b x y k w h = absurd (omega (arith, k))
+by_kept (OrderedAll cs) (Happened f) a b x y k w h = absurd (omega (arith, k, low_kind f))
+by_kept (OrderedAll cs) (Collected m q) a b x y k w h = absurd (omega (arith, k))
+by_kept (OrderedAll cs) (Settled m q v) a b x y k w h = absurd (omega (arith, k))
+by_kept (OrderedAll cs) (Refused m q) a b x y k w h = absurd (omega (arith, k))
+by_kept (OrderedAll cs) (Ordered o) a b x y k w h = absurd (omega (arith, k))
+by_kept (OrderedAll cs) (OrderedAll ds) a b x y k w h = h
+by_kept (OrderedAll cs) (Mapped m q ts) a b x y k w h = absurd (omega (arith, k))
 by_kept (Mapped n p ss) (Happened f) a b x y k w h = absurd (omega (arith, k, low_kind f))
 by_kept (Mapped n p ss) (Collected m q) a b x y k w h = absurd (omega (arith, k))
 by_kept (Mapped n p ss) (Settled m q v) a b x y k w h = absurd (omega (arith, k))
 by_kept (Mapped n p ss) (Refused m q) a b x y k w h = absurd (omega (arith, k))
 by_kept (Mapped n p ss) (Ordered o) a b x y k w h = absurd (omega (arith, k))
+by_kept (Mapped n p ss) (OrderedAll ds) a b x y k w h = absurd (omega (arith, k))
 by_kept (Mapped n p ss) (Mapped m q ts) a b x y k w h =
     (λ i. Mapped (same_name n m a.0 b.0 (cc) i) (decimal_injective p q a.1 b.1 (cc) i) (same_confs ss ts x y (cc) i))
 
@@ -306,22 +342,27 @@ each_spelt : (m : Form) (ws : List (List ℕ)) → AllSpelt m ws → AreSpelt (e
 each_spelt m [] all = tt
 each_spelt m (w ∷ ws) all = (all.0, each_spelt m ws all.1)
 
-pub item_fits : (i : Item) (f : Fault) → IsItem i → IsPlanFault (plan (item_words i)) f → ⊥
-item_fits (Happened (event.Call c (op.Get key))) f is bad = fits (Call ∷ Hex ∷ []) (call_text c ∷ hex_text key ∷ []) f ((c, is.0, refl), ((key, is.1, refl), tt)) bad
-item_fits (Happened (event.Call c (op.Set key value))) f is bad =
+order_fits : (v : Version) (calls : List CallId) (f : Fault) → All IsCall calls → v ≡ Two → IsPlanFault (plan v (item_words (OrderedAll calls))) f → ⊥
+order_fits One calls f is of bad = cc
+order_fits Two calls f is of bad = fits (each Call (map call_text calls)) (map call_text calls) f (each_spelt Call (map call_text calls) (calls_spelt calls is)) bad
+
+pub item_fits : (v : Version) (i : Item) (f : Fault) → IsItem i → IsLineIn v i → IsPlanFault (plan v (item_words i)) f → ⊥
+item_fits v (Happened (event.Call c (op.Get key))) f is of bad = fits (Call ∷ Hex ∷ []) (call_text c ∷ hex_text key ∷ []) f ((c, is.0, refl), ((key, is.1, refl), tt)) bad
+item_fits v (Happened (event.Call c (op.Set key value))) f is of bad =
     fits (Call ∷ Hex ∷ Hex ∷ []) (call_text c ∷ hex_text key ∷ hex_text value ∷ []) f ((c, is.0, refl), ((key, is.1.0, refl), ((value, is.1.1, refl), tt))) bad
-item_fits (Happened (event.Answer c answer.Ok)) f is bad = fits (Call ∷ []) (call_text c ∷ []) f ((c, is.0, refl), tt) bad
-item_fits (Happened (event.Answer c answer.Nil)) f is bad = fits (Call ∷ []) (call_text c ∷ []) f ((c, is.0, refl), tt) bad
-item_fits (Happened (event.Answer c (answer.Value value))) f is bad =
+item_fits v (Happened (event.Answer c answer.Ok)) f is of bad = fits (Call ∷ []) (call_text c ∷ []) f ((c, is.0, refl), tt) bad
+item_fits v (Happened (event.Answer c answer.Nil)) f is of bad = fits (Call ∷ []) (call_text c ∷ []) f ((c, is.0, refl), tt) bad
+item_fits v (Happened (event.Answer c (answer.Value value))) f is of bad =
     fits (Call ∷ Hex ∷ []) (call_text c ∷ hex_text value ∷ []) f ((c, is.0, refl), ((value, is.1, refl), tt)) bad
-item_fits (Collected name place) f is bad = fits (Name ∷ Num ∷ []) (decimal name ∷ decimal place ∷ []) f ((name, is.0, refl), ((place, is.1, refl), tt)) bad
-item_fits (Settled name place conf) f is bad =
+item_fits v (Collected name place) f is of bad = fits (Name ∷ Num ∷ []) (decimal name ∷ decimal place ∷ []) f ((name, is.0, refl), ((place, is.1, refl), tt)) bad
+item_fits v (Settled name place conf) f is of bad =
     fits (Name ∷ Num ∷ Standing ∷ []) (decimal name ∷ decimal place ∷ standing_text conf ∷ []) f ((name, is.0, refl), ((place, is.1, refl), ((conf, refl), tt))) bad
-item_fits (Refused step number) f is bad = fits (Num ∷ Num ∷ []) (decimal step ∷ decimal number ∷ []) f ((step, is.0, refl), ((number, is.1, refl), tt)) bad
-item_fits (Ordered s) f is bad =
+item_fits v (Refused step number) f is of bad = fits (Num ∷ Num ∷ []) (decimal step ∷ decimal number ∷ []) f ((step, is.0, refl), ((number, is.1, refl), tt)) bad
+item_fits v (Ordered s) f is of bad =
     fits (Hex ∷ each Call (map call_text s.calls)) (hex_text s.key ∷ map call_text s.calls) f
     ((s.key, is.0, refl), each_spelt Call (map call_text s.calls) (calls_spelt s.calls is.1)) bad
-item_fits (Mapped name floor []) f is bad = is.2 refl
-item_fits (Mapped name floor (s ∷ ss)) f is bad =
+item_fits v (OrderedAll calls) f is of bad = order_fits v calls f is of bad
+item_fits v (Mapped name floor []) f is of bad = is.2 refl
+item_fits v (Mapped name floor (s ∷ ss)) f is of bad =
     fits (Name ∷ Num ∷ Conf ∷ each Conf (map conf_text ss)) (decimal name ∷ decimal floor ∷ conf_text s ∷ map conf_text ss) f
     ((name, is.0, refl), ((floor, is.1, refl), ((s, refl), each_spelt Conf (map conf_text ss) (confs_spelt ss)))) bad

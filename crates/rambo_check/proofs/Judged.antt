@@ -13,10 +13,12 @@ use Rattle.rambo_atomic.specs.declared.event.Event.TheVariants as event
 use Rattle.rambo_atomic.specs.declared.verdict.Verdict.{Verdict}
 use Rattle.rambo_atomic.specs.Calls.{key_of}
 use Rattle.rambo_atomic.specs.Proper.{Stands}
-use Rattle.rambo_atomic.specs.Verdicts.{IsVerdict}
+use Rattle.rambo_atomic.specs.Verdicts.{IsVerdict, IsVerdictForAll}
+use Rattle.rambo_text.specs.declared.version.Version.{Version}
+use Rattle.rambo_text.specs.declared.version.Version.TheVariants.{Two}
 use Rattle.rambo_atomic.proofs.Splits.{stands-here, stands-later, stands-nil, stands-cases}
 use Rattle.rambo_check.specs.EvidenceStates.{EvidenceState}
-use Rattle.rambo_check.specs.Verdicts.{order_of, IsKey, IsVerdictOn}
+use Rattle.rambo_check.specs.Verdicts.{order_of, store_order_of, IsKey, IsVerdictOn, IsVerdictOnAll}
 use Rattle.rambo_check.specs.Judgings.{is_call_of}
 
 or_swap : (a b c : Bool) → (a || (b || c)) ≡ (b || (a || c))
@@ -132,3 +134,10 @@ pub verdict_on : (s : EvidenceState) (q : List ℕ) (o : Option Verdict) → IfS
     → is_some o ≡ (list_any (is_call_of q) s.events || list_any (λ k. bytes_eq k q) (map (λ o. o.0) s.orders)) → IsVerdictOn s q o
 verdict_on s q None right judged = λ k. true≢false (sym (key_judged s q k) ∙ sym judged)
 verdict_on s q (Some v) right judged = (judged_key s q (sym judged), right)
+
+-- the verdict on the order of all keys
+pub on_history : (h k : List Event) (order told : List CallId) (v : Verdict) → h ≡ k → order ≡ told → IsVerdictForAll h order v → IsVerdictForAll k told v
+on_history h k order told v same is right = subst (λ o. IsVerdictForAll k o v) is (subst (λ e. IsVerdictForAll e order v) same right)
+
+pub on_all_keys : (version : Version) (s : EvidenceState) (v : Verdict) → version ≡ Two → IsVerdictForAll s.events (store_order_of s) v → IsVerdictOnAll version s (Some v)
+on_all_keys version s v is right = subst (λ u. IsVerdictOnAll u s (Some v)) (sym is) (v, refl, right)

@@ -7,3 +7,4 @@ pub mod LineFaults
 pub mod Rows
 pub mod TextLaws
 pub mod TextSteps
+pub mod UsedLines

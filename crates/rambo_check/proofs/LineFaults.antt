@@ -8,11 +8,13 @@ use Rattle.rambo_names.specs.Weights.{Weights}
 use Rattle.rambo_names.specs.Signs.{conf_text}
 use Rattle.rambo_text.specs.declared.fault.Fault.{Fault}
 use Rattle.rambo_text.specs.declared.fault.Fault.TheVariants.{UnknownWord, WrongCount, OutOfMemory}
+use Rattle.rambo_text.specs.declared.version.Version.{Version}
+use Rattle.rambo_text.specs.declared.version.Version.TheVariants.{One, Two}
 use Rattle.rambo_text.specs.Forms.{Form, Num, Name, Conf, Call, Hex, IsBadWord}
 use Rattle.rambo_text.specs.Words.{AreMore, IsFirstWord}
 use Rattle.rambo_text.proofs.WordSplits.{words_joined}
-use Rattle.rambo_check.specs.Plans.{Plan, Forms, each, call_plan, answer_plan, sequence_plan, map_plan, plan, IsPlanFault, IsLineFault, IsFaulty}
-use Rattle.rambo_check.proofs.LineWords.{more_has_words}
+use Rattle.rambo_check.specs.Plans.{Plan, Forms, each, call_plan, answer_plan, sequence_plan, order_plan, map_plan, tells_order, plan, IsPlanFault, IsLineFault, IsFaulty}
+use Rattle.rambo_text.proofs.WordsThere.{more_has_words}
 use Rattle.rambo_check.proofs.Rows.{length-each}
 
 else_so : {X : Type 0} (b : Bool) (x y : X) → false ≡ b → cond b x y ≡ y
@@ -20,26 +22,35 @@ else_so true x y e = cc
 else_so false x y e = refl
 
 -- a line's fault is that of the words behind the first
-pub line_fault : (line first : List ℕ) (more : Option (List ℕ)) (p : List (List ℕ) → Plan) (f : Fault) → IsFirstWord line first more
-    → ((ws : List (List ℕ)) → plan (first ∷ ws) ≡ p ws) → IsFaulty p more f → (f ≡ OutOfMemory) ⊎ IsLineFault line f
-line_fault line first more p f is same (inl memory) = inl memory
-line_fault line first more p f is same (inr bad) =
+pub line_fault : (v : Version) (line first : List ℕ) (more : Option (List ℕ)) (p : List (List ℕ) → Plan) (f : Fault) → IsFirstWord line first more
+    → ((ws : List (List ℕ)) → plan v (first ∷ ws) ≡ p ws) → IsFaulty p more f → (f ≡ OutOfMemory) ⊎ IsLineFault v line f
+line_fault v line first more p f is same (inl memory) = inl memory
+line_fault v line first more p f is same (inr bad) =
     inr (first ∷ bad.0, words_joined line first more bad.0 is bad.1, subst (λ q. IsPlanFault q f) (sym (same bad.0)) bad.2)
 
 -- what a line may have is said by its first word
-pub plan_word : (w text : List ℕ) → true ≡ bytes_eq w text → (ws : List (List ℕ)) → plan (w ∷ ws) ≡ plan (text ∷ ws)
-plan_word w text is ws = ap (λ v. plan (v ∷ ws)) ((bytes_eq-Decides w text).0 (sym is))
+pub plan_word : (v : Version) (w text : List ℕ) → true ≡ bytes_eq w text → (ws : List (List ℕ)) → plan v (w ∷ ws) ≡ plan v (text ∷ ws)
+plan_word v w text is ws = ap (λ u. plan v (u ∷ ws)) ((bytes_eq-Decides w text).0 (sym is))
 
-pub plan_unknown : (w : List ℕ) (more : Option (List ℕ)) → bytes_eq w (codes "call") ≡ false → bytes_eq w (codes "answer") ≡ false
+-- a line that tells an order of all keys' calls
+pub plan_order : (v : Version) (w : List ℕ) → true ≡ tells_order v w → (ws : List (List ℕ)) → plan v (w ∷ ws) ≡ order_plan ws
+plan_order One w is ws = cc
+plan_order Two w is ws = plan_word Two w (codes "order") is ws
+
+pub order_word : (v : Version) (w : List ℕ) → true ≡ tells_order v w → (v ≡ Two) × (w ≡ codes "order")
+order_word One w is = cc
+order_word Two w is = (refl, (bytes_eq-Decides w (codes "order")).0 (sym is))
+
+pub plan_unknown : (v : Version) (w : List ℕ) (more : Option (List ℕ)) → bytes_eq w (codes "call") ≡ false → bytes_eq w (codes "answer") ≡ false
     → bytes_eq w (codes "sequence") ≡ false → false ≡ bytes_eq w (codes "collected") → false ≡ bytes_eq w (codes "decided")
-    → false ≡ bytes_eq w (codes "refused") → false ≡ bytes_eq w (codes "map") → IsFaulty (λ ws. plan (w ∷ ws)) more UnknownWord
-plan_unknown w more a b f c d e g =
+    → false ≡ bytes_eq w (codes "refused") → false ≡ bytes_eq w (codes "map") → tells_order v w ≡ false → IsFaulty (λ ws. plan v (w ∷ ws)) more UnknownWord
+plan_unknown v w more a b f c d e g h =
     let all = more_has_words more in
     inr (
       all.0,
       all.1,
       subst (λ q. IsPlanFault q UnknownWord)
-          (sym (else_so _ _ _ (sym a) ∙ else_so _ _ _ (sym b) ∙ else_so _ _ _ c ∙ else_so _ _ _ d ∙ else_so _ _ _ e ∙ else_so _ _ _ (sym f) ∙ else_so _ _ _ g)) refl,
+          (sym (else_so _ _ _ (sym a) ∙ else_so _ _ _ (sym b) ∙ else_so _ _ _ c ∙ else_so _ _ _ d ∙ else_so _ _ _ e ∙ else_so _ _ _ (sym f) ∙ else_so _ _ _ g ∙ else_so _ _ _ (sym h))) refl,
     )
 
 pub call_unknown : (start more : Option (List ℕ)) (id kind : List ℕ) → ((ws : List (List ℕ)) → AreMore more ws → AreMore start (id ∷ kind ∷ ws))

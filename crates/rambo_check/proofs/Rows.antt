@@ -10,7 +10,8 @@ use Rattle.rambo_atomic.specs.declared.event.CallId.{CallId}
 use Rattle.rambo_text.specs.Forms.{Form, Conf, Call, IsSpelt, form_fault, IsBadWord}
 use Rattle.rambo_text.specs.Signs.{call_text, IsCall}
 use Rattle.rambo_text.specs.Words.{AreMore, IsFirstWord}
-use Rattle.rambo_check.proofs.LineWords.{more_has_words, some_joined}
+use Rattle.rambo_text.proofs.WordsThere.{more_has_words}
+use Rattle.rambo_check.proofs.LineWords.{some_joined}
 use Rattle.rambo_check.specs.Plans.{Forms, each, IsFaulty}
 
 abbrev pub AllSpelt : Form → List (List ℕ) → Type 0

@@ -3,11 +3,12 @@ use Rattle.std.specs.Prelude.{◌≡◌, ◌≢◌, ℕ, List, IfSome}
 use Rattle.std.specs.List.{AllByRecursion}
 use Rattle.rambo_text.specs.declared.fault.Fault.TheVariants.{OutOfMemory}
 use Rattle.rambo_text.specs.declared.fault.ScriptFault.{ScriptFault}
+use Rattle.rambo_text.specs.declared.version.Version.{Version}
 use Rattle.rambo_names.specs.Signs.{IsConf}
-use Rattle.rambo_check.specs.Lines.{Item, Happened, Collected, Settled, Refused, Ordered, Mapped}
+use Rattle.rambo_check.specs.Lines.{Item, Happened, Collected, Settled, Refused, Ordered, OrderedAll, Mapped}
 use Rattle.rambo_check.specs.Items.{IsItem}
 use Rattle.rambo_check.specs.EvidenceStates.{EvidenceState}
-use Rattle.rambo_check.specs.Texts.{AreLinesOf, IsTold, IsTextFault}
+use Rattle.rambo_check.specs.Texts.{AreLinesOf, IsToldIn, IsFaultIn}
 
 -- the configurations of a line have names alone
 abbrev pub HasNames : Item → Type 0
@@ -16,6 +17,7 @@ HasNames (Collected name place) = Unit {0}
 HasNames (Settled name place conf) = IfSome conf IsConf
 HasNames (Refused step number) = Unit {0}
 HasNames (Ordered s) = Unit {0}
+HasNames (OrderedAll calls) = Unit {0}
 HasNames (Mapped name floor confs) = AllByRecursion IsConf confs
 
 -- lines that may stand in an outcome text
@@ -23,18 +25,18 @@ pub record AreLines (items : List Item) : Type 0 where
   pub in_range : AllByRecursion IsItem items
   pub names : AllByRecursion HasNames items
 
--- a text has the lines of one outcome at most
+-- what is behind the head of a text has the lines of one outcome at most
 abbrev pub OneReading : Type 0
 OneReading = (text : List ℕ) (items others : List Item) → AreLines items → AreLines others → AreLinesOf text items → AreLinesOf text others → items ≡ others
 
--- a text tells one evidence at most
+-- a text tells one evidence at most, in one version
 abbrev pub OneEvidence : Type 0
-OneEvidence = (text : List ℕ) (s t : EvidenceState) → IsTold text s → IsTold text t → s ≡ t
+OneEvidence = (text : List ℕ) (version other : Version) (s t : EvidenceState) → IsToldIn version text s → IsToldIn other text t → (version ≡ other) × (s ≡ t)
 
 -- what tells an evidence has no fault: memory alone may run out while it is read
 abbrev pub NoToldIsFaulty : Type 0
-NoToldIsFaulty = (text : List ℕ) (s : EvidenceState) (f : ScriptFault) → IsTold text s → IsTextFault text f → f.fault ≡ OutOfMemory
+NoToldIsFaulty = (text : List ℕ) (version : Version) (s : EvidenceState) (f : ScriptFault) → IsToldIn version text s → IsFaultIn text f → f.fault ≡ OutOfMemory
 
 -- a text has one fault at most, beside that memory may run out
 abbrev pub OneFault : Type 0
-OneFault = (text : List ℕ) (f g : ScriptFault) → f.fault ≢ OutOfMemory → g.fault ≢ OutOfMemory → IsTextFault text f → IsTextFault text g → f ≡ g
+OneFault = (text : List ℕ) (f g : ScriptFault) → f.fault ≢ OutOfMemory → g.fault ≢ OutOfMemory → IsFaultIn text f → IsFaultIn text g → f ≡ g

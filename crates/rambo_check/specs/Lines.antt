@@ -6,6 +6,7 @@ use Rattle.rambo_atomic.specs.declared.operation.Op.{Op}
 use Rattle.rambo_atomic.specs.declared.operation.Op.TheVariants as op
 use Rattle.rambo_atomic.specs.declared.operation.Answer.{Answer}
 use Rattle.rambo_atomic.specs.declared.operation.Answer.TheVariants as answer
+use Rattle.rambo_atomic.specs.declared.event.CallId.{CallId}
 use Rattle.rambo_atomic.specs.declared.event.Event.{Event}
 use Rattle.rambo_atomic.specs.declared.event.Event.TheVariants as event
 use Rattle.rambo_sequence.specs.Sequences.{SequenceOf}
@@ -14,13 +15,14 @@ use Rattle.rambo_text.specs.Words.{words_text}
 
 -- what a line says: that a call was made or answered, that a node's collection of a place ended, that a node's attempt for
 -- a place ended, with the configuration that is now known there or none where the place is removed, that the step of a number
--- was refused by a number, in which order a key's calls are put, or which map a node has
+-- was refused by a number, in which order a key's calls are put, in which order those of all keys are, or which map a node has
 pub data Item : Type 0 where
   Happened : Event → Item
   Collected : ℕ → ℕ → Item
   Settled : ℕ → ℕ → Option Weights → Item
   Refused : ℕ → ℕ → Item
   Ordered : SequenceOf → Item
+  OrderedAll : List CallId → Item
   Mapped : ℕ → ℕ → List Weights → Item
 
 abbrev pub op_words : Op → List (List ℕ)
@@ -40,6 +42,7 @@ item_words (Collected name place) = codes "collected" ∷ decimal name ∷ decim
 item_words (Settled name place conf) = codes "decided" ∷ decimal name ∷ decimal place ∷ standing_text conf ∷ []
 item_words (Refused step number) = codes "refused" ∷ decimal step ∷ decimal number ∷ []
 item_words (Ordered s) = codes "sequence" ∷ hex_text s.key ∷ map call_text s.calls
+item_words (OrderedAll calls) = codes "order" ∷ map call_text calls
 item_words (Mapped name floor confs) = codes "map" ∷ decimal name ∷ decimal floor ∷ map conf_text confs
 
 -- the line, with its line feed

@@ -1,8 +1,10 @@
 -- Which words a line may have, and the fault of other words
-use Rattle.std.specs.Prelude.{◌≡◌, ◌≢◌, ◌⊎◌, ℕ, if◌then◌else◌, List, [], ◌∷◌, Option, map, drop, length, codes}
+use Rattle.std.specs.Prelude.{◌≡◌, ◌≢◌, ◌⊎◌, ℕ, Bool, false, if◌then◌else◌, List, [], ◌∷◌, Option, map, drop, length, codes}
 use Rattle.std.specs.Str.{bytes_eq}
 use Rattle.rambo_text.specs.declared.fault.Fault.{Fault}
 use Rattle.rambo_text.specs.declared.fault.Fault.TheVariants.{UnknownWord, WrongCount, OutOfMemory}
+use Rattle.rambo_text.specs.declared.version.Version.{Version}
+use Rattle.rambo_text.specs.declared.version.Version.TheVariants.{One, Two}
 use Rattle.rambo_text.specs.Forms.{Form, Num, Name, Conf, Call, Hex, Standing, IsBadWord}
 use Rattle.rambo_text.specs.Words.{AreWords, AreMore}
 
@@ -35,7 +37,7 @@ answer_plan (c ∷ w ∷ ws) =
     else if bytes_eq w (codes "value") then Forms (Call ∷ Hex ∷ []) (c ∷ ws)
     else Unknown
 
--- behind `collected`, `decided`, `refused`, `sequence` and `map`
+-- behind `collected`, `decided`, `refused`, `sequence`, `order` and `map`
 abbrev pub collected_plan : List (List ℕ) → Plan
 collected_plan ws = Forms (Name ∷ Num ∷ []) ws
 
@@ -48,13 +50,21 @@ refused_plan ws = Forms (Num ∷ Num ∷ []) ws
 abbrev pub sequence_plan : List (List ℕ) → Plan
 sequence_plan ws = Forms (Hex ∷ each Call (drop 1 ws)) ws
 
+abbrev pub order_plan : List (List ℕ) → Plan
+order_plan ws = Forms (each Call ws) ws
+
 abbrev pub map_plan : List (List ℕ) → Plan
 map_plan ws = Forms (Name ∷ Num ∷ Conf ∷ each Conf (drop 3 ws)) ws
 
+-- whether a line with this first word tells an order of all keys' calls: in texts of version 2
+abbrev pub tells_order : Version → List ℕ → Bool
+tells_order One w = false
+tells_order Two w = bytes_eq w (codes "order")
+
 -- by the first word
-abbrev pub plan : List (List ℕ) → Plan
-plan [] = Unknown
-plan (w ∷ ws) =
+abbrev pub plan : Version → List (List ℕ) → Plan
+plan version [] = Unknown
+plan version (w ∷ ws) =
     if bytes_eq w (codes "call") then call_plan ws
     else if bytes_eq w (codes "answer") then answer_plan ws
     else if bytes_eq w (codes "collected") then collected_plan ws
@@ -62,6 +72,7 @@ plan (w ∷ ws) =
     else if bytes_eq w (codes "refused") then refused_plan ws
     else if bytes_eq w (codes "sequence") then sequence_plan ws
     else if bytes_eq w (codes "map") then map_plan ws
+    else if tells_order version w then order_plan ws
     else Unknown
 
 -- an unknown word; else another number of words; else the first word that isn't in its form
@@ -72,8 +83,8 @@ IsPlanFault (Forms ms ws) f =
     ((length ms ≢ length ws) × (f ≡ WrongCount)) ⊎ ((length ms ≡ length ws) × IsBadWord ms ws f)
 
 -- the words of a line have this fault
-abbrev pub IsLineFault : List ℕ → Fault → Type 0
-IsLineFault line f = (words : List (List ℕ)) × AreWords line words × IsPlanFault (plan words) f
+abbrev pub IsLineFault : Version → List ℕ → Fault → Type 0
+IsLineFault version line f = (words : List (List ℕ)) × AreWords line words × IsPlanFault (plan version words) f
 
 -- the words behind the first have this fault, or memory ran out
 abbrev pub IsFaulty : (List (List ℕ) → Plan) → Option (List ℕ) → Fault → Type 0

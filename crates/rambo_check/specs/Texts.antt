@@ -3,9 +3,11 @@ use Rattle.std.specs.Prelude.{◌≡◌, ◌≢◌, ◌⊎◌, ℕ, ◌+◌, Lis
 use Rattle.rambo_text.specs.declared.fault.Fault.{Fault}
 use Rattle.rambo_text.specs.declared.fault.Fault.TheVariants.{OutOfMemory, BadHistory}
 use Rattle.rambo_text.specs.declared.fault.ScriptFault.{ScriptFault}
+use Rattle.rambo_text.specs.declared.version.Version.{Version}
+use Rattle.rambo_text.specs.Versions.{IsBehindHead, BehindHead, IsBadHead}
 use Rattle.rambo_text.specs.Words.{IsFirstLine, AreWords}
 use Rattle.rambo_check.specs.EvidenceStates.{EvidenceState, evidence_of, IsBadItem, AreGood}
-use Rattle.rambo_check.specs.Items.{IsItem}
+use Rattle.rambo_check.specs.Items.{IsItem, IsLineIn}
 use Rattle.rambo_check.specs.Lines.{Item, item_words, items_text}
 use Rattle.rambo_check.specs.Plans.{IsLineFault}
 
@@ -13,25 +15,25 @@ use Rattle.rambo_check.specs.Plans.{IsLineFault}
 abbrev pub AreLinesOf : List ℕ → List Item → Type 0
 AreLinesOf text items = (text ≡ items_text items) ⊎ (text ++ 10 ∷ [] ≡ items_text items)
 
--- the text tells this
-pub record IsTold (text : List ℕ) (s : EvidenceState) : Type 0 where
+-- the text of this version tells this, behind its head
+pub record IsTold (version : Version) (text : List ℕ) (s : EvidenceState) : Type 0 where
   pub items : List Item
-  pub good : AreGood items
+  pub good : AreGood version items
   pub lines : AreLinesOf text items
   pub evidence : s ≡ evidence_of items
 
--- the line spells an item that is bad behind those before it
-abbrev pub IsBadLine : EvidenceState → List ℕ → Type 0
-IsBadLine s line = (i : Item) × IsItem i × AreWords line (item_words i) × IsBadItem s i
+-- the line spells an item of this version that is bad behind those before it
+abbrev pub IsBadLine : Version → EvidenceState → List ℕ → Type 0
+IsBadLine version s line = (i : Item) × IsItem i × IsLineIn version i × AreWords line (item_words i) × IsBadItem s i
 
 -- the fault of a line behind good ones: of its words, of what it tells, or that memory ran out while it was read
-abbrev pub IsFaultBehind : EvidenceState → List ℕ → Fault → Type 0
-IsFaultBehind s line f = (f ≡ OutOfMemory) ⊎ (IsLineFault line f ⊎ ((f ≡ BadHistory) × IsBadLine s line))
+abbrev pub IsFaultBehind : Version → EvidenceState → List ℕ → Fault → Type 0
+IsFaultBehind version s line f = (f ≡ OutOfMemory) ⊎ (IsLineFault version line f ⊎ ((f ≡ BadHistory) × IsBadLine version s line))
 
--- the first faulty line of a text, and its fault
-pub record IsTextFault (text : List ℕ) (f : ScriptFault) : Type 0 where
+-- the first faulty line of a text of this version, behind its head, and its fault
+pub record IsTextFault (version : Version) (text : List ℕ) (f : ScriptFault) : Type 0 where
   pub items : List Item
-  pub good : AreGood items
+  pub good : AreGood version items
   pub line : List ℕ
   pub rest : List ℕ
   pub left : List ℕ
@@ -39,4 +41,20 @@ pub record IsTextFault (text : List ℕ) (f : ScriptFault) : Type 0 where
   pub there : left ≢ []
   pub first : IsFirstLine left line rest
   pub number : f.line ≡ length items + 1
-  pub fault : IsFaultBehind (evidence_of items) line f.fault
+  pub fault : IsFaultBehind version (evidence_of items) line f.fault
+
+-- a whole text of this version tells this
+abbrev pub IsToldIn : Version → List ℕ → EvidenceState → Type 0
+IsToldIn version text s = (behind : List ℕ) × IsBehindHead version text behind × IsTold version behind s
+
+-- the first line should tell the version, and doesn't
+pub record IsHeadFault (text : List ℕ) (f : ScriptFault) : Type 0 where
+  pub line : List ℕ
+  pub rest : List ℕ
+  pub is_first : IsFirstLine text line rest
+  pub fault : IsBadHead line f.fault
+  pub number : f.line ≡ 1
+
+-- the first faulty line of a whole text, and its fault
+abbrev pub IsFaultIn : List ℕ → ScriptFault → Type 0
+IsFaultIn text f = IsHeadFault text f ⊎ BehindHead IsTextFault text f

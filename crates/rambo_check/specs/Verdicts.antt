@@ -13,7 +13,9 @@ use Rattle.rambo_atomic.specs.declared.verdict.Verdict.{Verdict}
 use Rattle.rambo_atomic.specs.declared.verdict.Verdict.TheVariants.{Yes, No}
 use Rattle.rambo_atomic.specs.Calls.{key_of}
 use Rattle.rambo_atomic.specs.Proper.{Stands}
-use Rattle.rambo_atomic.specs.Verdicts.{number_of, IsVerdict}
+use Rattle.rambo_atomic.specs.Verdicts.{number_of, IsVerdict, IsVerdictForAll}
+use Rattle.rambo_text.specs.declared.version.Version.{Version}
+use Rattle.rambo_text.specs.declared.version.Version.TheVariants.{One, Two}
 use Rattle.rambo_text.specs.Signs.{hex_text}
 use Rattle.rambo_text.specs.Words.{words_text}
 use Rattle.rambo_check.specs.EvidenceStates.{EvidenceState}
@@ -46,6 +48,28 @@ all_yes verdicts = list_all (λ v. is_yes v.1) verdicts
 abbrev pub verdict_words : List ℕ → Verdict → List (List ℕ)
 verdict_words key Yes = codes "yes" ∷ hex_text key ∷ []
 verdict_words key (No rule) = codes "no" ∷ hex_text key ∷ decimal (number_of rule) ∷ []
+
+-- the order of the calls of all keys: the empty one where the text has none
+abbrev pub store_order_of : EvidenceState → List CallId
+store_order_of s = unwrap_or s.order []
+
+-- it is judged in version 2 alone
+abbrev pub IsVerdictOnAll : Version → EvidenceState → Option Verdict → Type 0
+IsVerdictOnAll One s verdict = verdict ≡ None
+IsVerdictOnAll Two s verdict = (v : Verdict) × (verdict ≡ Some v) × IsVerdictForAll s.events (store_order_of s) v
+
+abbrev pub yes_to_all : Option Verdict → Bool
+yes_to_all None = true
+yes_to_all (Some v) = is_yes v
+
+abbrev pub order_words : Verdict → List (List ℕ)
+order_words Yes = codes "yes" ∷ codes "order" ∷ []
+order_words (No rule) = codes "no" ∷ codes "order" ∷ decimal (number_of rule) ∷ []
+
+-- a line for the verdict on all keys, where there is one
+abbrev pub order_verdict_text : Option Verdict → List ℕ
+order_verdict_text None = []
+order_verdict_text (Some v) = words_text (order_words v) ++ 10 ∷ []
 
 -- a line for each verdict
 abbrev pub verdicts_text : List (List ℕ × Verdict) → List ℕ

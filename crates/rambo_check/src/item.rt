@@ -3,9 +3,9 @@ ghost use Rattle.std.specs.Prelude.{◌≡◌, false, ◌∷◌, codes, IfOk, If
 ghost use Rattle.std.specs.Option.{option_copied};
 ghost use Rattle.std.specs.Str.{bytes_eq};
 ghost use Rattle.rambo_text.specs.declared.fault.Fault.TheVariants as fault;
-ghost use Rattle.rambo_check.specs.Lines.{Item, Happened, Ordered};
+ghost use Rattle.rambo_check.specs.Lines.{Item, Happened, Ordered, OrderedAll};
 ghost use Rattle.rambo_check.specs.Items.{IsSpelling, IsPassed};
-ghost use Rattle.rambo_check.specs.Plans.{call_plan, answer_plan, collected_plan, decided_plan, refused_plan, sequence_plan, map_plan, plan, IsFaulty, IsLineFault};
+ghost use Rattle.rambo_check.specs.Plans.{call_plan, answer_plan, collected_plan, decided_plan, refused_plan, sequence_plan, order_plan, map_plan, tells_order, plan, IsFaulty, IsLineFault};
 ghost use Rattle.rambo_check.specs.Readings.{IsLineOf};
 
 use crate::kept::Kept;
@@ -15,16 +15,18 @@ use crate::operands::{
 use crate::order::Order;
 use rambo_atomic::{Answer, Event, Op};
 use rambo_names::{Bytes, read_num};
-use rambo_text::{Fault, next_word, read_hex, read_name, read_standing, three_words, two_words};
+use rambo_text::{
+    Fault, Version, next_word, read_hex, read_name, read_standing, three_words, two_words,
+};
 use std::alloc::Global;
 
-/// What is kept of a line.
+/// What is kept of a line of a text of this version.
 ///
 /// The first fault of the line: `UnknownWord`, then `WrongCount`, then `BadNumber` or `BadHex` at the first word that
 /// isn't in its form; `OutOfMemory` where there is no room for what is kept.
-pub(crate) fn read_line(alloc: Global, line: &[u8]) -> Result<Kept, Fault>
-    ensures kept { IfOk result (IsLineOf line.now) }
-    ensures fault { IfErr result (λ f. (f ≡ fault.OutOfMemory) ⊎ IsLineFault line.now f) }
+pub(crate) fn read_line(alloc: Global, version: Version, line: &[u8]) -> Result<Kept, Fault>
+    ensures kept { IfOk result (IsLineOf version line.now) }
+    ensures fault { IfErr result (λ f. (f ≡ fault.OutOfMemory) ⊎ IsLineFault version line.now f) }
 {
     let (first, more) = next_word(line);
     if first == b"call".as_slice() {
@@ -37,17 +39,31 @@ pub(crate) fn read_line(alloc: Global, line: &[u8]) -> Result<Kept, Fault>
         let (key, order) = read_sequence(alloc, more)?;
         return Ok(Kept::Ordered(key, order));
     }
-    read_passed(first, more)?;
+    if tells_order(version, first) {
+        return Ok(Kept::OrderedAll(read_order(alloc, more)?));
+    }
+    read_passed(version, first, more)?;
     Ok(Kept::Nothing)
 }
 
+// Whether a line with this first word tells an order of the calls of all keys.
+fn tells_order(version: Version, first: &[u8]) -> bool
+    ensures { result ≡ tells_order version first.now }
+{
+    match version {
+        Version::One => false,
+        Version::Two => first == b"order".as_slice(),
+    }
+}
+
 // Reads a line of which nothing is kept.
-fn read_passed(first: &[u8], more: Option<&[u8]>) -> Result<(), Fault>
+fn read_passed(version: Version, first: &[u8], more: Option<&[u8]>) -> Result<(), Fault>
     requires call { bytes_eq first.now (codes "call") ≡ false }
     requires answer { bytes_eq first.now (codes "answer") ≡ false }
     requires sequence { bytes_eq first.now (codes "sequence") ≡ false }
+    requires order { tells_order version first.now ≡ false }
     ensures spelt { OnOk result ((i : Item) × IsPassed i × IsSpelling first.now (option_copied more.entry) i) }
-    ensures fault { IfErr result (IsFaulty (λ words. plan (first.now ∷ words)) (option_copied more.entry)) }
+    ensures fault { IfErr result (IsFaulty (λ words. plan version (first.now ∷ words)) (option_copied more.entry)) }
 {
     if first == b"collected".as_slice() {
         return read_collected(more);
@@ -164,6 +180,14 @@ fn read_sequence(alloc: Global, more: Option<&[u8]>) -> Result<(Bytes, Order), F
     let key = read_hex(alloc, key)?;
     let calls = read_calls(alloc, more)?;
     Ok((key, Order { calls }))
+}
+
+fn read_order(alloc: Global, more: Option<&[u8]>) -> Result<Order, Fault>
+    ensures spelt { IfOk result (λ order. IsSpelling (codes "order") (option_copied more.entry) (OrderedAll order)) }
+    ensures fault { IfErr result (IsFaulty order_plan (option_copied more.entry)) }
+{
+    let calls = read_calls(alloc, more)?;
+    Ok(Order { calls })
 }
 
 fn read_map(more: Option<&[u8]>) -> Result<(), Fault>

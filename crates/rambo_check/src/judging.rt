@@ -11,21 +11,9 @@ use rambo_names::{Bytes, Refusal};
 
 /// Puts the verdict on each key that has a call or an order where there was none, keys in byte order.
 ///
-/// `OutOfMemory` where there is no room for them, or for what judging takes.
-pub(crate) fn judge_all(
-    evidence: &Evidence,
-    verdicts: &mut IndexMap<Bytes, Verdict>,
-) -> Result<(), Refusal>
-    requires { verdicts.old.entries ≡ [] }
-    ensures verdicts { OnOk result (AreVerdicts evidence.now verdicts.new.entries) }
-    ensures refused { IfErr result (λ r. r ≡ Refusal.OutOfMemory) }
-{
-    let checker = Checker::new(evidence.history())?;
-    judge_each(&checker, evidence, verdicts)
-}
-
-// Puts the verdict on each key that has a call or an order where there was none.
-fn judge_each(
+/// The checker is over the history that is told. `OutOfMemory` where there is no room for the verdicts, or for what judging
+/// takes.
+pub(crate) fn judge_each(
     checker: &Checker,
     evidence: &Evidence,
     verdicts: &mut IndexMap<Bytes, Verdict>,

@@ -11,6 +11,8 @@ pub(crate) enum Kept {
     Happened(Event),
     /// The calls of a key have an order.
     Ordered(Bytes, Order),
+    /// The calls of all keys have an order.
+    OrderedAll(Order),
     /// A line that is read for its form alone.
     Nothing,
 }

@@ -1,12 +1,12 @@
 //! What is true of every outcome text.
 ghost use Rattle.rambo_check.specs.Laws.{OneReading, OneEvidence, NoToldIsFaulty, OneFault};
 
-/// A text has the lines of one outcome at most.
+/// Behind its head a text has the lines of one outcome at most.
 pub fn one_reading()
     ensures { OneReading }
 {}
 
-/// A text tells one evidence at most: one history, and one order for each key.
+/// A text tells one evidence at most, in one version: one history, one order for each key, and one for all keys.
 pub fn one_evidence()
     ensures { OneEvidence }
 {}

@@ -1,7 +1,7 @@
 //! The text of verdicts.
-ghost use Rattle.std.specs.Prelude.{◌≡◌, ◌++◌, [], ◌∷◌, IfOk, IfErr, OnOk};
+ghost use Rattle.std.specs.Prelude.{◌≡◌, ◌++◌, [], ◌∷◌, Some, IfOk, IfErr, OnOk};
 ghost use Rattle.rambo_text.specs.Words.{words_text};
-ghost use Rattle.rambo_check.specs.Verdicts.{is_yes, all_yes, verdict_words, verdicts_text};
+ghost use Rattle.rambo_check.specs.Verdicts.{is_yes, all_yes, verdict_words, verdicts_text, order_verdict_text};
 
 use indexmap::IndexMap;
 use rambo_atomic::Verdict;
@@ -42,13 +42,32 @@ pub(crate) fn all_yes(verdicts: &IndexMap<Bytes, Verdict>) -> bool
     true
 }
 
-fn is_yes(verdict: Verdict) -> bool
+/// Whether a verdict is yes.
+pub(crate) fn is_yes(verdict: Verdict) -> bool
     ensures { result ≡ is_yes verdict }
 {
     match verdict {
         Verdict::Yes => true,
         Verdict::No(_) => false,
     }
+}
+
+/// Appends the line of the verdict on the order of all keys.
+///
+/// `OutOfMemory` where there is no room for it.
+pub(crate) fn write_order_verdict(verdict: Verdict, out: &mut Vec<u8>) -> Result<(), Refusal>
+    ensures ok { OnOk result (out.new.items ≡ out.old.items ++ order_verdict_text (Some verdict)) }
+    ensures refused { IfErr result (λ r. r ≡ Refusal.OutOfMemory) }
+{
+    match verdict {
+        Verdict::Yes => out.extend_from_slice(b"yes order")?,
+        Verdict::No(rule) => {
+            out.extend_from_slice(b"no order ")?;
+            write_num(rule.number(), out)?;
+        }
+    }
+    out.push(b'\n')?;
+    Ok(())
 }
 
 // Appends the line of a verdict.

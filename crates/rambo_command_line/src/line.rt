@@ -22,7 +22,7 @@ const STATUSES: &str = "Exit statuses:
   1  a stream or socket failed or memory ran out (fault read, fault write,
      fault socket, fault memory)
   2  the command line or the input is faulty
-  3  check said no of some key";
+  3  check said no of some key, or of the order of all keys";
 
 const SCRIPTS: &str =
     "A script is lines, each a step of its words with one space between. A NAME is a
@@ -46,6 +46,9 @@ for no bytes.
   collect NAME          a node begins to remove its oldest set of members
   advance-collect NAME  it goes on where its replies suffice, to the removal
   stop NAME             a node stops for good
+
+Behind a first line of its own, rambo 2, a script gives an outcome of version 2:
+its first line is rambo 2 too, and it has one order of the calls of all keys.
 
 The first faulty line is told with its number, as script fault S2 at line 3:
   S1  the first line names no founders
@@ -72,6 +75,7 @@ passed over.
   answer CALL nil
   answer CALL value VALUE
   sequence KEY CALL CALL ..
+  order CALL CALL ..
   decided NAME PLACE CONF
   decided NAME PLACE removed
   collected NAME PLACE
@@ -86,6 +90,9 @@ sequence breaks:
   4  a get does not answer the set before it, or nil where there is none
   5  a call was answered before another was made, and stands behind it
 
+Where the first line is rambo 2 an order line may stand, and the last verdict is
+yes order, or no order and the least rule that this one order of all keys breaks.
+
 The first faulty line is told with its number, as script fault S2 at line 3:
   S2  the first word of a line is none of these, or the third of a call or answer
   S3  a line has another number of words than its kind has
@@ -93,13 +100,13 @@ The first faulty line is told with its number, as script fault S2 at line 3:
   S5  a word is not the HEX that belongs there
   S7  memory ran out while the line was read
   S8  a call is made twice, an answer has no open call or is not of its kind, or
-      a key has a second sequence
+      a key has a second sequence, or all keys a second order
 
 Exit statuses:
-  0  yes of all keys
+  0  yes of all keys, and of their order
   1  a stream failed or memory ran out (fault read, fault write, fault memory)
   2  the command line or the outcome text is faulty
-  3  no of some key";
+  3  no of some key, or of the order of all keys";
 
 const COMMANDS: &str =
     "Commands are RESP2 arrays of bulk strings, as redis clients send them. Names of

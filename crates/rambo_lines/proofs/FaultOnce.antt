@@ -9,7 +9,8 @@ use Rattle.rambo_text.specs.declared.fault.Fault.{Fault}
 use Rattle.rambo_text.specs.declared.fault.ScriptFault.{ScriptFault}
 use Rattle.rambo_text.specs.Forms.{Form, Conf, IsBadWord}
 use Rattle.rambo_text.specs.Words.{IsFirstLine}
-use Rattle.rambo_text.proofs.WordSplits.{cut, no_cut, same_words}
+use Rattle.rambo_text.proofs.Heads.{same_lines}
+use Rattle.rambo_text.proofs.WordSplits.{cut, same_words}
 use Rattle.rambo_lines.specs.StepLines.{forms_of, step_line}
 use Rattle.rambo_lines.specs.Scripts.{HasLine, founders_line, steps_text}
 use Rattle.rambo_lines.specs.Faults.{AreUnfit, IsLineFault, TellNoStep, TellNoFounders, IsScriptFault, IsFirstFault, IsLaterFault}
@@ -62,25 +63,13 @@ no_founders_once words f g (inr (inr a)) (inr (inl b)) = absurd (let both = sym 
 no_founders_once words f g (inr (inr a)) (inr (inr b)) = a.1 ∙ sym b.1
 
 -- of a line
-line_once : (Tell : List (List ℕ) → Fault → Type 0) → ((words : List (List ℕ)) (f g : Fault) → Tell words f → Tell words g → f ≡ g)
+pub line_once : (Tell : List (List ℕ) → Fault → Type 0) → ((words : List (List ℕ)) (f g : Fault) → Tell words f → Tell words g → f ≡ g)
     → (line : List ℕ) (f g : Fault) → IsLineFault Tell line f → IsLineFault Tell line g → f ≡ g
 line_once Tell once line f g (inl a) (inl b) = a.1 ∙ sym b.1
 line_once Tell once line f g (inl a) (inr b) = absurd (let long = a.0 in let short = b.0 in omega arith)
 line_once Tell once line f g (inr a) (inl b) = absurd (let long = b.0 in let short = a.0 in omega arith)
 line_once Tell once line f g (inr a) (inr b) =
     once a.1.0 f g a.1.2 (subst (λ ws. Tell ws g) (same_words line b.1.0 a.1.0 b.1.1 a.1.1) b.1.2)
-
-pub same_first : (text l r m s : List ℕ) → IsFirstLine text l r → IsFirstLine text m s → l ≡ m
-same_first text l r m s a b = elim a.whole [
-  | inl feed ↦ elim b.whole [
-    | inl other ↦ (cut 10 l m r s a.no_feed b.no_feed (sym feed ∙ other)).0
-    | inr last ↦ absurd (no_cut 10 m l r b.no_feed (sym last.0 ∙ feed))
-  ]
-  | inr end ↦ elim b.whole [
-    | inl other ↦ absurd (no_cut 10 l m s a.no_feed (sym end.0 ∙ other))
-    | inr last ↦ sym end.0 ∙ last.0
-  ]
-]
 
 -- the line behind some lines that have no fault
 front_line : (y : Step Weights) (ys : List (Step Weights)) (behind text line rest : List ℕ) → HasLine y → text ≡ steps_text (y ∷ ys) ++ behind → IsFirstLine text line rest → line ≡ step_line y
@@ -89,7 +78,7 @@ front_line y ys behind text line rest has is first =
 
 same_place : (xs ys : List (Step Weights)) (b c l r m s : List ℕ) (f g : Fault) → AllByRecursion HasLine xs → AllByRecursion HasLine ys → steps_text xs ++ b ≡ steps_text ys ++ c
     → IsFirstLine b l r → IsFirstLine c m s → IsLineFault TellNoStep l f → IsLineFault TellNoStep m g → (l ≡ m) × (length xs ≡ length ys)
-same_place [] [] b c l r m s f g p q e first other a d = (same_first c l r m s (subst (λ t. IsFirstLine t l r) e first) other, refl)
+same_place [] [] b c l r m s f g p q e first other a d = ((same_lines c l r m s (subst (λ t. IsFirstLine t l r) e first) other).0, refl)
 same_place [] (y ∷ ys) b c l r m s f g p q e first other a d =
     absurd (good_step y f q.0 (subst (λ t. IsLineFault TellNoStep t f) (front_line y ys c b l r q.0 e first) a))
 same_place (x ∷ xs) [] b c l r m s f g p q e first other a d =
@@ -102,7 +91,7 @@ same_place (x ∷ xs) (y ∷ ys) b c l r m s f g p q e first other a d =
 
 both_first : (bytes : List ℕ) (f g : ScriptFault) → IsFirstFault bytes f → IsFirstFault bytes g → f ≡ g
 both_first bytes f g a b =
-    let line = same_first bytes b.line b.rest a.line a.rest b.is_first a.is_first in
+    let line = (same_lines bytes b.line b.rest a.line a.rest b.is_first a.is_first).0 in
     let fault = line_once TellNoFounders no_founders_once a.line f.fault g.fault a.fault (subst (λ l. IsLineFault TellNoFounders l g.fault) line b.fault) in
     let number = a.number ∙ sym b.number in
     (λ i. record { fault = fault i; line = number i })

@@ -1,5 +1,5 @@
 -- Words of the forms of a kind, or not
-use Rattle.std.proofs.Common.{◌≡◌, ◌≢◌, ◌⊎◌, ℕ, ◌+◌, Bool, true, false, cond, not, true≢false, eqb, List, [], ◌∷◌, length, filter, codes, Option, None, Some, inl, inr, refl, sym, ap, subst, ◌∙◌}
+use Rattle.std.proofs.Common.{◌≡◌, ◌≢◌, ◌⊎◌, ℕ, ◌+◌, Bool, true, false, cond, List, [], ◌∷◌, length, filter, codes, Option, None, Some, inl, inr, refl, sym, ap, subst, ◌∙◌}
 use Rattle.rambo_text.specs.declared.fault.Fault.{Fault}
 use Rattle.rambo_text.specs.declared.fault.Fault.TheVariants.{NoFounders, UnknownWord, WrongCount, BadHex, OutOfMemory}
 use Rattle.rambo_text.specs.Forms.{Conf, Hex, IsSpelt, IsBadWord}
@@ -10,38 +10,17 @@ use Rattle.rambo_lines.specs.StepLines.{word_of, forms_of}
 use Rattle.rambo_lines.specs.Scripts.{IsShort}
 use Rattle.rambo_lines.specs.Faults.{IsLineFault, TellNoStep, TellNoFounders, TellsBytes, AreUnfit}
 use Rattle.std.specs.FinSet.{contains}
-use Rattle.std.specs.Str.{bytes_eq}
-use Rattle.std.proofs.lemmas.Slice.Eq.{bytes_eq-Decides}
 use Rattle.rambo_names.specs.Names.{count_of}
 use Rattle.rambo_names.specs.Signs.{conf_text}
 use Rattle.rambo_names.specs.Weights.{Weights, members_of}
 use Rattle.rambo_names.proofs.ConfTexts.{none_text}
 use Rattle.rambo_text.proofs.WordSplits.{words_joined}
+use Rattle.rambo_text.proofs.WordsThere.{more_has_words}
 use Rattle.rambo_lines.specs.Parts.{TellUnfit, TellFault, NeedRoom}
-use Rattle.std.proofs.lemmas.Bool.Decides.{nat_tests}
-use Rattle.std.proofs.Common.{arith}
-
--- one byte more in front of the words of a line
-in_front : (b : ℕ) (line : List ℕ) → (words : List (List ℕ)) × AreWords line words → (words : List (List ℕ)) × AreWords (b ∷ line) words
-in_front b line ([], are) = absurd (are.some refl)
-in_front b line (w ∷ ws, are) =
-    elim (eqb b 32) as (λ t. eqb b 32 ≡ t → (words : List (List ℕ)) × AreWords (b ∷ line) words) [
-      | true ↦ λ is. ([] ∷ w ∷ ws, record { some = λ e. cc; no_space = (tt, are.no_space); whole = (λ i. (let e : b ≡ 32 = grind (arith, nat_tests) in e) i ∷ are.whole i) })
-      | false ↦ λ is. ((b ∷ w) ∷ ws, record { some = λ e. cc; no_space = ((grind (arith, nat_tests), are.no_space.0), are.no_space.1); whole = ap (λ l. b ∷ l) are.whole })
-    ] refl
-
--- each line is some words
-pub words_there : (line : List ℕ) → (words : List (List ℕ)) × AreWords line words
-words_there [] = ([] ∷ [], record { some = λ e. cc; no_space = (tt, tt); whole = refl })
-words_there (b ∷ line) = in_front b line (words_there line)
-
-pub more_there : (more : Option (List ℕ)) → (words : List (List ℕ)) × AreMore more words
-more_there None = ([], refl)
-more_there (Some rest) = words_there rest
 
 -- another number of words
 pub count_fault : (kind : StepKind) (more : Option (List ℕ)) (f : Fault) → f ≡ WrongCount → ((words : List (List ℕ)) → AreMore more words → length words ≢ length (forms_of kind)) → TellUnfit kind more f
-count_fault kind more f is none = let there = more_there more in (there.0, there.1, inl (none there.0 there.1, is))
+count_fault kind more f is none = let there = more_has_words more in (there.0, there.1, inl (none there.0 there.1, is))
 
 -- the words of a step of a kind that are unfit
 pub step_fault : (line word : List ℕ) (more : Option (List ℕ)) (kind : StepKind) (f : Fault) → IsShort line → IsFirstWord line word more → word ≡ word_of kind → TellFault kind more f
@@ -64,7 +43,7 @@ line_needs line word more kind short first is room = record {
 pub unknown_fault : (line word : List ℕ) (more : Option (List ℕ)) → IsShort line → IsFirstWord line word more → ((kind : StepKind) → word ≢ word_of kind)
     → IsLineFault TellNoStep line UnknownWord
 unknown_fault line word more short first none =
-    let there = more_there more in
+    let there = more_has_words more in
     inr (short, (word ∷ there.0, words_joined line word more there.0 first there.1, inl ((λ kind others e. none kind cc), refl)))
 
 -- a word that spells no bytes, or for whose bytes there is no room
@@ -82,7 +61,7 @@ NoFounding = IsLineFault TellNoFounders
 -- the first word is another one
 pub other_word : (line word : List ℕ) (more : Option (List ℕ)) → IsShort line → IsFirstWord line word more → word ≢ codes "founders" → NoFounding line NoFounders
 other_word line word more short first other =
-    let there = more_there more in
+    let there = more_has_words more in
     inr (short, (word ∷ there.0, words_joined line word more there.0 first there.1, inl ((λ others e. other cc), refl)))
 
 -- the words behind it are unfit
@@ -95,7 +74,7 @@ unfit_founders line word more others f short first is are unfit =
 pub founders_count : (line word : List ℕ) (more : Option (List ℕ)) (f : Fault) → IsShort line → IsFirstWord line word more → word ≡ codes "founders"
     → f ≡ WrongCount → ((words : List (List ℕ)) → AreMore more words → length words ≢ 1) → NoFounding line f
 founders_count line word more f short first is fault none =
-    let there = more_there more in
+    let there = more_has_words more in
     unfit_founders line word more there.0 f short first is there.1 (inl (none there.0 there.1, fault))
 
 -- there is no founder
@@ -103,14 +82,3 @@ pub no_founder : (line word set : List ℕ) (more : Option (List ℕ)) (c : Weig
     → AreMore more (set ∷ []) → set ≡ conf_text c → count_of (members_of c) ≡ 0 → NoFounding line NoFounders
 no_founder line word set more c short first is are spelt none =
     inr (short, (word ∷ set ∷ [], words_joined line word more (set ∷ []) first are, inr (inr ((λ i. is i ∷ (spelt ∙ none_text c none) i ∷ []), refl))))
-
-from_not : (t : Bool) → false ≡ not t → t ≡ true
-from_not true e = refl
-from_not false e = cc
-
--- what `!=` tells of a word and one that is known
-pub different : (word other known : List ℕ) → other ≡ known → true ≡ not (bytes_eq word other) → word ≢ known
-different word other known is ne same = true≢false (ne ∙ ap not ((bytes_eq-Decides word other).1 (same ∙ sym is)))
-
-pub alike : (word other known : List ℕ) → other ≡ known → false ≡ not (bytes_eq word other) → word ≡ known
-alike word other known is eq = (bytes_eq-Decides word other).0 (from_not (bytes_eq word other) eq) ∙ is

@@ -4,3 +4,5 @@ pub mod StepShapes
 pub mod Texts
 pub mod FaultOnce
 pub mod Fronts
+pub mod BothVersions
+pub mod Placing

@@ -4,6 +4,11 @@ use Rattle.std.specs.List.{AllByRecursion}
 use Rattle.rambo_names.specs.Weights.{Weights}
 use Rattle.rambo_run.specs.declared.step.Step.{Step}
 use Rattle.rambo_text.specs.Words.{IsFirstLine}
+use Rattle.rambo_text.specs.declared.version.Version.{Version}
+use Rattle.rambo_text.specs.Versions.{in_whole}
+use Rattle.rambo_lines.specs.declared.place.Place.{Place}
+use Rattle.rambo_lines.specs.Places.{place_of}
+use Rattle.rambo_lines.proofs.Placing.{fault_there}
 use Rattle.rambo_lines.specs.StepLines.{step_line}
 use Rattle.rambo_lines.specs.Scripts.{ScriptState, HasLine, HasLines, AreFounders, IsScript, founders_line, steps_text, script_text}
 use Rattle.rambo_lines.specs.Faults.{IsNextLine, IsLineFault, TellNoFounders, TellNoStep, IsScriptFault, RanOut}
@@ -68,6 +73,10 @@ reads-next bytes rest line more founders steps others now some first push =
       ];
     }
 
+pub nothing : (xs : List ℕ) → length xs ≡ 0 → xs ≡ []
+nothing [] none = refl
+nothing (x ∷ xs) none = absurd (omega arith)
+
 -- all was read
 pub reads-all : (bytes rest : List ℕ) (founders : Weights) (steps : List (Step Weights)) → Reads bytes founders steps rest → rest ≡ [] → IsScript bytes (script founders steps)
 reads-all bytes rest founders steps now none =
@@ -109,6 +118,20 @@ reads-fault NeedsRoom bytes rest line more founders steps f now some first is (i
     inr (record { line = line; is_next = reads-line bytes rest line more founders steps f.line now some first is; needs = spent.1; fault = spent.0 })
 reads-fault NeedsRoom bytes rest line more founders steps f now some first is (inr fault) =
     inl (inr (record { line = line; is_next = reads-line bytes rest line more founders steps f.line now some first is; fault = fault }))
+
+-- the same of the whole text, by its lines there
+pub first_in_whole : (NeedsRoom : List ℕ → Type 0) (version : Version) (bytes line rest : List ℕ) (place : Place) (f : ScriptFault) → IsFirstLine bytes line rest → place ≡ place_of version 0
+    → f.line ≡ place.line → IsLineFault TellNoFounders line f.fault → (g : ScriptFault) × (IsScriptFault bytes g ⊎ RanOut NeedsRoom bytes g) × (f ≡ in_whole version g)
+first_in_whole NeedsRoom version bytes line rest place f first at is fault =
+    let there : ScriptFault = record { fault = f.fault; line = 1 } in
+    (there, first-fault NeedsRoom bytes line rest there first refl fault, fault_there version 0 place f at is)
+
+pub later_in_whole : (NeedsRoom : List ℕ → Type 0) (version : Version) (bytes rest line more : List ℕ) (founders : Weights) (steps : List (Step Weights)) (place : Place) (f : ScriptFault) → Reads bytes founders steps rest → rest ≢ []
+    → IsFirstLine rest line more → place ≡ place_of version (length steps + 1) → f.line ≡ place.line → ((f.fault ≡ OutOfMemory) × NeedsRoom line) ⊎ IsLineFault TellNoStep line f.fault
+    → (g : ScriptFault) × (IsScriptFault bytes g ⊎ RanOut NeedsRoom bytes g) × (f ≡ in_whole version g)
+later_in_whole NeedsRoom version bytes rest line more founders steps place f now some first at is fault =
+    let there : ScriptFault = record { fault = f.fault; line = length steps + 1 + 1 } in
+    (there, reads-fault NeedsRoom bytes rest line more founders steps there now some first (omega arith) fault, fault_there version (length steps + 1) place f at is)
 
 -- the line has a fault, or no room where it needs some
 pub told_needs : (NeedsRoom : List ℕ → Type 0) (line : List ℕ) (f : Fault) → (f ≡ OutOfMemory) ⊎ IsLineFault TellNoStep line f → (f ≡ OutOfMemory → NeedsRoom line)

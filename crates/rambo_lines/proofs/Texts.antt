@@ -20,7 +20,7 @@ use Rattle.rambo_lines.specs.Faults.{IsLineFault, TellNoStep, TellNoFounders, Ar
 use Rattle.rambo_text.proofs.Plain.{lacks-conf, lacks-tested, lacks-words}
 use Rattle.rambo_lines.proofs.StepShapes.{kind_of, parts_of, words_are, spelt, not_bad, as_many, same_kind, step_are_words, step_lacks, same_step}
 
-founders_are_words : (s : Weights) → AreWords (founders_line s) (founders_words s)
+pub founders_are_words : (s : Weights) → AreWords (founders_line s) (founders_words s)
 founders_are_words s = record { some = λ e. cc; no_space = (lacks-tested 32 (codes "founders") (lit< tt) refl, (lacks-conf 32 s (lit< tt), tt)); whole = refl }
 
 pub founders_lack : (s : Weights) → Lacks 10 (founders_line s)

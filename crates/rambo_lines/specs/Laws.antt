@@ -1,21 +1,24 @@
 -- What is true of every text
 use Rattle.std.specs.Prelude.{◌≡◌, ℕ, List}
 use Rattle.rambo_text.specs.declared.fault.ScriptFault.{ScriptFault}
-use Rattle.rambo_lines.specs.Scripts.{ScriptState, HasLines, IsScript, script_text}
-use Rattle.rambo_lines.specs.Faults.{IsScriptFault}
+use Rattle.rambo_text.specs.declared.version.Version.{Version}
+use Rattle.rambo_lines.specs.Scripts.{ScriptState, HasLines}
+use Rattle.rambo_lines.specs.Versions.{IsScriptIn, IsFaultIn, text_in}
 
--- bytes are the text of one script at most
+-- bytes are the text of one script at most, in one version
 abbrev pub OneReading : Type 0
-OneReading = (bytes : List ℕ) (s t : ScriptState) → IsScript bytes s → IsScript bytes t → s ≡ t
+OneReading = (bytes : List ℕ) (version other : Version) (s t : ScriptState) → IsScriptIn version bytes s → IsScriptIn other bytes t → (version ≡ other) × (s ≡ t)
 
--- what is written of a script is read as that script, and as no other
+-- what is written of a script in a version is read as that script in that version, and as no other
 abbrev pub WrittenReadsBack : Type 0
-WrittenReadsBack = (s : ScriptState) → HasLines s → IsScript (script_text s) s × ((t : ScriptState) → IsScript (script_text s) t → t ≡ s)
+WrittenReadsBack =
+    (version : Version) (s : ScriptState) → HasLines s
+    → IsScriptIn version (text_in version s) s × ((other : Version) (t : ScriptState) → IsScriptIn other (text_in version s) t → (other ≡ version) × (t ≡ s))
 
 -- what is a script has no fault
 abbrev pub NoScriptIsFaulty : Type 0
-NoScriptIsFaulty = (bytes : List ℕ) (s : ScriptState) (f : ScriptFault) → IsScript bytes s → ¬ (IsScriptFault bytes f)
+NoScriptIsFaulty = (bytes : List ℕ) (version : Version) (s : ScriptState) (f : ScriptFault) → IsScriptIn version bytes s → ¬ (IsFaultIn bytes f)
 
 -- bytes have one fault at most
 abbrev pub OneFault : Type 0
-OneFault = (bytes : List ℕ) (f g : ScriptFault) → IsScriptFault bytes f → IsScriptFault bytes g → f ≡ g
+OneFault = (bytes : List ℕ) (f g : ScriptFault) → IsFaultIn bytes f → IsFaultIn bytes g → f ≡ g

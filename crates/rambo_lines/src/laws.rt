@@ -1,12 +1,12 @@
 //! What is true of every text.
 ghost use Rattle.rambo_lines.specs.Laws.{OneReading, WrittenReadsBack, NoScriptIsFaulty, OneFault};
 
-/// Bytes are the text of one script at most.
+/// Bytes are the text of one script at most, in one version.
 pub fn one_reading()
     ensures { OneReading }
 {}
 
-/// What is written of a script, line by line, is read as that script.
+/// What is written of a script in a version is read as that script in that version, and as no other.
 pub fn written_reads_back()
     ensures { WrittenReadsBack }
 {}

@@ -1,14 +1,20 @@
 //! Whole scripts.
 ghost use Rattle.std.specs.Prelude.{◌≡◌, ◌⊎◌, Ok, Err, IfOk, IfErr, OnOk, OnErr, ◌++◌, [], ◌∷◌};
-ghost use Rattle.rambo_lines.specs.Faults.{IsLineFault, TellNoStep, TellNoFounders, TellsBytesOrStep, IsScriptFault, RanOut};
+ghost use Rattle.rambo_text.specs.declared.fault.ScriptFault.{ScriptFault};
+ghost use Rattle.rambo_text.specs.declared.version.Version.{Version};
+ghost use Rattle.rambo_text.specs.Versions.{BehindHead, in_whole};
+ghost use Rattle.rambo_lines.specs.Faults.{IsLineFault, TellNoStep, TellNoFounders, TellsBytesOrStep};
 ghost use Rattle.rambo_lines.specs.Scripts.{AreFounders, founders_line, IsScript};
-ghost use Rattle.rambo_lines.specs.Pushes.{PushesStep};
+ghost use Rattle.rambo_lines.specs.Versions.{IsScriptIn, IsHeadFault};
+ghost use Rattle.rambo_lines.specs.Pushes.{PushesStep, IsNoScript};
 
+use crate::head::read_head;
 use crate::parts::{conf_of, one};
+use crate::place::Place;
 use crate::reading::read_step;
 use rambo_names::{Quorums, Weighted};
 use rambo_run::Step;
-use rambo_text::{Fault, ScriptFault, next_line, next_word};
+use rambo_text::{Fault, ScriptFault, Version, next_line, next_word};
 use std::alloc::Global;
 use std::marker::Model;
 
@@ -34,21 +40,31 @@ impl Model for Script {
     ghost view = { λ s. record { founders = s.founders; steps = s.steps.items } };
 }
 
-/// The script that a text tells.
+/// The script that a text of either version tells.
 ///
 /// Else the first faulty line with its first fault; `OutOfMemory` where there is no room for a step or for its bytes,
 /// with the line that was read then, which has no fault before its bytes.
 pub fn read_script(alloc: Global, text: &[u8]) -> Result<Script, ScriptFault>
+    ensures script { IfOk result (λ s. (version : Version) × IsScriptIn version text.now s) }
+    ensures fault { IfErr result (λ f. IsHeadFault text.now f ⊎ BehindHead (λ version. IsNoScript) text.now f) }
+{
+    let (version, behind) = read_head(text)?;
+    read_behind(alloc, version, behind)
+}
+
+// The script that the text behind a head tells.
+fn read_behind(alloc: Global, version: Version, text: &[u8]) -> Result<Script, ScriptFault>
     ensures script { IfOk result (λ s. IsScript text.now s) }
-    ensures fault { IfErr result (λ f. IsScriptFault text.now f ⊎ RanOut TellsBytesOrStep text.now f) }
+    ensures fault { IfErr result (λ f. (g : ScriptFault) × IsNoScript text.now g × (f ≡ in_whole version g)) }
 {
     let (first, mut rest) = next_line(text);
-    let founders = at_line(1, read_founders(first))?;
+    let mut place = Place::first(version);
+    let founders = at_line(place.line, read_founders(first))?;
     let mut steps = Vec::new(alloc);
     while !rest.is_empty() {
         let (line, behind) = next_line(rest);
-        let number = steps.len() as u64 + 2;
-        at_line(number, push_step(alloc, line, &mut steps))?;
+        place = place.next();
+        at_line(place.line, push_step(alloc, line, &mut steps))?;
         rest = behind;
     }
     Ok(Script { founders, steps })

@@ -8,7 +8,7 @@ use Rattle.rambo_text.specs.declared.fault.ScriptFault.{ScriptFault}
 use Rattle.rambo_text.specs.declared.fault.ReplayFault.{ReplayFault}
 use Rattle.rambo_text.specs.declared.fault.ReplayFault.TheVariants.{Script, Read, Write, Memory}
 use Rattle.rambo_check.specs.Checks.{IsLeft, IsChecked}
-use Rattle.rambo_check.specs.Texts.{IsTextFault}
+use Rattle.rambo_check.specs.Texts.{IsFaultIn}
 use Rattle.rambo_steps.specs.Replays.{Replays, Leaves, reads_failed, writes_failed}
 use Rattle.rambo_names.specs.Weights.{Weights}
 use Rattle.rambo_client.specs.declared.fault.LocalFault.{LocalFault}
@@ -71,7 +71,7 @@ pub record StopsCheck (input old new : Option (List ℕ)) : Type 0 where
 
 -- the text that was read has this fault
 abbrev pub HasTextFault : Option (List ℕ) → ScriptFault → Type 0
-HasTextFault input f = (text : List ℕ) × IsLeft input text × IsTextFault text f
+HasTextFault input f = (text : List ℕ) × IsLeft input text × IsFaultIn text f
 
 -- what was written by a check that met a fault
 abbrev pub LeavesCheck : ReplayFault → Option (List ℕ) → Option (List ℕ) → Option (List ℕ) → Type 0

@@ -1,15 +1,18 @@
 -- Texts that a loop writes, item by item
-use Rattle.std.proofs.Common.{◌≡◌, ℕ, ◌+◌, ◌<◌, List, [], ◌∷◌, ◌++◌, length, get_or, drop, sym, ap, ◌∙◌, append_assoc, Result, map}
+use Rattle.std.proofs.Common.{◌≡◌, ℕ, ◌+◌, ◌<◌, List, [], ◌∷◌, ◌++◌, length, get_or, drop, refl, sym, ap, ◌∙◌, append_assoc, append-nil, arith, Result, map}
 use Rattle.std.proofs.lemmas.List.{drop_more}
 use Rattle.rambo_names.specs.declared.refusal.Refusal.{Refusal}
 use Rattle.rambo_names.specs.Weights.{Weights}
+use Rattle.rambo_atomic.specs.declared.event.CallId.{CallId}
 use Rattle.rambo_atomic.specs.declared.event.Event.{Event}
 use Rattle.rambo_node.specs.declared.effect.Effect.{Effect}
 use Rattle.rambo_run.specs.Runs.{OutcomeState}
+use Rattle.rambo_text.specs.declared.version.Version.{Version}
+use Rattle.rambo_text.specs.Versions.{head_text}
 use Rattle.rambo_text.specs.Signs.{Grows}
-use Rattle.rambo_check.specs.Lines.{Ordered, items_text}
+use Rattle.rambo_check.specs.Lines.{Item, Ordered, OrderedAll, item_line, items_text}
 use Rattle.rambo_check.proofs.ItemTexts.{items-append}
-use Rattle.rambo_outcome.specs.Outcomes.{step_items, steps_items, map_item, outcome_lines}
+use Rattle.rambo_outcome.specs.Outcomes.{step_items, steps_items, order_items, order_items_in, map_item, outcome_lines}
 
 -- what is still to be written after one item more
 pub one_on : {X : Type 0} (F : List X → List ℕ) (G : X → List ℕ) → ((x : X) (xs : List X) → F (x ∷ xs) ≡ G x ++ F xs)
@@ -35,12 +38,26 @@ step_on h rs i r out new whole lt item now before =
     ∙ ap (λ t. out ++ t) (sym (items-append (step_items h (i + 1) r) left))
     ∙ ap (λ t. out ++ items_text (steps_items h (i + 1) t)) (sym split) ∙ before
 
--- the steps, then the sequences, then the maps
-pub whole_text : (o : OutcomeState Weights) (start a b c : List ℕ) → start ≡ [] → a ≡ start ++ items_text (steps_items o.history 1 o.effects)
-    → b ≡ a ++ items_text (map Ordered o.sequences) → c ≡ b ++ items_text (map map_item o.maps) → c ≡ outcome_lines o
-whole_text o start a b c none steps sequences maps =
-    let first : a ≡ items_text (steps_items o.history 1 o.effects) = steps ∙ ap (λ t. t ++ items_text (steps_items o.history 1 o.effects)) none in
-    maps
-    ∙ ap (λ t. t ++ items_text (map map_item o.maps))
-    (sequences ∙ ap (λ t. t ++ items_text (map Ordered o.sequences)) first ∙ sym (items-append (steps_items o.history 1 o.effects) (map Ordered o.sequences)))
-    ∙ sym (items-append (steps_items o.history 1 o.effects ++ map Ordered o.sequences) (map map_item o.maps))
+-- items behind a front, and more behind these
+pub items_on : (front text longer : List ℕ) (is js : List Item) → text ≡ front ++ items_text is → longer ≡ text ++ items_text js → longer ≡ front ++ items_text (is ++ js)
+items_on front text longer is js now more =
+    more ∙ ap (λ t. t ++ items_text js) now ∙ append_assoc front (items_text is) (items_text js) ∙ ap (λ t. front ++ t) (sym (items-append is js))
+
+-- the head, then the steps, then the sequences, then the order of all keys, then the maps
+pub whole_text : (version : Version) (o : OutcomeState Weights) (head a b c d : List ℕ) → head ≡ head_text version → a ≡ head ++ items_text (steps_items o.history 1 o.effects)
+    → b ≡ a ++ items_text (map Ordered o.sequences) → c ≡ b ++ items_text (order_items_in version o.order) → d ≡ c ++ items_text (map map_item o.maps) → d ≡ outcome_lines version o
+whole_text version o head a b c d first steps sequences order maps =
+    let told = steps_items o.history 1 o.effects in
+    let front : a ≡ head_text version ++ items_text told = steps ∙ ap (λ t. t ++ items_text told) first in
+    items_on (head_text version) c d (told ++ map Ordered o.sequences ++ order_items_in version o.order) (map map_item o.maps)
+    (items_on (head_text version) b c (told ++ map Ordered o.sequences) (order_items_in version o.order)
+    (items_on (head_text version) a b told (map Ordered o.sequences) front sequences) order) maps
+
+-- an order with no call has no line, and another has its own
+pub order_none : (calls : List CallId) (out : List ℕ) → length calls ≡ 0 → out ≡ out ++ items_text (order_items calls)
+order_none [] out none = sym (append-nil out)
+order_none (c ∷ cs) out none = absurd (omega (arith, none))
+
+pub order_some : (calls : List CallId) (out new : List ℕ) → (length calls ≡ 0 → ⊥) → new ≡ out ++ item_line (OrderedAll calls) → new ≡ out ++ items_text (order_items calls)
+order_some [] out new some is = absurd (some refl)
+order_some (c ∷ cs) out new some is = is ∙ ap (λ t. out ++ t) (sym (append-nil (item_line (OrderedAll (c ∷ cs)))))

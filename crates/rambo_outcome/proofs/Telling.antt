@@ -28,13 +28,14 @@ use Rattle.rambo_node.specs.Reconfigurations.{attempt_ended, collection_move}
 use Rattle.rambo_run.specs.declared.step.Step.{Step}
 use Rattle.rambo_run.specs.Worlds.{WorldState, first_world, node_at}
 use Rattle.rambo_run.specs.Steps.{Meant, Turn, meant, with_event, refusal, turn_by, turn_at, turn_of, turn}
-use Rattle.rambo_run.specs.Runs.{MapOf, after, unless_refused, run_from, run, result_of, results_from, maps_of, outcome_at, outcome_of}
+use Rattle.rambo_run.specs.Runs.{after, unless_refused, run_from, run, result_of, results_from, maps_of, given_sequences, given_order, outcome_at, outcome_of}
 use Rattle.rambo_run.proofs.Events.{none_or_some, call_kept, call_last}
-use Rattle.rambo_sequence.specs.Sequences.{SequenceOf, sequences_of}
+use Rattle.rambo_text.specs.declared.version.Version.{Version}
+use Rattle.rambo_text.specs.Versions.{head_text}
 use Rattle.rambo_check.specs.Lines.{Item, Ordered, items_text}
-use Rattle.rambo_outcome.specs.Outcomes.{call_items, step_items, steps_items, map_item, outcome_lines}
+use Rattle.rambo_outcome.specs.Outcomes.{call_items, step_items, steps_items, order_items_in, map_item, outcome_lines}
 use Rattle.rambo_check.proofs.ItemTexts.{items-append}
-use Rattle.rambo_outcome.proofs.Loops.{whole_text}
+use Rattle.rambo_outcome.proofs.Loops.{items_on, whole_text}
 
 -- a history, and a longer one that begins with it
 abbrev Grows : List Event → List Event → Type 0
@@ -204,26 +205,26 @@ module _ (s : QuorumSystem Weights) where
       ∙ sym (append_assoc first (told_along next (n + 1) sts) (step_items (after s (run_from s next sts) st).history m (result (run_from s next sts) st)))
 
   -- the text after one step more
-  pub text_more : (first : WorldState Weights) (sts : List (Step Weights)) (st : Step Weights) (w next : WorldState Weights) (r : Result (Effect Weights) Refusal) (number : ℕ) (out new : List ℕ)
+  pub text_more : (front : List ℕ) (first : WorldState Weights) (sts : List (Step Weights)) (st : Step Weights) (w next : WorldState Weights) (r : Result (Effect Weights) Refusal) (number : ℕ) (out new : List ℕ)
       → w ≡ run_from s first sts → next ≡ after s w st → r ≡ result w st → number ≡ length sts + 1
-      → out ≡ items_text (told_along first 1 sts) → new ≡ out ++ items_text (step_items next.history number r) → new ≡ items_text (told_along first 1 (sts ++ st ∷ []))
-  text_more first sts st w next r number out new is goes told counted before more =
+      → out ≡ front ++ items_text (told_along first 1 sts) → new ≡ out ++ items_text (step_items next.history number r) → new ≡ front ++ items_text (told_along first 1 (sts ++ st ∷ []))
+  text_more front first sts st w next r number out new is goes told counted before more =
       let here : step_items next.history number r ≡ step_items (after s (run_from s first sts) st).history number (result (run_from s first sts) st) =
       (λ i. step_items (goes i).history number (told i)) ∙ ap (λ w. step_items (after s w st).history number (result w st)) is in
-      more ∙ (λ i. before i ++ items_text (here i))
-      ∙ sym (items-append (told_along first 1 sts) (step_items (after s (run_from s first sts) st).history number (result (run_from s first sts) st)))
-      ∙ ap items_text (sym (told_more first 1 number sts st (omega (arith, counted))))
+      items_on front out new (told_along first 1 sts) (step_items (after s (run_from s first sts) st).history number (result (run_from s first sts) st)) before (more ∙ ap (λ js. out ++ items_text js) here)
+      ∙ ap (λ is. front ++ items_text is) (sym (told_more first 1 number sts st (omega (arith, counted))))
 
-  -- behind the steps the sequences and the maps
-  pub text_whole : (founders : Weights) (sts : List (Step Weights)) (w : WorldState Weights) (sequences : List SequenceOf) (maps : List (MapOf Weights)) (a b c : List ℕ)
-      → w ≡ run_from s (first_world s founders) sts → sequences ≡ sequences_of w.history w.marks → maps ≡ maps_of w.nodes
-      → a ≡ items_text (told_along (first_world s founders) 1 sts) → b ≡ a ++ items_text (map Ordered sequences) → c ≡ b ++ items_text (map map_item maps)
-      → c ≡ outcome_lines (outcome_of s founders sts)
+  -- behind the steps the sequences, the order of all keys and the maps
+  pub text_whole : (version : Version) (founders : Weights) (sts : List (Step Weights)) (w : WorldState Weights) (a b c d : List ℕ)
+      → w ≡ run_from s (first_world s founders) sts → a ≡ head_text version ++ items_text (told_along (first_world s founders) 1 sts)
+      → b ≡ a ++ items_text (map Ordered (given_sequences w)) → c ≡ b ++ items_text (order_items_in version (given_order w)) → d ≡ c ++ items_text (map map_item (maps_of w.nodes))
+      → d ≡ outcome_lines version (outcome_of s founders sts)
   unfolding outcome_of run
-  text_whole founders sts w sequences maps a b c is given told steps first second =
+  text_whole version founders sts w a b c d is steps first second third =
       let first_w = first_world s founders in
       let o = outcome_at (results_from s first_w sts) (run_from s first_w sts) in
-      whole_text o [] a b c refl
-      (steps ∙ ap items_text (told_at_end first_w 1 sts))
-      (first ∙ ap (λ ss. a ++ items_text (map Ordered ss)) (given ∙ ap (λ (w : WorldState Weights). sequences_of w.history w.marks) is))
-      (second ∙ ap (λ ms. b ++ items_text (map map_item ms)) (told ∙ ap (λ (w : WorldState Weights). maps_of w.nodes) is))
+      whole_text version o (head_text version) a b c d refl
+      (steps ∙ ap (λ is. head_text version ++ items_text is) (told_at_end first_w 1 sts))
+      (first ∙ ap (λ (w : WorldState Weights). a ++ items_text (map Ordered (given_sequences w))) is)
+      (second ∙ ap (λ (w : WorldState Weights). b ++ items_text (order_items_in version (given_order w))) is)
+      (third ∙ ap (λ (w : WorldState Weights). c ++ items_text (map map_item (maps_of w.nodes))) is)

@@ -11,7 +11,10 @@ use Rattle.rambo_atomic.specs.Histories.{call_in}
 use Rattle.rambo_node.specs.declared.effect.Effect.{Effect}
 use Rattle.rambo_node.specs.declared.effect.Effect.TheVariants as effect
 use Rattle.rambo_run.specs.Runs.{MapOf, OutcomeState}
-use Rattle.rambo_check.specs.Lines.{Item, Happened, Collected, Settled, Refused, Ordered, Mapped, items_text}
+use Rattle.rambo_text.specs.declared.version.Version.{Version}
+use Rattle.rambo_text.specs.declared.version.Version.TheVariants.{One, Two}
+use Rattle.rambo_text.specs.Versions.{head_text}
+use Rattle.rambo_check.specs.Lines.{Item, Happened, Collected, Settled, Refused, Ordered, OrderedAll, Mapped, items_text}
 
 -- a call that was made, with what the history says that it asked
 abbrev pub call_items : CallId → Option Op → List Item
@@ -38,10 +41,20 @@ steps_items h n (r ∷ rs) = step_items h n r ++ steps_items h (n + 1) rs
 abbrev pub map_item : MapOf Weights → Item
 map_item m = Mapped m.name m.floor m.active
 
--- the steps, then the sequences, then the maps
-abbrev pub outcome_items : OutcomeState Weights → List Item
-outcome_items o = steps_items o.history 1 o.effects ++ map Ordered o.sequences ++ map map_item o.maps
+-- the order of the calls of all keys, where it has a call
+abbrev pub order_items : List CallId → List Item
+order_items [] = []
+order_items (c ∷ cs) = OrderedAll (c ∷ cs) ∷ []
 
--- the text of an outcome
-abbrev pub outcome_lines : OutcomeState Weights → List ℕ
-outcome_lines o = items_text (outcome_items o)
+-- it is told in version 2 alone
+abbrev pub order_items_in : Version → List CallId → List Item
+order_items_in One calls = []
+order_items_in Two calls = order_items calls
+
+-- the steps, then the sequences, then the order of all keys, then the maps
+abbrev pub outcome_items : Version → OutcomeState Weights → List Item
+outcome_items version o = steps_items o.history 1 o.effects ++ map Ordered o.sequences ++ order_items_in version o.order ++ map map_item o.maps
+
+-- the text of an outcome in a version
+abbrev pub outcome_lines : Version → OutcomeState Weights → List ℕ
+outcome_lines version o = head_text version ++ items_text (outcome_items version o)

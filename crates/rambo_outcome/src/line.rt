@@ -7,7 +7,7 @@ ghost use Rattle.rambo_text.specs.Words.{more_words};
 ghost use Rattle.rambo_text.specs.Signs.{call_text, Grows};
 ghost use Rattle.rambo_names.specs.Signs.{conf_text};
 ghost use Rattle.rambo_names.specs.Refusals.{number_of};
-ghost use Rattle.rambo_check.specs.Lines.{Happened, Collected, Settled, Refused, Ordered, op_words, answer_words, item_line};
+ghost use Rattle.rambo_check.specs.Lines.{Happened, Collected, Settled, Refused, Ordered, OrderedAll, op_words, answer_words, item_line};
 ghost use Rattle.rambo_outcome.specs.Outcomes.{map_item};
 
 use rambo_atomic::{Answer, CallId, Op};
@@ -147,6 +147,18 @@ pub(crate) fn append_sequence(sequence: &KeySequence, out: &mut Vec<u8>) -> Resu
     out.extend_from_slice(b"sequence ")?;
     write_hex(sequence.key.as_slice(), out)?;
     append_calls(sequence.calls.as_slice(), out)?;
+    out.push(b'\n')?;
+    Ok(())
+}
+
+/// Appends the line of the order of all keys' calls.
+pub(crate) fn append_order(calls: &[CallId], out: &mut Vec<u8>) -> Result<(), Refusal>
+    ensures ok { OnOk result (out.new.items ≡ out.old.items ++ item_line (OrderedAll calls.now)) }
+    ensures err { OnErr result (Grows out.old.items out.new.items) }
+    ensures refused { IfErr result (λ r. r ≡ Refusal.OutOfMemory) }
+{
+    out.extend_from_slice(b"order")?;
+    append_calls(calls, out)?;
     out.push(b'\n')?;
     Ok(())
 }

@@ -1,33 +1,89 @@
 //! The text of an outcome.
 ghost use Rattle.std.specs.Prelude.{◌≡◌, ◌++◌, ℕ, OnOk, OnErr, IfOk, IfErr, map};
 ghost use Rattle.rambo_text.specs.Signs.{Grows};
+ghost use Rattle.rambo_text.specs.Versions.{head_text};
 ghost use Rattle.rambo_check.specs.Lines.{Ordered, items_text};
-ghost use Rattle.rambo_outcome.specs.Outcomes.{step_items, steps_items, map_item, outcome_lines};
+ghost use Rattle.rambo_outcome.specs.Outcomes.{step_items, steps_items, order_items, order_items_in, map_item, outcome_lines};
 
 use crate::line::{
-    append_answered, append_called, append_collected, append_decided, append_map, append_refused,
-    append_sequence,
+    append_answered, append_called, append_collected, append_decided, append_map, append_order,
+    append_refused, append_sequence,
 };
-use rambo_atomic::History;
+use rambo_atomic::{CallId, History};
 use rambo_names::{Refusal, Weighted};
 use rambo_node::Effect;
 use rambo_run::{NodeMap, Outcome};
 use rambo_sequence::KeySequence;
+use rambo_text::Version;
 use std::alloc::Global;
 
 /// The text of an outcome: a line for each call, answer, ended collection, ended attempt and refusal in the order of the
-/// steps, then one for each sequence, then one for each map.
+/// steps, then one for each sequence, then one for each map. In version 2 the line `rambo 2` stands before these, and one
+/// for the order of the calls of all keys before the maps, where it has a call.
 ///
 /// `OutOfMemory` where there is no room for it.
-pub fn outcome_text(alloc: Global, outcome: &Outcome<Weighted>) -> Result<Vec<u8>, Refusal>
-    ensures text { IfOk result (λ text. text.items ≡ outcome_lines outcome.now) }
+pub fn outcome_text(
+    alloc: Global,
+    version: Version,
+    outcome: &Outcome<Weighted>,
+) -> Result<Vec<u8>, Refusal>
+    ensures text { IfOk result (λ text. text.items ≡ outcome_lines version outcome.now) }
     ensures refused { IfErr result (λ r. r ≡ Refusal.OutOfMemory) }
 {
     let mut out = Vec::new(alloc);
+    write_head(version, &mut out)?;
     append_steps(outcome.effects.as_slice(), &outcome.history, &mut out)?;
     write_sequences(outcome.sequences.as_slice(), &mut out)?;
+    write_order_in(version, outcome.order.as_slice(), &mut out)?;
     write_maps(outcome.maps.as_slice(), &mut out)?;
     Ok(out)
+}
+
+/// Appends the line that tells the version of a text. Version 1 has none.
+///
+/// `OutOfMemory` where the text can't grow; it is then as before.
+pub fn write_head(version: Version, out: &mut Vec<u8>) -> Result<(), Refusal>
+    ensures ok { OnOk result (out.new.items ≡ out.old.items ++ head_text version) }
+    ensures err { OnErr result (out.new.items ≡ out.old.items) }
+    ensures refused { IfErr result (λ r. r ≡ Refusal.OutOfMemory) }
+{
+    match version {
+        Version::One => Ok(()),
+        Version::Two => {
+            out.extend_from_slice(b"rambo 2\n")?;
+            Ok(())
+        }
+    }
+}
+
+// Appends the line of the order of all keys' calls, where a text of the version has one.
+fn write_order_in(version: Version, calls: &[CallId], out: &mut Vec<u8>) -> Result<(), Refusal>
+    ensures ok { OnOk result (out.new.items ≡ out.old.items ++ items_text (order_items_in version calls.now)) }
+    ensures refused { IfErr result (λ r. r ≡ Refusal.OutOfMemory) }
+{
+    match version {
+        Version::One => Ok(()),
+        Version::Two => write_order(calls, out),
+    }
+}
+
+/// Appends the line of the order of all keys' calls, or nothing where there is none.
+///
+/// `OutOfMemory` where the text can't grow; it is then as before.
+pub fn write_order(calls: &[CallId], out: &mut Vec<u8>) -> Result<(), Refusal>
+    ensures ok { OnOk result (out.new.items ≡ out.old.items ++ items_text (order_items calls.now)) }
+    ensures err { OnErr result (out.new.items ≡ out.old.items) }
+    ensures refused { IfErr result (λ r. r ≡ Refusal.OutOfMemory) }
+{
+    if calls.is_empty() {
+        return Ok(());
+    }
+    let before = out.len();
+    let written = append_order(calls, out);
+    if written.is_err() {
+        out.truncate(before);
+    }
+    written
 }
 
 // Appends what is told of the steps, or after a refusal some bytes.

@@ -2,13 +2,14 @@
 ghost use Rattle.std.specs.Prelude.{◌≡◌, OnOk, IfOk, IfErr};
 ghost use Rattle.std.specs.Io.KnownBytes.{IsAtEnd};
 ghost use Rattle.rambo_steps.specs.Replays.{IsReplay, Replays, Leaves, GivesUp, reads_failed, writes_failed};
-ghost use Rattle.rambo_steps.specs.Runs.{IsFounded};
+ghost use Rattle.rambo_steps.specs.Runs.{IsFounded, IsReplayBehind, GivesUpBehind};
 
 use rambo_atomic::{Sink, Source, read_all, write_all};
+use rambo_lines::read_head;
 use rambo_names::Weighted;
 use rambo_steps::{founders_in, in_memory, run_through};
 use rambo_tag::Registers;
-use rambo_text::ReplayFault;
+use rambo_text::{ReplayFault, Version};
 use rambo_world::Running;
 use std::alloc::Global;
 use std::hash::{BuildHasherDefault, FoldHasher};
@@ -16,7 +17,8 @@ use std::hash::{BuildHasherDefault, FoldHasher};
 // A run over weighted majorities.
 type WeightedRun = Running<Weighted, Registers<BuildHasherDefault<FoldHasher>>>;
 
-/// Reads a script, runs it over weighted majorities, and writes the text of what the run gives.
+/// Reads a script of either version, runs it over weighted majorities, and writes the text of what the run gives, in the
+/// script's version.
 ///
 /// The whole input is read and run before the first byte is written. Each step is taken as its line is read: neither
 /// the steps nor what they did are kept. `Script` where the input is no script, or where there is no room for the bytes
@@ -46,16 +48,25 @@ fn replayed(alloc: Global, input: &[u8]) -> Result<Vec<u8>, ReplayFault>
     ensures ok { IfOk result (λ text. IsReplay input.now text.items) }
     ensures fault { IfErr result (λ f. GivesUp input.now f) }
 {
-    let mut running = founded(alloc, input)?;
-    run_through(alloc, input, &mut running)
+    let (version, behind) = read_head(input)?;
+    run_of(alloc, version, behind)
 }
 
-// The run of the founders that the first line of a script tells, before any step.
-fn founded(alloc: Global, input: &[u8]) -> Result<WeightedRun, ReplayFault>
-    ensures founded { IfOk result (λ r. IsFounded input.now r) }
-    ensures fault { IfErr result (λ f. GivesUp input.now f) }
+// The text of what the run of a script gives, of which this is what stands behind the head.
+fn run_of(alloc: Global, version: Version, input: &[u8]) -> Result<Vec<u8>, ReplayFault>
+    ensures ok { IfOk result (λ text. IsReplayBehind version input.now text.items) }
+    ensures fault { IfErr result (λ f. GivesUpBehind version input.now f) }
 {
-    let founders = founders_in(input)?;
+    let mut running = founded(alloc, version, input)?;
+    run_through(alloc, version, input, &mut running)
+}
+
+// The run of the founders that the first line behind the head tells, before any step.
+fn founded(alloc: Global, version: Version, input: &[u8]) -> Result<WeightedRun, ReplayFault>
+    ensures founded { IfOk result (λ r. IsFounded input.now r) }
+    ensures fault { IfErr result (λ f. GivesUpBehind version input.now f) }
+{
+    let founders = founders_in(version, input)?;
     let replica = Registers::new(alloc, BuildHasherDefault::<FoldHasher>::new());
     in_memory(Running::new(alloc, founders, &replica))
 }

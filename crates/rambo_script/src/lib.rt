@@ -11,4 +11,4 @@ pub use rambo_lines::{
 };
 pub use rambo_outcome::{check_text, outcome_text};
 pub use rambo_replay::replay;
-pub use rambo_text::{Fault, ReplayFault, ScriptFault};
+pub use rambo_text::{Fault, ReplayFault, ScriptFault, Version};

@@ -8,18 +8,22 @@ use Rattle.rambo_text.specs.declared.fault.ReplayFault.{ReplayFault}
 use Rattle.rambo_text.specs.declared.fault.ScriptFault.{ScriptFault}
 use Rattle.rambo_text.specs.declared.fault.ReplayFault.TheVariants.{Script, Read, Write, Memory}
 use Rattle.rambo_outcome.specs.Outcomes.{outcome_lines}
-use Rattle.rambo_lines.specs.Scripts.{ScriptState, IsScript}
+use Rattle.rambo_text.specs.declared.version.Version.{Version}
+use Rattle.rambo_text.specs.Versions.{BehindHead}
+use Rattle.rambo_lines.specs.Scripts.{ScriptState}
+use Rattle.rambo_lines.specs.Versions.{IsScriptIn, IsHeadFault}
 use Rattle.rambo_lines.specs.Faults.{IsScriptFault, TellsBytes, RanOut}
 
--- the text of what the run of a script gives
-abbrev pub replayed : ScriptState → List ℕ
-replayed s = outcome_lines (outcome_of weighted_majorities s.founders s.steps)
+-- the text of what the run of a script gives, in a version
+abbrev pub replayed : Version → ScriptState → List ℕ
+replayed version s = outcome_lines version (outcome_of weighted_majorities s.founders s.steps)
 
--- the bytes are a script, and the text is that of its run
+-- the bytes are a script in a version, and the text is that of its run in that version
 pub record IsReplay (bytes text : List ℕ) : Type 0 where
+  pub version : Version
   pub script : ScriptState
-  pub is_script : IsScript bytes script
-  pub text_is : text ≡ replayed script
+  pub is_script : IsScriptIn version bytes script
+  pub text_is : text ≡ replayed version script
 
 -- what was written, from old to new, is the text of the run of what was read, where that is known
 pub record Replays (input old new : Option (List ℕ)) : Type 0 where
@@ -33,9 +37,13 @@ pub record Stops (input old new : Option (List ℕ)) : Type 0 where
   pub is_replay : IfSome input (λ bytes. IsReplay bytes text)
   pub written : Begins old new text
 
--- what was read is no script, or memory ran out while a line that tells bytes was read
+-- what is behind a head is no script, or memory ran out while a line that tells bytes was read
+abbrev pub IsFaultyBehind : List ℕ → ScriptFault → Type 0
+IsFaultyBehind bytes f = IsScriptFault bytes f ⊎ RanOut TellsBytes bytes f
+
+-- what was read is no script: the head is faulty, or what is behind it
 abbrev pub IsNoScript : List ℕ → ScriptFault → Type 0
-IsNoScript bytes f = IsScriptFault bytes f ⊎ RanOut TellsBytes bytes f
+IsNoScript bytes f = IsHeadFault bytes f ⊎ BehindHead (λ version. IsFaultyBehind) bytes f
 
 -- after a fault nothing was written, but for one of the writer
 abbrev pub Leaves : ReplayFault → Option (List ℕ) → Option (List ℕ) → Option (List ℕ) → Type 0

@@ -1,26 +1,28 @@
 -- A run that goes on as the lines of a script are read
 use Rattle.std.specs.Prelude.{◌≡◌, ◌⊎◌, ℕ, List, Option, ◌++◌, map}
 use Rattle.rambo_names.specs.Weights.{Weights, weighted_majorities}
-use Rattle.rambo_sequence.specs.Sequences.{sequences_of}
 use Rattle.rambo_run.specs.declared.step.Step.{Step}
 use Rattle.rambo_run.specs.Worlds.{WorldState, first_world}
 use Rattle.rambo_run.specs.Steps.{refusal}
-use Rattle.rambo_run.specs.Runs.{after, maps_of, result_of}
+use Rattle.rambo_run.specs.Runs.{after, maps_of, given_sequences, given_order, result_of}
 use Rattle.rambo_run.specs.Ongoing.{RunningOf}
 use Rattle.rambo_text.specs.declared.fault.Fault.{Fault}
 use Rattle.rambo_text.specs.declared.fault.Fault.TheVariants.{OutOfMemory}
 use Rattle.rambo_text.specs.declared.fault.ScriptFault.{ScriptFault}
 use Rattle.rambo_text.specs.declared.fault.ReplayFault.{ReplayFault}
 use Rattle.rambo_text.specs.declared.fault.ReplayFault.TheVariants.{Script, Memory}
+use Rattle.rambo_text.specs.declared.version.Version.{Version}
+use Rattle.rambo_text.specs.Versions.{in_whole}
 use Rattle.rambo_text.specs.Words.{IsFirstLine}
 use Rattle.rambo_check.specs.Lines.{Ordered, items_text}
-use Rattle.rambo_outcome.specs.Outcomes.{step_items, map_item}
+use Rattle.rambo_outcome.specs.Outcomes.{step_items, order_items_in, map_item}
 use Rattle.rambo_lines.specs.declared.kind.StepKind.{StepKind}
 use Rattle.rambo_lines.specs.Parts.{NeedRoom, TellStep, TellUnfit}
 use Rattle.rambo_lines.specs.StepLines.{step_line}
-use Rattle.rambo_lines.specs.Scripts.{AreFounders, HasLine, founders_line}
+use Rattle.rambo_lines.specs.Scripts.{ScriptState, AreFounders, HasLine, IsScript, founders_line}
+use Rattle.rambo_steps.specs.Replays.{replayed, IsFaultyBehind}
 
--- the first line of some bytes tells founders
+-- the first line of what is behind a head tells founders
 pub record TellsFounders (bytes : List ℕ) (c : Weights) : Type 0 where
   pub line : List ℕ
   pub rest : List ℕ
@@ -54,9 +56,18 @@ pub record TakesTold (kind : StepKind) (more : Option (List ℕ)) (number : ℕ)
 abbrev pub IsPartsFault : StepKind → Option (List ℕ) → Fault → Type 0
 IsPartsFault kind more f = ((f ≡ OutOfMemory) × NeedRoom kind more) ⊎ TellUnfit kind more f
 
--- a text, with the sequences and the maps behind it
-abbrev pub ended : WorldState Weights → List ℕ → List ℕ
-ended w text = (text ++ items_text (map Ordered (sequences_of w.history w.marks))) ++ items_text (map map_item (maps_of w.nodes))
+-- a text, with the sequences, the order of all keys and the maps behind it
+abbrev pub ended : Version → WorldState Weights → List ℕ → List ℕ
+ended version w text =
+    ((text ++ items_text (map Ordered (given_sequences w))) ++ items_text (order_items_in version (given_order w))) ++ items_text (map map_item (maps_of w.nodes))
+
+-- what is behind a head is a script, and the text is that of its run
+abbrev pub IsReplayBehind : Version → List ℕ → List ℕ → Type 0
+IsReplayBehind version bytes text = (script : ScriptState) × IsScript bytes script × (text ≡ replayed version script)
+
+-- why it gave no text: a fault by its line in the whole text, or want of memory
+abbrev pub GivesUpBehind : Version → List ℕ → ReplayFault → Type 0
+GivesUpBehind version bytes f = (f ≡ Memory) ⊎ ((g : ScriptFault) × (f ≡ Script (in_whole version g)) × IsFaultyBehind bytes g)
 
 -- a line has a fault, or memory ran out
 abbrev pub IsFaultAt : ℕ → (Fault → Type 0) → ReplayFault → Type 0

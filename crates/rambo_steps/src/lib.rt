@@ -1,7 +1,7 @@
 //! Scripts, read line by line, and taken by a run of any kind over weighted majorities (`Run`).
 //!
-//! - `founders_in`: what the first line tells.
-//! - `run_through`: the steps of the other lines are taken, and what is told of them is written.
+//! - `founders_in`: what the first line behind the head tells.
+//! - `run_through`: the steps of the other lines are taken, and what is told of them is written, in the script's version.
 //! - `in_memory`: what was refused for want of memory.
 #![tactic(auto)]
 

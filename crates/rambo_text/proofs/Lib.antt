@@ -10,3 +10,5 @@ pub mod Pairs
 pub mod Plain
 pub mod WordSplits
 pub mod Standings
+pub mod WordsThere
+pub mod Heads

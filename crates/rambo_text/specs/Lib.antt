@@ -3,3 +3,4 @@ pub mod Faults
 pub mod Forms
 pub mod Signs
 pub mod Words
+pub mod Versions

@@ -4,6 +4,7 @@
 //! - `write_num`, `write_name`, `write_call`, `write_hex`, `write_standing`: the one spelling of each sign.
 //! - `read_name`, `read_call`, `read_hex`, `read_standing`: the same backwards.
 //! - `leading_num`, `leading_name`, `leading_call`: the sign that a line begins with, and what stands behind it.
+//! - `Version`: of texts there are two, and the first line tells which.
 //! - `next_line`, `next_word`, `one_word`, `two_words`, `three_words`: lines of a text, and words of a line.
 #![tactic(auto)]
 
@@ -12,6 +13,7 @@ mod fault;
 mod leading;
 mod numbers;
 mod reading;
+mod version;
 mod words;
 mod writing;
 
@@ -19,5 +21,6 @@ pub use fault::{Fault, ReplayFault, ScriptFault};
 pub use leading::{leading_call, leading_name};
 pub use rambo_names::leading_num;
 pub use reading::{read_call, read_hex, read_name, read_standing};
+pub use version::Version;
 pub use words::{next_line, next_word, one_word, three_words, two_words};
 pub use writing::{write_call, write_hex, write_name, write_num, write_standing};

@@ -1,5 +1,5 @@
 -- A trace that is written piece by piece
-use Rattle.std.proofs.Common.{◌≡◌, ℕ, ◌+◌, ◌<◌, List, [], ◌∷◌, ◌++◌, length, take, drop, get_or, refl, sym, ap, subst, ◌∙◌, append_assoc, append-nil, take-append-drop}
+use Rattle.std.proofs.Common.{◌≡◌, ℕ, ◌+◌, ◌<◌, List, [], ◌∷◌, ◌++◌, length, take, drop, get_or, codes, refl, sym, ap, subst, ◌∙◌, append_assoc, append-nil, take-append-drop}
 use Rattle.std.specs.Prelude.{Ok, OnOk, Option, Result}
 use Rattle.std.specs.Io.KnownBytes.{Appends}
 use Rattle.std.proofs.KnownBytes.{Appends-nil, Appends-trans}
@@ -7,6 +7,9 @@ use Rattle.std.proofs.lemmas.List.{take_more}
 use Rattle.rambo_names.specs.Weights.{Weights}
 use Rattle.rambo_atomic.specs.Streams.{Begins}
 use Rattle.rambo_run.specs.declared.step.Step.{Step}
+use Rattle.rambo_text.specs.declared.version.Version.TheVariants.{Two}
+use Rattle.rambo_names.specs.Signs.{conf_text}
+use Rattle.rambo_text.specs.Versions.{head_line, head_text}
 use Rattle.rambo_lines.specs.StepLines.{step_line}
 use Rattle.rambo_lines.specs.Scripts.{founders_line, steps_text}
 use Rattle.rambo_trace.specs.Traces.{Moves, trace_text}
@@ -25,9 +28,22 @@ steps_text-append (x ∷ xs) ys =
 -- the text of more steps
 pub trace-append : (founders : Weights) (xs ys : List (Step Weights)) → trace_text founders (xs ++ ys) ≡ trace_text founders xs ++ steps_text ys
 trace-append founders xs ys =
-    ap (λ t. founders_line founders ++ 10 ∷ t) (steps_text-append xs ys) ∙ sym (append_assoc (founders_line founders) (10 ∷ steps_text xs) (steps_text ys))
+    let head = head_text Two in
+    ap (λ t. head ++ (founders_line founders ++ 10 ∷ t)) (steps_text-append xs ys)
+    ∙ ap (λ t. head ++ t) (sym (append_assoc (founders_line founders) (10 ∷ steps_text xs) (steps_text ys)))
+    ∙ sym (append_assoc head (founders_line founders ++ 10 ∷ steps_text xs) (steps_text ys))
 
-pub goes_first : (founders : Weights) (old : Option (List ℕ)) (waits : List ℕ) → waits ≡ founders_line founders ++ 10 ∷ [] → Going founders [] old old waits
+-- the lines that tell the version and the founders
+pub head_written : (founders : Weights) (out one two all : List ℕ) → one ≡ out ++ (head_line ++ 10 ∷ codes "founders ") → two ≡ one ++ conf_text founders → all ≡ two ++ 10 ∷ []
+    → all ≡ out ++ (head_text Two ++ (founders_line founders ++ 10 ∷ []))
+head_written founders out one two all first second third =
+    let conf = conf_text founders in
+    let front = head_line ++ 10 ∷ codes "founders " in
+    third ∙ ap (λ t. t ++ 10 ∷ []) (second ∙ ap (λ t. t ++ conf) first ∙ append_assoc out front conf)
+    ∙ append_assoc out (front ++ conf) (10 ∷ [])
+    ∙ ap (λ t. out ++ ((front ++ t) ++ 10 ∷ [])) (sym (append-nil conf))
+
+pub goes_first : (founders : Weights) (old : Option (List ℕ)) (waits : List ℕ) → waits ≡ head_text Two ++ (founders_line founders ++ 10 ∷ []) → Going founders [] old old waits
 goes_first founders old waits is = record { gone = []; written = Appends-nil old; whole = sym is }
 
 -- one step more waits

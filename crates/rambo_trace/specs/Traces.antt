@@ -3,11 +3,12 @@ use Rattle.std.specs.Prelude.{◌≡◌, ℕ, List, ◌++◌, Option}
 use Rattle.std.specs.Io.KnownBytes.{Appends}
 use Rattle.rambo_names.specs.Weights.{Weights}
 use Rattle.rambo_run.specs.declared.step.Step.{Step}
-use Rattle.rambo_lines.specs.Scripts.{script_text}
+use Rattle.rambo_text.specs.declared.version.Version.TheVariants.{Two}
+use Rattle.rambo_lines.specs.Versions.{text_in}
 
--- it is the script of the founders and the steps
+-- it is the script of the founders and the steps, in version 2
 abbrev pub trace_text : Weights → List (Step Weights) → List ℕ
-trace_text founders steps = script_text (record { founders = founders; steps = steps })
+trace_text founders steps = text_in Two (record { founders = founders; steps = steps })
 
 -- a front of what waits was written, and the rest still waits
 abbrev pub Moves : Option (List ℕ) → Option (List ℕ) → List ℕ → List ℕ → Type 0

@@ -3,6 +3,8 @@ ghost use Rattle.std.specs.Prelude.{◌≡◌, ◌⊎◌, ◌++◌, ◌∷◌, [
 ghost use Rattle.std.specs.Io.KnownBytes.{Appends};
 ghost use Rattle.rambo_atomic.specs.Streams.{Begins, counted};
 ghost use Rattle.rambo_atomic.specs.declared.whole.StreamFault.TheVariants as fault;
+ghost use Rattle.rambo_text.specs.declared.version.Version.TheVariants.{Two};
+ghost use Rattle.rambo_text.specs.Versions.{head_text};
 ghost use Rattle.rambo_lines.specs.Scripts.{founders_line};
 ghost use Rattle.rambo_trace.specs.Traces.{Moves, trace_text};
 
@@ -15,7 +17,7 @@ use std::alloc::Global;
 /// Once a piece of the text has so many bytes it is written.
 const PIECE: usize = 64 * 1024;
 
-/// Writes the script of these founders and steps, piece by piece.
+/// Writes the script of these founders and steps in version 2, piece by piece.
 ///
 /// `Write` where the writer fails, and `Memory` where there is no room for a line; after both a beginning of the script
 /// was written.
@@ -55,11 +57,11 @@ fn write_if_long<W: Sink>(piece: &mut Vec<u8>, writer: &mut W) -> Result<(), Str
     Ok(())
 }
 
-// Appends the first line, which tells the founders.
+// Appends the lines that tell the version and the founders.
 fn founders_text(founders: Weighted, out: &mut Vec<u8>) -> Result<(), Refusal>
-    ensures ok { OnOk result (out.new.items ≡ out.old.items ++ founders_line founders ++ 10 ∷ []) }
+    ensures ok { OnOk result (out.new.items ≡ out.old.items ++ (head_text Two ++ (founders_line founders ++ 10 ∷ []))) }
 {
-    out.extend_from_slice(b"founders ")?;
+    out.extend_from_slice(b"rambo 2\nfounders ")?;
     write_conf(&founders, out)?;
     out.push(b'\n')?;
     Ok(())

@@ -4,7 +4,7 @@ use Rattle.rambo_names.specs.Signs.{conf_text}
 use Rattle.std.proofs.lemmas.Result.{on_ok_weaker, IfErr-weaker}
 use Rattle.rambo_text.specs.Forms.{Conf}
 use Rattle.rambo_check.specs.Lines.{Mapped}
-use Rattle.rambo_check.proofs.LineWords.{more_has_words}
+use Rattle.rambo_text.proofs.WordsThere.{more_has_words}
 use Rattle.rambo_check.proofs.LineFaults.{map_short, map_bad, row_bad, some_confs, no_confs}
 use Rattle.rambo_check.proofs.item.read_map.Goals as goal
 

@@ -3,7 +3,8 @@ use Rattle.std.specs.Option.{option_copied}
 use Rattle.std.proofs.lemmas.Result.{err_from_is_err_and}
 use Rattle.rambo_text.specs.Forms.{Call}
 use Rattle.rambo_text.specs.Signs.{call_text}
-use Rattle.rambo_check.proofs.LineWords.{more_has_words, first_is_some}
+use Rattle.rambo_text.proofs.WordsThere.{more_has_words}
+use Rattle.rambo_check.proofs.LineWords.{first_is_some}
 use Rattle.rambo_check.proofs.LineFaults.{sequence_bad, row_bad}
 use Rattle.rambo_check.proofs.item.read_sequence.Goals as goal
 

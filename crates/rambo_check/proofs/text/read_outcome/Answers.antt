@@ -1,47 +1,16 @@
-use Rattle.std.proofs.Common.{◌≡◌, ◌+◌, refl, sym, ap, subst, ◌∙◌, true≢false}
-use Rattle.std.specs.Bool.{MatchBool}
-use Rattle.rambo_atomic.specs.Unreads.{HoldsLine, IsDone}
-use Rattle.rambo_text.specs.declared.fault.ScriptFault.{ScriptFault}
-use Rattle.rambo_check.specs.Texts.{IsTextFault}
-use Rattle.rambo_check.proofs.TextSteps.{read_start, read_more, read_on, read_end, read_fault}
+use Rattle.std.proofs.Common.{rules}
+use Rattle.rambo_check.proofs.TextSteps.{told_in, fault_in}
 use Rattle.rambo_check.proofs.text.read_outcome.Goals as goal
 
-pub loop-unread-init : goal.loop-unread-init
-loop-unread-init g c = record {
-  read = read_start _ c.args.evidence.now c.new-unread.result c.requires.events c.requires.orders (ap (λ u. u.held) c.new-unread.ensures);
-  knows = λ e. absurd (true≢false (sym e ∙ ap (λ u. u.ended) c.new-unread.ensures));
-  fine = refl;
-}
-
-pub returns-in-Err-clause-script : goal.returns-in-Err-clause-script
-returns-in-Err-clause-script g c =
-    let found = c.in_ok-find_line.ensures in
-    let u = c.find_line.new.self in
-    let now = read_more _ _ (g.R.Source.left c.find_line.new.reader) c.loop-unread.evidence c.loop-unread.unread u c.loop-unread.line c.loop-unread.invariant.read found.bytes found.ended in
-    let holds : HoldsLine u = subst (λ b. MatchBool b (HoldsLine u) (IsDone u)) c.if-branch.true found.line in
-    let bad = c.in-Err.ensures.fault in
-    let told = read_fault _ _ c.loop-unread.evidence u c.loop-unread.line bad.0 bad.1 c.in-Err.fault now holds found.knows bad.2 bad.3 in
-    λ f is.
-    let this : ScriptFault = record { fault = c.in-Err.fault; line = c.loop-unread.line + 1 } in
-    let same : this ≡ f = cc in (told.0, told.1, subst (IsTextFault told.0) same told.2, c.in_ok-read_rest.ensures.end)
-
-pub loop-unread-preserved : goal.loop-unread-preserved
-loop-unread-preserved g c =
-    let found = c.in_ok-find_line.ensures in
-    let u = c.find_line.new.self in
-    let now = read_more _ _ (g.R.Source.left c.find_line.new.reader) c.loop-unread.evidence c.loop-unread.unread u c.loop-unread.line c.loop-unread.invariant.read found.bytes found.ended in
-    let holds : HoldsLine u = subst (λ b. MatchBool b (HoldsLine u) (IsDone u)) c.if-branch.true found.line in
-    let taken = c.in_default.ensures in
-    record {
-      read = read_on _ _ c.loop-unread.evidence c.take_first.new.evidence u c.take_first.new.unread c.loop-unread.line now holds taken.taken taken.ended;
-      knows = λ e. found.knows (sym taken.ended ∙ e);
-      fine = found.fine ∙ c.loop-unread.invariant.fine;
-    }
+pub returns-in_err-read_behind-clause-script : goal.returns-in_err-read_behind-clause-script
+returns-in_err-read_behind-clause-script g c =
+    search (
+      rules,
+      fault_in (g.R.Source.left c.args.reader.now) (g.R.Source.left c.read_version.new.reader) c.in_ok-version.version c.read_version.new.unread c.in_ok-version.ensures.head
+          (g.R.Source.left c.read_behind.new.reader) c.in_err-read_behind.field-0.0 c.in_err-read_behind.ensures.script,
+    )
 
 pub returns-clause-told : goal.returns-clause-told
 returns-clause-told g c =
-    let found = c.in_ok-find_line.ensures in
-    let u = c.find_line.new.self in
-    let now = read_more _ _ (g.R.Source.left c.find_line.new.reader) c.loop-unread.evidence c.loop-unread.unread u c.loop-unread.line c.loop-unread.invariant.read found.bytes found.ended in
-    let done : IsDone u = subst (λ b. MatchBool b (HoldsLine u) (IsDone u)) c.if-branch.false found.line in
-    read_end _ _ c.loop-unread.evidence u c.loop-unread.line now done found.knows
+    told_in (g.R.Source.left c.args.reader.now) (g.R.Source.left c.read_version.new.reader) c.in_ok-version.version c.read_version.new.unread c.in_ok-version.ensures.head
+    c.read_behind.new.evidence c.in_ok-read_behind.ensures.told

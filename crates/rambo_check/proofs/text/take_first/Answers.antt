@@ -1,21 +1,7 @@
-use Rattle.std.proofs.Common.{◌≡◌, ◌≤◌, ℕ, ◌-◌, ◌++◌, ◌∷◌, [], List, length, drop, inl, inr, subst, sym, ap, ◌∙◌, append_assoc, length-append, arith}
-use Rattle.std.proofs.lemmas.List.{drop_at, drop_all}
+use Rattle.std.proofs.Common.{◌≡◌, ◌-◌, length, drop, subst, sym, ap, ◌∙◌}
 use Rattle.rambo_text.specs.Words.{IsFirstLine}
+use Rattle.rambo_check.proofs.UsedLines.{rest_of}
 use Rattle.rambo_check.proofs.text.take_first.Goals as goal
-
--- what stands behind the first line is what is left once as many bytes were used
-rest_of : (held line rest : List ℕ) → IsFirstLine held line rest → drop (length held - length rest) held ≡ rest
-rest_of held line rest first =
-    elim first.whole [
-      | inl e ↦
-          let whole : held ≡ (line ++ 10 ∷ []) ++ rest = e ∙ sym (append_assoc line (10 ∷ []) rest) in
-          let used : length (line ++ 10 ∷ []) ≡ length held - length rest = omega (arith, ap length whole, length-append (line ++ 10 ∷ []) rest) in
-          ap (drop (length held - length rest)) whole ∙ drop_at (line ++ 10 ∷ []) rest (length held - length rest) used
-      | inr e ↦
-          let none : length rest ≡ 0 = ap length e.1 in
-          let all : length held ≤ length held - length rest = omega (arith, none) in
-          drop_all (length held - length rest) held all ∙ sym e.1
-    ]
 
 pub returns-clause-taken : goal.returns-clause-taken
 returns-clause-taken c =
@@ -30,7 +16,8 @@ returns-clause-taken c =
       first = subst (IsFirstLine held line) (sym left) first;
       item = taken.0;
       in_range = taken.1;
-      words = taken.2;
-      good = taken.3;
-      taken = taken.4;
+      of_version = taken.2;
+      words = taken.3;
+      good = taken.4;
+      taken = taken.5;
     }

@@ -1,5 +1,5 @@
-use Rattle.rambo_lines.proofs.Texts.{one_reading_is}
+use Rattle.rambo_lines.proofs.BothVersions.{one_script}
 use Rattle.rambo_lines.proofs.laws.one_reading.Goals as goal
 
 pub returns : goal.returns
-returns c = one_reading_is
+returns c = one_script

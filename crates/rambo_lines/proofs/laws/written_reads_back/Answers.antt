@@ -1,5 +1,5 @@
-use Rattle.rambo_lines.proofs.Texts.{reads_back_is}
+use Rattle.rambo_lines.proofs.BothVersions.{reads_back_in}
 use Rattle.rambo_lines.proofs.laws.written_reads_back.Goals as goal
 
 pub returns : goal.returns
-returns c = reads_back_is
+returns c = reads_back_in

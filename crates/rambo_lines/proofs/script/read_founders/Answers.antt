@@ -1,6 +1,7 @@
 use Rattle.std.proofs.Common.{inr, inl, refl, rules, ap, sym, ◌∙◌}
 use Rattle.rambo_names.specs.Names.{count_of}
-use Rattle.rambo_lines.proofs.Fitting.{different, alike, other_word, founders_count, unfit_founders, no_founder}
+use Rattle.rambo_text.proofs.WordsThere.{different, alike}
+use Rattle.rambo_lines.proofs.Fitting.{other_word, founders_count, unfit_founders, no_founder}
 use Rattle.rambo_lines.proofs.script.read_founders.Goals as goal
 
 pub returns-then-ne-clause-fault : goal.returns-then-ne-clause-fault

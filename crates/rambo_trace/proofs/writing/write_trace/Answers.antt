@@ -1,8 +1,10 @@
 use Rattle.std.proofs.Common.{rules, ◌≡◌, List, ℕ, [], ◌∷◌, ◌++◌, sym, ap, subst, arith, ◌∙◌}
-use Rattle.std.proofs.lemmas.Result.{on_err_weaker}
+use Rattle.std.proofs.lemmas.List.{take_all}
+use Rattle.std.proofs.lemmas.Result.{on_err_weaker, on_ok_weaker}
+use Rattle.std.specs.Io.KnownBytes.{Appends}
 use Rattle.rambo_atomic.specs.Streams.{Begins}
 use Rattle.rambo_lines.specs.StepLines.{step_line}
-use Rattle.rambo_trace.proofs.Pieces.{begun, begun_longer, begun_more, goes_next, when_ok}
+use Rattle.rambo_trace.proofs.Pieces.{gone_whole, begun, begun_longer, begun_more, goes_next, when_ok}
 use Rattle.rambo_trace.proofs.writing.write_trace.Goals as goal
 
 pub returns-in_err-in_memory-2-clause-err : goal.returns-in_err-in_memory-2-clause-err
@@ -25,6 +27,12 @@ loop-step-preserved g c =
           c.step-item.result c.step_text.new.out.items c.write_if_long.new.piece.items (g.W.Sink.taken c.write_if_long.new.writer) (omega arith) (grown ∙ ap (λ st. c.loop-step.piece.items ++ step_line st ++ 10 ∷ []) c.step-item.is) c.in_ok-write_if_long.ensures.ok,
       c.in_ok-write_if_long.ensures.fine ∙ c.loop-step.invariant.1,
     )
+
+pub returns-clause-ok : goal.returns-clause-ok
+returns-clause-ok g c =
+    on_ok_weaker c.write_all.result
+    (λ all. gone_whole c.args.founders _ c.args.steps.now (g.W.Sink.taken c.args.writer.now) (g.W.Sink.taken c.loop-step.writer) (g.W.Sink.taken c.write_all.new.writer) c.loop-step.piece.items c.loop-step.invariant.0
+    (take_all _ _ (omega arith)) (subst (Appends _ _) c.as_slice.ensures.value all)) c.write_all.ensures.ok
 
 pub returns-clause-err : goal.returns-clause-err
 returns-clause-err g c =
