@@ -5,8 +5,8 @@
 //! - `ServeFault`: why nothing was served.
 #![tactic(auto)]
 
-mod client;
 mod clients;
+mod connection;
 mod fault;
 mod hub;
 mod options;

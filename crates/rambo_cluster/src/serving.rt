@@ -7,13 +7,12 @@ ghost use Rattle.rambo_atomic.specs.Proper.{IsProperForAll};
 ghost use Rattle.rambo_run.specs.Legal.{IsLegal};
 ghost use Rattle.rambo_run.specs.Runs.{run, given_order};
 
-use crate::client::Client;
+use crate::connection::{Flow, Session};
 use crate::fault::ServeFault;
 use crate::hub::{Copies, Hub};
 use crate::options::Options;
 use crossbeam_channel::{Receiver, Sender, bounded};
 use rambo_atomic::Wrapped;
-use rambo_connection::{Flow, Session};
 use rambo_names::{Name, Quorums, Refusal, Weighted};
 use rambo_post::{Actor, Closed, Gate, Pass, Post, Terms};
 use rambo_roll::Opened;
@@ -286,13 +285,16 @@ where
         let Ok(stream) = streams.recv(rt) else {
             return;
         };
-        let mut client = Client {
+        let mut session = Session {
+            rt,
             gate,
+            alloc,
             hub,
             pass: &mut *pass,
             place,
+            name: hub.first,
         };
-        if serve_stream(rt, alloc, &mut client, &stream) == Flow::EndsAll {
+        if serve_stream(&mut session, &stream) == Flow::EndsAll {
             hub.close(rt);
             wake_acceptor(rt, own);
         }
@@ -301,29 +303,20 @@ where
 
 // Serves one connection, unless the server ends.
 fn serve_stream<J: Terms<Weighted>, G: Gate, R: Wait + Clock>(
-    rt: &R,
-    alloc: Global,
-    client: &mut Client<'_, J, G>,
+    session: &mut Session<'_, J, G, R>,
     stream: &TcpStream,
 ) -> Flow {
     let Ok(door) = stream.try_clone() else {
         return Flow::Ends;
     };
     let _ = stream.set_nodelay(true);
-    let hub = client.hub;
-    let place = client.place;
-    hub.doors.put(rt, place, Some(door));
+    let hub = session.hub;
+    hub.doors.put(session.rt, session.place, Some(door));
     let flow = if hub.is_closing() {
         Flow::Ends
     } else {
-        let mut session = Session {
-            rt,
-            alloc,
-            service: client,
-            name: hub.first,
-        };
         session.talk(&mut Wrapped::new(stream), &mut Wrapped::new(stream))
     };
-    hub.doors.put(rt, place, None);
+    hub.doors.put(session.rt, session.place, None);
     flow
 }

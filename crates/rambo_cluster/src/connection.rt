@@ -1,7 +1,7 @@
 //! One connection.
 ghost use Rattle.std.specs.Prelude.{◌≤◌, length};
 
-use crate::service::Service;
+use crate::hub::Hub;
 use bytes::BytesMut;
 use rambo_atomic::{Op, Sink, Source, write_all};
 use rambo_commands::{
@@ -9,6 +9,7 @@ use rambo_commands::{
 };
 use rambo_config_map::ConfigMap;
 use rambo_names::{Name, Refusal, Weighted};
+use rambo_post::{Gate, Pass, Terms};
 use rambo_resp::{Command, Decoder, Fault, Reply};
 use rambo_run::Step;
 use std::alloc::{AllocError, Global};
@@ -20,7 +21,7 @@ const PIECE: usize = 16 * 1024;
 
 /// How a connection goes on after a command.
 #[derive(Clone, Copy, PartialEq, Eq)]
-pub enum Flow {
+pub(crate) enum Flow {
     /// More commands are read.
     GoesOn,
     /// It is closed.
@@ -29,18 +30,21 @@ pub enum Flow {
     EndsAll,
 }
 
-/// A connection under way: who serves it, and the node that it uses.
+/// Who serves a connection: a client's place and pass, and the node that it uses.
 #[derive(Drop)]
-pub struct Session<'h, S: Service, R> {
-    pub rt: &'h R,
-    pub alloc: Global,
-    pub service: &'h mut S,
-    pub name: Name,
+pub(crate) struct Session<'h, J: Terms<Weighted>, G: Gate, R> {
+    pub(crate) rt: &'h R,
+    pub(crate) alloc: Global,
+    pub(crate) gate: &'h G,
+    pub(crate) hub: &'h Hub<J>,
+    pub(crate) pass: &'h mut Pass<J, Weighted>,
+    pub(crate) place: usize,
+    pub(crate) name: Name,
 }
 
-impl<'h, S: Service, R: Wait + Clock> Session<'h, S, R> {
+impl<'h, J: Terms<Weighted>, G: Gate, R: Wait + Clock> Session<'h, J, G, R> {
     /// Answers the commands of a source into a sink, until one of them ends.
-    pub fn talk<I: Source, O: Sink>(&mut self, reader: &mut I, writer: &mut O) -> Flow {
+    pub(crate) fn talk<I: Source, O: Sink>(&mut self, reader: &mut I, writer: &mut O) -> Flow {
         match self.talk_on(reader, writer) {
             Ok(flow) => flow,
             Err(_) => Flow::Ends,
@@ -136,7 +140,10 @@ impl<'h, S: Service, R: Wait + Clock> Session<'h, S, R> {
 
     fn operate(&mut self, op: &Op, out: &mut BytesMut) -> Result<Flow, Refusal> {
         let op = op.clone()?;
-        match self.service.operate(self.rt, self.name, op)? {
+        let answer = self
+            .hub
+            .operate(self.rt, self.gate, self.pass, self.place, self.name, op)?;
+        match answer {
             Some(answer) => append(&telling(answer), out),
             None => Ok(Flow::Ends),
         }
@@ -148,12 +155,12 @@ impl<'h, S: Service, R: Wait + Clock> Session<'h, S, R> {
         step: Step<Weighted>,
         out: &mut BytesMut,
     ) -> Result<Flow, Refusal> {
-        self.service.change(self.rt, name, step)?;
+        self.hub.change(self.rt, self.pass, name, step)?;
         append(&Reply::Ok, out)
     }
 
     fn tell_map(&mut self, out: &mut BytesMut) -> Result<Flow, Refusal> {
-        let map = self.service.map(self.rt, self.name);
+        let map = self.hub.post.map(self.rt, self.name);
         append(&map_told(self.alloc, &map)?, out)
     }
 }
