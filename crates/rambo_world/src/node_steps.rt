@@ -30,8 +30,9 @@ impl<Q: Quorums, S: Replica> State<Q, S> {
     {
         self.history.reserve(1)?;
         self.marks.reserve(1)?;
-        let deed = self.nodes.act(name, change)?;
-        Ok(note(&mut self.history, &mut self.marks, deed))
+        let mut deed = self.nodes.act(name, change)?;
+        note(&mut self.history, &mut self.marks, &mut deed);
+        Ok(deed.effect)
     }
 
     // A client asks a node for an operation, which isn't refused: the call.
@@ -62,7 +63,8 @@ impl<Q: Quorums, S: Replica> State<Q, S> {
         self.marks.reserve(1)?;
         let mut deed = Deed::quiet();
         self.nodes.go_on(id, &mut deed)?;
-        Ok(note(&mut self.history, &mut self.marks, deed))
+        note(&mut self.history, &mut self.marks, &mut deed);
+        Ok(deed.effect)
     }
 }
 
@@ -75,26 +77,17 @@ fn push_call(history: &mut History, id: &CallId, op: Op)
     history.push_reserved(Event::Call(*id, op));
 }
 
-// What a deed leaves goes to the ends of a history and of the marks, where there is room for it. The answer is what is told
-// of it.
-#[inline(always)]
-fn note<Q: Quorums>(history: &mut History, marks: &mut Vec<Mark>, deed: Deed<Q>) -> Effect<Q>
+// The event and the mark of a deed go from it to the ends of a history and of the marks, where there is room for them.
+fn note<Q: Quorums>(history: &mut History, marks: &mut Vec<Mark>, deed: &mut Deed<Q>)
     requires room { 0 < history.old.room }
-    requires fits { (e : Event) → deed.event ≡ Some e → fault_of history.old.events e ≡ None }
+    requires fits { (e : Event) → deed.old.event ≡ Some e → fault_of history.old.events e ≡ None }
     requires space { vec_len marks.old < vec_capacity marks.old }
-    ensures event { history.new.events ≡ with_event history.old.events deed.event }
-    ensures mark { marks.new.items ≡ with_mark marks.old.items deed.mark }
-    ensures effect { result ≡ deed.effect }
+    ensures event { history.new.events ≡ with_event history.old.events deed.old.event }
+    ensures mark { marks.new.items ≡ with_mark marks.old.items deed.old.mark }
+    ensures effect { deed.new.effect ≡ deed.old.effect }
 {
-    let Deed {
-        effect,
-        event,
-        mark,
-        copy: _,
-    } = deed;
-    push_event(history, event);
-    push_mark(marks, mark);
-    effect
+    push_event(history, deed.event.take());
+    push_mark(marks, deed.mark.take());
 }
 
 // The event of a deed, if it has one, goes to the end, where there is room for it.

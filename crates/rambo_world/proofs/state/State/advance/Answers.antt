@@ -45,7 +45,7 @@ returns-clause-ok g c =
     let deed = c.in_ok-go_on.ensures.deed x.0 x.1 in
     ap (λ w. turn_at w n (node_at w n) ch) (sym c.self.view_is)
     ∙ changed_world ks c.go_on.new.self c.self.inside.letters c.self.inside.history.events c.note.new.history.events c.self.inside.marks.items c.note.new.marks.items n ch
-    c.note.result x.0 c.in_ok-go_on.ensures.nodes (letters_stay ks c.go_on.new.self c.go_on.ensures.grow c.self.inside.letters c.self.invariant.sent) x.1 refl (c.note.ensures.effect ∙ ap (λ d. d.effect) deed)
+    c.note.new.deed.effect x.0 c.in_ok-go_on.ensures.nodes (letters_stay ks c.go_on.new.self c.go_on.ensures.grow c.self.inside.letters c.self.invariant.sent) x.1 refl (c.note.ensures.effect ∙ ap (λ d. d.effect) deed)
     (c.note.ensures.event ∙ (λ i. with_event (c.in_ok-reserve.ensures.events i) (deed i).event)) (c.note.ensures.mark ∙ (λ i. with_mark (c.in_ok-reserve-2.ensures.items i) (deed i).mark))
 
 pub reserve-requires : goal.reserve-requires
