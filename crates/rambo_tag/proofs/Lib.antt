@@ -5,3 +5,4 @@ pub mod Joins
 pub mod Logged
 pub mod Tables
 pub mod MergeSteps
+pub mod Rooms

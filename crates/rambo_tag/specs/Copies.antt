@@ -1,8 +1,8 @@
 -- The copies that a node holds, and how they are merged
-use Rattle.std.specs.Prelude.{ℕ, if◌then◌else◌, List, [], ◌∷◌}
+use Rattle.std.specs.Prelude.{ℕ, ◌+◌, ◌≤◌, if◌then◌else◌, List, [], ◌∷◌}
 use Rattle.std.specs.Ordering.{nat_cmp}
 use Rattle.std.specs.Cmp.Lexicographic.{slice_cmp}
-use Rattle.std.specs.FinMap.{FinMap, code, insert, get, entries}
+use Rattle.std.specs.FinMap.{FinMap, code, insert, get, entries, len}
 use Rattle.std.specs.Coded.{Coded, coded_list, coded_ℕ}
 use Rattle.rambo_tag.specs.contracts.version.Version.{the_row}
 use Rattle.rambo_tag.specs.declared.version.Version.{Version}
@@ -27,3 +27,12 @@ with_all a (e ∷ es) = with_all (with_newer a e.0 e.1) es
 -- the greater copy of each key
 unfoldable pub joined : Copies → Copies → Copies
 joined a b = with_all a (entries b)
+
+-- copies that are held, and how many more keys there is room for
+pub record HeldCopies : Type 0 where
+  pub copies : Copies
+  pub spare : ℕ
+
+-- what is sent has at most so many keys that aren't held
+abbrev pub HasRoom : ℕ → Copies → Copies → Type 0
+HasRoom spare held sent = len (joined held sent) ≤ len held + spare

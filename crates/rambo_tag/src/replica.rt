@@ -1,8 +1,8 @@
 //! What a node needs of its copies.
-ghost use Rattle.std.specs.Prelude.{◌≡◌, IsOk, IfOk, IfErr, OnOk, OnErr};
+ghost use Rattle.std.specs.Prelude.{◌≡◌, ◌≤◌, ℕ, IsOk, IfOk, IfErr, OnOk, OnErr};
 ghost use Rattle.std.specs.FinMap as map;
 ghost use Rattle.std.specs.Option.{option_copied};
-ghost use Rattle.rambo_tag.specs.Copies.{Copies, joined};
+ghost use Rattle.rambo_tag.specs.Copies.{Copies, joined, HasRoom};
 
 use crate::pack::Pack;
 use crate::version::Version;
@@ -11,9 +11,12 @@ use rambo_names::{Bytes, Refusal};
 /// The copies of one node, seen as a finite map from keys to copies.
 ///
 /// An absent key stands for the tag (0, 0) with nil. Each call that answers `OutOfMemory` leaves the
-/// replica as it was.
+/// copies as they were.
 pub trait Replica: Drop {
     ghost copies: { Self → Copies };
+
+    /// How many more keys it has room for.
+    ghost spare: { Self → ℕ };
 
     /// A replica of the same kind that holds nothing.
     ///
@@ -31,7 +34,7 @@ pub trait Replica: Drop {
     /// `OutOfMemory` where there is no room for it.
     fn put(&mut self, key: Bytes, version: Version) -> Result<(), Refusal>
         ensures ok { OnOk result (copies self.new ≡ map.insert (copies self.old) key version) }
-        ensures err { OnErr result (self.new ≡ self.old) }
+        ensures err { OnErr result (copies self.new ≡ copies self.old) }
         ensures refused { IfErr result (λ r. r ≡ Refusal.OutOfMemory) };
 
     /// Takes the greater copy of each key (all of them, or none).
@@ -40,8 +43,24 @@ pub trait Replica: Drop {
     fn merge(&mut self, pack: &Pack) -> Result<(), Refusal>
         ensures ok { OnOk result (copies self.new ≡ joined (copies self.old) pack.now) }
         ensures idle { joined (copies self.old) pack.now ≡ copies self.old → IsOk result }
-        ensures err { OnErr result (self.new ≡ self.old) }
+        ensures err { OnErr result (copies self.new ≡ copies self.old) }
         ensures refused { IfErr result (λ r. r ≡ Refusal.OutOfMemory) };
+
+    /// Makes room for a pack, so that `merge_room` can take it. The copies stay, whatever the answer, and so does
+    /// the room that there is.
+    ///
+    /// `OutOfMemory` where there is no room for its new keys. Where it has none no memory is taken.
+    fn room(&mut self, pack: &Pack) -> Result<(), Refusal>
+        ensures same { copies self.new ≡ copies self.old }
+        ensures kept { spare self.old ≤ spare self.new }
+        ensures ok { OnOk result (HasRoom (spare self.new) (copies self.new) pack.now) }
+        ensures held { HasRoom 0 (copies self.old) pack.now → IsOk result }
+        ensures refused { IfErr result (λ r. r ≡ Refusal.OutOfMemory) };
+
+    /// Takes the greater copy of each key of a pack for which there is room. It takes no memory and can't fail.
+    fn merge_room(&mut self, pack: Pack)
+        requires { HasRoom (spare self.old) (copies self.old) pack }
+        ensures { copies self.new ≡ joined (copies self.old) pack };
 
     /// All copies, to be sent. No key and no value is copied.
     ///

@@ -7,4 +7,4 @@ pub returns : goal.returns
 returns g c =
     c.get.ensures.value
     ∙ sym (get-copies_in c.self.inside.table.entries c.args.key.now)
-    ∙ ap (λ m. get m c.args.key.now) c.self.view_is
+    ∙ ap (λ m. get m c.args.key.now) (ap (λ r. r.copies) c.self.view_is)

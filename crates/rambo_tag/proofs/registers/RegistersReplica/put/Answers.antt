@@ -7,4 +7,4 @@ pub returns-clause-ok : goal.returns-clause-ok
 returns-clause-ok g c =
     let put = c.in_ok-insert.ensures.updates in
     copies_in-put c.args.key c.args.version c.self.inside.table.entries c.insert.new.self.entries put.1 put.3
-    ∙ ap (λ m. insert m c.args.key c.args.version) c.self.view_is
+    ∙ ap (λ m. insert m c.args.key c.args.version) (ap (λ r. r.copies) c.self.view_is)
