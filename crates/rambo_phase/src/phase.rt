@@ -1,10 +1,11 @@
 //! Phases.
 ghost use Rattle.std.specs.Prelude.{◌≡◌, ◌≤◌, ◌+◌, ◌-◌, ◌^◌, min, length, IsTrue, ◌↔◌, IsOk, IfErr, IfOk, OnOk, OnErr};
-ghost use Rattle.rambo_phase.specs.Phases.{started, after_letter, heard_as, above, needed, is_met};
+ghost use Rattle.rambo_phase.specs.Phases.{unbegun, started, after_letter, heard_as, above, needed, is_met};
 
 use crate::heard::Heard;
 use rambo_config_map::{ConfigMap, Places};
 use rambo_names::{Members, Name, Quorums, Refusal};
+use std::alloc::Global;
 use std::marker::Model;
 
 /// A phase of a read or a write: its number, the configurations of the places from `lo` on, and who replied
@@ -39,17 +40,29 @@ impl<Q: Quorums> Model for Phase<Q> {
 const INSIDE: usize = 8;
 
 impl<Q: Quorums> Phase<Q> {
-    /// A phase of node `me` begins with the configurations of its map, and the node replies to itself.
-    pub fn start(number: u64, map: &ConfigMap<Q>, me: Name) -> Self
-        ensures state { result.state ≡ started number map.now me }
+    /// A phase that has not begun: of no configuration, to which nobody replied.
+    pub fn new(alloc: Global) -> Self
+        ensures state { result.state ≡ unbegun }
         ensures inline { result.capacity ≡ 8 }
     {
         Phase {
-            number,
-            lo: map.floor(),
-            places: map.places().copy_inline(),
-            repliers: Members::empty().with(me),
+            number: 0,
+            lo: 0,
+            places: Places::new(alloc),
+            repliers: Members::empty(),
         }
+    }
+
+    /// It begins, or begins anew, as a phase of node `me`, under this number: with the configurations of the node's map, and
+    /// the node replies to itself. It takes no memory.
+    pub fn begin(&mut self, number: u64, map: &ConfigMap<Q>, me: Name)
+        ensures state { self.new.state ≡ started number map.now me }
+        ensures capacity { self.new.capacity ≡ self.old.capacity }
+    {
+        self.number = number;
+        self.lo = map.floor();
+        self.places.refill(map.places());
+        self.repliers = Members::empty().with(me);
     }
 
     /// Its number, which a sender has heard of before it replies.

@@ -1,20 +1,20 @@
-use Rattle.std.proofs.Common.{ap, ◌∙◌, ◌++◌, ◌∷◌, []}
-use Rattle.rambo_calls.specs.Kept.{call_of, calls_of}
-use Rattle.std.proofs.lemmas.List.{map-append}
-use Rattle.rambo_calls.specs.declared.stage.Stage.TheVariants.{Query}
+use Rattle.std.proofs.Common.{◌≡◌, ℕ, List, [], ◌∷◌, ◌++◌, length, slice_get, slice_set, Some, refl, sym, ap, ◌∙◌}
+use Rattle.std.proofs.lemmas.List.{map-append, length-map}
 use Rattle.rambo_names.proofs.Sizes.{up_fits, back_fits, variant_fits}
+use Rattle.rambo_calls.specs.Calls.{CallState}
+use Rattle.rambo_calls.specs.Hearing.{restarted}
+use Rattle.rambo_calls.specs.Kept.{call_of, calls_of, with_call}
 use Rattle.rambo_calls.proofs.open_calls.OpenCalls.open.Goals as goal
 
-pub returns-clause-ok : goal.returns-clause-ok
-returns-clause-ok g c =
-    ap calls_of c.in_ok-push.ensures.items ∙ map-append call_of c.self.inside.list.items _
-    ∙ (λ i. calls_of (c.self.view_is i) ++ record { number = c.args.number; op = c.args.op; stage = Query; phase = c.start.ensures.state i } ∷ [])
+last_is : {A : Type 0} (xs : List A) (x : A) → slice_get (xs ++ x ∷ []) (length xs) ≡ Some x
+last_is [] x = refl
+last_is (y ∷ ys) x = last_is ys x
 
-pub returns-clause-err : goal.returns-clause-err
-returns-clause-err g c = _
+last_set : {A : Type 0} (xs : List A) (x y : A) → slice_set (xs ++ x ∷ []) (length xs) y ≡ xs ++ y ∷ []
+last_set [] x y = refl
+last_set (z ∷ zs) x y = ap (λ ys. z ∷ ys) (last_set zs x y)
 
-pub returns-clause-refused : goal.returns-clause-refused
-returns-clause-refused g c = _
-
-pub start-requires : goal.start-requires
-start-requires g c = (c.requires-raw.1.1, back_fits _ _ _ (up_fits _ _ _ (variant_fits _ _ _ _ (back_fits _ _ _ (up_fits _ _ _ c.requires-raw.1.0)))))
+-- the last call is put in another way
+last_put : {Q : Type 0} (cs : List (CallState Q)) (c : CallState Q) (f : CallState Q → CallState Q)
+    → with_call (length cs) (slice_get (cs ++ c ∷ []) (length cs)) f (cs ++ c ∷ []) ≡ cs ++ f c ∷ []
+last_put cs c f = ap (λ o. with_call (length cs) o f (cs ++ c ∷ [])) (last_is cs c) ∙ last_set cs c (f c)
