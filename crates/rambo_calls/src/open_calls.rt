@@ -86,13 +86,14 @@ impl<Q: Quorums> OpenCalls<Q> {
         ensures err { OnErr result (self.new ≡ self.old) }
         ensures refused { IfErr result (λ r. r ≡ Refusal.OutOfMemory) }
     {
+        let alloc = self.alloc();
         let place = self.list.len();
         self.list.reserve(1)?;
         self.list.push_reserved(OpenCall {
             number,
             op,
             stage: Stage::Query,
-            phase: Phase::new(self.alloc()),
+            phase: Phase::new(alloc),
         });
         // (it begins where it lies: a phase is large, and where it is moved it is copied whole)
         self.restart(place, phase_number, map, me);

@@ -51,6 +51,11 @@ impl<Q: Quorums> Places<Q> {
         Places { slots }
     }
 
+    /// Where memory for more than eight comes from.
+    pub fn alloc(&self) -> Global {
+        *self.slots.allocator()
+    }
+
     /// How many configurations there are.
     pub fn len(&self) -> usize
         ensures { result ≡ length self.now.configs }

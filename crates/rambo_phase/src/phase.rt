@@ -40,6 +40,16 @@ impl<Q: Quorums> Model for Phase<Q> {
 const INSIDE: usize = 8;
 
 impl<Q: Quorums> Phase<Q> {
+    /// A phase of node `me` begins with the configurations of its map, and the node replies to itself.
+    pub fn start(number: u64, map: &ConfigMap<Q>, me: Name) -> Self
+        ensures state { result.state ≡ started number map.now me }
+        ensures inline { result.capacity ≡ 8 }
+    {
+        let mut phase = Phase::new(map.places().alloc());
+        phase.begin(number, map, me);
+        phase
+    }
+
     /// A phase that has not begun: of no configuration, to which nobody replied.
     pub fn new(alloc: Global) -> Self
         ensures state { result.state ≡ unbegun }
@@ -53,8 +63,8 @@ impl<Q: Quorums> Phase<Q> {
         }
     }
 
-    /// It begins, or begins anew, as a phase of node `me`, under this number: with the configurations of the node's map, and
-    /// the node replies to itself. It takes no memory.
+    /// What `start` does, where a phase lies already, which needn't be moved then: it begins, or begins anew. It takes no
+    /// memory.
     pub fn begin(&mut self, number: u64, map: &ConfigMap<Q>, me: Name)
         ensures state { self.new.state ≡ started number map.now me }
         ensures capacity { self.new.capacity ≡ self.old.capacity }

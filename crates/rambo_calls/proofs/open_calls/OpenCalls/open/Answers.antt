@@ -1,7 +1,7 @@
-use Rattle.std.proofs.Common.{◌≡◌, ℕ, List, [], ◌∷◌, ◌++◌, length, slice_get, slice_set, Some, refl, sym, ap, ◌∙◌}
+use Rattle.std.proofs.Common.{◌≡◌, List, [], ◌∷◌, ◌++◌, length, slice_get, slice_set, Some, refl, sym, ap, ◌∙◌}
 use Rattle.std.proofs.lemmas.List.{map-append, length-map}
-use Rattle.rambo_names.proofs.Sizes.{up_fits, back_fits, variant_fits}
 use Rattle.rambo_calls.specs.Calls.{CallState}
+use Rattle.rambo_calls.specs.declared.stage.Stage.TheVariants.{Query}
 use Rattle.rambo_calls.specs.Hearing.{restarted}
 use Rattle.rambo_calls.specs.Kept.{call_of, calls_of, with_call}
 use Rattle.rambo_calls.proofs.open_calls.OpenCalls.open.Goals as goal
@@ -18,3 +18,15 @@ last_set (z ∷ zs) x y = ap (λ ys. z ∷ ys) (last_set zs x y)
 last_put : {Q : Type 0} (cs : List (CallState Q)) (c : CallState Q) (f : CallState Q → CallState Q)
     → with_call (length cs) (slice_get (cs ++ c ∷ []) (length cs)) f (cs ++ c ∷ []) ≡ cs ++ f c ∷ []
 last_put cs c f = ap (λ o. with_call (length cs) o f (cs ++ c ∷ [])) (last_is cs c) ∙ last_set cs c (f c)
+
+pub returns-clause-ok : goal.returns-clause-ok
+returns-clause-ok g c =
+    let old = calls_of c.args.self.now in
+    let first = call_of (record { number = c.args.number; op = c.args.op; stage = Query; phase = c.new.result }) in
+    let f = restarted c.args.phase_number c.args.map.now c.args.me in
+    let place : c.len-place.result ≡ length old =
+    c.len-place.ensures ∙ c.self.inside.list.ok.0 ∙ ap length c.self.view_is ∙ sym (length-map c.args.self.now call_of) in
+    let opened : calls_of c.push_reserved.new.self.items ≡ old ++ first ∷ [] =
+    ap calls_of c.push_reserved.ensures.items ∙ map-append call_of c.reserve.new.self.items _
+    ∙ ap (λ cs. calls_of cs ++ first ∷ []) (c.reserve.ensures.items ∙ c.self.view_is) in
+    c.restart.ensures ∙ (λ i. with_call (place i) (slice_get (opened i) (place i)) f (opened i)) ∙ last_put old first f
