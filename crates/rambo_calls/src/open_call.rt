@@ -48,14 +48,14 @@ impl<Q: Quorums> OpenCall<Q> {
         ensures { call_of self.new ≡ propagating kept (started number map.now me) (call_of self.old) }
     {
         self.stage = Stage::Propagation(kept);
-        self.phase = Phase::start(number, map, me);
+        self.phase.begin(number, map, me);
     }
 
     // Begins its present phase anew, under this number with this map.
     pub(crate) fn restart(&mut self, number: u64, map: &ConfigMap<Q>, me: Name)
         ensures { call_of self.new ≡ restarted number map.now me (call_of self.old) }
     {
-        self.phase = Phase::start(number, map, me);
+        self.phase.begin(number, map, me);
     }
 
     // Hears a letter that has this heard number and map, for which there is room, and begins anew where it has
@@ -73,20 +73,10 @@ impl<Q: Quorums> OpenCall<Q> {
         ensures { call_of self.new ≡ heard_call heard from map.now number merged.now me (call_of self.old) }
     {
         match self.phase.hear(from, heard, map) {
-            Ok(Heard::Restart) => self.phase = begun_anew(number, merged, me),
+            Ok(Heard::Restart) => self.phase.begin(number, merged, me),
             Ok(Heard::Counted) => {}
             Ok(Heard::Old) => {}
             Err(_) => unreachable!(),
         }
     }
-}
-
-// A phase that begins anew.
-// (a call of its own, since that seldom happens)
-#[inline(never)]
-fn begun_anew<Q: Quorums>(number: u64, map: &ConfigMap<Q>, me: Name) -> Phase<Q>
-    ensures state { result.state ≡ started number map.now me }
-    ensures inline { result.capacity ≡ 8 }
-{
-    Phase::start(number, map, me)
 }

@@ -86,12 +86,17 @@ impl<Q: Quorums> OpenCalls<Q> {
         ensures err { OnErr result (self.new ≡ self.old) }
         ensures refused { IfErr result (λ r. r ≡ Refusal.OutOfMemory) }
     {
-        self.list.push(OpenCall {
+        let alloc = self.alloc();
+        let place = self.list.len();
+        self.list.reserve(1)?;
+        self.list.push_reserved(OpenCall {
             number,
             op,
             stage: Stage::Query,
-            phase: Phase::start(phase_number, map, me),
-        })?;
+            phase: Phase::new(alloc),
+        });
+        // (it begins where it lies: a phase is large, and where it is moved it is copied whole)
+        self.restart(place, phase_number, map, me);
         Ok(())
     }
 

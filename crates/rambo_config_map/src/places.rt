@@ -31,6 +31,16 @@ impl<Q: Quorums> Model for Places<Q> {
 }
 
 impl<Q: Quorums> Places<Q> {
+    /// A row of no configuration.
+    pub fn new(alloc: Global) -> Self
+        ensures configs { result.configs ≡ [] }
+        ensures inline { result.capacity ≡ 8 }
+    {
+        Places {
+            slots: SmallVec::new(alloc),
+        }
+    }
+
     /// A row of one configuration.
     pub fn one(alloc: Global, config: Q) -> Self
         ensures configs { result.configs ≡ config ∷ [] }
@@ -39,6 +49,11 @@ impl<Q: Quorums> Places<Q> {
         let mut slots = SmallVec::new(alloc);
         slots.push_reserved(Some(config));
         Places { slots }
+    }
+
+    /// Where memory for more than eight comes from.
+    pub fn alloc(&self) -> Global {
+        *self.slots.allocator()
     }
 
     /// How many configurations there are.
@@ -96,6 +111,16 @@ impl<Q: Quorums> Places<Q> {
         let mut slots = SmallVec::new(*self.slots.allocator());
         append_slots(&mut slots, self.slots.as_slice());
         Places { slots }
+    }
+
+    /// Takes another row's configurations, at most eight, in place of its own. It takes no memory.
+    pub fn refill(&mut self, other: &Places<Q>)
+        requires { length other.now.configs ≤ 8 }
+        ensures configs { self.new.configs ≡ other.now.configs }
+        ensures capacity { self.new.capacity ≡ self.old.capacity }
+    {
+        self.slots.clear();
+        append_slots(&mut self.slots, other.slots.as_slice());
     }
 
     /// Drops the first configurations.

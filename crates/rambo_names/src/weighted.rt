@@ -7,6 +7,7 @@ ghost use Rattle.rambo_names.specs.Quorums.{is_majority};
 ghost use Rattle.rambo_names.specs.Weights.{digit_put, evenly, weight_of, members_of, total, held, outweighs, weighted_majorities};
 ghost use Rattle.rambo_names.specs.WeightLaws.{weighted_sound, same_weights-path};
 
+use crate::majority::Majority;
 use crate::members::Members;
 use crate::name::Name;
 use crate::quorums::Quorums;
@@ -123,6 +124,10 @@ impl Quorums for Weighted {
     }
 
     fn is_quorum(&self, who: Members) -> bool {
+        // (most configurations are even, and a majority is found by two counts in place of eight)
+        if *self == Weighted::of(self.ones) {
+            return Majority::of(self.ones).is_quorum(who);
+        }
         2 * self.held(who) > self.total()
     }
 }

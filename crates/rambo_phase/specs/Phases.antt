@@ -1,6 +1,6 @@
 -- Phases: the round trips of a read or a write to quorums (Attiya, Bar-Noy and Dolev, "Sharing Memory Robustly in
 -- Message-Passing Systems", JACM 1995), over the configurations of several places (Lynch and Shvartsman, "RAMBO")
-use Rattle.std.specs.Prelude.{ℕ, ◌+◌, ◌-◌, Bool, nat_le, if◌then◌else◌, List, ◌++◌, length, drop}
+use Rattle.std.specs.Prelude.{ℕ, ◌+◌, ◌-◌, Bool, nat_le, if◌then◌else◌, List, [], ◌++◌, length, drop}
 use Rattle.std.specs.List.{list_all}
 use Rattle.std.specs.FinSet as set
 use Rattle.rambo_names.specs.Names.{NameSet}
@@ -24,6 +24,10 @@ pub record KeptPhase (Q : Type 0) : Type 0 where
 -- the set of one name
 abbrev pub only : ℕ → NameSet
 only n = set.insert set.empty n
+
+-- a phase that has not begun
+abbrev pub unbegun : {Q : Type 0} → PhaseState Q
+unbegun = record { number = 0; lo = 0; configs = []; repliers = set.empty }
 
 -- a phase of node me begins: it takes the present map, and the node replies to itself
 abbrev pub started : {Q : Type 0} → ℕ → MapState Q → ℕ → PhaseState Q

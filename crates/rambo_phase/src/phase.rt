@@ -1,10 +1,11 @@
 //! Phases.
 ghost use Rattle.std.specs.Prelude.{◌≡◌, ◌≤◌, ◌+◌, ◌-◌, ◌^◌, min, length, IsTrue, ◌↔◌, IsOk, IfErr, IfOk, OnOk, OnErr};
-ghost use Rattle.rambo_phase.specs.Phases.{started, after_letter, heard_as, above, needed, is_met};
+ghost use Rattle.rambo_phase.specs.Phases.{unbegun, started, after_letter, heard_as, above, needed, is_met};
 
 use crate::heard::Heard;
 use rambo_config_map::{ConfigMap, Places};
 use rambo_names::{Members, Name, Quorums, Refusal};
+use std::alloc::Global;
 use std::marker::Model;
 
 /// A phase of a read or a write: its number, the configurations of the places from `lo` on, and who replied
@@ -44,12 +45,34 @@ impl<Q: Quorums> Phase<Q> {
         ensures state { result.state ≡ started number map.now me }
         ensures inline { result.capacity ≡ 8 }
     {
+        let mut phase = Phase::new(map.places().alloc());
+        phase.begin(number, map, me);
+        phase
+    }
+
+    /// A phase that has not begun: of no configuration, to which nobody replied.
+    pub fn new(alloc: Global) -> Self
+        ensures state { result.state ≡ unbegun }
+        ensures inline { result.capacity ≡ 8 }
+    {
         Phase {
-            number,
-            lo: map.floor(),
-            places: map.places().copy_inline(),
-            repliers: Members::empty().with(me),
+            number: 0,
+            lo: 0,
+            places: Places::new(alloc),
+            repliers: Members::empty(),
         }
+    }
+
+    /// What `start` does, where a phase lies already, which needn't be moved then: it begins, or begins anew. It takes no
+    /// memory.
+    pub fn begin(&mut self, number: u64, map: &ConfigMap<Q>, me: Name)
+        ensures state { self.new.state ≡ started number map.now me }
+        ensures capacity { self.new.capacity ≡ self.old.capacity }
+    {
+        self.number = number;
+        self.lo = map.floor();
+        self.places.refill(map.places());
+        self.repliers = Members::empty().with(me);
     }
 
     /// Its number, which a sender has heard of before it replies.

@@ -12,7 +12,7 @@ in_phase c p = record { number = c.number; op = c.op; stage = c.stage; phase = p
 
 pub returns-in-Ok-Restart : goal.returns-in-Ok-Restart
 returns-in-Ok-Restart g c =
-    ap (in_phase c.args.self.now) (c.begun_anew.ensures.state ∙ sym (phase_restarts c.args.heard c.args.from c.args.map.now c.args.number c.args.merged.now c.args.me c.args.self.now.phase.state
+    ap (in_phase c.args.self.now) (c.begin.ensures.state ∙ sym (phase_restarts c.args.heard c.args.from c.args.map.now c.args.number c.args.merged.now c.args.me c.args.self.now.phase.state
     (sym c.in-Ok-Restart.ensures.answer ∙ c.in-Ok-Restart.field-0-is)))
 
 pub returns-in-Ok-Counted : goal.returns-in-Ok-Counted
