@@ -1,5 +1,7 @@
 pub mod Asked
 pub mod Decided
+pub mod Feeds
+pub mod Interruptions
 pub mod KnownBytes
 pub mod LookUps
 pub mod Pieces

@@ -54,7 +54,7 @@ once-head c p es once =
     stood q false same e = cc
 
 -- whether one place is there and stands before another
-abbrev precedes : Option ℕ → Option ℕ → Bool
+abbrev pub precedes : Option ℕ → Option ℕ → Bool
 precedes o None = false
 precedes o (Some n) = is_before n o
 
