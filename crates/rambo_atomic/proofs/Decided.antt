@@ -86,7 +86,7 @@ complete-each h among order (event.Call d p ∷ es) all c o has own answered =
 complete-each h among order (event.Answer d a ∷ es) all c o has own answered =
     complete-each h among order es all c o has own answered
 
-some_is : {A : Type 0} (o : Option A) → IsSome o → (a : A) × (o ≡ Some a)
+pub some_is : {A : Type 0} (o : Option A) → IsSome o → (a : A) × (o ≡ Some a)
 some_is None i = absurd (true≢false (sym i))
 some_is (Some a) i = (a, refl)
 

@@ -1,4 +1,6 @@
 pub mod Decided
+pub mod Feeds
+pub mod Interruptions
 pub mod KnownBytes
 pub mod Pieces
 pub mod RealTime

@@ -1,6 +1,9 @@
 -- What reads and writes of a stream do
-use Rattle.std.specs.Prelude.{◌≡◌, ℕ, ◌+◌, ◌-◌, ◌^◌, min, List, ◌++◌, take, drop, Option, Result, Ok, Err}
+use Rattle.std.specs.Prelude.{◌≡◌, ℕ, zero, suc, ◌+◌, ◌-◌, ◌^◌, min, List, ◌++◌, take, drop, Option, Result, Ok, Err, IsErrAnd}
+use Rattle.std.specs.IoError.{error_kind}
 use Rattle.std.specs.Io.KnownBytes.{Appends}
+use Rattle.std.specs.declared.io.Error.{Error}
+use Rattle.std.specs.declared.io.ErrorKind.TheVariants.{Interrupted}
 
 -- a count of one call more; it stops at the greatest number of 64 bits
 abbrev pub counted : ℕ → ℕ
@@ -9,6 +12,20 @@ counted n = min (n + 1) (2 ^ 64 - 1)
 -- known bytes grew by a beginning of the text
 abbrev pub Begins : Option (List ℕ) → Option (List ℕ) → List ℕ → Type 0
 Begins old new text = (written : List ℕ) × (rest : List ℕ) × (text ≡ written ++ rest) × Appends old new written
+
+-- a call that gave this answer was interrupted by a signal
+abbrev pub IsInterruption : Result ℕ Error → Type 0
+IsInterruption answer = IsErrAnd answer (λ e. error_kind e ≡ Interrupted)
+
+-- so many calls, each of which gives an answer and leaves a stream, were interrupted, one after another
+abbrev pub AreInterrupted : {T : Type 0} → (T → Result ℕ Error → T → Type 0) → ℕ → T → T → Type 0
+AreInterrupted gives zero old new = new ≡ old
+AreInterrupted {T} gives (suc n) old new = (between : T) × (answer : Result ℕ Error) × AreInterrupted gives n old between × gives between answer new × IsInterruption answer
+
+-- a call was made again as long as it was interrupted, 2^64 - 1 times at most, and gave this answer at last
+abbrev pub Answers : {T : Type 0} → (T → Result ℕ Error → T → Type 0) → T → Result ℕ Error → T → Type 0
+Answers {T} gives old answer new =
+    (n : ℕ) × (between : T) × AreInterrupted gives n old between × gives between answer new × (IsInterruption answer → n ≡ 2 ^ 64 - 1)
 
 -- a reader or writer of std, how often it was read, and how many of its calls failed
 pub record WrappedState (T : Type 0) : Type 0 where

@@ -1,5 +1,5 @@
 -- What was read of a source and isn't used yet
-use Rattle.std.specs.Prelude.{◌≡◌, ◌≢◌, ◌⊎◌, ℕ, ◌+◌, ◌*◌, ◌^◌, length, Bool, true, List, [], ◌∷◌, ◌++◌, Option}
+use Rattle.std.specs.Prelude.{◌≡◌, ◌≢◌, ◌⊎◌, ℕ, ◌+◌, ◌*◌, ◌^◌, ◌≤◌, ◌<◌, length, slice_index, Bool, true, List, [], ◌∷◌, ◌++◌, Option}
 use Rattle.std.specs.Io.KnownBytes.{Consumes, IsAtEnd}
 
 -- the bytes that are held, and whether the source is known to have no more
@@ -18,6 +18,14 @@ TakesIn old new before after = (given : List ℕ) × Consumes old new given × (
 -- a line feed stands somewhere
 abbrev pub HasFeed : List ℕ → Type 0
 HasFeed bytes = (front : List ℕ) × (back : List ℕ) × (bytes ≡ front ++ 10 ∷ back)
+
+-- no line feed stands at this place or behind it
+abbrev pub HasNoFeedFrom : ℕ → List ℕ → Type 0
+HasNoFeedFrom place bytes = (k : ℕ) → place ≤ k → k < length bytes → slice_index bytes k ≢ 10
+
+-- the bytes were read piece by piece, and before the last piece no line was held
+abbrev pub EndsInPiece : List ℕ → Type 0
+EndsInPiece held = (front : List ℕ) × (piece : List ℕ) × (held ≡ front ++ piece) × (¬ (HasFeed front)) × (length piece ≤ 2 ^ 16)
 
 -- the first line is held whole: with its line feed, or up to the source's end
 abbrev pub HoldsLine : UnreadState → Type 0

@@ -20,4 +20,4 @@ pub use tape::Tape;
 pub use unread::Unread;
 pub use verdict::{Rule, Verdict};
 pub use whole::{StreamFault, read_all, write_all};
-pub use wrapped::Wrapped;
+pub use wrapped::{Reader, Wrapped, Writer};

@@ -3,7 +3,7 @@ ghost use Rattle.std.specs.Prelude.{◌≡◌, ◌≢◌, ◌⊎◌, ◌≤◌, 
 ghost use Rattle.std.specs.Bool.{MatchBool};
 ghost use Rattle.std.specs.Io.KnownBytes.{Consumes, IsAtEnd};
 ghost use Rattle.rambo_atomic.specs.Streams.{counted};
-ghost use Rattle.rambo_atomic.specs.Unreads.{KnowsEnd, TakesIn, HasFeed, HoldsLine, IsDone, work_left};
+ghost use Rattle.rambo_atomic.specs.Unreads.{KnowsEnd, TakesIn, HasFeed, HasNoFeedFrom, HoldsLine, EndsInPiece, IsDone, work_left};
 ghost use Rattle.rambo_atomic.specs.declared.whole.StreamFault.TheVariants as fault;
 
 use crate::stream::Source;
@@ -22,20 +22,20 @@ pub struct Unread {
     bytes: Vec<u8>,
     // How many of the bytes were used.
     start: usize,
-    // Where the last line ends of which the line feed is held, or 0.
+    // Where the last line ends that has its line feed, or 0.
     lines: usize,
     ended: bool,
 }
 
 impl Model for Unread {
     ghost use Rattle.std.specs.Prelude.{drop, ◌≡◌, ◌≤◌, ◌<◌, ◌-◌, length, get_or};
-    ghost use Rattle.rambo_atomic.specs.Unreads.{UnreadState};
+    ghost use Rattle.rambo_atomic.specs.Unreads.{UnreadState, HasNoFeedFrom};
 
     ghost Value = { UnreadState };
 
     ghost view = { λ u. record { held = drop u.start u.bytes.items; ended = u.ended } };
 
-    ghost invariant = { λ u. (u.start ≤ length u.bytes.items) × (u.lines ≤ length u.bytes.items) × (0 < u.lines → get_or u.bytes.items (u.lines - 1) 0 ≡ 10) };
+    ghost invariant = { λ u. (u.start ≤ length u.bytes.items) × (u.lines ≤ length u.bytes.items) × (0 < u.lines → get_or u.bytes.items (u.lines - 1) 0 ≡ 10) × HasNoFeedFrom u.lines u.bytes.items };
 }
 
 impl Unread {
@@ -69,7 +69,8 @@ impl Unread {
     }
 
     /// Reads on until a line is held, with its line feed or up to the source's end, and answers whether there
-    /// is one. It reads nothing where a line is held already, and nothing behind the end.
+    /// is one. It reads nothing where a line is held already, nothing behind the end, and no piece behind one in which a
+    /// line ends.
     ///
     /// `Read` where the source fails, and `Memory` where there is no room for the bytes. What was read is
     /// held then too.
@@ -78,6 +79,8 @@ impl Unread {
         ensures knows { KnowsEnd self.new (R.left reader.new) }
         ensures bytes { TakesIn (R.left reader.old) (R.left reader.new) self.old.held self.new.held }
         ensures ended { self.old.ended ≡ true → self.new ≡ self.old }
+        ensures kept { HasFeed self.old.held → (self.new ≡ self.old) × (reader.new ≡ reader.old) }
+        ensures stops { ¬ (HasFeed self.old.held) → EndsInPiece self.new.held }
         ensures line { IfOk result (λ has. MatchBool has (HoldsLine self.new) (IsDone self.new)) }
         ensures work { OnOk result (work_left (R.reads_left reader.new) self.new ≤ work_left (R.reads_left reader.old) self.old) }
         ensures fine { OnOk result (R.failures reader.new ≡ R.failures reader.old) }
@@ -125,7 +128,7 @@ impl Unread {
 
     // Whether a line is held with its line feed, or all was read.
     fn is_ready(&self) -> bool
-        ensures { MatchBool result (HasFeed self.now.held ⊎ (self.now.ended ≡ true)) (self.now.ended ≡ false) }
+        ensures { MatchBool result (HasFeed self.now.held ⊎ (self.now.ended ≡ true)) ((¬ (HasFeed self.now.held)) × (self.now.ended ≡ false)) }
     {
         self.start < self.lines || self.ended
     }
@@ -136,14 +139,15 @@ impl Unread {
         ensures knows { KnowsEnd self.new (R.left reader.new) }
         ensures bytes { TakesIn (R.left reader.old) (R.left reader.new) self.old.held self.new.held }
         ensures fits { length self.new.held < 2 ^ 63 }
+        ensures piece { length self.new.held ≤ length self.old.held + 2 ^ 16 }
         ensures reads { OnOk result (R.reads_left reader.new < R.reads_left reader.old) }
         ensures fine { OnOk result (R.failures reader.new ≡ R.failures reader.old) }
         ensures fault { IfErr result (λ f. ((f ≡ fault.Read) × (R.failures reader.new ≡ counted (R.failures reader.old)))
             ⊎ ((f ≡ fault.Memory) × (R.failures reader.new ≡ R.failures reader.old))) }
     {
         forget_front(&mut self.bytes, self.start);
+        self.lines = self.lines.saturating_sub(self.start);
         self.start = 0;
-        self.lines = 0;
         let before = self.bytes.len();
         let count = append_piece(&mut self.piece, &mut self.bytes, reader)?;
         self.ended = count == 0;
@@ -172,7 +176,7 @@ fn forget_front(bytes: &mut Vec<u8>, count: usize)
 fn lines_end(bytes: &[u8]) -> usize
     ensures within { result ≤ length bytes.now }
     ensures feed { 0 < result → slice_index bytes.now (result - 1) ≡ 10 }
-    ensures last { (k : ℕ) → result ≤ k → k < length bytes.now → slice_index bytes.now k ≢ 10 }
+    ensures last { HasNoFeedFrom result bytes.now }
 {
     let mut end = bytes.len();
     while 0 < end && bytes[end - 1] != b'\n' {

@@ -1,5 +1,5 @@
 //! Whole inputs and whole outputs.
-ghost use Rattle.std.specs.Prelude.{◌≡◌, ◌⊎◌, ◌<◌, ◌++◌, ℕ, List, [], length, IfOk, IfErr, IfSome, OnOk, OnErr};
+ghost use Rattle.std.specs.Prelude.{◌≡◌, ◌⊎◌, ◌≤◌, ◌<◌, ◌++◌, ◌^◌, ℕ, List, [], length, IfOk, IfErr, IfSome, OnOk, OnErr};
 ghost use Rattle.std.specs.Io.KnownBytes.{Appends, Consumes, IsAtEnd};
 ghost use Rattle.rambo_atomic.specs.Streams.{counted, Begins};
 ghost use Rattle.rambo_atomic.specs.declared.whole.StreamFault.TheVariants as fault;
@@ -73,6 +73,7 @@ pub(crate) fn append_piece<R: Source>(
     reader: &mut R,
 ) -> Result<usize, StreamFault>
     ensures bytes { IfOk result (λ n. (given : List ℕ) × Consumes (R.left reader.old) (R.left reader.new) given × (bytes.new.items ≡ bytes.old.items ++ given) × (n ≡ length given)) }
+    ensures piece { IfOk result (λ n. n ≤ 2 ^ 16) }
     ensures end { IfOk result (λ n. n ≡ 0 → IsAtEnd (R.left reader.new)) }
     ensures kept { OnErr result ((bytes.new.items ≡ bytes.old.items) × Consumes (R.left reader.old) (R.left reader.new) []) }
     ensures reads { OnOk result (R.reads_left reader.new < R.reads_left reader.old) }

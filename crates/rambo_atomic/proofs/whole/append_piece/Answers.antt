@@ -1,5 +1,6 @@
 use Rattle.std.proofs.lemmas.Grind.{common_steps}
 use Rattle.std.proofs.Common.{List, ℕ, [], Option, None, Some, refl, sym, inl, inr, arith}
+use Rattle.std.proofs.KnownBytes.{Consumes-nil}
 use Rattle.std.specs.Io.KnownBytes.{Consumes, Keeps}
 use Rattle.rambo_names.proofs.Errors.{err_kept, err_ok, err_if_ok, on_err}
 use Rattle.rambo_atomic.proofs.whole.append_piece.Goals as goal
@@ -10,10 +11,6 @@ keeps-none None b k = tt
 keeps-none (Some x) None k = absurd k
 keeps-none (Some x) (Some y) k = sym k
 
-same-none : (a : Option (List ℕ)) → Consumes a a []
-same-none None = tt
-same-none (Some x) = refl
-
 pub returns-in_err-resize-clause-bytes : goal.returns-in_err-resize-clause-bytes
 returns-in_err-resize-clause-bytes g c = err_if_ok c.from_residual.result _ _ c.from_residual.ensures.1
 
@@ -21,7 +18,7 @@ pub returns-in_err-resize-clause-end : goal.returns-in_err-resize-clause-end
 returns-in_err-resize-clause-end g c = err_if_ok c.from_residual.result _ _ c.from_residual.ensures.1
 
 pub returns-in_err-resize-clause-kept : goal.returns-in_err-resize-clause-kept
-returns-in_err-resize-clause-kept g c = on_err c.from_residual.result (refl, same-none _)
+returns-in_err-resize-clause-kept g c = on_err c.from_residual.result (refl, Consumes-nil _)
 
 pub returns-in_err-resize-clause-reads : goal.returns-in_err-resize-clause-reads
 returns-in_err-resize-clause-reads g c = err_ok c.from_residual.result _ _ c.from_residual.ensures.1
@@ -39,7 +36,7 @@ pub returns-in_err-reserve-clause-end : goal.returns-in_err-reserve-clause-end
 returns-in_err-reserve-clause-end g c = err_if_ok c.from_residual-in_err-reserve.result _ _ c.from_residual-in_err-reserve.ensures.1
 
 pub returns-in_err-reserve-clause-kept : goal.returns-in_err-reserve-clause-kept
-returns-in_err-reserve-clause-kept g c = on_err c.from_residual-in_err-reserve.result (c.in_err-reserve.ensures.items, same-none _)
+returns-in_err-reserve-clause-kept g c = on_err c.from_residual-in_err-reserve.result (c.in_err-reserve.ensures.items, Consumes-nil _)
 
 pub returns-in_err-reserve-clause-reads : goal.returns-in_err-reserve-clause-reads
 returns-in_err-reserve-clause-reads g c = err_ok c.from_residual-in_err-reserve.result _ _ c.from_residual-in_err-reserve.ensures.1

@@ -1,5 +1,11 @@
+use Rattle.std.proofs.Common.{◌-◌, ◌^◌}
 use Rattle.std.specs.Io.KnownBytes.{Keeps}
+use Rattle.rambo_atomic.specs.Streams.{AreInterrupted}
 use Rattle.rambo_atomic.proofs.wrapped.read.Given as goal
 
-abbrev pub invariant-loop : goal.invariant-loop
-invariant-loop g l = Keeps (g.T.Read.remaining l.fn.inner) (g.T.Read.remaining l.inner)
+abbrev pub invariant-loop-interruptions : goal.invariant-loop-interruptions
+invariant-loop-interruptions g l =
+    Keeps (g.T.Reader.left l.fn.inner) (g.T.Reader.left l.inner) × AreInterrupted g.T.Reader.read_gives l.interruptions l.fn.inner l.inner
+
+abbrev pub decreases-loop-interruptions : goal.decreases-loop-interruptions
+decreases-loop-interruptions g l = 2 ^ 64 - 1 - l.interruptions

@@ -1,11 +1,9 @@
 use Rattle.std.proofs.lemmas.Grind.{common_steps}
-use Rattle.std.proofs.Common.{◌≡◌, ◌≤◌, ◌<◌, ℕ, List, [], ◌++◌, length, sym, ap, ◌∙◌, true≢false, arith}
+use Rattle.std.proofs.Common.{◌≡◌, ◌≤◌, ◌<◌, ℕ, List, [], ◌++◌, length, sym, ap, ◌∙◌, subst, true≢false, arith}
 use Rattle.std.proofs.lemmas.List.{append-nil, length-append}
+use Rattle.rambo_atomic.proofs.Feeds.{EndLines, lines_left, lines_stay, lines_end_later, seen_is}
 use Rattle.rambo_names.proofs.Errors.{err_kept, err_ok}
 use Rattle.rambo_atomic.proofs.unread.Unread.read_piece.Goals as goal
-
-at-start : (n m : ℕ) → (0 ≤ n) × (0 ≤ n) × (0 < 0 → m ≡ 10)
-at-start n m = (omega arith, omega arith, λ h. omega (arith, h))
 
 -- what was given stands behind what was held
 behind : (after before held given : List ℕ) → after ≡ before ++ given → before ≡ held → after ≡ held ++ given
@@ -25,7 +23,11 @@ pub forget_front-requires : goal.forget_front-requires
 forget_front-requires g c = assumption
 
 pub invariant_of-self : goal.invariant_of-self
-invariant_of-self g c = at-start _ _
+invariant_of-self g c =
+    let left = lines_left c.self.inside.bytes.items c.forget_front.new.bytes.items c.self.inside.start c.self.inside.lines c.saturating_sub-self-inside.result
+    (c.self.invariant.1, c.self.invariant.2, c.self.invariant.3) c.saturating_sub-self-inside.ensures c.forget_front.ensures in
+    let lines = subst (λ l. EndLines l c.saturating_sub-self-inside.result) (sym c.in_err-count.ensures.kept.0) left in
+    (omega arith, lines.0, lines.1, lines.2)
 
 pub returns-in_err-count-clause-knows : goal.returns-in_err-count-clause-knows
 returns-in_err-count-clause-knows g c = λ e. absurd (true≢false (sym e ∙ ap (λ u. u.ended) c.self.view_is ∙ c.requires))
@@ -58,10 +60,22 @@ pub overflow_add-self : goal.overflow_add-self
 overflow_add-self g c = grind arith
 
 pub invariant_of-self-then-lines-gt0 : goal.invariant_of-self-then-lines-gt0
-invariant_of-self-then-lines-gt0 g c = grind (arith, common_steps)
+invariant_of-self-then-lines-gt0 g c =
+    let given = c.in_ok-count.ensures.bytes in
+    let before : c.len-before.result ≡ length c.forget_front.new.bytes.items = omega (arith, c.len-before.ensures, c.forget_front.new.bytes.ok.0) in
+    let seen = seen_is c.deref.result.now c.append_piece.new.bytes.items c.forget_front.new.bytes.items given.0 c.len-before.result c.deref.ensures.value given.2 before in
+    let lines = lines_end_later c.forget_front.new.bytes.items c.append_piece.new.bytes.items given.0 _ c.len-before.result c.lines_end-lines.result given.2 before seen c.if-lines-gt0.true c.lines_end-lines.ensures.within c.lines_end-lines.ensures.feed c.lines_end-lines.ensures.last in
+    (omega arith, lines.0, lines.1, lines.2)
 
 pub invariant_of-self-else-lines-gt0 : goal.invariant_of-self-else-lines-gt0
-invariant_of-self-else-lines-gt0 g c = at-start _ _
+invariant_of-self-else-lines-gt0 g c =
+    let left = lines_left c.self.inside.bytes.items c.forget_front.new.bytes.items c.self.inside.start c.self.inside.lines c.saturating_sub-self-inside.result
+    (c.self.invariant.1, c.self.invariant.2, c.self.invariant.3) c.saturating_sub-self-inside.ensures c.forget_front.ensures in
+    let given = c.in_ok-count.ensures.bytes in
+    let before : c.len-before.result ≡ length c.forget_front.new.bytes.items = omega (arith, c.len-before.ensures, c.forget_front.new.bytes.ok.0) in
+    let seen = seen_is c.deref.result.now c.append_piece.new.bytes.items c.forget_front.new.bytes.items given.0 c.len-before.result c.deref.ensures.value given.2 before in
+    let lines = lines_stay c.forget_front.new.bytes.items c.append_piece.new.bytes.items given.0 _ c.saturating_sub-self-inside.result c.lines_end-lines.result left given.2 seen c.if-lines-gt0.false c.lines_end-lines.ensures.last in
+    (omega arith, lines.0, lines.1, lines.2)
 
 pub returns-then-lines-gt0-clause-knows : goal.returns-then-lines-gt0-clause-knows
 returns-then-lines-gt0-clause-knows g c = grind arith
