@@ -1,10 +1,9 @@
 -- An item is known by its words, which have no fault
-use Rattle.std.proofs.Common.{◌≡◌, ◌≢◌, ℕ, suc, ◌<◌, cond, List, [], ◌∷◌, length, map, decimal, codes, inl, inr, refl, sym, ap, subst, ◌∙◌, arith, lit<}
+use Rattle.std.proofs.Common.{◌≡◌, ◌≢◌, ℕ, ◌<◌, cond, List, [], ◌∷◌, map, decimal, codes, inl, inr, refl, sym, ap, subst, ◌∙◌, arith, lit<}
 use Rattle.std.specs.List.{All, AllByRecursion}
 use Rattle.std.specs.Str.{bytes_eq}
 use Rattle.std.proofs.lemmas.Fmt.{decimal_injective}
 use Rattle.std.proofs.lemmas.List.Elements.{recursion_from_All}
-use Rattle.rambo_names.specs.Names.{IsName}
 use Rattle.rambo_names.specs.Signs.{conf_text, IsConf}
 use Rattle.rambo_names.specs.Weights.{Weights}
 use Rattle.rambo_names.proofs.ConfOnce.{one_conf_is}
@@ -18,16 +17,17 @@ use Rattle.rambo_history.specs.declared.event.Event.TheVariants as event
 use Rattle.rambo_text.specs.declared.fault.Fault.{Fault}
 use Rattle.rambo_text.specs.declared.version.Version.{Version}
 use Rattle.rambo_text.specs.declared.version.Version.TheVariants.{One, Two}
-use Rattle.rambo_text.specs.Forms.{Form, Num, Name, Conf, Call, Hex, Standing, AreSpelt, IsBadWord}
-use Rattle.rambo_text.specs.Signs.{call_text, hex_text, standing_text, IsCall}
+use Rattle.rambo_text.specs.Forms.{Form, Num, Name, Conf, Call, Hex, Standing, AreSpelt}
+use Rattle.rambo_text.specs.Signs.{call_text, hex_text, standing_text, IsCall, IsOp}
 use Rattle.rambo_text.specs.Words.{Lacks, AreWords, words_text}
-use Rattle.rambo_text.proofs.Alike.{same_hex, same_id}
-use Rattle.rambo_text.proofs.Lacking.{lacks-decimal}
+use Rattle.rambo_text.proofs.Alike.{same_hex, same_id, same_name}
+use Rattle.rambo_text.proofs.Lacking.{lacks-decimal, lacks-name}
 use Rattle.rambo_text.proofs.Plain.{lacks-conf, lacks-hex, lacks-call, lacks-tested, lacks-words}
+use Rattle.rambo_text.proofs.SpeltWords.{not_bad, as_many}
 use Rattle.rambo_text.proofs.Standings.{lacks-standing, same_standing}
 use Rattle.rambo_text.proofs.WordSplits.{same_words}
 use Rattle.rambo_check.specs.EvidenceStates.{EvidenceState, with_item, IsBadItem}
-use Rattle.rambo_check.specs.Items.{IsItem, IsLineIn, IsEvent, IsOp, IsAnswer}
+use Rattle.rambo_check.specs.Items.{IsItem, IsLineIn, IsEvent, IsAnswer}
 use Rattle.rambo_check.specs.Laws.{HasNames}
 use Rattle.rambo_check.specs.Lines.{Item, Happened, Collected, Settled, Refused, Ordered, OrderedAll, Mapped, op_words, answer_words, item_words}
 use Rattle.rambo_check.specs.Plans.{Forms, each, plan, IsPlanFault}
@@ -50,9 +50,6 @@ lacks-calls b (c ∷ cs) low all = (lacks-call b c low all.0, lacks-calls b cs l
 lacks-confs : (b : ℕ) (ss : List Weights) → b < 44 → AllByRecursion (Lacks b) (map conf_text ss)
 lacks-confs b [] low = tt
 lacks-confs b (s ∷ ss) low = (lacks-conf b s low, lacks-confs b ss low)
-
-lacks-name : (b n : ℕ) → b < 44 → IsName n → Lacks b (decimal n)
-lacks-name b n low is = lacks-decimal b n (omega arith) (omega arith)
 
 lacks-item : (b : ℕ) (i : Item) → b < 44 → IsItem i → AllByRecursion (Lacks b) (item_words i)
 lacks-item b (Happened (event.Call c o)) low is = (lacks-tested b (codes "call") low refl, (lacks-call b c low is.0, lacks-op b o low))
@@ -194,9 +191,6 @@ same_confs [] (t ∷ ts) a b e = cc
 same_confs (s ∷ ss) [] a b e = cc
 same_confs (s ∷ ss) (t ∷ ts) a b e = (λ i. one_conf_is s t a.0 b.0 (cc) i ∷ same_confs ss ts a.1 b.1 (cc) i)
 
-same_name : (n m : ℕ) → IsName n → IsName m → decimal n ≡ decimal m → n ≡ m
-same_name n m a b e = decimal_injective n m (omega arith) (omega arith) e
-
 kept_by_words : (i j : Item) → IsItem i → IsItem j → kind_of i ≡ kind_of j → item_words i ≡ item_words j → kept_of i ≡ kept_of j
 kept_by_words (Happened e) (Happened f) a b k w = ap Happened (same_event e f a b k w)
 kept_by_words (Happened e) (Collected m q) a b k w = absurd (omega (arith, k, low_kind e))
@@ -322,20 +316,9 @@ pub same_item : (i j : Item) → IsItem i → IsItem j → HasNames i → HasNam
 same_item i j a b x y e = let w = words_by_line i j a b e in by_kept i j a b x y (same_kind i j w) w (same_kept i j a b e)
 
 -- the words of an item have no fault
-not_bad : (ms : List Form) (ws : List (List ℕ)) (f : Fault) → AreSpelt ms ws → IsBadWord ms ws f → ⊥
-not_bad [] ws f all bad = bad
-not_bad (m ∷ ms) [] f all bad = bad
-not_bad (m ∷ ms) (w ∷ ws) f all (inl here) = here.0 all.0
-not_bad (m ∷ ms) (w ∷ ws) f all (inr later) = not_bad ms ws f all.1 later.1
-
-as_many : (ms : List Form) (ws : List (List ℕ)) → AreSpelt ms ws → length ms ≡ length ws
-as_many [] [] all = refl
-as_many [] (w ∷ ws) all = absurd all
-as_many (m ∷ ms) [] all = absurd all
-as_many (m ∷ ms) (w ∷ ws) all = ap suc (as_many ms ws all.1)
 
 fits : (ms : List Form) (ws : List (List ℕ)) (f : Fault) → AreSpelt ms ws → IsPlanFault (Forms ms ws) f → ⊥
-fits ms ws f all (inl other) = other.0 (as_many ms ws all)
+fits ms ws f all (inl other) = other.0 (sym (as_many ms ws all))
 fits ms ws f all (inr bad) = not_bad ms ws f all bad.1
 
 each_spelt : (m : Form) (ws : List (List ℕ)) → AllSpelt m ws → AreSpelt (each m ws) ws

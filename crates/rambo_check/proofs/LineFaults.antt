@@ -13,7 +13,7 @@ use Rattle.rambo_text.specs.declared.version.Version.TheVariants.{One, Two}
 use Rattle.rambo_text.specs.Forms.{Form, Num, Name, Conf, Call, Hex, IsBadWord}
 use Rattle.rambo_text.specs.Words.{AreMore, IsFirstWord}
 use Rattle.rambo_text.proofs.WordSplits.{words_joined}
-use Rattle.rambo_check.specs.Plans.{Plan, Forms, each, call_plan, answer_plan, sequence_plan, order_plan, map_plan, tells_order, plan, IsPlanFault, IsLineFault, IsFaulty}
+use Rattle.rambo_check.specs.Plans.{Plan, Forms, each, call_plan, answer_plan, sequence_plan, order_plan, map_plan, tells_order, plan, IsPlanFault, IsLineFault, HaveBytes, HasBytes, FollowBytes, FollowCalls, TellsBytesOrCalls, IsFaulty}
 use Rattle.rambo_text.proofs.WordsThere.{more_has_words}
 use Rattle.rambo_check.proofs.Rows.{length-each}
 
@@ -23,8 +23,10 @@ else_so false x y e = refl
 
 -- a line's fault is that of the words behind the first
 pub line_fault : (v : Version) (line first : List ℕ) (more : Option (List ℕ)) (p : List (List ℕ) → Plan) (f : Fault) → IsFirstWord line first more
-    → ((ws : List (List ℕ)) → plan v (first ∷ ws) ≡ p ws) → IsFaulty p more f → (f ≡ OutOfMemory) ⊎ IsLineFault v line f
-line_fault v line first more p f is same (inl memory) = inl memory
+    → ((ws : List (List ℕ)) → plan v (first ∷ ws) ≡ p ws) → IsFaulty p more f → ((f ≡ OutOfMemory) × TellsBytesOrCalls v line) ⊎ IsLineFault v line f
+line_fault v line first more p f is same (inl memory) =
+    let bytes = memory.1 in
+    inl (memory.0, (first ∷ bytes.0, words_joined line first more bytes.0 is bytes.1, inl (subst HasBytes (sym (same bytes.0)) bytes.2)))
 line_fault v line first more p f is same (inr bad) =
     inr (first ∷ bad.0, words_joined line first more bad.0 is bad.1, subst (λ q. IsPlanFault q f) (sym (same bad.0)) bad.2)
 
@@ -40,6 +42,15 @@ plan_order Two w is ws = plan_word Two w (codes "order") is ws
 pub order_word : (v : Version) (w : List ℕ) → true ≡ tells_order v w → (v ≡ Two) × (w ≡ codes "order")
 order_word One w is = cc
 order_word Two w is = (refl, (bytes_eq-Decides w (codes "order")).0 (sym is))
+
+-- and its fault
+pub order_fault : (v : Version) (line w : List ℕ) (more : Option (List ℕ)) (f : Fault) → IsFirstWord line w more → true ≡ tells_order v w
+    → ((f ≡ OutOfMemory) × FollowCalls more) ⊎ IsFaulty order_plan more f → ((f ≡ OutOfMemory) × TellsBytesOrCalls v line) ⊎ IsLineFault v line f
+order_fault v line w more f first is (inl memory) =
+    let calls = memory.1 in
+    let word = order_word v w is in
+    inl (memory.0, (w ∷ calls.0, words_joined line w more calls.0 first calls.1, inr (word.0, (calls.0, ap (λ u. u ∷ calls.0) word.1, calls.2))))
+order_fault v line w more f first is (inr bad) = line_fault v line w more order_plan f first (plan_order v w is) bad
 
 pub plan_unknown : (v : Version) (w : List ℕ) (more : Option (List ℕ)) → bytes_eq w (codes "call") ≡ false → bytes_eq w (codes "answer") ≡ false
     → bytes_eq w (codes "sequence") ≡ false → false ≡ bytes_eq w (codes "collected") → false ≡ bytes_eq w (codes "decided")
@@ -70,11 +81,20 @@ pub sequence_bad : (start : Option (List ℕ)) (k : List ℕ) (ws : List (List �
     → IsFaulty sequence_plan start f
 sequence_bad start k ws f all bad = inr (k ∷ ws, all, inr (ap suc (length-each Call ws), bad))
 
+pub sequence_bytes : (start : Option (List ℕ)) (k : List ℕ) (ws : List (List ℕ)) → AreMore start (k ∷ ws) → FollowBytes sequence_plan start
+sequence_bytes start k ws all = (k ∷ ws, all, (ap suc (length-each Call ws), inl refl))
+
+-- a row of other words has no bytes
+no_bytes : (m : Form) (ws : List (List ℕ)) → m ≢ Hex → HaveBytes (each m ws) ws → ⊥
+no_bytes m [] other have = have
+no_bytes m (w ∷ ws) other (inl is) = other is
+no_bytes m (w ∷ ws) other (inr later) = no_bytes m ws other later.1
+
 -- a row's fault
 pub row_bad : (m : Form) (more : Option (List ℕ)) (f : Fault) → IsFaulty (λ ws. Forms (each m ws) ws) more f
-    → (f ≡ OutOfMemory) ⊎ ((ws : List (List ℕ)) × AreMore more ws × IsBadWord (each m ws) ws f)
-row_bad m more f (inl memory) = inl memory
-row_bad m more f (inr bad) = elim bad.2 [ inl h ↦ absurd (h.0 (length-each m bad.0)) | inr h ↦ inr (bad.0, bad.1, h.1) ]
+    → m ≢ Hex → (ws : List (List ℕ)) × AreMore more ws × IsBadWord (each m ws) ws f
+row_bad m more f (inl memory) other = absurd (no_bytes m memory.1.0 other memory.1.2.1)
+row_bad m more f (inr bad) other = elim bad.2 [ inl h ↦ absurd (h.0 (length-each m bad.0)) | inr h ↦ (bad.0, bad.1, h.1) ]
 
 -- the words of a map
 pub map_bad : (start : Option (List ℕ)) (more : Option (Bor (List ℕ))) (n p : List ℕ) (ws : List (List ℕ)) (f : Fault) → is_some more ≡ true

@@ -12,7 +12,7 @@ use Rattle.rambo_text.specs.Signs.{call_text, IsCall}
 use Rattle.rambo_text.specs.Words.{AreMore, IsFirstWord}
 use Rattle.rambo_text.proofs.WordsThere.{more_has_words}
 use Rattle.rambo_check.proofs.LineWords.{some_joined}
-use Rattle.rambo_check.specs.Plans.{Forms, each, IsFaulty}
+use Rattle.rambo_check.specs.Plans.{Forms, each, BeginWithCall, IsFaulty}
 
 abbrev pub AllSpelt : Form → List (List ℕ) → Type 0
 AllSpelt m words = AllByRecursion (IsSpelt m) words
@@ -37,6 +37,11 @@ pub bad_behind : (m : Form) (good : List (List ℕ)) (w : List ℕ) (ws : List (
     → IsBadWord (each m (good ++ w ∷ ws)) (good ++ w ∷ ws) (form_fault m)
 bad_behind m [] w ws all bad = inl (bad, refl)
 bad_behind m (g ∷ gs) w ws all bad = inr (all.0, bad_behind m gs w ws all.1 bad)
+
+-- a row of calls begins with one
+pub begin_with_call : (good : List (List ℕ)) (word : List ℕ) (ws : List (List ℕ)) → AllSpelt Call good → IsSpelt Call word → BeginWithCall (good ++ word ∷ ws)
+begin_with_call [] word ws all is = is
+begin_with_call (g ∷ gs) word ws all is = all.0
 
 -- how much is left of a line
 abbrev pub left_of : Option (List ℕ) → ℕ

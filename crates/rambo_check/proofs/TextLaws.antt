@@ -6,11 +6,12 @@ use Rattle.rambo_text.specs.declared.fault.Fault.TheVariants.{OutOfMemory}
 use Rattle.rambo_text.specs.declared.fault.ScriptFault.{ScriptFault}
 use Rattle.rambo_text.specs.declared.version.Version.{Version}
 use Rattle.rambo_text.specs.declared.version.Version.TheVariants.{One, Two}
-use Rattle.rambo_text.specs.Versions.{head_line as version_line, IsBehindHead, BehindHead, TellNoVersion, in_whole}
+use Rattle.rambo_text.specs.Versions.{head_line, IsBehindHead, BehindHead, TellNoVersion, in_whole}
 use Rattle.rambo_text.proofs.Heads.{same_lines, one_head, no_version_once, no_bad_head, no_bad_first}
-use Rattle.rambo_text.specs.Forms.{Form, IsBadWord}
-use Rattle.rambo_text.specs.Words.{Lacks, AreWords, IsFirstLine}
-use Rattle.rambo_text.proofs.WordSplits.{cut, no_cut, same_words}
+use Rattle.rambo_text.specs.Words.{AreWords, IsFirstLine}
+use Rattle.rambo_text.proofs.FirstLines.{no_nothing, first_line_is}
+use Rattle.rambo_text.proofs.SpeltWords.{same_bad_word}
+use Rattle.rambo_text.proofs.WordSplits.{cut, same_words}
 use Rattle.rambo_history.specs.Proper.{EverySplit}
 use Rattle.rambo_history.proofs.Splits.{splits-head, splits-tail}
 use Rattle.rambo_check.specs.EvidenceStates.{EvidenceState, no_evidence, with_item, IsBadItem, AreGood}
@@ -31,10 +32,6 @@ text_before i is rest = ap (λ t. t ++ rest) (text_of i is) ∙ append_assoc (li
 
 cut_items : (i j : Item) (p q : List ℕ) → IsItem i → IsItem j → line_of i ++ 10 ∷ p ≡ line_of j ++ 10 ∷ q → (line_of i ≡ line_of j) × (p ≡ q)
 cut_items i j p q a b e = cut 10 (line_of i) (line_of j) p q (line_lacks i a) (line_lacks j b) e
-
-no_nothing : (l t : List ℕ) → [] ≡ l ++ 10 ∷ t → ⊥
-no_nothing [] t e = cc
-no_nothing (x ∷ l) t e = cc
 
 -- an item's line isn't empty
 some_word : (i : Item) → item_words i ≡ [] ∷ [] → ⊥
@@ -113,13 +110,6 @@ all_good : (v : Version) (items : List Item) → AreGood v items → AreGoodBehi
 all_good v items good = good_behind v no_evidence items good.in_range good.of_version good.none_bad
 
 -- the fault of a line
-same_bad_word : (ms : List Form) (ws : List (List ℕ)) (f g : Fault) → IsBadWord ms ws f → IsBadWord ms ws g → f ≡ g
-same_bad_word [] ws f g a b = absurd a
-same_bad_word (m ∷ ms) [] f g a b = absurd a
-same_bad_word (m ∷ ms) (w ∷ ws) f g (inl a) (inl b) = a.1 ∙ sym b.1
-same_bad_word (m ∷ ms) (w ∷ ws) f g (inl a) (inr b) = absurd (a.0 b.0)
-same_bad_word (m ∷ ms) (w ∷ ws) f g (inr a) (inl b) = absurd (b.0 a.0)
-same_bad_word (m ∷ ms) (w ∷ ws) f g (inr a) (inr b) = same_bad_word ms ws f g a.1 b.1
 
 same_plan_fault : (p : Plan) (f g : Fault) → IsPlanFault p f → IsPlanFault p g → f ≡ g
 same_plan_fault Unknown f g a b = a ∙ sym b
@@ -138,8 +128,8 @@ spelt_fits : (v : Version) (line : List ℕ) (i : Item) (f : Fault) → IsItem i
 spelt_fits v line i f is of spelt fault = item_fits v i f is of (subst (λ ws. IsPlanFault (plan v ws) f) (same_words line fault.0 (item_words i) fault.1 spelt) fault.2)
 
 same_behind : (v : Version) (s : EvidenceState) (line : List ℕ) (f g : Fault) → f ≢ OutOfMemory → g ≢ OutOfMemory → IsFaultBehind v s line f → IsFaultBehind v s line g → f ≡ g
-same_behind v s line f g m n (inl a) b = absurd (m a)
-same_behind v s line f g m n (inr a) (inl b) = absurd (n b)
+same_behind v s line f g m n (inl a) b = absurd (m a.0)
+same_behind v s line f g m n (inr a) (inl b) = absurd (n b.0)
 same_behind v s line f g m n (inr (inl a)) (inr (inl b)) = same_line_fault v line f g a b
 same_behind v s line f g m n (inr (inl a)) (inr (inr b)) = absurd (spelt_fits v line b.1.0 f b.1.1 b.1.2 b.1.3 a)
 same_behind v s line f g m n (inr (inr a)) (inr (inl b)) = absurd (spelt_fits v line a.1.0 g a.1.1 a.1.2 a.1.3 b)
@@ -147,22 +137,11 @@ same_behind v s line f g m n (inr (inr a)) (inr (inr b)) = a.0 ∙ sym b.0
 
 -- a good line has none but want of memory
 good_line : (v : Version) (s : EvidenceState) (i : Item) (line : List ℕ) (f : Fault) → IsItem i → IsLineIn v i × (IsBadItem s i → ⊥) → line ≡ line_of i → IsFaultBehind v s line f → f ≡ OutOfMemory
-good_line v s i line f is fine e (inl a) = a
+good_line v s i line f is fine e (inl a) = a.0
 good_line v s i line f is fine e (inr (inl a)) = absurd (spelt_fits v line i f is fine.0 (subst (λ l. AreWords l (item_words i)) (sym e) (item_are_words i is)) a)
 good_line v s i line f is fine e (inr (inr a)) =
     let bad = a.1 in
     absurd (fine.1 (same_bad s bad.0 i bad.1 is (sym bad.3.whole ∙ e) bad.4))
-
--- the first line is the front up to the first line feed
-head_line : (front t text line rest : List ℕ) → Lacks 10 front → (text ≡ front ++ 10 ∷ t) ⊎ (text ++ 10 ∷ [] ≡ front ++ 10 ∷ t) → IsFirstLine text line rest → line ≡ front
-head_line front t text line rest lacks (inl whole) first = elim first.whole [
-  | inl feed ↦ (cut 10 line front rest t first.no_feed lacks (sym feed ∙ whole)).0
-  | inr last ↦ absurd (no_cut 10 line front t first.no_feed (sym last.0 ∙ whole))
-]
-head_line front t text line rest lacks (inr whole) first = elim first.whole [
-  | inl feed ↦ (cut 10 line front (rest ++ 10 ∷ []) t first.no_feed lacks (sym (append_assoc line (10 ∷ rest) (10 ∷ [])) ∙ ap (λ x. x ++ 10 ∷ []) (sym feed) ∙ whole)).0
-  | inr last ↦ (cut 10 line front [] t first.no_feed lacks (ap (λ x. x ++ 10 ∷ []) (sym last.0) ∙ whole)).0
-]
 
 -- the faulty line of a text stands at one place
 module _ (v : Version) (f g : Fault) (m : f ≢ OutOfMemory) (n : g ≢ OutOfMemory) where
@@ -172,9 +151,9 @@ module _ (v : Version) (f g : Fault) (m : f ≢ OutOfMemory) (n : g ≢ OutOfMem
       let line : k ≡ l = (same_lines q k t l r other (subst (λ u. IsFirstLine u l r) e first)).0 in
       (same_behind v s l f g m n x (subst (λ u. IsFaultBehind v s u g) line y), refl)
   one_place s [] (j ∷ js) p q l r k t a b e first other x y =
-      absurd (m (good_line v s j l f b.0 b.1.0 (head_line (line_of j) (items_text js ++ q) p l r (line_lacks j b.0) (inl (e ∙ text_before j js q)) first) x))
+      absurd (m (good_line v s j l f b.0 b.1.0 (first_line_is (line_of j) (items_text js ++ q) p l r (line_lacks j b.0) (inl (e ∙ text_before j js q)) first) x))
   one_place s (i ∷ is) [] p q l r k t a b e first other x y =
-      absurd (n (good_line v s i k g a.0 a.1.0 (head_line (line_of i) (items_text is ++ p) q k t (line_lacks i a.0) (inl (sym e ∙ text_before i is p)) other) y))
+      absurd (n (good_line v s i k g a.0 a.1.0 (first_line_is (line_of i) (items_text is ++ p) q k t (line_lacks i a.0) (inl (sym e ∙ text_before i is p)) other) y))
   one_place s (i ∷ is) (j ∷ js) p q l r k t a b e first other x y =
       let parts = cut_items i j (items_text is ++ p) (items_text js ++ q) a.0 b.0 (sym (text_before i is p) ∙ e ∙ text_before j js q) in
       let same : with_item s j ≡ with_item s i = sym (same_with s i j a.0 b.0 parts.0) in
@@ -213,9 +192,9 @@ no_fault : (v : Version) (f : Fault) (s : EvidenceState) (is js : List Item) (p 
     → f ≡ OutOfMemory
 no_fault v f s [] [] p l r a b e some first x = absurd (nothing_left p some e)
 no_fault v f s [] (j ∷ js) p l r a b (inl e) some first x =
-    good_line v s j l f b.0 b.1.0 (head_line (line_of j) (items_text js) p l r (line_lacks j b.0) (inl (e ∙ text_of j js)) first) x
+    good_line v s j l f b.0 b.1.0 (first_line_is (line_of j) (items_text js) p l r (line_lacks j b.0) (inl (e ∙ text_of j js)) first) x
 no_fault v f s [] (j ∷ js) p l r a b (inr e) some first x =
-    good_line v s j l f b.0 b.1.0 (head_line (line_of j) (items_text js) p l r (line_lacks j b.0) (inr (e ∙ text_of j js)) first) x
+    good_line v s j l f b.0 b.1.0 (first_line_is (line_of j) (items_text js) p l r (line_lacks j b.0) (inr (e ∙ text_of j js)) first) x
 no_fault v f s (i ∷ is) [] p l r a b e some first x = elim (lines_on i is p [] e) [
   | inl h ↦ absurd (no_nothing (line_of i) (items_text is ++ p) (sym h))
   | inr h ↦ absurd (no_nothing (line_of i) ((items_text is ++ p) ++ 10 ∷ []) (sym h))
@@ -235,7 +214,7 @@ no_told_behind v text s f told bad =
 -- the head of a text that has one is not faulty
 good_head : (text behind : List ℕ) (v : Version) (f : ScriptFault) → IsBehindHead v text behind → IsHeadFault text f → ⊥
 good_head text behind One f is bad = no_bad_first bad.line f.fault (is.0 bad.line bad.rest bad.is_first) bad.fault
-good_head text behind Two f is bad = no_bad_head bad.line f.fault (same_lines text bad.line bad.rest version_line behind bad.is_first is).0 bad.fault
+good_head text behind Two f is bad = no_bad_head bad.line f.fault (same_lines text bad.line bad.rest head_line behind bad.is_first is).0 bad.fault
 
 pub no_told_is_faulty_is : NoToldIsFaulty
 no_told_is_faulty_is text v s f told (inl bad) = absurd (good_head text told.0 v f told.1 bad)

@@ -9,11 +9,12 @@ use Rattle.rambo_text.specs.declared.fault.ScriptFault.{ScriptFault}
 use Rattle.rambo_text.specs.declared.version.Version.{Version}
 use Rattle.rambo_text.specs.declared.version.Version.TheVariants.{One, Two}
 use Rattle.rambo_text.specs.Versions.{head_line as version_line, head_lines, IsHead, IsFirstOf, IsBadHead, IsBehindHead, in_whole}
+use Rattle.rambo_text.proofs.FirstLines.{no_nothing}
 use Rattle.rambo_text.proofs.Heads.{same_lines}
 use Rattle.rambo_text.specs.Words.{Lacks, IsFirstLine, AreWords}
 use Rattle.rambo_history.specs.Proper.{EverySplit}
 use Rattle.rambo_atomic.specs.Unreads.{UnreadState, KnowsEnd, TakesIn, HoldsLine, IsDone}
-use Rattle.rambo_atomic.proofs.Unreads.{Consumes-then}
+use Rattle.std.proofs.KnownBytes.{Consumes-trans}
 use Rattle.rambo_history.proofs.Splits.{splits-nil, splits-cons, splits-head, splits-tail}
 use Rattle.rambo_check.specs.Lines.{Item, item_words, item_line, items_text}
 use Rattle.rambo_check.specs.Items.{IsItem, IsLineIn}
@@ -90,7 +91,7 @@ read_more version start first left new s u v line now taken same =
       lines = still_done now.used (items_text now.items) u v same now.lines;
       text = (
         given ++ more,
-        Consumes-then first left new given more now.text.1 taken.1,
+        Consumes-trans first left new given more now.text.1 taken.1,
         ap (λ h. now.used ++ h) taken.2 ∙ sym (append_assoc now.used u.held more) ∙ ap (λ h. h ++ more) now.text.2 ∙ append_assoc start.held given more,
       );
       ended = λ e.
@@ -274,10 +275,6 @@ none_told more none = (
   ],
   refl,
 )
-  where
-    no_nothing : (l t : List ℕ) → [] ≡ l ++ 10 ∷ t → ⊥
-    no_nothing [] t e = cc
-    no_nothing (x ∷ l) t e = cc
 
 pub head_told : (version : Version) (u v : UnreadState) (more : List ℕ) → HoldsLine u → (u.ended ≡ true → more ≡ []) → TakesHead version u.held v.held
     → IsBehindHead version (u.held ++ more) (v.held ++ more)

@@ -1,21 +1,15 @@
 -- Which items there are, and how they are spelt
 use Rattle.std.specs.Prelude.{◌≡◌, ◌≢◌, ℕ, ◌<◌, ◌^◌, List, [], ◌∷◌, Option, All}
 use Rattle.rambo_names.specs.Names.{IsName}
-use Rattle.rambo_history.specs.declared.operation.Op.{Op}
-use Rattle.rambo_history.specs.declared.operation.Op.TheVariants as op
 use Rattle.rambo_history.specs.declared.operation.Answer.{Answer}
 use Rattle.rambo_history.specs.declared.operation.Answer.TheVariants as answer
 use Rattle.rambo_history.specs.declared.event.Event.{Event}
 use Rattle.rambo_history.specs.declared.event.Event.TheVariants as event
 use Rattle.rambo_text.specs.declared.version.Version.{Version}
 use Rattle.rambo_text.specs.declared.version.Version.TheVariants.{Two}
-use Rattle.rambo_text.specs.Signs.{IsCall, AreBytes}
+use Rattle.rambo_text.specs.Signs.{IsCall, IsOp, AreBytes}
 use Rattle.rambo_text.specs.Words.{AreMore}
 use Rattle.rambo_check.specs.Lines.{Item, Happened, Collected, Settled, Refused, Ordered, OrderedAll, Mapped, item_words}
-
-abbrev pub IsOp : Op → Type 0
-IsOp (op.Get key) = AreBytes key
-IsOp (op.Set key value) = AreBytes key × AreBytes value
 
 abbrev pub IsAnswer : Answer → Type 0
 IsAnswer answer.Ok = Unit {0}

@@ -5,7 +5,7 @@ use Rattle.rambo_text.specs.declared.fault.Fault.{Fault}
 use Rattle.rambo_text.specs.declared.fault.Fault.TheVariants.{UnknownWord, WrongCount, OutOfMemory}
 use Rattle.rambo_text.specs.declared.version.Version.{Version}
 use Rattle.rambo_text.specs.declared.version.Version.TheVariants.{One, Two}
-use Rattle.rambo_text.specs.Forms.{Form, Num, Name, Conf, Call, Hex, Standing, IsBadWord}
+use Rattle.rambo_text.specs.Forms.{Form, Num, Name, Conf, Call, Hex, Standing, IsSpelt, IsBadWord}
 use Rattle.rambo_text.specs.Words.{AreWords, AreMore}
 
 -- a word that says what the line is has no meaning, or is missing, or else these words have these forms, each its own
@@ -86,6 +86,35 @@ IsPlanFault (Forms ms ws) f =
 abbrev pub IsLineFault : Version → List ℕ → Fault → Type 0
 IsLineFault version line f = (words : List (List ℕ)) × AreWords line words × IsPlanFault (plan version words) f
 
--- the words behind the first have this fault, or memory ran out
+-- bytes stand among these words, behind words that are in their forms
+abbrev pub HaveBytes : List Form → List (List ℕ) → Type 0
+HaveBytes [] ws = ⊥
+HaveBytes (m ∷ ms) [] = ⊥
+HaveBytes (m ∷ ms) (w ∷ ws) = (m ≡ Hex) ⊎ (IsSpelt m w × HaveBytes ms ws)
+
+-- there are as many words as there should be, and no fault stands before their bytes
+abbrev pub HasBytes : Plan → Type 0
+HasBytes Unknown = ⊥
+HasBytes Missing = ⊥
+HasBytes (Forms ms ws) = (length ms ≡ length ws) × HaveBytes ms ws
+
+-- the first of some words is a call
+abbrev pub BeginWithCall : List (List ℕ) → Type 0
+BeginWithCall [] = ⊥
+BeginWithCall (w ∷ ws) = IsSpelt Call w
+
+-- the words behind the first have bytes, or begin with a call
+abbrev pub FollowBytes : (List (List ℕ) → Plan) → Option (List ℕ) → Type 0
+FollowBytes plan more = (words : List (List ℕ)) × AreMore more words × HasBytes (plan words)
+
+abbrev pub FollowCalls : Option (List ℕ) → Type 0
+FollowCalls more = (words : List (List ℕ)) × AreMore more words × BeginWithCall words
+
+-- a line tells bytes, or an order of all keys' calls, and has no fault before these
+abbrev pub TellsBytesOrCalls : Version → List ℕ → Type 0
+TellsBytesOrCalls version line = (words : List (List ℕ)) × AreWords line words
+    × (HasBytes (plan version words) ⊎ ((version ≡ Two) × ((calls : List (List ℕ)) × (words ≡ codes "order" ∷ calls) × BeginWithCall calls)))
+
+-- the words behind the first have this fault, or memory ran out at their bytes
 abbrev pub IsFaulty : (List (List ℕ) → Plan) → Option (List ℕ) → Fault → Type 0
-IsFaulty plan more f = (f ≡ OutOfMemory) ⊎ ((words : List (List ℕ)) × AreMore more words × IsPlanFault (plan words) f)
+IsFaulty plan more f = ((f ≡ OutOfMemory) × FollowBytes plan more) ⊎ ((words : List (List ℕ)) × AreMore more words × IsPlanFault (plan words) f)

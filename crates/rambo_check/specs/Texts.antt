@@ -7,9 +7,9 @@ use Rattle.rambo_text.specs.declared.version.Version.{Version}
 use Rattle.rambo_text.specs.Versions.{IsBehindHead, BehindHead, IsBadHead}
 use Rattle.rambo_text.specs.Words.{IsFirstLine, AreWords}
 use Rattle.rambo_check.specs.EvidenceStates.{EvidenceState, evidence_of, IsBadItem, AreGood}
-use Rattle.rambo_check.specs.Items.{IsItem, IsLineIn}
+use Rattle.rambo_check.specs.Items.{IsItem, IsLineIn, IsPassed}
 use Rattle.rambo_check.specs.Lines.{Item, item_words, items_text}
-use Rattle.rambo_check.specs.Plans.{IsLineFault}
+use Rattle.rambo_check.specs.Plans.{IsLineFault, TellsBytesOrCalls}
 
 -- the text is the lines of these items, of which the last may lack its line feed
 abbrev pub AreLinesOf : List ℕ → List Item → Type 0
@@ -26,9 +26,16 @@ pub record IsTold (version : Version) (text : List ℕ) (s : EvidenceState) : Ty
 abbrev pub IsBadLine : Version → EvidenceState → List ℕ → Type 0
 IsBadLine version s line = (i : Item) × IsItem i × IsLineIn version i × AreWords line (item_words i) × IsBadItem s i
 
--- the fault of a line behind good ones: of its words, of what it tells, or that memory ran out while it was read
+-- the line spells an item of this version that is kept, and isn't bad behind those before it
+abbrev pub IsKeptLine : Version → EvidenceState → List ℕ → Type 0
+IsKeptLine version s line = (i : Item) × IsItem i × IsLineIn version i × AreWords line (item_words i) × (¬ (IsBadItem s i)) × (¬ (IsPassed i))
+
+-- the fault of a line behind good ones: of its words, of what it tells, or that memory ran out, at bytes or calls before which
+-- the line has no fault, or for the whole line, which has none
 abbrev pub IsFaultBehind : Version → EvidenceState → List ℕ → Fault → Type 0
-IsFaultBehind version s line f = (f ≡ OutOfMemory) ⊎ (IsLineFault version line f ⊎ ((f ≡ BadHistory) × IsBadLine version s line))
+IsFaultBehind version s line f =
+    ((f ≡ OutOfMemory) × (TellsBytesOrCalls version line ⊎ IsKeptLine version s line))
+    ⊎ (IsLineFault version line f ⊎ ((f ≡ BadHistory) × IsBadLine version s line))
 
 -- the first faulty line of a text of this version, behind its head, and its fault
 pub record IsTextFault (version : Version) (text : List ℕ) (f : ScriptFault) : Type 0 where

@@ -56,13 +56,13 @@ impl Evidence {
 
     /// Puts an event at the end of the history.
     ///
-    /// `BadHistory` where it can't stand there, and `OutOfMemory` where there is no room for it.
+    /// `BadHistory` where it can't stand there, and `OutOfMemory` where it can and there is no room for it.
     pub(crate) fn push(&mut self, event: Event) -> Result<(), Fault>
         ensures fits { OnOk result (fault_of self.old.events event ≡ None) }
         ensures events { OnOk result (self.new.events ≡ self.old.events ++ event ∷ []) }
         ensures orders { self.new.orders ≡ self.old.orders }
         ensures order { self.new.order ≡ self.old.order }
-        ensures fault { IfErr result (λ f. (f ≡ fault.OutOfMemory) ⊎ ((f ≡ fault.BadHistory) × IsSome (fault_of self.old.events event))) }
+        ensures fault { IfErr result (λ f. ((f ≡ fault.OutOfMemory) × (fault_of self.old.events event ≡ None)) ⊎ ((f ≡ fault.BadHistory) × IsSome (fault_of self.old.events event))) }
     {
         match self.history.push(event) {
             Ok(()) => Ok(()),
@@ -75,13 +75,13 @@ impl Evidence {
 
     /// Gives a key an order.
     ///
-    /// `BadHistory` where the key has one, and `OutOfMemory` where there is no room for it.
+    /// `BadHistory` where the key has one, and `OutOfMemory` where it has none and there is no room for it.
     pub(crate) fn put(&mut self, key: Bytes, order: Order) -> Result<(), Fault>
         ensures fits { OnOk result (lookup (bytes_eq key) self.old.orders ≡ None) }
         ensures orders { OnOk result (self.new.orders ≡ self.old.orders ++ (key, order) ∷ []) }
         ensures events { self.new.events ≡ self.old.events }
         ensures order { self.new.order ≡ self.old.order }
-        ensures fault { IfErr result (λ f. (f ≡ fault.OutOfMemory) ⊎ ((f ≡ fault.BadHistory) × IsSome (lookup (bytes_eq key) self.old.orders))) }
+        ensures fault { IfErr result (λ f. ((f ≡ fault.OutOfMemory) × (lookup (bytes_eq key) self.old.orders ≡ None)) ⊎ ((f ≡ fault.BadHistory) × IsSome (lookup (bytes_eq key) self.old.orders))) }
     {
         match self.orders.insert(key, order) {
             Ok(None) => Ok(()),

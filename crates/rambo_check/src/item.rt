@@ -5,7 +5,7 @@ ghost use Rattle.std.specs.Str.{bytes_eq};
 ghost use Rattle.rambo_text.specs.declared.fault.Fault.TheVariants as fault;
 ghost use Rattle.rambo_check.specs.Lines.{Item, Happened, Ordered, OrderedAll};
 ghost use Rattle.rambo_check.specs.Items.{IsSpelling, IsPassed};
-ghost use Rattle.rambo_check.specs.Plans.{call_plan, answer_plan, collected_plan, decided_plan, refused_plan, sequence_plan, order_plan, map_plan, tells_order, plan, IsFaulty, IsLineFault};
+ghost use Rattle.rambo_check.specs.Plans.{call_plan, answer_plan, collected_plan, decided_plan, refused_plan, sequence_plan, order_plan, map_plan, tells_order, plan, FollowCalls, TellsBytesOrCalls, IsFaulty, IsLineFault};
 ghost use Rattle.rambo_check.specs.Readings.{IsLineOf};
 
 use crate::kept::Kept;
@@ -23,10 +23,10 @@ use std::alloc::Global;
 /// What is kept of a line of a text of this version.
 ///
 /// The first fault of the line: `UnknownWord`, then `WrongCount`, then `BadNumber` or `BadHex` at the first word that
-/// isn't in its form; `OutOfMemory` where there is no room for what is kept.
+/// isn't in its form; `OutOfMemory` where there is no room for its bytes or calls, and no fault stands before these.
 pub(crate) fn read_line(alloc: Global, version: Version, line: &[u8]) -> Result<Kept, Fault>
     ensures kept { IfOk result (IsLineOf version line.now) }
-    ensures fault { IfErr result (λ f. (f ≡ fault.OutOfMemory) ⊎ IsLineFault version line.now f) }
+    ensures fault { IfErr result (λ f. ((f ≡ fault.OutOfMemory) × TellsBytesOrCalls version line.now) ⊎ IsLineFault version line.now f) }
 {
     let (first, more) = next_word(line);
     if first == b"call".as_slice() {
@@ -184,7 +184,7 @@ fn read_sequence(alloc: Global, more: Option<&[u8]>) -> Result<(Bytes, Order), F
 
 fn read_order(alloc: Global, more: Option<&[u8]>) -> Result<Order, Fault>
     ensures spelt { IfOk result (λ order. IsSpelling (codes "order") (option_copied more.entry) (OrderedAll order)) }
-    ensures fault { IfErr result (IsFaulty order_plan (option_copied more.entry)) }
+    ensures fault { IfErr result (λ f. ((f ≡ fault.OutOfMemory) × FollowCalls (option_copied more.entry)) ⊎ IsFaulty order_plan (option_copied more.entry) f) }
 {
     let calls = read_calls(alloc, more)?;
     Ok(Order { calls })

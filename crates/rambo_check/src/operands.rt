@@ -1,12 +1,13 @@
 //! Reading the words that follow the first of a line.
-ghost use Rattle.std.specs.Prelude.{◌≡◌, ℕ, ◌<◌, [], ◌∷◌, List, map, All, length, IfOk, IfErr, IfSome, IfNone, OnOk};
+ghost use Rattle.std.specs.Prelude.{◌≡◌, ◌⊎◌, ℕ, ◌<◌, [], ◌∷◌, List, map, All, length, IfOk, IfErr, IfSome, IfNone, OnOk};
 ghost use Rattle.std.specs.Option.{option_copied};
 ghost use Rattle.rambo_names.specs.Weights.{Weights};
 ghost use Rattle.rambo_names.specs.Signs.{conf_text};
+ghost use Rattle.rambo_text.specs.declared.fault.Fault.TheVariants as fault;
 ghost use Rattle.rambo_text.specs.Forms.{Num, Name, Conf, Call, Hex};
 ghost use Rattle.rambo_text.specs.Signs.{call_text, hex_text, IsCall, AreBytes};
 ghost use Rattle.rambo_text.specs.Words.{AreMore};
-ghost use Rattle.rambo_check.specs.Plans.{Forms, each, IsFaulty};
+ghost use Rattle.rambo_check.specs.Plans.{Forms, each, FollowCalls, IsFaulty};
 
 use rambo_history::CallId;
 use rambo_names::{Bytes, read_conf};
@@ -39,6 +40,8 @@ pub(crate) fn read_call_alone(id: &[u8], more: Option<&[u8]>) -> Result<CallId, 
 }
 
 /// A call, and the bytes behind it.
+///
+/// `OutOfMemory` where there is no room for the bytes, and no fault stands before them.
 pub(crate) fn read_call_and_bytes(
     alloc: Global,
     id: &[u8],
@@ -59,6 +62,8 @@ pub(crate) fn read_call_and_bytes(
 }
 
 /// A call, and the two spellings of bytes behind it.
+///
+/// `OutOfMemory` where there is no room for the bytes, and no fault stands before them.
 pub(crate) fn read_call_and_pair(
     alloc: Global,
     id: &[u8],
@@ -80,9 +85,12 @@ pub(crate) fn read_call_and_pair(
 }
 
 /// Any number of calls.
+///
+/// `OutOfMemory` where there is no room for a call, and no fault stands before it.
 pub(crate) fn read_calls(alloc: Global, more: Option<&[u8]>) -> Result<Vec<CallId>, Fault>
     ensures calls { IfOk result (λ cs. All IsCall cs.items × AreMore (option_copied more.entry) (map call_text cs.items)) }
-    ensures fault { IfErr result (IsFaulty (λ ws. Forms (each Call ws) ws) (option_copied more.entry)) }
+    ensures fault { IfErr result (λ f. ((f ≡ fault.OutOfMemory) × FollowCalls (option_copied more.entry))
+        ⊎ IsFaulty (λ ws. Forms (each Call ws) ws) (option_copied more.entry) f) }
 {
     let mut calls = Vec::new(alloc);
     let mut more = more;

@@ -24,7 +24,7 @@ use std::alloc::Global;
 /// Takes up what the text that a source has left tells, and answers its version; or tells its first faulty line and the
 /// first fault there. The text is read to its end, and never held as a whole.
 ///
-/// `Script` with `OutOfMemory` where there is no room for what the line tells, `Read` where the source fails, and `Memory`
+/// `Script` with `OutOfMemory` where there is no room for what the line tells, and it has no fault before that, `Read` where the source fails, and `Memory`
 /// where there is no room for the line itself.
 pub(crate) fn read_outcome<R: Source>(
     alloc: Global,

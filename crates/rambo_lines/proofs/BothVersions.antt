@@ -1,20 +1,20 @@
 -- Scripts of both versions
-use Rattle.std.proofs.Common.{◌≡◌, ◌⊎◌, ℕ, ◌+◌, ◌<◌, List, [], ◌∷◌, ◌++◌, length, codes, inl, inr, refl, sym, ap, subst, ◌∙◌, arith, append_assoc}
+use Rattle.std.proofs.Common.{◌≡◌, ℕ, ◌+◌, ◌<◌, List, ◌∷◌, length, codes, inl, inr, refl, sym, ap, subst, ◌∙◌, arith}
 use Rattle.rambo_names.specs.Weights.{Weights}
-use Rattle.rambo_text.specs.declared.fault.Fault.TheVariants.{LineTooLong}
 use Rattle.rambo_text.specs.declared.fault.ScriptFault.{ScriptFault}
 use Rattle.rambo_text.specs.declared.version.Version.{Version}
 use Rattle.rambo_text.specs.declared.version.Version.TheVariants.{One, Two}
-use Rattle.rambo_text.specs.Versions.{head_line, IsHead, IsFirstOf, IsBehindHead, BehindHead, TellNoVersion, in_whole}
-use Rattle.rambo_text.specs.Words.{AreWords, IsFirstLine}
+use Rattle.rambo_text.specs.Versions.{head_line, IsFirstOf, IsBehindHead, BehindHead, TellNoVersion, in_whole}
+use Rattle.rambo_text.specs.Words.{IsFirstLine}
 use Rattle.rambo_text.proofs.Heads.{head_line_lacks, same_lines, one_head, no_version_once, no_bad_head, no_bad_first}
 use Rattle.rambo_text.proofs.WordSplits.{same_words}
-use Rattle.rambo_lines.specs.Scripts.{ScriptState, HasLines, IsScript, founders_line, founders_words, steps_text, script_text}
+use Rattle.rambo_lines.specs.Scripts.{ScriptState, IsScript, founders_line, founders_words, steps_text, script_text}
 use Rattle.rambo_lines.specs.Faults.{IsScriptFault, IsLineFault}
 use Rattle.rambo_lines.specs.Laws.{OneReading, WrittenReadsBack, NoScriptIsFaulty, OneFault}
-use Rattle.rambo_lines.specs.Versions.{IsScriptIn, IsHeadFault, IsFaultIn, text_in}
+use Rattle.rambo_lines.specs.Versions.{IsScriptIn, IsHeadFault, text_in}
 use Rattle.rambo_lines.proofs.FaultOnce.{line_once, one_fault_is}
-use Rattle.rambo_lines.proofs.Texts.{founders_are_words, founders_lack, head_line as first_line_is, no_fault_is, one_reading_is, reads_back_is}
+use Rattle.rambo_text.proofs.FirstLines.{first_line_is}
+use Rattle.rambo_lines.proofs.Texts.{founders_are_words, founders_lack, no_fault_is, one_reading_is, reads_back_is}
 
 pub one_script : OneReading
 one_script bytes v w s t a b =

@@ -9,27 +9,21 @@ use Rattle.rambo_text.specs.declared.fault.Fault.{Fault}
 use Rattle.rambo_text.specs.declared.fault.ScriptFault.{ScriptFault}
 use Rattle.rambo_text.specs.Forms.{Form, Conf, IsBadWord}
 use Rattle.rambo_text.specs.Words.{IsFirstLine}
+use Rattle.rambo_text.proofs.FirstLines.{first_line_is}
 use Rattle.rambo_text.proofs.Heads.{same_lines}
+use Rattle.rambo_text.proofs.SpeltWords.{not_bad, same_bad_word}
 use Rattle.rambo_text.proofs.WordSplits.{cut, same_words}
 use Rattle.rambo_lines.specs.StepLines.{forms_of, step_line}
 use Rattle.rambo_lines.specs.Scripts.{HasLine, founders_line, steps_text}
 use Rattle.rambo_lines.specs.Faults.{AreUnfit, IsLineFault, TellNoStep, TellNoFounders, IsScriptFault, IsFirstFault, IsLaterFault}
-use Rattle.rambo_lines.proofs.StepShapes.{not_bad, same_kind, step_lacks}
-use Rattle.rambo_lines.proofs.Texts.{founders_lack, head_line, good_founders, good_step}
-
-same_bad : (ms : List Form) (ws : List (List ℕ)) (f g : Fault) → IsBadWord ms ws f → IsBadWord ms ws g → f ≡ g
-same_bad [] ws f g a b = absurd a
-same_bad (m ∷ ms) [] f g a b = absurd a
-same_bad (m ∷ ms) (w ∷ ws) f g (inl a) (inl b) = a.1 ∙ sym b.1
-same_bad (m ∷ ms) (w ∷ ws) f g (inl a) (inr b) = absurd (a.0 b.0)
-same_bad (m ∷ ms) (w ∷ ws) f g (inr a) (inl b) = absurd (b.0 a.0)
-same_bad (m ∷ ms) (w ∷ ws) f g (inr a) (inr b) = same_bad ms ws f g a.1 b.1
+use Rattle.rambo_lines.proofs.StepShapes.{same_kind, step_lacks}
+use Rattle.rambo_lines.proofs.Texts.{founders_lack, good_founders, good_step}
 
 same_unfit : (ms : List Form) (ws : List (List ℕ)) (f g : Fault) → AreUnfit ms ws f → AreUnfit ms ws g → f ≡ g
 same_unfit ms ws f g (inl a) (inl b) = a.1 ∙ sym b.1
 same_unfit ms ws f g (inl a) (inr b) = absurd (a.0 b.0)
 same_unfit ms ws f g (inr a) (inl b) = absurd (b.0 a.0)
-same_unfit ms ws f g (inr a) (inr b) = same_bad ms ws f g a.1 b.1
+same_unfit ms ws f g (inr a) (inr b) = same_bad_word ms ws f g a.1 b.1
 
 -- what words that are no step are told to be
 no_step_once : (words : List (List ℕ)) (f g : Fault) → TellNoStep words f → TellNoStep words g → f ≡ g
@@ -74,7 +68,7 @@ line_once Tell once line f g (inr a) (inr b) =
 -- the line behind some lines that have no fault
 front_line : (y : Step Weights) (ys : List (Step Weights)) (behind text line rest : List ℕ) → HasLine y → text ≡ steps_text (y ∷ ys) ++ behind → IsFirstLine text line rest → line ≡ step_line y
 front_line y ys behind text line rest has is first =
-    head_line (step_line y) (steps_text ys ++ behind) text line rest (step_lacks y has.is_step) (inl (is ∙ append_assoc (step_line y) (10 ∷ steps_text ys) behind)) first
+    first_line_is (step_line y) (steps_text ys ++ behind) text line rest (step_lacks y has.is_step) (inl (is ∙ append_assoc (step_line y) (10 ∷ steps_text ys) behind)) first
 
 same_place : (xs ys : List (Step Weights)) (b c l r m s : List ℕ) (f g : Fault) → AllByRecursion HasLine xs → AllByRecursion HasLine ys → steps_text xs ++ b ≡ steps_text ys ++ c
     → IsFirstLine b l r → IsFirstLine c m s → IsLineFault TellNoStep l f → IsLineFault TellNoStep m g → (l ≡ m) × (length xs ≡ length ys)
@@ -99,7 +93,7 @@ both_first bytes f g a b =
 first_or_later : (bytes : List ℕ) (f g : ScriptFault) → IsFirstFault bytes f → IsLaterFault bytes g → ⊥
 first_or_later bytes f g a b =
     let before = b.is_next.before in
-    let line = head_line (founders_line before.founders) (steps_text before.steps ++ b.is_next.behind) bytes a.line a.rest (founders_lack before.founders)
+    let line = first_line_is (founders_line before.founders) (steps_text before.steps ++ b.is_next.behind) bytes a.line a.rest (founders_lack before.founders)
     (inl (b.is_next.whole ∙ append_assoc (founders_line before.founders) (10 ∷ steps_text before.steps) b.is_next.behind)) a.is_first in
     good_founders before.founders f.fault b.is_next.lines.founders (subst (λ l. IsLineFault TellNoFounders l f.fault) line a.fault)
 

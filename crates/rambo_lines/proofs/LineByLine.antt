@@ -25,7 +25,7 @@ pub record Reads (bytes : List ℕ) (founders : Weights) (steps : List (Step Wei
   pub lines : HasLines (script founders steps)
   pub whole : (bytes ≡ script_text (script founders steps) ++ rest) ⊎ ((bytes ++ 10 ∷ [] ≡ script_text (script founders steps)) × (rest ≡ []))
 
-steps_text-append : (xs ys : List (Step Weights)) → steps_text (xs ++ ys) ≡ steps_text xs ++ steps_text ys
+pub steps_text-append : (xs ys : List (Step Weights)) → steps_text (xs ++ ys) ≡ steps_text xs ++ steps_text ys
 steps_text-append [] ys = refl
 steps_text-append (x ∷ xs) ys =
     ap (λ t. step_line x ++ 10 ∷ t) (steps_text-append xs ys) ∙ sym (append_assoc (step_line x) (10 ∷ steps_text xs) (steps_text ys))

@@ -1,26 +1,24 @@
 -- The kind and the parts of a step
-use Rattle.std.proofs.Common.{◌≡◌, ℕ, suc, ◌<◌, ◌^◌, cond, List, [], ◌∷◌, length, decimal, codes, inl, inr, refl, sym, ap, subst, ◌∙◌, arith, lit<}
+use Rattle.std.proofs.Common.{◌≡◌, ℕ, ◌<◌, ◌^◌, cond, List, [], ◌∷◌, decimal, codes, refl, sym, ap, subst, ◌∙◌, arith, lit<}
 use Rattle.std.specs.List.{AllByRecursion}
 use Rattle.std.specs.Str.{bytes_eq}
 use Rattle.std.proofs.lemmas.Fmt.{decimal_injective}
-use Rattle.rambo_names.specs.Names.{IsName}
 use Rattle.rambo_names.specs.Signs.{set_text, conf_text}
 use Rattle.rambo_names.specs.Weights.{Weights}
 use Rattle.rambo_names.proofs.ConfOnce.{one_conf_is, one_set_is}
 use Rattle.rambo_history.specs.declared.operation.Op.TheVariants as op
 use Rattle.rambo_run.specs.declared.step.Step.{Step}
 use Rattle.rambo_run.specs.declared.step.Step.TheVariants as step
-use Rattle.rambo_text.specs.declared.fault.Fault.{Fault}
-use Rattle.rambo_text.specs.Forms.{Form, AreSpelt, IsBadWord}
+use Rattle.rambo_text.specs.Forms.{AreSpelt}
 use Rattle.rambo_text.specs.Signs.{call_text, hex_text}
 use Rattle.rambo_text.specs.Words.{Lacks, AreWords}
-use Rattle.rambo_text.proofs.Lacking.{lacks-decimal}
+use Rattle.rambo_text.proofs.Lacking.{lacks-decimal, lacks-name}
 use Rattle.rambo_text.proofs.WordSplits.{same_words}
 use Rattle.rambo_lines.specs.declared.kind.StepKind.{StepKind}
 use Rattle.rambo_lines.specs.declared.kind.StepKind.TheVariants as kind
 use Rattle.rambo_lines.specs.StepLines.{word_of, forms_of, step_words, step_line, IsStep}
 use Rattle.rambo_text.proofs.Plain.{lacks-set, lacks-conf, lacks-hex, lacks-call, lacks-tested, lacks-words}
-use Rattle.rambo_text.proofs.Alike.{same_hex, same_id}
+use Rattle.rambo_text.proofs.Alike.{same_hex, same_id, same_name}
 
 abbrev pub kind_of : Step Weights → StepKind
 kind_of (step.Join n contacts) = kind.Join
@@ -83,19 +81,6 @@ spelt (step.Rebid n) is = ((n, is, refl), tt)
 spelt (step.AdvanceRecon n) is = ((n, is, refl), tt)
 spelt (step.Stop n) is = ((n, is, refl), tt)
 
--- what is spelt has no bad word, and is as long as it should be
-pub not_bad : (ms : List Form) (ws : List (List ℕ)) (f : Fault) → AreSpelt ms ws → IsBadWord ms ws f → ⊥
-not_bad [] ws f all bad = bad
-not_bad (m ∷ ms) [] f all bad = bad
-not_bad (m ∷ ms) (w ∷ ws) f all (inl here) = here.0 all.0
-not_bad (m ∷ ms) (w ∷ ws) f all (inr later) = not_bad ms ws f all.1 later.1
-
-pub as_many : (ms : List Form) (ws : List (List ℕ)) → AreSpelt ms ws → length ws ≡ length ms
-as_many [] [] all = refl
-as_many [] (w ∷ ws) all = absurd all
-as_many (m ∷ ms) [] all = absurd all
-as_many (m ∷ ms) (w ∷ ws) all = ap (λ n. suc n) (as_many ms ws all.1)
-
 -- a kind is known by its word
 decode : List ℕ → StepKind
 decode w =
@@ -146,9 +131,6 @@ lacks-word b kind.Rebid low = lacks-tested b (codes "rebid") low refl
 lacks-word b kind.AdvanceRecon low = lacks-tested b (codes "advance-recon") low refl
 lacks-word b kind.Stop low = lacks-tested b (codes "stop") low refl
 
-lacks-name : (b n : ℕ) → b < 44 → IsName n → Lacks b (decimal n)
-lacks-name b n low is = lacks-decimal b n (omega arith) (omega arith)
-
 lacks-parts : (b : ℕ) (st : Step Weights) → b < 44 → IsStep st → AllByRecursion (Lacks b) (parts_of st)
 lacks-parts b (step.Join n contacts) low is = (lacks-name b n low is.0, (lacks-set b contacts low, tt))
 lacks-parts b (step.Call n (op.Get key)) low is = (lacks-name b n low is.0, (lacks-hex b key low, tt))
@@ -176,9 +158,6 @@ step_lacks st is = lacks-words 10 (step_words st) (λ e. cc) (lacks-step 10 st (
 
 same_number : (n m : ℕ) → n < 2 ^ 64 → m < 2 ^ 64 → decimal n ≡ decimal m → n ≡ m
 same_number n m a b e = decimal_injective n m a b e
-
-same_name : (n m : ℕ) → IsName n → IsName m → decimal n ≡ decimal m → n ≡ m
-same_name n m a b e = decimal_injective n m (omega arith) (omega arith) e
 
 same_shape : (st su : Step Weights) → IsStep st → IsStep su → kind_of st ≡ kind_of su → parts_of st ≡ parts_of su → st ≡ su
 same_shape (step.Join n s) (step.Join m t) a b k e = (λ i. step.Join (same_name n m a.0 b.0 (cc) i) (one_set_is s t a.1 b.1 (cc) i))

@@ -1,5 +1,5 @@
 -- A text is that of one script, and has no fault then
-use Rattle.std.proofs.Common.{◌≡◌, ◌≢◌, ℕ, Bool, true, false, cond, filter, ◌+◌, List, [], ◌∷◌, ◌++◌, length, codes, inl, inr, refl, sym, ap, subst, ◌∙◌, arith, lit<, append_assoc}
+use Rattle.std.proofs.Common.{◌≡◌, ◌≢◌, ℕ, ◌+◌, List, [], ◌∷◌, ◌++◌, length, codes, inl, inr, refl, sym, ap, subst, ◌∙◌, arith, lit<, append_assoc}
 use Rattle.std.specs.List.{AllByRecursion}
 use Rattle.rambo_names.specs.Names.{count_of}
 use Rattle.rambo_names.specs.Signs.{conf_text}
@@ -11,24 +11,22 @@ use Rattle.rambo_text.specs.declared.fault.Fault.{Fault}
 use Rattle.rambo_text.specs.declared.fault.ScriptFault.{ScriptFault}
 use Rattle.rambo_text.specs.Forms.{Conf, IsBadWord}
 use Rattle.rambo_text.specs.Words.{Lacks, AreWords, IsFirstLine}
-use Rattle.rambo_text.proofs.WordSplits.{cut, no_cut, same_words}
+use Rattle.rambo_text.proofs.FirstLines.{no_nothing, first_line_is}
+use Rattle.rambo_text.proofs.SpeltWords.{not_bad, as_many}
+use Rattle.rambo_text.proofs.WordSplits.{cut, same_words}
 use Rattle.rambo_lines.specs.declared.kind.StepKind.{StepKind}
 use Rattle.rambo_lines.specs.declared.kind.StepKind.TheVariants as kind
 use Rattle.rambo_lines.specs.StepLines.{word_of, forms_of, step_words, step_line, IsStep}
 use Rattle.rambo_lines.specs.Scripts.{ScriptState, HasLine, HasLines, AreFounders, IsTextOf, IsScript, founders_words, founders_line, steps_text, script_text}
 use Rattle.rambo_lines.specs.Faults.{IsLineFault, TellNoStep, TellNoFounders, AreUnfit, IsScriptFault}
 use Rattle.rambo_text.proofs.Plain.{lacks-conf, lacks-tested, lacks-words}
-use Rattle.rambo_lines.proofs.StepShapes.{kind_of, parts_of, words_are, spelt, not_bad, as_many, same_kind, step_are_words, step_lacks, same_step}
+use Rattle.rambo_lines.proofs.StepShapes.{kind_of, parts_of, words_are, spelt, same_kind, step_are_words, step_lacks, same_step}
 
 pub founders_are_words : (s : Weights) → AreWords (founders_line s) (founders_words s)
 founders_are_words s = record { some = λ e. cc; no_space = (lacks-tested 32 (codes "founders") (lit< tt) refl, (lacks-conf 32 s (lit< tt), tt)); whole = refl }
 
 pub founders_lack : (s : Weights) → Lacks 10 (founders_line s)
 founders_lack s = lacks-words 10 (founders_words s) (λ e. cc) (lacks-tested 10 (codes "founders") (lit< tt) refl, (lacks-conf 10 s (lit< tt), tt))
-
-no_nothing : (l t : List ℕ) → [] ≡ l ++ 10 ∷ t → ⊥
-no_nothing [] t e = cc
-no_nothing (x ∷ l) t e = cc
 
 same_steps : (xs ys : List (Step Weights)) → AllByRecursion HasLine xs → AllByRecursion HasLine ys
     → steps_text xs ≡ steps_text ys → xs ≡ ys
@@ -102,19 +100,6 @@ reads_back_is s lines =
     let is : IsScript (script_text s) s = record { lines = lines; whole = inl refl } in
     (is, λ t other. one_reading_is (script_text s) t s other is)
 
--- the first line is the front up to the first line feed
-pub head_line : (front t bytes line rest : List ℕ) → Lacks 10 front → IsTextOf bytes (front ++ 10 ∷ t) → IsFirstLine bytes line rest → line ≡ front
-head_line front t bytes line rest lacks text first = elim text [
-  | inl whole ↦ elim first.whole [
-    | inl feed ↦ (cut 10 line front rest t first.no_feed lacks (sym feed ∙ whole)).0
-    | inr last ↦ absurd (no_cut 10 line front t first.no_feed (sym last.0 ∙ whole))
-  ]
-  | inr whole ↦ elim first.whole [
-    | inl feed ↦ (cut 10 line front (rest ++ 10 ∷ []) t first.no_feed lacks (sym (append_assoc line (10 ∷ rest) (10 ∷ [])) ∙ ap (λ x. x ++ 10 ∷ []) (sym feed) ∙ whole)).0
-    | inr last ↦ (cut 10 line front [] t first.no_feed lacks (ap (λ x. x ++ 10 ∷ []) (sym last.0) ∙ whole)).0
-  ]
-]
-
 -- behind a first line that two texts have
 tail_text : (l p behind m q bytes : List ℕ) → Lacks 10 l → Lacks 10 m → bytes ≡ (l ++ 10 ∷ p) ++ behind → IsTextOf bytes (m ++ 10 ∷ q) → IsTextOf (p ++ behind) q
 tail_text l p behind m q bytes a b is text = elim text [
@@ -138,7 +123,7 @@ step_there : (xs ys : List (Step Weights)) (bytes behind line rest : List ℕ) �
 step_there xs [] bytes behind line rest a b is text some first =
     absurd (no_text bytes (λ none. not_nothing (steps_text xs) behind some (sym is ∙ none)) text)
 step_there [] (y ∷ ys) bytes behind line rest a b is text some first =
-    (y, b.0, head_line (step_line y) (steps_text ys) behind line rest (step_lacks y b.0.is_step) (subst (λ x. IsTextOf x (steps_text (y ∷ ys))) is text) first)
+    (y, b.0, first_line_is (step_line y) (steps_text ys) behind line rest (step_lacks y b.0.is_step) (subst (λ x. IsTextOf x (steps_text (y ∷ ys))) is text) first)
 step_there (x ∷ xs) (y ∷ ys) bytes behind line rest a b is text some first =
     step_there xs ys (steps_text xs ++ behind) behind line rest a.1 b.1 refl
     (tail_text (step_line x) (steps_text xs) behind (step_line y) (steps_text ys) bytes (step_lacks x a.0.is_step) (step_lacks y b.0.is_step) is text) some first
@@ -180,7 +165,7 @@ good_step st f has (inr fault) = step_told st f fault.1.0 has.is_step (same_word
 
 pub no_fault_is : (bytes : List ℕ) (s : ScriptState) (f : ScriptFault) → IsScript bytes s → ¬ (IsScriptFault bytes f)
 no_fault_is bytes s f is (inl first) =
-    let line = head_line (founders_line s.founders) (steps_text s.steps) bytes first.line first.rest (founders_lack s.founders) is.whole first.is_first in
+    let line = first_line_is (founders_line s.founders) (steps_text s.steps) bytes first.line first.rest (founders_lack s.founders) is.whole first.is_first in
     good_founders s.founders f.fault is.lines.founders (subst (λ l. IsLineFault TellNoFounders l f.fault) line first.fault)
 no_fault_is bytes s f is (inr later) =
     let next = later.is_next in

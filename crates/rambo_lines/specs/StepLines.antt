@@ -8,7 +8,7 @@ use Rattle.rambo_history.specs.declared.operation.Op.TheVariants as op
 use Rattle.rambo_run.specs.declared.step.Step.{Step}
 use Rattle.rambo_run.specs.declared.step.Step.TheVariants as step
 use Rattle.rambo_text.specs.Forms.{Form, Num, Name, Set, Conf, Call, Hex}
-use Rattle.rambo_text.specs.Signs.{call_text, hex_text, IsCall, AreBytes}
+use Rattle.rambo_text.specs.Signs.{call_text, hex_text, IsCall, IsOp}
 use Rattle.rambo_text.specs.Words.{words_text}
 use Rattle.rambo_lines.specs.declared.kind.StepKind.{StepKind}
 use Rattle.rambo_lines.specs.declared.kind.StepKind.TheVariants as kind
@@ -72,11 +72,6 @@ step_words (step.Stop n) = word_of kind.Stop ∷ decimal n ∷ []
 -- the line of a step, with no line feed
 abbrev pub step_line : Step Weights → List ℕ
 step_line st = words_text (step_words st)
-
--- keys and values are bytes
-abbrev pub IsOp : Op → Type 0
-IsOp (op.Get key) = AreBytes key
-IsOp (op.Set key value) = AreBytes key × AreBytes value
 
 -- names are names, also those of sets and configurations, and numbers have 64 bits
 abbrev pub IsStep : Step Weights → Type 0

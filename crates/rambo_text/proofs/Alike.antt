@@ -1,9 +1,10 @@
 -- Each value has one sign
-use Rattle.std.proofs.Common.{◌≡◌, ℕ, zero, suc, ◌+◌, ◌/◌, ◌%◌, ◌<◌, ◌≤◌, ◌^◌, Bool, true, false, cond, List, [], ◌∷◌, ◌++◌, length, filter, decimal, inl, inr, refl, sym, ap, ◌∙◌, append-nil, arith, lit<}
+use Rattle.std.proofs.Common.{◌≡◌, ℕ, ◌/◌, ◌%◌, ◌<◌, List, [], ◌∷◌, decimal, refl, arith, lit<}
 use Rattle.std.specs.List.{AllByRecursion}
 use Rattle.std.proofs.lemmas.Fmt.{decimal_injective}
 use Rattle.std.proofs.lemmas.Bool.Decides.{nat_tests}
 use Rattle.std.proofs.lemmas.List.Elements.{recursion_from_All}
+use Rattle.rambo_names.specs.Names.{IsName}
 use Rattle.rambo_history.specs.declared.event.CallId.{CallId}
 use Rattle.rambo_text.specs.Signs.{digit_of, pairs_text, hex_text, call_text, IsCall, AreBytes}
 use Rattle.rambo_text.proofs.Dots.{call_parts}
@@ -37,3 +38,6 @@ same_id c d a b e =
     let name : c.name ≡ d.name = decimal_injective c.name d.name (omega arith) (omega arith) parts.0 in
     let number : c.number ≡ d.number = decimal_injective c.number d.number a.2 b.2 parts.1 in
     (λ i. record { name = name i; number = number i })
+
+pub same_name : (n m : ℕ) → IsName n → IsName m → decimal n ≡ decimal m → n ≡ m
+same_name n m a b e = decimal_injective n m (omega arith) (omega arith) e

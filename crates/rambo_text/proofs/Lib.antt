@@ -2,12 +2,14 @@ pub mod Alike
 pub mod Decimals
 pub mod Dots
 pub mod FirstBytes
+pub mod FirstLines
 pub mod Fronts
 pub mod Lacking
 pub mod DigitNumbers
 pub mod Options
 pub mod Pairs
 pub mod Plain
+pub mod SpeltWords
 pub mod WordSplits
 pub mod Standings
 pub mod WordsThere

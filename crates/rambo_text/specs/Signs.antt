@@ -4,6 +4,8 @@ use Rattle.rambo_names.specs.Names.{IsName}
 use Rattle.rambo_names.specs.Signs.{conf_text}
 use Rattle.rambo_names.specs.Weights.{Weights}
 use Rattle.rambo_history.specs.declared.event.CallId.{CallId}
+use Rattle.rambo_history.specs.declared.operation.Op.{Op}
+use Rattle.rambo_history.specs.declared.operation.Op.TheVariants as op
 
 -- the digit of a number below 16
 abbrev pub digit_of : ℕ → ℕ
@@ -35,6 +37,11 @@ IsCall c = IsName c.name × (1 ≤ c.number) × (c.number < 2 ^ 64)
 -- a text of bytes
 abbrev pub AreBytes : List ℕ → Type 0
 AreBytes bs = All (λ b. b < 256) bs
+
+-- keys and values of an operation are bytes
+abbrev pub IsOp : Op → Type 0
+IsOp (op.Get key) = AreBytes key
+IsOp (op.Set key value) = AreBytes key × AreBytes value
 
 -- a text with some more behind it
 abbrev pub Grows : List ℕ → List ℕ → Type 0

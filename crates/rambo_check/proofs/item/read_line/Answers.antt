@@ -8,8 +8,8 @@ use Rattle.rambo_text.specs.Words.{AreWords, IsFirstWord}
 use Rattle.rambo_text.proofs.WordSplits.{words_joined}
 use Rattle.rambo_check.specs.Items.{IsItem, IsLineIn, IsPassed, IsSpelling}
 use Rattle.rambo_check.specs.Lines.{Item, Happened, Collected, Settled, Refused, Ordered, OrderedAll, Mapped, item_words}
-use Rattle.rambo_check.specs.Plans.{call_plan, answer_plan, sequence_plan, order_plan, plan}
-use Rattle.rambo_check.proofs.LineFaults.{line_fault, plan_word, plan_order, order_word}
+use Rattle.rambo_check.specs.Plans.{call_plan, answer_plan, sequence_plan, plan}
+use Rattle.rambo_check.proofs.LineFaults.{line_fault, plan_word, order_fault, order_word}
 use Rattle.rambo_check.proofs.item.read_line.Goals as goal
 
 -- the line is an item's, whose first word this is
@@ -51,8 +51,8 @@ pub returns-in_err-read_order-clause-fault : goal.returns-in_err-read_order-clau
 returns-in_err-read_order-clause-fault c =
     let p = err_from_is_err_and c.from_residual-in_err-read_order.result c.from_residual-in_err-read_order.ensures.1 in
     rw (p.1, p.2)
-    (line_fault c.args.version c.args.line.now c.next_word.result.0.now (option_copied c.next_word.result.1) order_plan _ c.next_word.ensures
-    (plan_order c.args.version c.next_word.result.0.now c.if-tells_order.ensures) c.in_err-read_order.ensures.fault)
+    (order_fault c.args.version c.args.line.now c.next_word.result.0.now (option_copied c.next_word.result.1) _ c.next_word.ensures c.if-tells_order.ensures
+    c.in_err-read_order.ensures.fault)
 
 pub returns-then-tells_order-clause-kept : goal.returns-then-tells_order-clause-kept
 returns-then-tells_order-clause-kept c =

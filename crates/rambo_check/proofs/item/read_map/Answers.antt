@@ -50,10 +50,7 @@ returns-clause-fault c =
     let small : c.in-Some-read_num._floor < 2 ^ 64 = omega arith in
     IfErr-weaker c.read_confs.result _ _
     (λ f h.
-    elim (row_bad Conf (option_copied c.in-Some.more) f h) [
-      | inl e ↦ inl e
-      | inr b ↦
-          map_bad (option_copied c.args.more) c.in-Some.more c.in-Some.name.now c.in-Some.floor.now b.0 f c.if-is_none.ensures b.1 (c.in-Some.ensures.found b.0 b.1)
-          (inr ((c.in-Some-read_name._name, name.0, name.1), inr ((c.in-Some-read_num._floor, small, c.in-Some-read_num.ensures.found), b.2)))
-    ])
+    let b = row_bad Conf (option_copied c.in-Some.more) f h (λ e. cc) in
+    map_bad (option_copied c.args.more) c.in-Some.more c.in-Some.name.now c.in-Some.floor.now b.0 f c.if-is_none.ensures b.1 (c.in-Some.ensures.found b.0 b.1)
+    (inr ((c.in-Some-read_name._name, name.0, name.1), inr ((c.in-Some-read_num._floor, small, c.in-Some-read_num.ensures.found), b.2))))
     c.read_confs.ensures.fault

@@ -14,6 +14,6 @@ returns-in_err-bytes-clause-fault c =
     let id = c.in-Some-read_call.ensures.found in
     rw (p.1, p.2)
     (elim c.in_err-bytes.ensures.fault [
-      | inl h ↦ inl h
+      | inl h ↦ inl (h, (c.in-Some.bytes.now ∷ [], c.in-Some.ensures.found, (refl, inr ((c.in-Some-read_call.id, id.0, id.1), inl refl))))
       | inr h ↦ inr (c.in-Some.bytes.now ∷ [], c.in-Some.ensures.found, inr (refl, inr ((c.in-Some-read_call.id, id.0, id.1), inl ((λ s. h.1 s.0 s.1 s.2), h.0))))
     ])

@@ -14,7 +14,7 @@ returns-in_err-first-clause-fault c =
     let id = c.in-Some-read_call.ensures.found in
     rw (p.1, p.2)
     (elim c.in_err-first.ensures.fault [
-      | inl h ↦ inl h
+      | inl h ↦ inl (h, (c.in-Some.first.now ∷ c.in-Some.second.now ∷ [], c.in-Some.ensures.found, (refl, inr ((c.in-Some-read_call.id, id.0, id.1), inl refl))))
       | inr h ↦
           inr (c.in-Some.first.now ∷ c.in-Some.second.now ∷ [], c.in-Some.ensures.found, inr (refl, inr ((c.in-Some-read_call.id, id.0, id.1), inl ((λ s. h.1 s.0 s.1 s.2), h.0))))
     ])
@@ -26,7 +26,7 @@ returns-in_err-second-clause-fault c =
     let first = c.in_ok-first.ensures.found in
     rw (p.1, p.2)
     (elim c.in_err-second.ensures.fault [
-      | inl h ↦ inl h
+      | inl h ↦ inl (h, (c.in-Some.first.now ∷ c.in-Some.second.now ∷ [], c.in-Some.ensures.found, (refl, inr ((c.in-Some-read_call.id, id.0, id.1), inl refl))))
       | inr h ↦
           inr (
             c.in-Some.first.now ∷ c.in-Some.second.now ∷ [],
