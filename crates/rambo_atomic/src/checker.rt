@@ -3,7 +3,7 @@ ghost use Rattle.std.specs.Prelude.{◌≡◌, ◌+◌, ◌<◌, ◌^◌, ℕ, L
 ghost use Rattle.std.specs.Option.{option_copied};
 ghost use Rattle.std.specs.Str.{bytes_eq};
 ghost use Rattle.rambo_history.specs.Forms.{IsWellFormed};
-ghost use Rattle.rambo_atomic.specs.Held.{held_in};
+ghost use Rattle.rambo_atomic.specs.Held.{held_in, held_of};
 ghost use Rattle.rambo_atomic.specs.Scopes.{within, IsVerdictIn};
 ghost use Rattle.rambo_atomic.specs.Tallies.{how_many, count_at, is_found, is_answered_call};
 ghost use Rattle.rambo_atomic.specs.Tests.{is_due, is_distinct, all_told, none_held};
@@ -125,7 +125,10 @@ fn answers_latest(history: &History, order: &[CallId]) -> Result<bool, Refusal>
     ensures test { IfOk result (λ t. t ≡ all_told history.now.events none_held order.now) }
     ensures refused { IfErr result (λ r. r ≡ Refusal.OutOfMemory) }
 {
-    let mut held = HashMap::new(history.allocator());
+    let mut held = Held {
+        last: None,
+        others: HashMap::new(history.allocator()),
+    };
     let mut rest = order;
     while let Some((id, others)) = rest.split_first() {
         match history.exchange(id) {
@@ -142,15 +145,42 @@ fn answers_latest(history: &History, order: &[CallId]) -> Result<bool, Refusal>
     Ok(true)
 }
 
+// What keys hold.
+// (most orders are of one key, and so need no table)
+#[derive(Drop)]
+struct Held<'a> {
+    // The key that was set last, if there is one, and what it holds.
+    last: Option<(&'a [u8], &'a Bytes)>,
+    // What the others hold. What it has at the last key is old.
+    others: HashMap<&'a [u8], &'a Bytes>,
+}
+
 // What a key holds.
-fn held_at<'a>(held: &HashMap<&'a [u8], &'a Bytes>, key: &[u8]) -> Option<&'a Bytes>
-    ensures { option_copied result ≡ held_in held.now.entries key.now }
+fn held_at<'a>(held: &Held<'a>, key: &[u8]) -> Option<&'a Bytes>
+    ensures { option_copied result ≡ held_of held.now.last held.now.others.entries key.now }
 {
-    held.get(&key).copied()
+    match held.last {
+        Some((last, value)) if last == key => Some(value),
+        _ => held.others.get(&key).copied(),
+    }
 }
 
 // A key holds a value from now on.
-fn hold<'a>(
+fn hold<'a>(held: &mut Held<'a>, key: &'a [u8], value: &'a Bytes) -> Result<(), Refusal>
+    ensures held { OnOk result ((q : List ℕ) → held_of held.new.last held.new.others.entries q ≡ (if bytes_eq key.now q then Some value.now else held_of held.old.last held.old.others.entries q)) }
+    ensures refused { IfErr result (λ r. r ≡ Refusal.OutOfMemory) }
+{
+    if let Some((last, old)) = held.last {
+        if last != key {
+            put(&mut held.others, last, old)?;
+        }
+    }
+    held.last = Some((key, value));
+    Ok(())
+}
+
+// Puts a value at a key.
+fn put<'a>(
     held: &mut HashMap<&'a [u8], &'a Bytes>,
     key: &'a [u8],
     value: &'a Bytes,

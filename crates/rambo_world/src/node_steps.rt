@@ -86,27 +86,34 @@ fn note<Q: Quorums>(history: &mut History, marks: &mut Vec<Mark>, deed: &mut Dee
     ensures mark { marks.new.items ≡ with_mark marks.old.items deed.old.mark }
     ensures effect { deed.new.effect ≡ deed.old.effect }
 {
-    push_event(history, deed.event.take());
-    push_mark(marks, deed.mark.take());
+    push_event(history, &mut deed.event);
+    push_mark(marks, &mut deed.mark);
 }
 
 // The event of a deed, if it has one, goes to the end, where there is room for it.
-fn push_event(history: &mut History, event: Option<Event>)
+// (most deeds have none, and room for one isn't moved then)
+fn push_event(history: &mut History, event: &mut Option<Event>)
     requires room { 0 < history.old.room }
-    requires fits { (e : Event) → event ≡ Some e → fault_of history.old.events e ≡ None }
-    ensures { history.new.events ≡ with_event history.old.events event }
+    requires fits { (e : Event) → event.old ≡ Some e → fault_of history.old.events e ≡ None }
+    ensures { history.new.events ≡ with_event history.old.events event.old }
 {
-    if let Some(event) = event {
+    if event.is_none() {
+        return;
+    }
+    if let Some(event) = event.take() {
         history.push_reserved(event);
     }
 }
 
 // And so does its mark.
-fn push_mark(marks: &mut Vec<Mark>, mark: Option<Mark>)
+fn push_mark(marks: &mut Vec<Mark>, mark: &mut Option<Mark>)
     requires { vec_len marks.old < vec_capacity marks.old }
-    ensures { marks.new.items ≡ with_mark marks.old.items mark }
+    ensures { marks.new.items ≡ with_mark marks.old.items mark.old }
 {
-    if let Some(mark) = mark {
+    if mark.is_none() {
+        return;
+    }
+    if let Some(mark) = mark.take() {
         marks.push_reserved(mark);
     }
 }

@@ -139,7 +139,7 @@ impl<Q: Quorums, S: Replica> Nodes<Q, S> {
     {
         make_room(&self.list[place_of(id.name)], &id, &mut self.logs)?;
         self.list[place_of(id.name)].go_on(id, deed)?;
-        log_copy(&mut self.logs, id.name, deed.copy.take());
+        log_copy(&mut self.logs, id.name, &mut deed.copy);
         Ok(())
     }
 
@@ -304,11 +304,16 @@ fn make_room<Q: Quorums, S: Replica>(
 }
 
 // Puts a copy, if there is one, at the end of the log of a name, where room was made for it.
-fn log_copy(logs: &mut Logs, name: Name, copy: Option<KeyedVersion>)
-    requires { (c : KeyedVersion) → copy ≡ Some c → logs.old.room ≡ Some (record { name = name; key = c.key }) }
-    ensures { logs.new.logs ≡ extended logs.old.logs name (listed copy) }
+// (most deeds have none, and room for one isn't moved then)
+fn log_copy(logs: &mut Logs, name: Name, copy: &mut Option<KeyedVersion>)
+    requires { (c : KeyedVersion) → copy.old ≡ Some c → logs.old.room ≡ Some (record { name = name; key = c.key }) }
+    ensures logged { logs.new.logs ≡ extended logs.old.logs name (listed copy.old) }
+    ensures taken { copy.new ≡ None }
 {
-    if let Some(copy) = copy {
+    if copy.is_none() {
+        return;
+    }
+    if let Some(copy) = copy.take() {
         logs.put(name, copy);
     }
 }

@@ -65,11 +65,11 @@ log_copy-requires g c cp found =
     let below : c.place_of-2.result < length xs = subst (λ n. c.place_of-2.result < n) (sym c.self.invariant.0) c.place_of-2.ensures.within in
     let first : c.place_of.result < length xs = subst (λ n. c.place_of.result < n) (sym c.self.invariant.0) c.place_of.ensures.within in
     let same = some_is x asking (sym (node_here xs ls c.place_of-2.result c.args.id.name x x c.place_of-2.ensures.place c.place_of-2.ensures.named.0 below c.index_mut.ensures.value) ∙ node_here xs ls c.place_of.result c.args.id.name asking asking c.place_of.ensures.place c.place_of.ensures.named.0 first c.index.ensures) in
-    let own = put_key x c.args.id cp (sym (c.take.ensures.value ∙ ap (λ d. d.copy) c.in_ok-go_on.ensures.deed) ∙ found) in
+    let own = put_key x c.args.id cp (sym (ap (λ d. d.copy) c.in_ok-go_on.ensures.deed) ∙ found) in
     c.in_ok-make_room.ensures.room cp.key own.0 (ap (λ y. query_in (open_call y c.args.id)) (sym same) ∙ own.1)
 
 logs_after : (g : _) (c : goal.After-log_copy g) → c.log_copy.new.logs.logs ≡ extended c.self.inside.logs.logs c.args.id.name (listed (made_by c.index_mut.result.now (change.Advance c.args.id)).deed.copy)
-logs_after g c = c.log_copy.ensures ∙ λ i. extended (c.make_room.ensures.same i) c.args.id.name (listed ((c.take.ensures.value ∙ ap (λ d. d.copy) c.in_ok-go_on.ensures.deed) i))
+logs_after g c = c.log_copy.ensures.logged ∙ λ i. extended (c.make_room.ensures.same i) c.args.id.name (listed (ap (λ d. d.copy) c.in_ok-go_on.ensures.deed i))
 
 pub invariant_of-self-2 : goal.invariant_of-self-2
 invariant_of-self-2 g c = (length-set c.self.inside.list.items _ _ ∙ c.self.invariant.0, ap length (logs_after g c) ∙ length-set c.self.inside.logs.logs _ _ ∙ c.self.invariant.1)
@@ -90,7 +90,7 @@ returns-clause-deed g c y found =
     let x = c.index_mut.result.now in
     let below : c.place_of-2.result < length xs = subst (λ n. c.place_of-2.result < n) (sym c.self.invariant.0) c.place_of-2.ensures.within in
     let here = subst (λ now. state_at now c.args.id.name ≡ Some x) c.self.view_is (node_here xs ls c.place_of-2.result c.args.id.name x x c.place_of-2.ensures.place c.place_of-2.ensures.named.0 below c.index_mut.ensures.value) in
-    ap (λ o. record c.go_on.new.deed { copy = o }) c.take.ensures.after
+    ap (λ o. record c.go_on.new.deed { copy = o }) c.log_copy.ensures.taken
     ∙ ap (λ (d : Deed _). record d { copy = None }) (c.in_ok-go_on.ensures.deed ∙ ap (λ y. (made_by y (change.Advance c.args.id)).deed) (some_is x y (sym here ∙ found)))
 
 pub returns-clause-grow : goal.returns-clause-grow
