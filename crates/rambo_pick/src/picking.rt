@@ -4,9 +4,9 @@ ghost use Rattle.rambo_node.specs.Changes.{refusal_of};
 ghost use Rattle.rambo_node.specs.declared.change.Change.TheVariants as change;
 ghost use Rattle.rambo_pick.specs.Picking.{heard_first, moved_first, turned_first, own_first};
 
-use rambo_atomic::CallId;
 use rambo_deeds::{Mail, Worker};
 use rambo_gossip::Letter;
+use rambo_history::CallId;
 use rambo_names::{Name, Quorums, Refusal};
 use rambo_node::{Change, Node};
 use rambo_run::Step;

@@ -3,7 +3,7 @@ use Rattle.std.proofs.Common.{◌≡◌, ℕ, suc, List, [], ◌∷◌, ◌++◌
 use Rattle.rambo_names.specs.declared.refusal.Refusal.{Refusal}
 use Rattle.rambo_names.specs.Quorums.{QuorumSystem}
 use Rattle.rambo_names.specs.Refusals.{least}
-use Rattle.rambo_atomic.specs.declared.event.CallId.{CallId}
+use Rattle.rambo_history.specs.declared.event.CallId.{CallId}
 use Rattle.rambo_calls.specs.Calls.{CallState}
 use Rattle.rambo_node.specs.declared.change.Change.TheVariants as change
 use Rattle.rambo_node.specs.Changes.{refusal_of}
