@@ -1,5 +1,5 @@
 -- A trace that is written piece by piece
-use Rattle.std.proofs.Common.{◌≡◌, ℕ, ◌+◌, ◌<◌, List, [], ◌∷◌, ◌++◌, length, take, drop, get_or, codes, refl, sym, ap, subst, ◌∙◌, append_assoc, append-nil, take-append-drop}
+use Rattle.std.proofs.Common.{◌≡◌, ℕ, ◌+◌, ◌<◌, List, [], ◌∷◌, ◌++◌, length, take, drop, get_or, codes, sym, ap, subst, ◌∙◌, append_assoc, append-nil, take-append-drop}
 use Rattle.std.specs.Prelude.{Ok, OnOk, Option, Result}
 use Rattle.std.specs.Io.KnownBytes.{Appends}
 use Rattle.std.proofs.KnownBytes.{Appends-nil, Appends-trans}
@@ -12,6 +12,7 @@ use Rattle.rambo_names.specs.Signs.{conf_text}
 use Rattle.rambo_text.specs.Versions.{head_line, head_text}
 use Rattle.rambo_lines.specs.StepLines.{step_line}
 use Rattle.rambo_lines.specs.Scripts.{founders_line, steps_text}
+use Rattle.rambo_lines.proofs.LineByLine.{steps_text-append}
 use Rattle.rambo_trace.specs.Traces.{Moves, trace_text}
 
 -- of the text of the founders and some steps one part was written, and the other waits
@@ -19,11 +20,6 @@ pub record Going (founders : Weights) (steps : List (Step Weights)) (old now : O
   pub gone : List ℕ
   pub written : Appends old now gone
   pub whole : trace_text founders steps ≡ gone ++ waits
-
-steps_text-append : (xs ys : List (Step Weights)) → steps_text (xs ++ ys) ≡ steps_text xs ++ steps_text ys
-steps_text-append [] ys = refl
-steps_text-append (x ∷ xs) ys =
-    ap (λ t. step_line x ++ 10 ∷ t) (steps_text-append xs ys) ∙ sym (append_assoc (step_line x) (10 ∷ steps_text xs) (steps_text ys))
 
 -- the text of more steps
 pub trace-append : (founders : Weights) (xs ys : List (Step Weights)) → trace_text founders (xs ++ ys) ≡ trace_text founders xs ++ steps_text ys
