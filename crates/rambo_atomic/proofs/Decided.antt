@@ -2,25 +2,25 @@
 use Rattle.std.proofs.Common.{◌≡◌, ℕ, List, [], ◌∷◌, ◌++◌, Bool, true, false, cond, not, ◌&&◌, ◌||◌, Option, None, Some, is_some, IsSome, refl, sym, ap, ◌∙◌, inl, inr, true≢false, fold, subst, append_assoc}
 use Rattle.std.specs.Option.{IsSomeAnd}
 use Rattle.std.proofs.lemmas.Slice.Eq.{bytes_eq-Decides}
-use Rattle.rambo_atomic.specs.declared.operation.Op.{Op}
-use Rattle.rambo_atomic.specs.declared.operation.Op.TheVariants as op
-use Rattle.rambo_atomic.specs.declared.operation.Answer.{Answer}
-use Rattle.rambo_atomic.specs.declared.operation.Answer.TheVariants as answer
-use Rattle.rambo_atomic.specs.declared.event.CallId.{CallId}
-use Rattle.rambo_atomic.specs.declared.event.Event.{Event}
-use Rattle.rambo_atomic.specs.declared.event.Event.TheVariants as event
-use Rattle.rambo_atomic.specs.Calls.{key_of, is_get, answer_for, same_call}
+use Rattle.rambo_history.specs.declared.operation.Op.{Op}
+use Rattle.rambo_history.specs.declared.operation.Op.TheVariants as op
+use Rattle.rambo_history.specs.declared.operation.Answer.{Answer}
+use Rattle.rambo_history.specs.declared.operation.Answer.TheVariants as answer
+use Rattle.rambo_history.specs.declared.event.CallId.{CallId}
+use Rattle.rambo_history.specs.declared.event.Event.{Event}
+use Rattle.rambo_history.specs.declared.event.Event.TheVariants as event
+use Rattle.rambo_history.specs.Calls.{key_of, is_get, answer_for, same_call}
 use Rattle.rambo_atomic.specs.declared.scope.Scope.{Scope}
 use Rattle.rambo_atomic.specs.declared.scope.Scope.TheVariants as scope
-use Rattle.rambo_atomic.specs.Forms.{CallsOnce, IsWellFormed}
+use Rattle.rambo_history.specs.Forms.{CallsOnce, IsWellFormed}
 use Rattle.rambo_atomic.specs.Scopes.{within, IsCompleteIn, HasNoStrangerIn, IsProperIn}
-use Rattle.rambo_atomic.specs.Histories.{call_in, answer_in}
-use Rattle.rambo_atomic.specs.Proper.{EverySplit, Stands, IsDistinct, HasNoStranger, AnswersLatest, KeepsRealTime, after_op}
+use Rattle.rambo_history.specs.Histories.{call_in, answer_in}
+use Rattle.rambo_history.specs.Proper.{EverySplit, Stands, IsDistinct, HasNoStranger, AnswersLatest, KeepsRealTime, after_op}
 use Rattle.rambo_atomic.specs.Tests.{stands_in, of_key, is_due, is_complete, is_distinct, is_own_op, has_no_stranger, tells, is_told, all_told, none_held}
-use Rattle.rambo_atomic.proofs.Asked.{some_and, answered_called}
-use Rattle.rambo_atomic.proofs.LookUps.{call_in-append, either}
-use Rattle.rambo_atomic.proofs.Pushes.{same_call-path, same_call-refl}
-use Rattle.rambo_atomic.proofs.Splits.{splits-nil, splits-cons, splits-head, splits-tail, stands-later, stands-nil, stands-cases}
+use Rattle.rambo_history.proofs.Asked.{some_and, answered_called}
+use Rattle.rambo_history.proofs.LookUps.{call_in-append, either}
+use Rattle.rambo_history.proofs.Pushes.{same_call-path, same_call-refl}
+use Rattle.rambo_history.proofs.Splits.{splits-nil, splits-cons, splits-head, splits-tail, stands-later, stands-nil, stands-cases}
 
 both : (a b : Bool) → (a && b) ≡ true → (a ≡ true) × (b ≡ true)
 both true b e = (refl, e)

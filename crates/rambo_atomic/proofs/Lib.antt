@@ -1,11 +1,7 @@
-pub mod Asked
 pub mod Decided
 pub mod KnownBytes
-pub mod LookUps
 pub mod Pieces
-pub mod Pushes
 pub mod RealTime
 pub mod Seen
-pub mod Splits
 pub mod Tallied
 pub mod Unreads

@@ -2,17 +2,17 @@
 use Rattle.std.proofs.Common.{◌≡◌, ℕ, ◌+◌, ◌≤◌, length, length-append, List, [], ◌∷◌, ◌++◌, Bool, true, false, cond, not, ◌&&◌, ◌||◌, nat_eq, None, Some, is_some, refl, sym, ap, ◌∙◌, true≢false, arith}
 use Rattle.std.specs.List.{list_any}
 use Rattle.std.proofs.lemmas.Bool.Decides.{nat_tests}
-use Rattle.rambo_atomic.specs.declared.operation.Op.{Op}
-use Rattle.rambo_atomic.specs.declared.event.CallId.{CallId}
-use Rattle.rambo_atomic.specs.declared.event.Event.{Event}
-use Rattle.rambo_atomic.specs.declared.event.Event.TheVariants as event
-use Rattle.rambo_atomic.specs.Calls.{same_call}
-use Rattle.rambo_atomic.specs.Forms.{CallsOnce}
-use Rattle.rambo_atomic.specs.Histories.{call_in, answer_in}
+use Rattle.rambo_history.specs.declared.operation.Op.{Op}
+use Rattle.rambo_history.specs.declared.event.CallId.{CallId}
+use Rattle.rambo_history.specs.declared.event.Event.{Event}
+use Rattle.rambo_history.specs.declared.event.Event.TheVariants as event
+use Rattle.rambo_history.specs.Calls.{same_call}
+use Rattle.rambo_history.specs.Forms.{CallsOnce}
+use Rattle.rambo_history.specs.Histories.{call_in, answer_in}
 use Rattle.rambo_atomic.specs.Tallies.{how_many, is_found, is_any_of, is_answered_call}
 use Rattle.rambo_atomic.specs.Tests.{stands_in, is_due, has_entry, is_distinct}
-use Rattle.rambo_atomic.proofs.Pushes.{same_call-path}
-use Rattle.rambo_atomic.proofs.RealTime.{once-tail, once-head}
+use Rattle.rambo_history.proofs.Pushes.{same_call-path}
+use Rattle.rambo_history.proofs.AnsweredBefore.{once-tail, once-head}
 
 same_call-swap : (c d : CallId) → same_call c d ≡ same_call d c
 same_call-swap c d =

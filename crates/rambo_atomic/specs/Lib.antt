@@ -1,12 +1,4 @@
-pub mod Calls
-pub mod Faults
-pub mod Forms
 pub mod Held
-pub mod Histories
-pub mod Looks
-pub mod HistoryStates
-pub mod Places
-pub mod Proper
 pub mod Scopes
 pub mod StreamFaults
 pub mod Streams

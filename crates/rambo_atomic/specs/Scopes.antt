@@ -1,12 +1,12 @@
 -- Whose calls an order is to explain
 use Rattle.std.specs.Prelude.{Bool, true, List}
-use Rattle.rambo_atomic.specs.declared.operation.Op.{Op}
-use Rattle.rambo_atomic.specs.declared.event.CallId.{CallId}
-use Rattle.rambo_atomic.specs.declared.event.Event.{Event}
+use Rattle.rambo_history.specs.declared.operation.Op.{Op}
+use Rattle.rambo_history.specs.declared.event.CallId.{CallId}
+use Rattle.rambo_history.specs.declared.event.Event.{Event}
 use Rattle.rambo_atomic.specs.declared.scope.Scope.{Scope}
 use Rattle.rambo_atomic.specs.declared.scope.Scope.TheVariants as scope
 use Rattle.rambo_atomic.specs.declared.verdict.Verdict.{Verdict}
-use Rattle.rambo_atomic.specs.Proper.{IsComplete, IsDistinct, HasNoStranger, AnswersLatest, KeepsRealTime, IsProper, HasAllAnswered, HasCallsAlone, IsProperForAll}
+use Rattle.rambo_history.specs.Proper.{IsComplete, IsDistinct, HasNoStranger, AnswersLatest, KeepsRealTime, IsProper, HasAllAnswered, HasCallsAlone, IsProperForAll}
 use Rattle.rambo_atomic.specs.Tests.{of_key}
 use Rattle.rambo_atomic.specs.Verdicts.{IsLeastBroken}
 

@@ -3,10 +3,10 @@ use Rattle.std.specs.Prelude.{◌≡◌, ℕ, ◌+◌, List, [], ◌∷◌, Bool
 use Rattle.std.specs.Borrow.{Bor}
 use Rattle.std.specs.Map.{lookup}
 use Rattle.std.specs.Str.{bytes_eq}
-use Rattle.rambo_atomic.specs.declared.operation.Op.{Op}
-use Rattle.rambo_atomic.specs.declared.event.CallId.{CallId}
-use Rattle.rambo_atomic.specs.declared.event.Event.{Event}
-use Rattle.rambo_atomic.specs.Histories.{call_in, answer_in}
+use Rattle.rambo_history.specs.declared.operation.Op.{Op}
+use Rattle.rambo_history.specs.declared.event.CallId.{CallId}
+use Rattle.rambo_history.specs.declared.event.Event.{Event}
+use Rattle.rambo_history.specs.Histories.{call_in, answer_in}
 use Rattle.rambo_atomic.specs.Tests.{of_key, is_due, has_entry}
 
 -- how many items pass a test
@@ -34,10 +34,6 @@ is_found h within order e = is_due h within e && has_entry order e
 abbrev pub is_any_of : (Op → Bool) → Option Op → Bool
 is_any_of within None = false
 is_any_of within (Some op) = within op
-
--- whether there is an operation, and it is of the key
-abbrev pub is_of_key : List ℕ → Option Op → Bool
-is_of_key key o = is_any_of (of_key key) o
 
 -- whether a call is one of those within and was answered
 abbrev pub is_answered_call : List Event → (Op → Bool) → CallId → Bool

@@ -1,17 +1,17 @@
 -- The rules of a proper order as tests, which the checkers compute
-use Rattle.std.specs.Prelude.{ℕ, List, [], ◌∷◌, Bool, true, false, not, ◌&&◌, ◌||◌, nat_lt, max, Option, None, Some, is_some, if◌then◌else◌}
+use Rattle.std.specs.Prelude.{ℕ, List, [], ◌∷◌, Bool, true, false, not, ◌&&◌, ◌||◌, max, Option, None, Some, is_some, if◌then◌else◌}
 use Rattle.std.specs.List.{list_all, list_any}
 use Rattle.std.specs.Str.{bytes_eq}
-use Rattle.rambo_atomic.specs.declared.operation.Op.{Op}
-use Rattle.rambo_atomic.specs.declared.operation.Op.TheVariants as op
-use Rattle.rambo_atomic.specs.declared.operation.Answer.{Answer}
-use Rattle.rambo_atomic.specs.declared.operation.Answer.TheVariants as answer
-use Rattle.rambo_atomic.specs.declared.event.CallId.{CallId}
-use Rattle.rambo_atomic.specs.declared.event.Event.{Event}
-use Rattle.rambo_atomic.specs.declared.event.Event.TheVariants as event
-use Rattle.rambo_atomic.specs.Calls.{key_of, is_get, same_call}
-use Rattle.rambo_atomic.specs.Histories.{call_in, answer_in, called_at, answered_at}
-use Rattle.rambo_atomic.specs.Proper.{after_op}
+use Rattle.rambo_history.specs.declared.operation.Op.{Op}
+use Rattle.rambo_history.specs.declared.operation.Op.TheVariants as op
+use Rattle.rambo_history.specs.declared.operation.Answer.{Answer}
+use Rattle.rambo_history.specs.declared.operation.Answer.TheVariants as answer
+use Rattle.rambo_history.specs.declared.event.CallId.{CallId}
+use Rattle.rambo_history.specs.declared.event.Event.{Event}
+use Rattle.rambo_history.specs.declared.event.Event.TheVariants as event
+use Rattle.rambo_history.specs.Calls.{key_of, is_get, same_call}
+use Rattle.rambo_history.specs.Histories.{call_in, answer_in, called_at, answered_at, is_before}
+use Rattle.rambo_history.specs.Proper.{after_op}
 
 abbrev pub stands_in : List CallId → CallId → Bool
 stands_in order c = list_any (λ d. same_call d c) order
@@ -72,11 +72,6 @@ all_told h held (c ∷ cs) = if is_told held (call_in h c) (answer_in h c) then 
 -- no key holds anything
 abbrev pub none_held : List ℕ → Option (List ℕ)
 none_held key = None
-
--- whether an answer stands before place n
-abbrev pub is_before : ℕ → Option ℕ → Bool
-is_before n None = false
-is_before n (Some m) = nat_lt m n
 
 -- the later of a place and a call's
 abbrev pub later : ℕ → Option ℕ → ℕ

@@ -1,12 +1,12 @@
 -- What a checker of orders says
 use Rattle.std.specs.Prelude.{ℕ, List}
-use Rattle.rambo_atomic.specs.declared.event.CallId.{CallId}
-use Rattle.rambo_atomic.specs.declared.event.Event.{Event}
+use Rattle.rambo_history.specs.declared.event.CallId.{CallId}
+use Rattle.rambo_history.specs.declared.event.Event.{Event}
 use Rattle.rambo_atomic.specs.declared.verdict.Rule.{Rule}
 use Rattle.rambo_atomic.specs.declared.verdict.Rule.TheVariants.{Missing, Repeated, Stranger, WrongAnswer, OutOfOrder}
 use Rattle.rambo_atomic.specs.declared.verdict.Verdict.{Verdict}
 use Rattle.rambo_atomic.specs.declared.verdict.Verdict.TheVariants.{Yes, No}
-use Rattle.rambo_atomic.specs.Proper.{IsComplete, IsDistinct, HasNoStranger, AnswersLatest, KeepsRealTime, IsProper, HasAllAnswered, HasCallsAlone, IsProperForAll}
+use Rattle.rambo_history.specs.Proper.{IsComplete, IsDistinct, HasNoStranger, AnswersLatest, KeepsRealTime, IsProper, HasAllAnswered, HasCallsAlone, IsProperForAll}
 
 abbrev pub number_of : Rule → ℕ
 number_of Missing = 1

@@ -2,7 +2,7 @@
 ghost use Rattle.std.specs.Prelude.{◌≡◌, ◌+◌, ◌<◌, ◌^◌, ℕ, List, Some, if◌then◌else◌, IfOk, IfErr, OnOk};
 ghost use Rattle.std.specs.Option.{option_copied};
 ghost use Rattle.std.specs.Str.{bytes_eq};
-ghost use Rattle.rambo_atomic.specs.Forms.{IsWellFormed};
+ghost use Rattle.rambo_history.specs.Forms.{IsWellFormed};
 ghost use Rattle.rambo_atomic.specs.Held.{held_in};
 ghost use Rattle.rambo_atomic.specs.Scopes.{within, IsVerdictIn};
 ghost use Rattle.rambo_atomic.specs.Tallies.{how_many, count_at, is_found, is_answered_call};
@@ -10,13 +10,11 @@ ghost use Rattle.rambo_atomic.specs.Tests.{is_due, is_distinct, all_told, none_h
 ghost use Rattle.rambo_atomic.specs.Verdicts.{IsVerdict, IsVerdictForAll};
 
 use crate::checking::judge_entries;
-use crate::event::{CallId, Event};
-use crate::history::History;
-use crate::operation::Op;
 use crate::rules::tells;
 use crate::scope::Scope;
 use crate::verdict::{Rule, Verdict};
 use indexmap::IndexSet;
+use rambo_history::{CallId, Event, History, Op};
 use rambo_names::{Bytes, Refusal};
 use std::collections::HashMap;
 use std::marker::Model;
@@ -33,8 +31,8 @@ pub struct Checker<'a> {
 
 impl<'a> Model for Checker<'a> {
     ghost use Rattle.std.specs.Prelude.{◌≡◌, List};
-    ghost use Rattle.rambo_atomic.specs.declared.event.Event.{Event};
-    ghost use Rattle.rambo_atomic.specs.Forms.{IsWellFormed};
+    ghost use Rattle.rambo_history.specs.declared.event.Event.{Event};
+    ghost use Rattle.rambo_history.specs.Forms.{IsWellFormed};
     ghost use Rattle.rambo_atomic.specs.Tallies.{IsTallied, all_due};
 
     ghost Value = { List Event };

@@ -1,15 +1,14 @@
 //! A checker that takes no memory.
 ghost use Rattle.std.specs.Prelude.{◌≡◌, true};
-ghost use Rattle.rambo_atomic.specs.Forms.{IsWellFormed};
+ghost use Rattle.rambo_history.specs.Forms.{IsWellFormed};
 ghost use Rattle.rambo_atomic.specs.Scopes.{within, IsVerdictIn};
 ghost use Rattle.rambo_atomic.specs.Tests.{is_complete, is_distinct, all_told, none_held};
 ghost use Rattle.rambo_atomic.specs.Verdicts.{IsVerdict, IsVerdictForAll};
 
-use crate::event::CallId;
-use crate::history::History;
 use crate::rules::{answers_latest, has_no_stranger, is_complete, is_distinct, keeps_real_time};
 use crate::scope::Scope;
 use crate::verdict::{Rule, Verdict};
+use rambo_history::{CallId, History};
 
 /// Whether an order of calls explains what a history says of a key, or the least rule that it breaks.
 ///

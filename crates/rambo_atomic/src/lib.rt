@@ -1,18 +1,10 @@
-//! Calls, answers, histories, and which orders explain them.
+//! Which orders explain a history, and the streams that texts come from and go to.
 #![tactic(auto)]
 
-mod call_list;
-mod call_places;
 mod checker;
 mod checking;
-mod entry;
-mod event;
-mod fault;
-mod history;
-mod operation;
 mod rules;
 mod scope;
-mod spot;
 mod stream;
 mod tape;
 mod unread;
@@ -22,10 +14,7 @@ mod wrapped;
 
 pub use checker::Checker;
 pub use checking::{check, check_all};
-pub use event::{CallId, Event};
-pub use fault::HistoryFault;
-pub use history::History;
-pub use operation::{Answer, Op};
+pub use rambo_history::{Answer, CallId, Event, History, HistoryFault, Op};
 pub use stream::{Failed, READ_LIMIT, Sink, Source};
 pub use tape::Tape;
 pub use unread::Unread;

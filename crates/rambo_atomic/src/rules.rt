@@ -1,16 +1,14 @@
 //! Whether an order keeps each rule of a proper order.
-ghost use Rattle.std.specs.Prelude.{◌≡◌};
+ghost use Rattle.std.specs.Prelude.{◌≡◌, Some};
 ghost use Rattle.std.specs.Option.{option_copied};
-ghost use Rattle.rambo_atomic.specs.Forms.{IsWellFormed};
-ghost use Rattle.rambo_atomic.specs.Proper.{held_after};
+ghost use Rattle.rambo_history.specs.Forms.{IsWellFormed};
+ghost use Rattle.rambo_history.specs.Histories.{is_before};
+ghost use Rattle.rambo_history.specs.Proper.{after_op, held_after};
 ghost use Rattle.rambo_atomic.specs.Scopes.{within};
 ghost use Rattle.rambo_atomic.specs.Tests.{is_due, has_entry, is_complete, is_distinct, is_own, has_no_stranger, tells, all_told, none_held, keeps_real_time};
 
-use crate::entry::after_op;
-use crate::event::{CallId, Event};
-use crate::history::History;
-use crate::operation::{Answer, Op};
 use crate::scope::Scope;
+use rambo_history::{Answer, CallId, Event, History, Op};
 use rambo_names::Bytes;
 
 // Whether this is where an answered call of those within was made.
@@ -84,6 +82,16 @@ pub(crate) fn tells(held: Option<&Bytes>, answer: Option<&Answer>) -> bool
     }
 }
 
+// What an ordinary map holds at a key behind an operation.
+fn after_op<'a>(key: &[u8], op: &'a Op, held: Option<&'a Bytes>) -> Option<&'a Bytes>
+    ensures { option_copied result ≡ after_op key.now (Some op.now) (option_copied held.entry) }
+{
+    match op {
+        Op::Set(set, value) if set.as_slice() == key => Some(value),
+        _ => held,
+    }
+}
+
 // What an ordinary map, empty at first, holds at a key behind the calls of an order.
 fn held_after<'a>(history: &'a History, key: &[u8], order: &[CallId]) -> Option<&'a Bytes>
     ensures { option_copied result ≡ held_after history.now.events key.now order.now }
@@ -115,6 +123,16 @@ pub(crate) fn answers_latest(history: &History, order: &[CallId]) -> bool
     true
 }
 
+// Whether an answer stands before a place.
+fn is_before(place: usize, answered: Option<usize>) -> bool
+    ensures { result ≡ is_before place answered }
+{
+    match answered {
+        Some(answered) => answered < place,
+        None => false,
+    }
+}
+
 // Whether no call stands behind one that was made after it was answered.
 pub(crate) fn keeps_real_time(history: &History, order: &[CallId]) -> bool
     ensures { result ≡ keeps_real_time history.now.events 0 order.now }
@@ -124,7 +142,7 @@ pub(crate) fn keeps_real_time(history: &History, order: &[CallId]) -> bool
     let mut rest = order;
     while let Some((id, others)) = rest.split_first() {
         if let Some(places) = history.places_of(id) {
-            if places.is_answered_before(latest) {
+            if is_before(latest, places.answered()) {
                 return false;
             }
             latest = latest.max(places.called);

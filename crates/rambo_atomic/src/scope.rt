@@ -2,7 +2,7 @@
 ghost use Rattle.std.specs.Prelude.{◌≡◌};
 ghost use Rattle.rambo_atomic.specs.Scopes.{within};
 
-use crate::operation::Op;
+use rambo_history::Op;
 
 /// Whose calls an order is to explain.
 #[derive(Clone, Copy)]

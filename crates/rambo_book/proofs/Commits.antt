@@ -5,7 +5,7 @@ use mathlib.Core.List.{IsPrefix}
 use Rattle.rambo_names.specs.declared.refusal.Refusal.{Refusal}
 use Rattle.rambo_names.specs.declared.refusal.Refusal.TheVariants.{HistoryFull, OutOfMemory}
 use Rattle.rambo_names.specs.Quorums.{QuorumSystem}
-use Rattle.rambo_atomic.specs.declared.event.Event.{Event}
+use Rattle.rambo_history.specs.declared.event.Event.{Event}
 use Rattle.rambo_gossip.specs.declared.letter.Letter.{Letter}
 use Rattle.rambo_node.specs.Changes.{made_by}
 use Rattle.rambo_node.specs.Nodes.{NodeState}

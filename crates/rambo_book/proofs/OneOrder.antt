@@ -1,9 +1,9 @@
 -- The one order of a book is that of the run of its steps
 use Rattle.std.proofs.Common.{◌≡◌, List, Result, Ok, Err, IfOk, sym, ◌∙◌, subst}
 use Rattle.rambo_names.specs.Quorums.{QuorumSystem, IsSound}
-use Rattle.rambo_atomic.specs.declared.event.CallId.{CallId}
-use Rattle.rambo_atomic.specs.declared.event.Event.{Event}
-use Rattle.rambo_atomic.specs.Proper.{IsProperForAll}
+use Rattle.rambo_history.specs.declared.event.CallId.{CallId}
+use Rattle.rambo_history.specs.declared.event.Event.{Event}
+use Rattle.rambo_history.specs.Proper.{IsProperForAll}
 use Rattle.rambo_sequence.specs.declared.mark.Mark.{Mark}
 use Rattle.rambo_sequence.specs.Sequences.{SequenceOf, sequences_of}
 use Rattle.rambo_sequence.specs.StoreOrders.{NoTwice, all_calls, order_of}

@@ -4,7 +4,7 @@ use Rattle.std.specs.FinMap as copies
 use Rattle.rambo_names.specs.declared.refusal.Refusal.{Refusal}
 use Rattle.rambo_names.specs.declared.refusal.Refusal.TheVariants.{HistoryFull, OutOfMemory}
 use Rattle.rambo_names.specs.Quorums.{QuorumSystem}
-use Rattle.rambo_atomic.specs.declared.event.Event.{Event}
+use Rattle.rambo_history.specs.declared.event.Event.{Event}
 use Rattle.rambo_gossip.specs.declared.letter.Letter.{Letter}
 use Rattle.rambo_gossip.specs.Letters.{letter_with}
 use Rattle.rambo_gossip.specs.Short.{IsShort}

@@ -1,7 +1,7 @@
 //! The list of all steps, with the letters, the history and the marks that they gave.
 ghost use Rattle.std.specs.Prelude.{◌≡◌, ◌<◌, ◌≤◌, [], length, Some, true};
 ghost use Rattle.std.specs.Option.{option_copied};
-ghost use Rattle.rambo_atomic.specs.Histories.{answer_in};
+ghost use Rattle.rambo_history.specs.Histories.{answer_in};
 ghost use Rattle.rambo_book.specs.Kept.{AreSent, IsServedBy, state};
 ghost use Rattle.rambo_roll.specs.Rolls.{Idle};
 ghost use Rattle.rambo_run.specs.Actors.{actor};
@@ -11,8 +11,8 @@ ghost use Rattle.rambo_run.specs.Legal.{IsLegal};
 
 use crate::keeper::{Actor, Keeper};
 use crate::terms::Terms;
-use rambo_atomic::{Answer, CallId, Event, History};
 use rambo_deeds::{SharedLetter, named_by};
+use rambo_history::{Answer, CallId, Event, History};
 use rambo_mail::Mails;
 use rambo_names::{Name, Quorums};
 use rambo_roll::Roll;

@@ -1,13 +1,13 @@
 //! What a book leaves.
 ghost use Rattle.std.specs.Prelude.{◌≡◌, ◌≤◌, Some, length, IfOk, IfErr};
-ghost use Rattle.rambo_atomic.specs.Proper.{IsProperForAll};
+ghost use Rattle.rambo_history.specs.Proper.{IsProperForAll};
 ghost use Rattle.rambo_run.specs.Legal.{IsLegal};
 ghost use Rattle.rambo_run.specs.Runs.{given_order};
 ghost use Rattle.rambo_book.specs.Kept.{state};
 
 use crate::book::Book;
 use crate::terms::Terms;
-use rambo_atomic::CallId;
+use rambo_history::CallId;
 use rambo_names::{Quorums, Refusal};
 use rambo_run::Step;
 use rambo_sequence::{one_order, sequences};

@@ -1,7 +1,7 @@
 //! A step goes into the book, and its node takes it.
 ghost use Rattle.std.specs.Prelude.{◌≡◌, ◌≢◌, ◌<◌, ℕ, ◌++◌, ◌∷◌, [], None, Some, length, option_to_list, OnOk, OnErr, IfOk, IfErr};
 ghost use Rattle.std.specs.Vec.{vec_len, vec_capacity};
-ghost use Rattle.rambo_atomic.specs.Faults.{fault_of};
+ghost use Rattle.rambo_history.specs.Faults.{fault_of};
 ghost use Rattle.rambo_run.specs.Actors.{sent_by};
 ghost use Rattle.rambo_run.specs.Runs.{run};
 ghost use Rattle.rambo_run.specs.Steps.{refusal, turn, with_letter, with_event, with_mark};
@@ -12,8 +12,8 @@ ghost use Rattle.rambo_book.specs.Mailing.{waiting_after};
 use crate::book::Book;
 use crate::keeper::Keeper;
 use crate::terms::Terms;
-use rambo_atomic::{Event, History};
 use rambo_deeds::{Done, SharedLetter, Worker, letter_of};
+use rambo_history::{Event, History};
 use rambo_mail::{Mails, Posting};
 use rambo_names::{Name, Quorums, Refusal};
 use rambo_node::Effect;

@@ -2,7 +2,7 @@
 use Rattle.std.specs.Prelude.{ℕ, zero, suc, Bool, true, false, not, if◌then◌else◌, nat_eq, List, [], ◌∷◌, Option, None, Some, slice_get}
 use Rattle.rambo_names.specs.Quorums.{QuorumSystem}
 use Rattle.rambo_tag.specs.declared.version.Version.{Version}
-use Rattle.rambo_atomic.specs.declared.operation.Op.{Op}
+use Rattle.rambo_history.specs.declared.operation.Op.{Op}
 use Rattle.rambo_phase.specs.Phases.{PhaseState, is_met}
 use Rattle.rambo_calls.specs.declared.stage.Stage.{Stage}
 use Rattle.rambo_calls.specs.declared.stage.Stage.TheVariants.{Query, Propagation}

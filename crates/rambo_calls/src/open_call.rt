@@ -7,8 +7,8 @@ ghost use Rattle.rambo_calls.specs.Hearing.{heard_call, restarted};
 ghost use Rattle.rambo_calls.specs.Kept.{call_of, propagating};
 
 use crate::stage::Stage;
-use rambo_atomic::Op;
 use rambo_config_map::ConfigMap;
+use rambo_history::Op;
 use rambo_names::{Name, Quorums};
 use rambo_phase::{Heard, Phase};
 use rambo_tag::Version;

@@ -9,8 +9,8 @@ ghost use Rattle.rambo_calls.specs.declared.stage.Stage.TheVariants.{Query};
 
 use crate::open_call::OpenCall;
 use crate::stage::Stage;
-use rambo_atomic::Op;
 use rambo_config_map::ConfigMap;
+use rambo_history::Op;
 use rambo_names::{Name, Quorums, Refusal};
 use rambo_phase::{Heard, Phase};
 use rambo_tag::Version;

@@ -8,13 +8,13 @@ use Rattle.rambo_names.specs.Names.{IsName}
 use Rattle.rambo_names.specs.Signs.{conf_text, IsConf}
 use Rattle.rambo_names.specs.Weights.{Weights}
 use Rattle.rambo_names.proofs.ConfOnce.{one_conf_is}
-use Rattle.rambo_atomic.specs.declared.operation.Op.{Op}
-use Rattle.rambo_atomic.specs.declared.operation.Op.TheVariants as op
-use Rattle.rambo_atomic.specs.declared.operation.Answer.{Answer}
-use Rattle.rambo_atomic.specs.declared.operation.Answer.TheVariants as answer
-use Rattle.rambo_atomic.specs.declared.event.CallId.{CallId}
-use Rattle.rambo_atomic.specs.declared.event.Event.{Event}
-use Rattle.rambo_atomic.specs.declared.event.Event.TheVariants as event
+use Rattle.rambo_history.specs.declared.operation.Op.{Op}
+use Rattle.rambo_history.specs.declared.operation.Op.TheVariants as op
+use Rattle.rambo_history.specs.declared.operation.Answer.{Answer}
+use Rattle.rambo_history.specs.declared.operation.Answer.TheVariants as answer
+use Rattle.rambo_history.specs.declared.event.CallId.{CallId}
+use Rattle.rambo_history.specs.declared.event.Event.{Event}
+use Rattle.rambo_history.specs.declared.event.Event.TheVariants as event
 use Rattle.rambo_text.specs.declared.fault.Fault.{Fault}
 use Rattle.rambo_text.specs.declared.version.Version.{Version}
 use Rattle.rambo_text.specs.declared.version.Version.TheVariants.{One, Two}

@@ -6,17 +6,17 @@ use Rattle.std.specs.Str.{bytes_eq}
 use Rattle.std.proofs.lemmas.Bool.Decides.{same_from_decides}
 use Rattle.std.proofs.lemmas.List.{take_more, take_all}
 use Rattle.std.proofs.lemmas.Slice.Eq.{bytes_eq-Decides}
-use Rattle.rambo_atomic.specs.declared.operation.Op.{Op}
-use Rattle.rambo_atomic.specs.declared.event.CallId.{CallId}
-use Rattle.rambo_atomic.specs.declared.event.Event.{Event}
-use Rattle.rambo_atomic.specs.declared.event.Event.TheVariants as event
+use Rattle.rambo_history.specs.declared.operation.Op.{Op}
+use Rattle.rambo_history.specs.declared.event.CallId.{CallId}
+use Rattle.rambo_history.specs.declared.event.Event.{Event}
+use Rattle.rambo_history.specs.declared.event.Event.TheVariants as event
 use Rattle.rambo_atomic.specs.declared.verdict.Verdict.{Verdict}
-use Rattle.rambo_atomic.specs.Calls.{key_of}
-use Rattle.rambo_atomic.specs.Proper.{Stands}
+use Rattle.rambo_history.specs.Calls.{key_of}
+use Rattle.rambo_history.specs.Proper.{Stands}
 use Rattle.rambo_atomic.specs.Verdicts.{IsVerdict, IsVerdictForAll}
 use Rattle.rambo_text.specs.declared.version.Version.{Version}
 use Rattle.rambo_text.specs.declared.version.Version.TheVariants.{Two}
-use Rattle.rambo_atomic.proofs.Splits.{stands-here, stands-later, stands-nil, stands-cases}
+use Rattle.rambo_history.proofs.Splits.{stands-here, stands-later, stands-nil, stands-cases}
 use Rattle.rambo_check.specs.EvidenceStates.{EvidenceState}
 use Rattle.rambo_check.specs.Verdicts.{order_of, store_order_of, IsKey, IsVerdictOn, IsVerdictOnAll}
 use Rattle.rambo_check.specs.Judgings.{is_call_of}

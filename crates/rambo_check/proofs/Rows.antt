@@ -6,7 +6,7 @@ use Rattle.std.specs.List.{AllByRecursion, All}
 use Rattle.std.proofs.lemmas.List.Elements.{recursion_from_All}
 use Rattle.rambo_names.specs.Weights.{Weights}
 use Rattle.rambo_names.specs.Signs.{conf_text}
-use Rattle.rambo_atomic.specs.declared.event.CallId.{CallId}
+use Rattle.rambo_history.specs.declared.event.CallId.{CallId}
 use Rattle.rambo_text.specs.Forms.{Form, Conf, Call, IsSpelt, form_fault, IsBadWord}
 use Rattle.rambo_text.specs.Signs.{call_text, IsCall}
 use Rattle.rambo_text.specs.Words.{AreMore, IsFirstWord}

@@ -11,13 +11,13 @@ use Rattle.rambo_text.proofs.Heads.{same_lines, one_head, no_version_once, no_ba
 use Rattle.rambo_text.specs.Forms.{Form, IsBadWord}
 use Rattle.rambo_text.specs.Words.{Lacks, AreWords, IsFirstLine}
 use Rattle.rambo_text.proofs.WordSplits.{cut, no_cut, same_words}
-use Rattle.rambo_atomic.specs.Proper.{EverySplit}
-use Rattle.rambo_atomic.proofs.Splits.{splits-head, splits-tail}
+use Rattle.rambo_history.specs.Proper.{EverySplit}
+use Rattle.rambo_history.proofs.Splits.{splits-head, splits-tail}
 use Rattle.rambo_check.specs.EvidenceStates.{EvidenceState, no_evidence, with_item, IsBadItem, AreGood}
 use Rattle.rambo_check.specs.Items.{IsItem, IsLineIn}
 use Rattle.rambo_check.specs.Laws.{HasNames, OneReading, OneEvidence, NoToldIsFaulty, OneFault}
 use Rattle.rambo_check.specs.Lines.{Item, Happened, Collected, Settled, Refused, Ordered, OrderedAll, Mapped, item_words, items_text}
-use Rattle.rambo_atomic.specs.declared.event.Event.TheVariants as event
+use Rattle.rambo_history.specs.declared.event.Event.TheVariants as event
 use Rattle.rambo_check.specs.Plans.{Plan, Unknown, Missing, Forms, plan, IsPlanFault, IsLineFault}
 use Rattle.rambo_check.specs.Texts.{AreLinesOf, IsTold, IsFaultBehind, IsTextFault, IsHeadFault}
 use Rattle.rambo_check.proofs.ItemShapes.{line_of, item_are_words, line_lacks, same_item, same_with, same_bad, item_fits}

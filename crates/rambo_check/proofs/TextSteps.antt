@@ -11,10 +11,10 @@ use Rattle.rambo_text.specs.declared.version.Version.TheVariants.{One, Two}
 use Rattle.rambo_text.specs.Versions.{head_line as version_line, head_lines, IsHead, IsFirstOf, IsBadHead, IsBehindHead, in_whole}
 use Rattle.rambo_text.proofs.Heads.{same_lines}
 use Rattle.rambo_text.specs.Words.{Lacks, IsFirstLine, AreWords}
-use Rattle.rambo_atomic.specs.Proper.{EverySplit}
+use Rattle.rambo_history.specs.Proper.{EverySplit}
 use Rattle.rambo_atomic.specs.Unreads.{UnreadState, KnowsEnd, TakesIn, HoldsLine, IsDone}
 use Rattle.rambo_atomic.proofs.Unreads.{Consumes-then}
-use Rattle.rambo_atomic.proofs.Splits.{splits-nil, splits-cons, splits-head, splits-tail}
+use Rattle.rambo_history.proofs.Splits.{splits-nil, splits-cons, splits-head, splits-tail}
 use Rattle.rambo_check.specs.Lines.{Item, item_words, item_line, items_text}
 use Rattle.rambo_check.specs.Items.{IsItem, IsLineIn}
 use Rattle.rambo_check.specs.EvidenceStates.{EvidenceState, no_evidence, with_item, evidence_of, IsBadItem, AreGood}

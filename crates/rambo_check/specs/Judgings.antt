@@ -2,10 +2,10 @@
 use Rattle.std.specs.Prelude.{ℕ, Bool, false, List, IfSome, is_some}
 use Rattle.std.specs.Map.{lookup}
 use Rattle.std.specs.Str.{bytes_eq}
-use Rattle.rambo_atomic.specs.declared.event.Event.{Event}
-use Rattle.rambo_atomic.specs.declared.event.Event.TheVariants as event
+use Rattle.rambo_history.specs.declared.event.Event.{Event}
+use Rattle.rambo_history.specs.declared.event.Event.TheVariants as event
 use Rattle.rambo_atomic.specs.declared.verdict.Verdict.{Verdict}
-use Rattle.rambo_atomic.specs.Calls.{key_of}
+use Rattle.rambo_history.specs.Calls.{key_of}
 use Rattle.rambo_atomic.specs.Verdicts.{IsVerdict}
 use Rattle.rambo_check.specs.EvidenceStates.{EvidenceState}
 use Rattle.rambo_check.specs.Verdicts.{order_of}

@@ -2,13 +2,13 @@
 use Rattle.std.specs.Prelude.{ℕ, List, [], ◌∷◌, ◌++◌, Option, map, codes, decimal}
 use Rattle.rambo_names.specs.Weights.{Weights}
 use Rattle.rambo_names.specs.Signs.{conf_text}
-use Rattle.rambo_atomic.specs.declared.operation.Op.{Op}
-use Rattle.rambo_atomic.specs.declared.operation.Op.TheVariants as op
-use Rattle.rambo_atomic.specs.declared.operation.Answer.{Answer}
-use Rattle.rambo_atomic.specs.declared.operation.Answer.TheVariants as answer
-use Rattle.rambo_atomic.specs.declared.event.CallId.{CallId}
-use Rattle.rambo_atomic.specs.declared.event.Event.{Event}
-use Rattle.rambo_atomic.specs.declared.event.Event.TheVariants as event
+use Rattle.rambo_history.specs.declared.operation.Op.{Op}
+use Rattle.rambo_history.specs.declared.operation.Op.TheVariants as op
+use Rattle.rambo_history.specs.declared.operation.Answer.{Answer}
+use Rattle.rambo_history.specs.declared.operation.Answer.TheVariants as answer
+use Rattle.rambo_history.specs.declared.event.CallId.{CallId}
+use Rattle.rambo_history.specs.declared.event.Event.{Event}
+use Rattle.rambo_history.specs.declared.event.Event.TheVariants as event
 use Rattle.rambo_sequence.specs.Sequences.{SequenceOf}
 use Rattle.rambo_text.specs.Signs.{hex_text, call_text, standing_text}
 use Rattle.rambo_text.specs.Words.{words_text}

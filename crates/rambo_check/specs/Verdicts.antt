@@ -6,13 +6,13 @@ use Rattle.std.specs.Map.{lookup}
 use Rattle.std.specs.Ordering.{nat_cmp}
 use Rattle.std.specs.Cmp.Lexicographic.{slice_cmp}
 use Rattle.std.specs.Str.{bytes_eq}
-use Rattle.rambo_atomic.specs.declared.operation.Op.{Op}
-use Rattle.rambo_atomic.specs.declared.event.CallId.{CallId}
-use Rattle.rambo_atomic.specs.declared.event.Event.TheVariants as event
+use Rattle.rambo_history.specs.declared.operation.Op.{Op}
+use Rattle.rambo_history.specs.declared.event.CallId.{CallId}
+use Rattle.rambo_history.specs.declared.event.Event.TheVariants as event
 use Rattle.rambo_atomic.specs.declared.verdict.Verdict.{Verdict}
 use Rattle.rambo_atomic.specs.declared.verdict.Verdict.TheVariants.{Yes, No}
-use Rattle.rambo_atomic.specs.Calls.{key_of}
-use Rattle.rambo_atomic.specs.Proper.{Stands}
+use Rattle.rambo_history.specs.Calls.{key_of}
+use Rattle.rambo_history.specs.Proper.{Stands}
 use Rattle.rambo_atomic.specs.Verdicts.{number_of, IsVerdict, IsVerdictForAll}
 use Rattle.rambo_text.specs.declared.version.Version.{Version}
 use Rattle.rambo_text.specs.declared.version.Version.TheVariants.{One, Two}

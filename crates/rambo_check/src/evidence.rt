@@ -2,13 +2,13 @@
 ghost use Rattle.std.specs.Prelude.{◌≡◌, ◌++◌, ◌∷◌, [], ◌⊎◌, map, None, Some, IsSome, OnOk, IfErr};
 ghost use Rattle.std.specs.Map.{lookup};
 ghost use Rattle.std.specs.Str.{bytes_eq};
-ghost use Rattle.rambo_atomic.specs.Faults.{fault_of};
+ghost use Rattle.rambo_history.specs.Faults.{fault_of};
 ghost use Rattle.rambo_text.specs.declared.fault.Fault.TheVariants as fault;
 ghost use Rattle.rambo_check.specs.Verdicts.{order_of, store_order_of};
 
 use crate::order::Order;
 use indexmap::IndexMap;
-use rambo_atomic::{CallId, Event, History, HistoryFault};
+use rambo_history::{CallId, Event, History, HistoryFault};
 use rambo_names::Bytes;
 use rambo_text::Fault;
 use std::alloc::Global;

@@ -13,7 +13,7 @@ use crate::operands::{
     first_two, read_call_alone, read_call_and_bytes, read_call_and_pair, read_calls, read_confs,
 };
 use crate::order::Order;
-use rambo_atomic::{Answer, Event, Op};
+use rambo_history::{Answer, Event, Op};
 use rambo_names::{Bytes, read_num};
 use rambo_text::{
     Fault, Version, next_word, read_hex, read_name, read_standing, three_words, two_words,

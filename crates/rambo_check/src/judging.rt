@@ -6,7 +6,8 @@ ghost use Rattle.rambo_check.specs.Verdicts.{order_of, AreVerdicts};
 
 use crate::evidence::Evidence;
 use indexmap::IndexMap;
-use rambo_atomic::{Checker, Event, Verdict};
+use rambo_atomic::{Checker, Verdict};
+use rambo_history::Event;
 use rambo_names::{Bytes, Refusal};
 
 /// Puts the verdict on each key that has a call or an order where there was none, keys in byte order.

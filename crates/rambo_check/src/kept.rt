@@ -1,7 +1,7 @@
 //! What is kept of a line.
 
 use crate::order::Order;
-use rambo_atomic::Event;
+use rambo_history::Event;
 use rambo_names::Bytes;
 
 /// What is kept of a line that was read.

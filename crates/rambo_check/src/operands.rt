@@ -8,7 +8,7 @@ ghost use Rattle.rambo_text.specs.Signs.{call_text, hex_text, IsCall, AreBytes};
 ghost use Rattle.rambo_text.specs.Words.{AreMore};
 ghost use Rattle.rambo_check.specs.Plans.{Forms, each, IsFaulty};
 
-use rambo_atomic::CallId;
+use rambo_history::CallId;
 use rambo_names::{Bytes, read_conf};
 use rambo_text::{Fault, next_word, one_word, read_call, read_hex, two_words};
 use std::alloc::Global;

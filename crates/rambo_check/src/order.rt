@@ -1,6 +1,6 @@
 //! Orders of calls.
 
-use rambo_atomic::CallId;
+use rambo_history::CallId;
 use std::marker::Model;
 
 /// An order of calls.
@@ -11,7 +11,7 @@ pub(crate) struct Order {
 
 impl Model for Order {
     ghost use Rattle.std.specs.Prelude.{List};
-    ghost use Rattle.rambo_atomic.specs.declared.event.CallId.{CallId};
+    ghost use Rattle.rambo_history.specs.declared.event.CallId.{CallId};
 
     ghost Value = { List CallId };
 

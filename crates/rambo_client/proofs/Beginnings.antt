@@ -1,8 +1,8 @@
 -- Beginnings of courses
 use Rattle.std.proofs.Common.{◌≡◌, ℕ, ◌+◌, true, false, cond, not, nat_eq, List, [], ◌∷◌, ◌++◌, fold, Result, Ok, Err, IsErrAnd, refl, sym, ap, ◌∙◌, append_assoc, append-nil}
 use Rattle.rambo_names.specs.Weights.{Weights}
-use Rattle.rambo_atomic.specs.declared.operation.Op.{Op}
-use Rattle.rambo_atomic.specs.declared.event.CallId.{CallId}
+use Rattle.rambo_history.specs.declared.operation.Op.{Op}
+use Rattle.rambo_history.specs.declared.event.CallId.{CallId}
 use Rattle.rambo_run.specs.declared.step.Step.{Step}
 use Rattle.rambo_run.specs.declared.step.Step.TheVariants as step
 use Rattle.rambo_client.specs.Courses.{Course, IsBeginning, Ends, stepped, lettered, exchanged, others, phase, operated}

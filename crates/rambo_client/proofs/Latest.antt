@@ -2,18 +2,18 @@
 use Rattle.std.proofs.Common.{◌≡◌, ℕ, List, [], ◌∷◌, ◌++◌, Bool, true, false, cond, Option, None, Some, is_some, refl, sym, ap, ◌∙◌, subst, ◌⊎◌, inl, inr}
 use Rattle.std.specs.Str.{bytes_eq}
 use Rattle.std.proofs.lemmas.Slice.Eq.{bytes_eq-Decides}
-use Rattle.rambo_atomic.specs.declared.operation.Op.{Op}
-use Rattle.rambo_atomic.specs.declared.operation.Op.TheVariants as op
-use Rattle.rambo_atomic.specs.declared.operation.Answer.{Answer}
-use Rattle.rambo_atomic.specs.declared.operation.Answer.TheVariants as answer
-use Rattle.rambo_atomic.specs.declared.event.CallId.{CallId}
-use Rattle.rambo_atomic.specs.declared.event.Event.{Event}
-use Rattle.rambo_atomic.specs.declared.event.Event.TheVariants as event
-use Rattle.rambo_atomic.specs.Calls.{same_call}
-use Rattle.rambo_atomic.specs.Histories.{call_in, answer_in, answered_before}
-use Rattle.rambo_atomic.specs.Proper.{after_op}
-use Rattle.rambo_atomic.proofs.LookUps.{either, call_in-append}
-use Rattle.rambo_atomic.proofs.Pushes.{same_call-path, same_call-refl}
+use Rattle.rambo_history.specs.declared.operation.Op.{Op}
+use Rattle.rambo_history.specs.declared.operation.Op.TheVariants as op
+use Rattle.rambo_history.specs.declared.operation.Answer.{Answer}
+use Rattle.rambo_history.specs.declared.operation.Answer.TheVariants as answer
+use Rattle.rambo_history.specs.declared.event.CallId.{CallId}
+use Rattle.rambo_history.specs.declared.event.Event.{Event}
+use Rattle.rambo_history.specs.declared.event.Event.TheVariants as event
+use Rattle.rambo_history.specs.Calls.{same_call}
+use Rattle.rambo_history.specs.Histories.{call_in, answer_in, answered_before}
+use Rattle.rambo_history.specs.Proper.{after_op}
+use Rattle.rambo_history.proofs.LookUps.{either, call_in-append}
+use Rattle.rambo_history.proofs.Pushes.{same_call-path, same_call-refl}
 use Rattle.rambo_commands.specs.declared.request.Request.{Request}
 use Rattle.rambo_commands.specs.declared.request.Request.TheVariants.{Says, Does}
 use Rattle.rambo_client.specs.Maps.{Map, after, answer_of}

@@ -3,20 +3,20 @@ use Rattle.std.proofs.Common.{◌≡◌, ℕ, List, [], ◌∷◌, ◌++◌, Boo
 use Rattle.std.specs.Option.{IsSomeAnd}
 use Rattle.std.specs.Str.{bytes_eq}
 use Rattle.std.proofs.lemmas.Slice.Eq.{bytes_eq-Decides}
-use Rattle.rambo_atomic.specs.declared.operation.Op.{Op}
-use Rattle.rambo_atomic.specs.declared.operation.Op.TheVariants as op
-use Rattle.rambo_atomic.specs.declared.operation.Answer.{Answer}
-use Rattle.rambo_atomic.specs.declared.operation.Answer.TheVariants as answer
-use Rattle.rambo_atomic.specs.declared.event.CallId.{CallId}
-use Rattle.rambo_atomic.specs.declared.event.Event.{Event}
-use Rattle.rambo_atomic.specs.declared.event.Event.TheVariants as event
-use Rattle.rambo_atomic.specs.Calls.{same_call, fits, key_of, answer_for}
-use Rattle.rambo_atomic.specs.Forms.{CallsOnce, IsWellFormed}
-use Rattle.rambo_atomic.specs.Histories.{call_in, answer_in, answered_before}
-use Rattle.rambo_atomic.specs.Proper.{Stands, IsProper, after_op, held_after}
-use Rattle.rambo_atomic.proofs.LookUps.{either, call_in-append, answer_in-append}
-use Rattle.rambo_atomic.proofs.Pushes.{same_call-refl}
-use Rattle.rambo_atomic.proofs.Splits.{stands-here, stands-later, stands-cases}
+use Rattle.rambo_history.specs.declared.operation.Op.{Op}
+use Rattle.rambo_history.specs.declared.operation.Op.TheVariants as op
+use Rattle.rambo_history.specs.declared.operation.Answer.{Answer}
+use Rattle.rambo_history.specs.declared.operation.Answer.TheVariants as answer
+use Rattle.rambo_history.specs.declared.event.CallId.{CallId}
+use Rattle.rambo_history.specs.declared.event.Event.{Event}
+use Rattle.rambo_history.specs.declared.event.Event.TheVariants as event
+use Rattle.rambo_history.specs.Calls.{same_call, fits, key_of, answer_for}
+use Rattle.rambo_history.specs.Forms.{CallsOnce, IsWellFormed}
+use Rattle.rambo_history.specs.Histories.{call_in, answer_in, answered_before}
+use Rattle.rambo_history.specs.Proper.{Stands, IsProper, after_op, held_after}
+use Rattle.rambo_history.proofs.LookUps.{either, call_in-append, answer_in-append}
+use Rattle.rambo_history.proofs.Pushes.{same_call-refl}
+use Rattle.rambo_history.proofs.Splits.{stands-here, stands-later, stands-cases}
 use Rattle.rambo_commands.specs.declared.request.Request.{Request}
 use Rattle.rambo_client.specs.Maps.{no_values, answer_of}
 use Rattle.rambo_client.specs.Replies.{after_all}

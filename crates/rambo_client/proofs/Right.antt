@@ -3,11 +3,11 @@ use Rattle.std.proofs.Common.{◌≡◌, ℕ, List, [], ◌∷◌, ◌++◌, is_
 use Rattle.std.proofs.lemmas.Bool.{true≢false}
 use Rattle.rambo_names.specs.Weights.{weighted_majorities}
 use Rattle.rambo_names.specs.WeightLaws.{weighted_sound}
-use Rattle.rambo_atomic.specs.declared.operation.Op.{Op}
-use Rattle.rambo_atomic.specs.declared.operation.Answer.{Answer}
-use Rattle.rambo_atomic.specs.declared.event.CallId.{CallId}
-use Rattle.rambo_atomic.specs.declared.event.Event.{Event}
-use Rattle.rambo_atomic.specs.declared.event.Event.TheVariants as event
+use Rattle.rambo_history.specs.declared.operation.Op.{Op}
+use Rattle.rambo_history.specs.declared.operation.Answer.{Answer}
+use Rattle.rambo_history.specs.declared.event.CallId.{CallId}
+use Rattle.rambo_history.specs.declared.event.Event.{Event}
+use Rattle.rambo_history.specs.declared.event.Event.TheVariants as event
 use Rattle.rambo_run.specs.Runs.{run}
 use Rattle.rambo_run.proofs.EveryRun.{is_atomic}
 use Rattle.rambo_sequence.specs.Sequences.{sequence_of}

@@ -1,11 +1,11 @@
 -- An ordinary map, from keys to values
 use Rattle.std.specs.Prelude.{ℕ, List, Option, None, Some}
-use Rattle.rambo_atomic.specs.declared.operation.Op.{Op}
-use Rattle.rambo_atomic.specs.declared.operation.Op.TheVariants as op
-use Rattle.rambo_atomic.specs.declared.operation.Answer.{Answer}
-use Rattle.rambo_atomic.specs.declared.operation.Answer.TheVariants as answer
-use Rattle.rambo_atomic.specs.Calls.{answer_for}
-use Rattle.rambo_atomic.specs.Proper.{after_op}
+use Rattle.rambo_history.specs.declared.operation.Op.{Op}
+use Rattle.rambo_history.specs.declared.operation.Op.TheVariants as op
+use Rattle.rambo_history.specs.declared.operation.Answer.{Answer}
+use Rattle.rambo_history.specs.declared.operation.Answer.TheVariants as answer
+use Rattle.rambo_history.specs.Calls.{answer_for}
+use Rattle.rambo_history.specs.Proper.{after_op}
 
 -- the value of each key, if it has one
 abbrev pub Map : Type 0

@@ -2,7 +2,7 @@
 ghost use Rattle.std.specs.Prelude.{◌≡◌, ◌++◌, ◌∷◌, [], List, Option, Some, fold, IfOk, OnOk, OnErr, IfNone, IfSome};
 ghost use Rattle.rambo_names.specs.Names.{names};
 ghost use Rattle.rambo_names.specs.Weights.{members_of};
-ghost use Rattle.rambo_atomic.specs.declared.operation.Answer.{Answer as AnyAnswer};
+ghost use Rattle.rambo_history.specs.declared.operation.Answer.{Answer as AnyAnswer};
 ghost use Rattle.rambo_commands.specs.declared.request.Request.{Request as AnyRequest};
 ghost use Rattle.rambo_commands.specs.declared.request.Request.TheVariants.{Does};
 ghost use Rattle.rambo_client.specs.Calls.{lowest, answered};
@@ -11,7 +11,7 @@ ghost use Rattle.rambo_client.specs.Maps.{no_values, answer_of};
 ghost use Rattle.rambo_client.specs.Replies.{after_all};
 
 use crate::cluster::Cluster;
-use rambo_atomic::{Answer, CallId, Op};
+use rambo_history::{Answer, CallId, Op};
 use rambo_names::{Name, Quorums, Refusal, Weighted};
 
 /// A client of the lowest founder, which asks all founders.

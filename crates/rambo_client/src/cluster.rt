@@ -1,12 +1,12 @@
 //! Nodes that a client asks.
 ghost use Rattle.std.specs.Prelude.{◌≡◌, ◌++◌, ◌∷◌, [], List, IfOk, OnErr};
-ghost use Rattle.rambo_atomic.specs.declared.event.Event.{Event};
-ghost use Rattle.rambo_atomic.specs.declared.event.Event.TheVariants as event;
+ghost use Rattle.rambo_history.specs.declared.event.Event.{Event};
+ghost use Rattle.rambo_history.specs.declared.event.Event.TheVariants as event;
 ghost use Rattle.rambo_run.specs.declared.step.Step.TheVariants as step;
 ghost use Rattle.rambo_client.specs.Calls.{answered, id_at};
 ghost use Rattle.rambo_client.specs.Courses.{Course, Ends, exchanged, history_of, stepped};
 
-use rambo_atomic::{Answer, CallId, Op};
+use rambo_history::{Answer, CallId, Op};
 use rambo_names::{Name, Refusal};
 
 /// Nodes that a client asks, and whose letters go where it says.

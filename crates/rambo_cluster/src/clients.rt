@@ -1,7 +1,7 @@
 //! What a client has the nodes do.
 
 use crate::hub::Hub;
-use rambo_atomic::{Answer, CallId, Op};
+use rambo_history::{Answer, CallId, Op};
 use rambo_names::{Name, Refusal, Weighted};
 use rambo_post::{Gate, Pass, Terms};
 use rambo_rooms::Bell;

@@ -3,11 +3,12 @@ ghost use Rattle.std.specs.Prelude.{◌≤◌, length};
 
 use crate::hub::Hub;
 use bytes::BytesMut;
-use rambo_atomic::{Op, Sink, Source, write_all};
+use rambo_atomic::{Sink, Source, write_all};
 use rambo_commands::{
     Request, ServerRequest, append_refusal, append_reply, fault_reply, map_reply, telling,
 };
 use rambo_config_map::ConfigMap;
+use rambo_history::Op;
 use rambo_names::{Name, Refusal, Weighted};
 use rambo_post::{Gate, Pass, Terms};
 use rambo_resp::{Command, Decoder, Fault, Reply};

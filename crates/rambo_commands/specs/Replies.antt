@@ -3,8 +3,8 @@ use Rattle.std.specs.Prelude.{ℕ, List, ◌∷◌, ◌++◌, map, codes, decima
 use Rattle.rambo_names.specs.declared.refusal.Refusal.{Refusal}
 use Rattle.rambo_names.specs.Weights.{Weights}
 use Rattle.rambo_names.specs.Signs.{conf_text}
-use Rattle.rambo_atomic.specs.declared.operation.Answer.{Answer}
-use Rattle.rambo_atomic.specs.declared.operation.Answer.TheVariants as answer
+use Rattle.rambo_history.specs.declared.operation.Answer.{Answer}
+use Rattle.rambo_history.specs.declared.operation.Answer.TheVariants as answer
 use Rattle.rambo_text.specs.Words.{words_text}
 use Rattle.rambo_resp.specs.declared.fault.Fault.{Fault}
 use Rattle.rambo_resp.specs.declared.reply.Reply.{Reply}

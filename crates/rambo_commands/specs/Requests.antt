@@ -2,9 +2,9 @@
 use Rattle.std.specs.Prelude.{ℕ, if◌then◌else◌, nat_lt, List, [], ◌∷◌, length, codes}
 use Rattle.std.specs.Str.{str_eq_ignore_ascii_case}
 use Rattle.rambo_names.specs.declared.refusal.Refusal.TheVariants.{KeyTooLong}
-use Rattle.rambo_atomic.specs.declared.operation.Op.{Op}
-use Rattle.rambo_atomic.specs.declared.operation.Op.TheVariants as op
-use Rattle.rambo_atomic.specs.Calls.{key_of}
+use Rattle.rambo_history.specs.declared.operation.Op.{Op}
+use Rattle.rambo_history.specs.declared.operation.Op.TheVariants as op
+use Rattle.rambo_history.specs.Calls.{key_of}
 use Rattle.rambo_resp.specs.declared.reply.Reply.TheVariants.{Pong, Bulk}
 use Rattle.rambo_commands.specs.declared.mistake.Mistake.{Mistake}
 use Rattle.rambo_commands.specs.declared.mistake.Mistake.TheVariants.{UnknownCommand, WrongCount, Refused}

@@ -8,7 +8,7 @@ ghost use Rattle.rambo_commands.specs.Mistakes.{refused_words};
 
 use bytes::BytesMut;
 use itoa::Buffer;
-use rambo_atomic::Answer;
+use rambo_history::Answer;
 use rambo_names::{Bytes, Refusal, Weighted, write_conf};
 use rambo_resp::{Fault, Reply, write_reply};
 use rambo_text::write_num;

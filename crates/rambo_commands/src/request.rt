@@ -4,7 +4,7 @@ ghost use Rattle.rambo_commands.specs.Requests as spec;
 
 use crate::mistake::Mistake;
 use crate::words::is_word;
-use rambo_atomic::Op;
+use rambo_history::Op;
 use rambo_names::{Bytes, Refusal};
 use rambo_resp::{Command, Reply};
 use std::alloc::Global;

@@ -8,7 +8,7 @@ ghost use Rattle.rambo_deeds.specs.Deeds.{judged, done, name_in};
 
 use crate::letter::{SharedLetter, hear, may_hear};
 use crate::worker::Worker;
-use rambo_atomic::Event;
+use rambo_history::Event;
 use rambo_letters::Standing;
 use rambo_names::{Name, Quorums, Refusal};
 use rambo_node::{Change, Deed, Effect, Node};

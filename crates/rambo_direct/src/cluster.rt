@@ -3,8 +3,8 @@ ghost use Rattle.std.specs.Prelude.{◌≡◌};
 ghost use Rattle.rambo_client.specs.Courses.{Course, Ends, lettered};
 ghost use Rattle.rambo_direct.specs.Histories.{direct_history, took_by, took_ran};
 
-use rambo_atomic::{Answer, CallId, Op};
 use rambo_client::Cluster;
+use rambo_history::{Answer, CallId, Op};
 use rambo_names::{Name, Refusal, Weighted};
 use rambo_tag::Registers;
 use rambo_world::Direct;

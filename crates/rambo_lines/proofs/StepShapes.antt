@@ -7,7 +7,7 @@ use Rattle.rambo_names.specs.Names.{IsName}
 use Rattle.rambo_names.specs.Signs.{set_text, conf_text}
 use Rattle.rambo_names.specs.Weights.{Weights}
 use Rattle.rambo_names.proofs.ConfOnce.{one_conf_is, one_set_is}
-use Rattle.rambo_atomic.specs.declared.operation.Op.TheVariants as op
+use Rattle.rambo_history.specs.declared.operation.Op.TheVariants as op
 use Rattle.rambo_run.specs.declared.step.Step.{Step}
 use Rattle.rambo_run.specs.declared.step.Step.TheVariants as step
 use Rattle.rambo_text.specs.declared.fault.Fault.{Fault}

@@ -8,7 +8,7 @@ ghost use Rattle.rambo_text.specs.Signs.{call_text, IsCall};
 ghost use Rattle.rambo_text.specs.Words.{AreMore};
 ghost use Rattle.rambo_lines.specs.Parts.{IsUnspelt};
 
-use rambo_atomic::CallId;
+use rambo_history::CallId;
 use rambo_names::{Members, Name, Weighted, read_conf, read_num, read_set};
 use rambo_text::{Fault, one_word, read_call, read_name, three_words, two_words};
 

@@ -9,7 +9,7 @@ ghost use Rattle.rambo_lines.specs.Parts.{TellStep};
 ghost use Rattle.rambo_lines.specs.StepLines.{word_of};
 
 use crate::kind::StepKind;
-use rambo_atomic::CallId;
+use rambo_history::CallId;
 use rambo_names::{Name, read_num};
 use rambo_text::{leading_name, read_call, read_name};
 

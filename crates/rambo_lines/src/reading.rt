@@ -12,7 +12,7 @@ use crate::kind::StepKind;
 use crate::parts::{call_of, conf_of, name_of, number_of, one, set_of, three, two};
 use crate::plain::{frequent_kind, plain_call, plain_letter, plain_names};
 use crate::script::LINE_LIMIT;
-use rambo_atomic::{CallId, Op};
+use rambo_history::{CallId, Op};
 use rambo_names::{Name, Weighted};
 use rambo_run::Step;
 use rambo_text::{Fault, next_word, read_hex};

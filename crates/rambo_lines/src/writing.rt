@@ -6,7 +6,7 @@ ghost use Rattle.rambo_text.specs.Words.{words_text};
 ghost use Rattle.rambo_lines.specs.StepLines.{word_of, step_line, call_words};
 
 use crate::kind::StepKind;
-use rambo_atomic::{CallId, Op};
+use rambo_history::{CallId, Op};
 use rambo_names::{Bytes, Members, Name, Refusal, Weighted, write_conf, write_set};
 use rambo_run::Step;
 use rambo_text::{write_call, write_hex, write_name, write_num};

@@ -1,6 +1,6 @@
 -- The history of the nodes that a client asks, and their steps
 use Rattle.std.specs.Prelude.{◌≡◌, List, length}
-use Rattle.rambo_atomic.specs.declared.event.Event.{Event}
+use Rattle.rambo_history.specs.declared.event.Event.{Event}
 use Rattle.rambo_names.specs.Weights.{Weights, weighted_majorities}
 use Rattle.rambo_run.specs.Runs.{run}
 use Rattle.rambo_world.specs.Worlds.{WorldOf, state}

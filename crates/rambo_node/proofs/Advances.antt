@@ -4,8 +4,8 @@ use Rattle.std.proofs.lemmas.Bool.{eqb-true, true≢false}
 use Rattle.std.proofs.lemmas.Option.{none-some, same_Some}
 use Rattle.std.specs.List.{remove}
 use Rattle.rambo_tag.specs.declared.version.Version.{Version}
-use Rattle.rambo_atomic.specs.declared.event.CallId.{CallId}
-use Rattle.rambo_atomic.specs.declared.operation.Op.{Op}
+use Rattle.rambo_history.specs.declared.event.CallId.{CallId}
+use Rattle.rambo_history.specs.declared.operation.Op.{Op}
 use Rattle.rambo_paxos.specs.Attempts.{AttemptState}
 use Rattle.rambo_phase.specs.Phases.{started}
 use Rattle.rambo_calls.specs.declared.stage.Stage.{Stage}

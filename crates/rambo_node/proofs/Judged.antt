@@ -6,8 +6,8 @@ use Rattle.std.proofs.lemmas.List.Elements.{All-nil, All-cons}
 use Rattle.rambo_names.specs.declared.refusal.Refusal.{Refusal}
 use Rattle.rambo_names.specs.Quorums.{QuorumSystem}
 use Rattle.rambo_names.specs.Refusals.{Cause, cause, least, number_of}
-use Rattle.rambo_atomic.specs.declared.event.CallId.{CallId}
-use Rattle.rambo_atomic.specs.declared.operation.Op.{Op}
+use Rattle.rambo_history.specs.declared.event.CallId.{CallId}
+use Rattle.rambo_history.specs.declared.operation.Op.{Op}
 use Rattle.rambo_config_map.specs.Maps.{MapState, active_at, end_of, top_of}
 use Rattle.rambo_gc.specs.declared.stage.Stage.{Stage}
 use Rattle.rambo_gc.specs.declared.gc_move.GcMove.{GcMove}

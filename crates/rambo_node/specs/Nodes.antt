@@ -5,7 +5,7 @@ use Rattle.std.specs.FinMap as map
 use Rattle.rambo_names.specs.Names.{NameSet}
 use Rattle.rambo_names.specs.Quorums.{QuorumSystem}
 use Rattle.rambo_tag.specs.Copies.{Copies}
-use Rattle.rambo_atomic.specs.declared.event.CallId.{CallId}
+use Rattle.rambo_history.specs.declared.event.CallId.{CallId}
 use Rattle.rambo_config_map.specs.Maps.{MapState, first_map}
 use Rattle.rambo_gc.specs.Collections.{CollectionState}
 use Rattle.rambo_paxos.specs.Attempts.{AttemptState}

@@ -7,10 +7,10 @@ use Rattle.rambo_names.specs.Names.{NameSet, count_of}
 use Rattle.rambo_names.specs.Quorums.{QuorumSystem}
 use Rattle.rambo_names.specs.Refusals.{Cause, cause}
 use Rattle.rambo_tag.specs.Tags.{tag_of}
-use Rattle.rambo_atomic.specs.declared.event.CallId.{CallId}
-use Rattle.rambo_atomic.specs.declared.operation.Op.{Op}
-use Rattle.rambo_atomic.specs.declared.operation.Op.TheVariants as op
-use Rattle.rambo_atomic.specs.Calls.{key_of}
+use Rattle.rambo_history.specs.declared.event.CallId.{CallId}
+use Rattle.rambo_history.specs.declared.operation.Op.{Op}
+use Rattle.rambo_history.specs.declared.operation.Op.TheVariants as op
+use Rattle.rambo_history.specs.Calls.{key_of}
 use Rattle.rambo_config_map.specs.Maps.{end_of}
 use Rattle.rambo_gc.specs.declared.gc_move.GcMove.{GcMove}
 use Rattle.rambo_gc.specs.declared.gc_move.GcMove.TheVariants.{Propagating, Done}

@@ -2,7 +2,7 @@
 ghost use Rattle.std.specs.Prelude.{◌≡◌, ◌+◌, None, Some, false, IfOk, IfErr, OnOk, OnErr};
 ghost use Rattle.std.specs.FinMap as map;
 ghost use Rattle.std.specs.Option.{option_copied};
-ghost use Rattle.rambo_atomic.specs.declared.operation.Op.TheVariants as asked;
+ghost use Rattle.rambo_history.specs.declared.operation.Op.TheVariants as asked;
 ghost use Rattle.rambo_tag.specs.Tags.{tag_of};
 ghost use Rattle.rambo_node.specs.Changes.{refusal_of, made_by, advanced, quiet_deed};
 ghost use Rattle.rambo_node.specs.Kept.{move_deed, propagation_begun};
@@ -15,7 +15,7 @@ ghost use Rattle.rambo_node.specs.declared.change.Change.TheVariants as change;
 use crate::deed::{Deed, clone_of, tell_answered};
 use crate::effect::Effect;
 use crate::node::Node;
-use rambo_atomic::{CallId, Event, Op};
+use rambo_history::{CallId, Event, Op};
 use rambo_names::{Bytes, Quorums, Refusal};
 use rambo_sequence::Mark;
 use rambo_tag::{KeyedVersion, Replica, Tag, Version};

@@ -1,7 +1,7 @@
 //! Changes of a node.
 
-use rambo_atomic::{CallId, Op};
 use rambo_gossip::Letter;
+use rambo_history::{CallId, Op};
 use rambo_names::{Members, Name, Quorums};
 
 /// One change of one node.

@@ -7,8 +7,8 @@ ghost use Rattle.rambo_node.specs.Operations.{answer_of};
 ghost use Rattle.std.specs.Option.{option_copied};
 
 use crate::effect::Effect;
-use rambo_atomic::{Answer, CallId, Event, Op};
 use rambo_calls::{OpenCall, Stage};
+use rambo_history::{Answer, CallId, Event, Op};
 use rambo_names::{Quorums, Refusal};
 use rambo_sequence::Mark;
 use rambo_tag::{KeyedVersion, Version};

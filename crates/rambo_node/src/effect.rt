@@ -4,7 +4,7 @@ ghost use Rattle.std.specs.Prelude.{◌≡◌};
 ghost use Rattle.rambo_node.specs.Changes.{answer_in, collected_in, decided_in};
 
 use crate::decided::Decided;
-use rambo_atomic::{Answer, CallId};
+use rambo_history::{Answer, CallId};
 use rambo_names::Name;
 
 /// What an accepted step did.

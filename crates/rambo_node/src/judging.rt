@@ -2,7 +2,7 @@
 ghost use Rattle.std.specs.Prelude.{◌≡◌, ◌&&◌, ◌||◌, not, nat_eq, nat_le, nat_lt, length, OnOk, IfErr, None, Some};
 ghost use Rattle.std.specs.FinSet as set;
 ghost use Rattle.rambo_names.specs.Names.{count_of};
-ghost use Rattle.rambo_atomic.specs.Calls.{key_of};
+ghost use Rattle.rambo_history.specs.Calls.{key_of};
 ghost use Rattle.rambo_names.specs.Refusals.{least};
 ghost use Rattle.rambo_gossip.specs.Outlines.{outlined};
 ghost use Rattle.rambo_node.specs.Refusals.{join_causes, call_causes, send_causes, advance_causes, again_causes, stop_causes, tags_spent, value_is_long, restarts, query_spent, is_last};
@@ -14,9 +14,9 @@ ghost use Rattle.rambo_node.specs.declared.change.Change.TheVariants as change;
 
 use crate::change::Change;
 use crate::node::{Node, query_of};
-use rambo_atomic::{CallId, Op};
 use rambo_calls::OpenCall;
 use rambo_gossip::{GossipOutline, Kind, Letter, LetterOutline};
+use rambo_history::{CallId, Op};
 use rambo_names::{Members, Name, Quorums, Refusal};
 use rambo_tag::Replica;
 

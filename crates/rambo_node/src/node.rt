@@ -7,10 +7,10 @@ ghost use Rattle.rambo_calls.specs.Calls.{place_of, is_missing, query_in, number
 ghost use Rattle.rambo_calls.specs.Kept.{call_found};
 
 use crate::heard_numbers::HeardNumbers;
-use rambo_atomic::{CallId, Op};
 use rambo_calls::{OpenCall, OpenCalls};
 use rambo_config_map::ConfigMap;
 use rambo_gc::Collection;
+use rambo_history::{CallId, Op};
 use rambo_joiner::Status;
 use rambo_names::{Members, Name, Quorums};
 use rambo_paxos::{Attempt, Vote};

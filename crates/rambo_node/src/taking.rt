@@ -10,7 +10,7 @@ use crate::change::Change;
 use crate::decided::Decided;
 use crate::deed::Deed;
 use crate::node::Node;
-use rambo_atomic::{Answer, CallId, Op};
+use rambo_history::{Answer, CallId, Op};
 use rambo_joiner::Status;
 use rambo_names::{Members, Quorums, Refusal};
 use rambo_tag::Replica;

@@ -2,7 +2,7 @@
 //!
 //! After a refusal the text of an `append_` function is what it was, maybe with some bytes behind it.
 ghost use Rattle.std.specs.Prelude.{◌≡◌, ◌++◌, ◌∷◌, map, decimal, OnOk, OnErr, IfErr};
-ghost use Rattle.rambo_atomic.specs.declared.event.Event.TheVariants as event;
+ghost use Rattle.rambo_history.specs.declared.event.Event.TheVariants as event;
 ghost use Rattle.rambo_text.specs.Words.{more_words};
 ghost use Rattle.rambo_text.specs.Signs.{call_text, Grows};
 ghost use Rattle.rambo_names.specs.Signs.{conf_text};
@@ -10,7 +10,7 @@ ghost use Rattle.rambo_names.specs.Refusals.{number_of};
 ghost use Rattle.rambo_check.specs.Lines.{Happened, Collected, Settled, Refused, Ordered, OrderedAll, op_words, answer_words, item_line};
 ghost use Rattle.rambo_outcome.specs.Outcomes.{map_item};
 
-use rambo_atomic::{Answer, CallId, Op};
+use rambo_history::{Answer, CallId, Op};
 use rambo_names::{Name, Refusal, Weighted, write_conf};
 use rambo_node::Decided;
 use rambo_run::NodeMap;

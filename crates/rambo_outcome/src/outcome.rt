@@ -9,7 +9,7 @@ use crate::line::{
     append_answered, append_called, append_collected, append_decided, append_map, append_order,
     append_refused, append_sequence,
 };
-use rambo_atomic::{CallId, History};
+use rambo_history::{CallId, History};
 use rambo_names::{Refusal, Weighted};
 use rambo_node::Effect;
 use rambo_run::{NodeMap, Outcome};

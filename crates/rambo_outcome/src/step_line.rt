@@ -1,11 +1,11 @@
 //! Writing the line of a step whole, or not at all.
 ghost use Rattle.std.specs.Prelude.{◌≡◌, ◌++◌, OnOk, OnErr, IfErr};
-ghost use Rattle.rambo_atomic.specs.declared.event.Event.TheVariants as event;
+ghost use Rattle.rambo_history.specs.declared.event.Event.TheVariants as event;
 ghost use Rattle.rambo_names.specs.Refusals.{number_of};
 ghost use Rattle.rambo_check.specs.Lines.{Happened, Refused, item_line};
 
 use crate::line::{append_answered, append_called, append_refused};
-use rambo_atomic::{Answer, CallId, Op};
+use rambo_history::{Answer, CallId, Op};
 use rambo_names::Refusal;
 
 /// Appends the line of a call that was made.

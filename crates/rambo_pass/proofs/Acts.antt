@@ -4,7 +4,7 @@ use mathlib.Core.List.{IsPrefix}
 use Rattle.rambo_names.specs.declared.refusal.Refusal.{Refusal}
 use Rattle.rambo_names.specs.declared.refusal.Refusal.TheVariants.{OutOfMemory}
 use Rattle.rambo_names.specs.Quorums.{QuorumSystem}
-use Rattle.rambo_atomic.specs.declared.event.CallId.{CallId}
+use Rattle.rambo_history.specs.declared.event.CallId.{CallId}
 use Rattle.rambo_node.specs.declared.effect.Effect.{Effect}
 use Rattle.rambo_node.specs.declared.effect.Effect.TheVariants as effect
 use Rattle.rambo_run.specs.declared.step.Step.{Step}

@@ -3,10 +3,10 @@ use Rattle.std.proofs.Common.{◌≡◌, ◌≢◌, ℕ, zero, suc, ◌<◌, tru
 use Rattle.std.proofs.lemmas.List.{length-append}
 use Rattle.std.proofs.lemmas.List.Elements.{All-push, All-from_recursion, recursion_from_All}
 use Rattle.std.specs.Map.{lookup}
-use Rattle.rambo_atomic.specs.declared.event.CallId.{CallId}
-use Rattle.rambo_atomic.specs.declared.operation.Answer.{Answer}
-use Rattle.rambo_atomic.specs.Calls.{same_call}
-use Rattle.rambo_atomic.proofs.Pushes.{same_call-path, same_call-refl}
+use Rattle.rambo_history.specs.declared.event.CallId.{CallId}
+use Rattle.rambo_history.specs.declared.operation.Answer.{Answer}
+use Rattle.rambo_history.specs.Calls.{same_call}
+use Rattle.rambo_history.proofs.Pushes.{same_call-path, same_call-refl}
 use Rattle.rambo_pass.specs.declared.mine.Entry.{Entry}
 use Rattle.rambo_pass.specs.Passes.{answered, entry_at, noted, IsEntry, IsNone, AreFound}
 

@@ -2,14 +2,14 @@
 use mathlib.Core.List.{IsPrefix}
 use Rattle.std.specs.Prelude.{◌≡◌, ◌⊎◌, ℕ, List, [], ◌∷◌, ◌++◌, ◌<◌, ◌≢◌, true, length, slice_set, slice_index_or, All, MatchOption, Option, None, Some}
 use Rattle.std.specs.Map.{lookup}
-use Rattle.rambo_atomic.specs.declared.operation.Answer.{Answer}
+use Rattle.rambo_history.specs.declared.operation.Answer.{Answer}
 use Rattle.rambo_names.specs.declared.refusal.Refusal.{Refusal}
 use Rattle.rambo_names.specs.declared.refusal.Refusal.TheVariants as refused
 use Rattle.rambo_names.specs.Quorums.{QuorumSystem}
-use Rattle.rambo_atomic.specs.Calls.{same_call}
-use Rattle.rambo_atomic.specs.Histories.{answer_in}
+use Rattle.rambo_history.specs.Calls.{same_call}
+use Rattle.rambo_history.specs.Histories.{answer_in}
 use Rattle.rambo_joiner.specs.Statuses.{is_stopped}
-use Rattle.rambo_atomic.specs.declared.event.CallId.{CallId}
+use Rattle.rambo_history.specs.declared.event.CallId.{CallId}
 use Rattle.rambo_node.specs.Nodes.{NodeState}
 use Rattle.rambo_run.specs.Worlds.{WorldState, node_at}
 use Rattle.rambo_node.specs.declared.effect.Effect.{Effect}

@@ -2,7 +2,7 @@
 ghost use Rattle.std.specs.Prelude.{◌≡◌, ◌<◌, ◌⊎◌, ℕ, Some, None, true, length, OnOk, OnErr, IfOk, IfErr};
 ghost use Rattle.std.specs.Option.{option_copied};
 ghost use mathlib.Core.List.{IsPrefix};
-ghost use Rattle.rambo_atomic.specs.Histories.{answer_in};
+ghost use Rattle.rambo_history.specs.Histories.{answer_in};
 ghost use Rattle.rambo_book.specs.Kept.{state};
 ghost use Rattle.rambo_run.specs.Worlds.{node_at};
 ghost use Rattle.rambo_joiner.specs.Statuses.{is_stopped};
@@ -10,8 +10,8 @@ ghost use Rattle.rambo_run.specs.Legal.{IsLegal};
 ghost use Rattle.rambo_pass.specs.Passes.{noted, entry_at, IsNoted, IsNone, HasStopped};
 
 use crate::pass::Pass;
-use rambo_atomic::{Answer, CallId};
 use rambo_book::{Book, Keeper, Terms};
+use rambo_history::{Answer, CallId};
 use rambo_names::{Quorums, Refusal};
 use rambo_tag::Replica;
 

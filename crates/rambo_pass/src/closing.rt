@@ -1,14 +1,14 @@
 //! A post is closed.
 ghost use Rattle.std.specs.Prelude.{◌≡◌, ◌≤◌, Some, length, IfSome, All};
 ghost use mathlib.Core.List.{IsPrefix};
-ghost use Rattle.rambo_atomic.specs.Proper.{IsProperForAll};
+ghost use Rattle.rambo_history.specs.Proper.{IsProperForAll};
 ghost use Rattle.rambo_run.specs.Legal.{IsLegal};
 ghost use Rattle.rambo_run.specs.Runs.{given_order};
 ghost use Rattle.rambo_book.specs.Kept.{state};
 
 use crate::pass::Pass;
-use rambo_atomic::CallId;
 use rambo_book::{Book, Terms};
+use rambo_history::CallId;
 use rambo_names::Quorums;
 use rambo_run::Step;
 

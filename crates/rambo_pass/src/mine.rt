@@ -2,10 +2,10 @@
 ghost use Rattle.std.specs.Prelude.{◌≡◌, ◌<◌, ◌≤◌, ◌++◌, ◌∷◌, [], length, if◌then◌else◌, Some, MatchOption, OnOk};
 ghost use Rattle.std.specs.HashMap.{spare};
 ghost use Rattle.std.specs.Map.{lookup};
-ghost use Rattle.rambo_atomic.specs.Calls.{same_call};
+ghost use Rattle.rambo_history.specs.Calls.{same_call};
 ghost use Rattle.rambo_pass.specs.Passes.{entry_at, noted, IsEntry, IsNone};
 
-use rambo_atomic::{Answer, CallId};
+use rambo_history::{Answer, CallId};
 use std::alloc::{AllocError, Global};
 use std::collections::HashMap;
 use std::marker::Model;

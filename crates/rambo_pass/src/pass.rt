@@ -8,8 +8,8 @@ ghost use Rattle.rambo_run.specs.Legal.{IsLegal};
 ghost use Rattle.rambo_pass.specs.Passes.{mine_with, PassView};
 
 use crate::mine::{Entry, Mine};
-use rambo_atomic::{CallId, Op};
 use rambo_book::{Book, Keeper, Terms, commit, may_commit};
+use rambo_history::{CallId, Op};
 use rambo_names::{Name, Quorums, Refusal};
 use rambo_node::Effect;
 use rambo_roll::Front;

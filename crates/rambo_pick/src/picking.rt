@@ -4,8 +4,8 @@ ghost use Rattle.rambo_node.specs.Changes.{refusal_of};
 ghost use Rattle.rambo_node.specs.declared.change.Change.TheVariants as change;
 ghost use Rattle.rambo_pick.specs.Picking.{first_of, candidates, delivery, advance, of_configurations};
 
-use rambo_atomic::CallId;
 use rambo_deeds::{Mail, SharedLetter, Worker, may_hear};
+use rambo_history::CallId;
 use rambo_names::{Quorums, Refusal};
 use rambo_node::{Change, Node};
 use rambo_run::Step;

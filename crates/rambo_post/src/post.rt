@@ -10,14 +10,14 @@ ghost use Rattle.rambo_run.specs.Runs.{run, given_order};
 ghost use Rattle.rambo_run.specs.Steps.{refusal};
 ghost use Rattle.rambo_book.specs.Kept.{IsServedBy, Told, state};
 ghost use Rattle.rambo_run.specs.Legal.{IsLegal};
-ghost use Rattle.rambo_atomic.specs.Histories.{answer_in};
-ghost use Rattle.rambo_atomic.specs.Proper.{IsProperForAll};
+ghost use Rattle.rambo_history.specs.Histories.{answer_in};
+ghost use Rattle.rambo_history.specs.Proper.{IsProperForAll};
 ghost use Rattle.rambo_pass.specs.Passes.{Acted, IsNoted, WhyNot};
 
 use crate::gate::Gate;
-use rambo_atomic::{Answer, CallId, Op};
 use rambo_book::{Actor, Book, Keeper, Terms};
 use rambo_config_map::ConfigMap;
+use rambo_history::{Answer, CallId, Op};
 use rambo_mail::Mails;
 use rambo_names::{Members, Name, Quorums, Refusal};
 use rambo_node::Effect;

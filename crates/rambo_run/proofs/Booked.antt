@@ -1,7 +1,7 @@
 -- The book of each moment of a run
 use Rattle.std.proofs.Common.{◌≡◌, ℕ, zero, suc, nat_eq, [], sym, ap, ◌∙◌, subst, inl, inr, arith, eqb-true}
 use Rattle.rambo_names.specs.Quorums.{QuorumSystem}
-use Rattle.rambo_atomic.specs.Histories.{call_in, answer_in}
+use Rattle.rambo_history.specs.Histories.{call_in, answer_in}
 use Rattle.rambo_calls.specs.Calls.{CallState}
 use Rattle.rambo_node.specs.Nodes.{first_node}
 use Rattle.rambo_run.specs.Worlds.{WorldState, first_world}

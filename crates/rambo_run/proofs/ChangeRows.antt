@@ -6,8 +6,8 @@ use Rattle.rambo_names.specs.declared.refusal.Refusal.{Refusal}
 use Rattle.rambo_names.specs.declared.refusal.Refusal.TheVariants.{NothingToCollect, NoCollect, ReconOpen, NoRecon}
 use Rattle.rambo_names.specs.Names.{NameSet, count_of}
 use Rattle.rambo_names.specs.Quorums.{QuorumSystem}
-use Rattle.rambo_atomic.specs.declared.operation.Op.TheVariants as op
-use Rattle.rambo_atomic.specs.declared.operation.Answer.TheVariants as answer
+use Rattle.rambo_history.specs.declared.operation.Op.TheVariants as op
+use Rattle.rambo_history.specs.declared.operation.Answer.TheVariants as answer
 use Rattle.rambo_config_map.specs.Maps.{MapState, first_map}
 use Rattle.rambo_paxos.specs.Attempts.{opened, proposing}
 use Rattle.rambo_paxos.specs.Votes.{empty_vote}

@@ -1,8 +1,8 @@
 -- The calls and marks of each kind of change, and the letter that it sends
 use Rattle.std.proofs.Common.{◌≡◌, ℕ, zero, suc, ◌-◌, nat_eq, nat_lt, List, [], ◌∷◌, Option, Some, None, slice_get, slice_set, refl, sym, ap, ◌∙◌, subst, inl, inr, arith, eqb-true}
 use Rattle.rambo_tag.specs.declared.version.Version.{Version}
-use Rattle.rambo_atomic.specs.declared.event.CallId.{CallId}
-use Rattle.rambo_atomic.specs.declared.operation.Op.{Op}
+use Rattle.rambo_history.specs.declared.event.CallId.{CallId}
+use Rattle.rambo_history.specs.declared.operation.Op.{Op}
 use Rattle.rambo_config_map.specs.Maps.{active_at, end_of}
 use Rattle.rambo_gc.specs.declared.gc_move.GcMove.{GcMove}
 use Rattle.rambo_gc.specs.declared.gc_move.GcMove.TheVariants.{Propagating, Done}

@@ -1,18 +1,18 @@
 -- What a history says after one event more
 use Rattle.std.proofs.Common.{◌≡◌, zero, suc, ◌<◌, ◌≤◌, ◌⊎◌, Bool, true, false, if◌then◌else◌, List, [], ◌∷◌, ◌++◌, length, Option, Some, None, is_some, refl, sym, ap, ◌∙◌, subst, inl, inr, ⊎_elim, arith, true≢false}
 use Rattle.std.proofs.lemmas.Bool.{cond-true, cond-false}
-use Rattle.rambo_atomic.specs.declared.operation.Op.{Op}
-use Rattle.rambo_atomic.specs.declared.operation.Answer.{Answer}
-use Rattle.rambo_atomic.specs.declared.event.CallId.{CallId}
-use Rattle.rambo_atomic.specs.declared.event.Event.{Event}
-use Rattle.rambo_atomic.specs.declared.event.Event.TheVariants as event
-use Rattle.rambo_atomic.specs.Calls.{same_call}
-use Rattle.rambo_atomic.specs.Histories.{call_in, answer_in, answered_before}
-use Rattle.rambo_atomic.proofs.LookUps.{either, call_in-append, answer_in-append}
-use Rattle.rambo_atomic.proofs.Pushes.{same_call-path, same_call-refl}
+use Rattle.rambo_history.specs.declared.operation.Op.{Op}
+use Rattle.rambo_history.specs.declared.operation.Answer.{Answer}
+use Rattle.rambo_history.specs.declared.event.CallId.{CallId}
+use Rattle.rambo_history.specs.declared.event.Event.{Event}
+use Rattle.rambo_history.specs.declared.event.Event.TheVariants as event
+use Rattle.rambo_history.specs.Calls.{same_call}
+use Rattle.rambo_history.specs.Histories.{call_in, answer_in, answered_before}
+use Rattle.rambo_history.proofs.LookUps.{either, call_in-append, answer_in-append}
+use Rattle.rambo_history.proofs.Pushes.{same_call-path, same_call-refl}
 use Rattle.rambo_sequence.specs.Sequences.{call_place}
 use Rattle.rambo_run.proofs.Lists.{pick, some_inj, none-some}
-pub use Rattle.rambo_atomic.proofs.Asked.{call_kept}
+pub use Rattle.rambo_history.proofs.Asked.{call_kept}
 
 pub none_or_some : {A : Type 0} (o : Option A) → (o ≡ None) ⊎ ((a : A) × (o ≡ Some a))
 none_or_some None = inl refl

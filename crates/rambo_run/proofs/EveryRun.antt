@@ -1,7 +1,7 @@
 -- What holds of every run
 use Rattle.std.proofs.Common.{◌≡◌, ℕ, List, [], ◌∷◌, ◌++◌, append-nil, take, length, Some, refl, sym, ap, ◌∙◌, subst}
 use Rattle.rambo_names.specs.Quorums.{QuorumSystem, IsSound}
-use Rattle.rambo_atomic.specs.Proper.{IsProper}
+use Rattle.rambo_history.specs.Proper.{IsProper}
 use Rattle.rambo_config_map.specs.Maps.{active_at}
 use Rattle.rambo_sequence.specs.Sequences.{sequence_of}
 use Rattle.rambo_run.specs.declared.step.Step.{Step}

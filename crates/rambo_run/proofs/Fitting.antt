@@ -4,16 +4,16 @@ use Rattle.std.proofs.lemmas.Bool.{cond-true}
 use Rattle.rambo_names.specs.Quorums.{QuorumSystem}
 use Rattle.rambo_tag.specs.declared.version.Version.{Version}
 use Rattle.rambo_tag.specs.Tags.{value_of}
-use Rattle.rambo_atomic.specs.declared.operation.Op.{Op}
-use Rattle.rambo_atomic.specs.declared.operation.Op.TheVariants as op
-use Rattle.rambo_atomic.specs.declared.event.CallId.{CallId}
-use Rattle.rambo_atomic.specs.declared.event.Event.{Event}
-use Rattle.rambo_atomic.specs.declared.event.Event.TheVariants as event
-use Rattle.rambo_atomic.specs.declared.fault.HistoryFault.{HistoryFault}
-use Rattle.rambo_atomic.specs.declared.fault.HistoryFault.TheVariants.{CalledTwice, WrongKind}
-use Rattle.rambo_atomic.specs.Calls.{fits, answer_for}
-use Rattle.rambo_atomic.specs.Histories.{call_in}
-use Rattle.rambo_atomic.specs.Faults.{answer_fault, fault_of}
+use Rattle.rambo_history.specs.declared.operation.Op.{Op}
+use Rattle.rambo_history.specs.declared.operation.Op.TheVariants as op
+use Rattle.rambo_history.specs.declared.event.CallId.{CallId}
+use Rattle.rambo_history.specs.declared.event.Event.{Event}
+use Rattle.rambo_history.specs.declared.event.Event.TheVariants as event
+use Rattle.rambo_history.specs.declared.fault.HistoryFault.{HistoryFault}
+use Rattle.rambo_history.specs.declared.fault.HistoryFault.TheVariants.{CalledTwice, WrongKind}
+use Rattle.rambo_history.specs.Calls.{fits, answer_for}
+use Rattle.rambo_history.specs.Histories.{call_in}
+use Rattle.rambo_history.specs.Faults.{answer_fault, fault_of}
 use Rattle.rambo_node.specs.declared.change.Change.{Change}
 use Rattle.rambo_node.specs.declared.change.Change.TheVariants as change
 use Rattle.rambo_calls.specs.declared.stage.Stage.{Stage}

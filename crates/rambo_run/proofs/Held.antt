@@ -11,8 +11,8 @@ use Rattle.rambo_tag.specs.Copies.{Copies, joined}
 use Rattle.rambo_tag.proofs.CopyOrder.{greater-idem, greater-comm, is_newer-from_lt}
 use Rattle.rambo_tag.proofs.Joins.{same_copies, get-put, get-joined, joined-idem, joined-comm, joined-assoc, joined-again, TagLe-joined_left, TagLe-joined_right, TagLe-put}
 use Rattle.rambo_tag.proofs.Keys.{same_key, same_key-true}
-use Rattle.rambo_atomic.specs.declared.operation.Op.{Op}
-use Rattle.rambo_atomic.specs.declared.operation.Op.TheVariants as op
+use Rattle.rambo_history.specs.declared.operation.Op.{Op}
+use Rattle.rambo_history.specs.declared.operation.Op.TheVariants as op
 use Rattle.rambo_config_map.specs.Maps.{end_of}
 use Rattle.rambo_config_map.specs.Merging.{HasActive}
 use Rattle.rambo_config_map.specs.MapLaws.{merged_end}

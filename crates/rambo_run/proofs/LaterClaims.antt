@@ -5,8 +5,8 @@ use Rattle.std.specs.FinMap as map
 use Rattle.rambo_names.specs.Quorums.{QuorumSystem, IsSound}
 use Rattle.rambo_tag.specs.Tags.{tag_of}
 use Rattle.rambo_tag.proofs.TagOrder.{TagLe, TagLe-trans_lt, tag_lt-true, tag_lt-false}
-use Rattle.rambo_atomic.specs.declared.event.CallId.{CallId}
-use Rattle.rambo_atomic.specs.Calls.{key_of, is_get}
+use Rattle.rambo_history.specs.declared.event.CallId.{CallId}
+use Rattle.rambo_history.specs.Calls.{key_of, is_get}
 use Rattle.rambo_calls.specs.declared.stage.Stage.TheVariants.{Query}
 use Rattle.rambo_calls.specs.Calls.{CallState, kept_in, find_call}
 use Rattle.rambo_node.specs.declared.change.Change.TheVariants as change

@@ -6,7 +6,7 @@ use Rattle.std.proofs.lemmas.Option.{slice_get_within}
 use Rattle.std.specs.Option.{is_some}
 use mathlib.Core.List.{IsPrefix}
 use Rattle.rambo_names.specs.Quorums.{QuorumSystem}
-use Rattle.rambo_atomic.specs.Faults.{fault_of}
+use Rattle.rambo_history.specs.Faults.{fault_of}
 use Rattle.rambo_run.specs.declared.step.Step.{Step}
 use Rattle.rambo_run.specs.Worlds.{WorldState, first_world}
 use Rattle.rambo_run.specs.Steps.{refusal}

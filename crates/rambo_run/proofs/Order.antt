@@ -4,8 +4,8 @@ use Rattle.rambo_tag.specs.declared.tag.Tag.{Tag}
 use Rattle.rambo_tag.specs.Tags.{tag_lt, tag_of}
 use Rattle.rambo_tag.proofs.TagOrder.{TagLe, TagLt, TagLt-from_true, TagLe-from_false, TagLe-antisymm}
 use Rattle.rambo_tag.proofs.Keys.{bytes_eq-true, bytes_eq-itself}
-use Rattle.rambo_atomic.specs.declared.event.Event.{Event}
-use Rattle.rambo_atomic.specs.Calls.{key_of}
+use Rattle.rambo_history.specs.declared.event.Event.{Event}
+use Rattle.rambo_history.specs.Calls.{key_of}
 use Rattle.rambo_sequence.specs.declared.mark.Mark.{Mark}
 use Rattle.rambo_sequence.specs.Sequences.{rank, mark_lt, with_mark, sorted_marks}
 use Rattle.rambo_run.proofs.Lists.{pick, Member, member_middle, member_left}

@@ -9,9 +9,9 @@ use Rattle.rambo_names.specs.Quorums.{QuorumSystem}
 use Rattle.rambo_tag.specs.Tags.{tag_of}
 use Rattle.rambo_tag.proofs.TagOrder.{TagLe, TagLe-refl, TagLe-trans}
 use Rattle.rambo_tag.proofs.Joins.{get-put_same}
-use Rattle.rambo_atomic.specs.declared.operation.Op.{Op}
-use Rattle.rambo_atomic.specs.declared.operation.Op.TheVariants as op
-use Rattle.rambo_atomic.specs.Calls.{key_of}
+use Rattle.rambo_history.specs.declared.operation.Op.{Op}
+use Rattle.rambo_history.specs.declared.operation.Op.TheVariants as op
+use Rattle.rambo_history.specs.Calls.{key_of}
 use Rattle.rambo_config_map.specs.Rows.{row_at}
 use Rattle.rambo_config_map.specs.Maps.{MapState, end_of}
 use Rattle.rambo_config_map.specs.MapLaws.{active_kept}

@@ -6,9 +6,9 @@ use Rattle.rambo_names.specs.Quorums.{QuorumSystem}
 use Rattle.rambo_tag.specs.declared.version.Version.{Version}
 use Rattle.rambo_tag.proofs.Joins.{get-joined}
 use Rattle.rambo_tag.proofs.CopyOrder.{greater-either}
-use Rattle.rambo_atomic.specs.declared.operation.Op.{Op}
-use Rattle.rambo_atomic.specs.declared.event.Event.{Event}
-use Rattle.rambo_atomic.specs.declared.event.Event.TheVariants as event
+use Rattle.rambo_history.specs.declared.operation.Op.{Op}
+use Rattle.rambo_history.specs.declared.event.Event.{Event}
+use Rattle.rambo_history.specs.declared.event.Event.TheVariants as event
 use Rattle.rambo_phase.specs.Phases.{is_met}
 use Rattle.rambo_gossip.specs.declared.letter.Gossip.{Gossip}
 use Rattle.rambo_calls.specs.Calls.{CallState, propagates, kept_in}

@@ -6,18 +6,18 @@ use Rattle.std.specs.List.{fold}
 use Rattle.rambo_names.specs.Quorums.{QuorumSystem, IsSound}
 use Rattle.rambo_tag.specs.Tags.{value_of}
 use Rattle.rambo_tag.proofs.Keys.{bytes_eq-itself}
-use Rattle.rambo_atomic.specs.declared.operation.Op.{Op}
-use Rattle.rambo_atomic.specs.declared.operation.Op.TheVariants as op
-use Rattle.rambo_atomic.specs.declared.event.CallId.{CallId}
-use Rattle.rambo_atomic.specs.declared.event.Event.{Event}
-use Rattle.rambo_atomic.specs.Calls.{key_of, is_get, answer_for}
-use Rattle.rambo_atomic.specs.Histories.{call_in, answer_in, answered_before}
-use Rattle.rambo_atomic.specs.Proper.{Stands, after_op, held_after, IsProper}
+use Rattle.rambo_history.specs.declared.operation.Op.{Op}
+use Rattle.rambo_history.specs.declared.operation.Op.TheVariants as op
+use Rattle.rambo_history.specs.declared.event.CallId.{CallId}
+use Rattle.rambo_history.specs.declared.event.Event.{Event}
+use Rattle.rambo_history.specs.Calls.{key_of, is_get, answer_for}
+use Rattle.rambo_history.specs.Histories.{call_in, answer_in, answered_before}
+use Rattle.rambo_history.specs.Proper.{Stands, after_op, held_after, IsProper}
 use Rattle.rambo_node.specs.Operations.{answer_of}
 use Rattle.rambo_sequence.specs.declared.mark.Mark.{Mark}
 use Rattle.rambo_sequence.specs.Sequences.{call_place, rank, sorted_marks, sequence_of}
 use Rattle.rambo_run.specs.Worlds.{WorldState}
-use Rattle.rambo_atomic.proofs.Asked.{some_and}
+use Rattle.rambo_history.proofs.Asked.{some_and}
 use Rattle.rambo_run.proofs.Lists.{pick, some_inj, Member, member_stands, stands_member, member_map, map_member, member_left, member_right, member_cases}
 use Rattle.rambo_run.proofs.Events.{place_same}
 use Rattle.rambo_run.proofs.Sights.{Worlds}

@@ -1,7 +1,7 @@
 -- The one order of a run is proper for all keys
 use Rattle.std.proofs.Common.{ℕ, List, sym, subst}
 use Rattle.rambo_names.specs.Quorums.{QuorumSystem, IsSound}
-use Rattle.rambo_atomic.specs.Proper.{IsProper}
+use Rattle.rambo_history.specs.Proper.{IsProper}
 use Rattle.rambo_sequence.specs.Sequences.{sequence_in}
 use Rattle.rambo_sequence.specs.StoreOrders.{NoTwice, all_calls}
 use Rattle.rambo_sequence.proofs.GivenOrder.{order_is}

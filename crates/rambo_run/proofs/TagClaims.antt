@@ -7,8 +7,8 @@ use Rattle.rambo_tag.specs.declared.tag.Tag.{Tag}
 use Rattle.rambo_tag.specs.declared.version.Version.{Version}
 use Rattle.rambo_tag.specs.Tags.{tag_lt, tag_of}
 use Rattle.rambo_tag.proofs.TagOrder.{TagLe, TagLt, tag_lt-true, tag_lt-false}
-use Rattle.rambo_atomic.specs.Calls.{is_get}
-use Rattle.rambo_atomic.specs.Histories.{answered_before}
+use Rattle.rambo_history.specs.Calls.{is_get}
+use Rattle.rambo_history.specs.Histories.{answered_before}
 use Rattle.rambo_sequence.specs.declared.mark.Mark.{Mark}
 use Rattle.rambo_run.specs.Worlds.{WorldState}
 use Rattle.rambo_run.specs.Claims.{OneTagOneCopy, TagsFollowAnswers}

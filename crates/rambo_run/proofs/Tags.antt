@@ -10,9 +10,9 @@ use Rattle.rambo_tag.specs.Tags.{tag_of, value_of}
 use Rattle.rambo_tag.proofs.TagOrder.{TagLe, TagLe-trans}
 use Rattle.rambo_tag.proofs.Keys.{same_key, same_key-true}
 use Rattle.rambo_tag.proofs.Joins.{get-put}
-use Rattle.rambo_atomic.specs.declared.operation.Op.{Op}
-use Rattle.rambo_atomic.specs.declared.operation.Op.TheVariants as op
-use Rattle.rambo_atomic.specs.Calls.{key_of, is_get}
+use Rattle.rambo_history.specs.declared.operation.Op.{Op}
+use Rattle.rambo_history.specs.declared.operation.Op.TheVariants as op
+use Rattle.rambo_history.specs.Calls.{key_of, is_get}
 use Rattle.rambo_phase.specs.Phases.{is_met}
 use Rattle.rambo_calls.specs.Calls.{CallState, propagates, kept_in}
 use Rattle.rambo_node.specs.Nodes.{NodeState, first_node}

@@ -1,16 +1,16 @@
 -- The history of each run is well formed
 use Rattle.std.proofs.Common.{◌≡◌, List, [], ◌∷◌, ◌++◌, None, Some, true, sym, ap, ◌∙◌, subst, append_assoc, append-nil, inl, inr}
 use Rattle.rambo_names.specs.Quorums.{QuorumSystem}
-use Rattle.rambo_atomic.specs.declared.event.Event.TheVariants as event
-use Rattle.rambo_atomic.specs.declared.event.CallId.{CallId}
-use Rattle.rambo_atomic.specs.declared.operation.Op.{Op}
-use Rattle.rambo_atomic.specs.declared.operation.Answer.{Answer}
-use Rattle.rambo_atomic.specs.Calls.{fits}
+use Rattle.rambo_history.specs.declared.event.Event.TheVariants as event
+use Rattle.rambo_history.specs.declared.event.CallId.{CallId}
+use Rattle.rambo_history.specs.declared.operation.Op.{Op}
+use Rattle.rambo_history.specs.declared.operation.Answer.{Answer}
+use Rattle.rambo_history.specs.Calls.{fits}
 use Rattle.std.specs.Option.{IsSomeAnd}
-use Rattle.rambo_atomic.specs.Histories.{call_in, answer_in}
-use Rattle.rambo_atomic.specs.Forms.{IsWellFormed}
-use Rattle.rambo_atomic.proofs.Splits.{splits-nil}
-use Rattle.rambo_atomic.proofs.Pushes.{well_formed-push}
+use Rattle.rambo_history.specs.Histories.{call_in, answer_in}
+use Rattle.rambo_history.specs.Forms.{IsWellFormed}
+use Rattle.rambo_history.proofs.Splits.{splits-nil}
+use Rattle.rambo_history.proofs.Pushes.{well_formed-push}
 use Rattle.rambo_run.specs.declared.step.Step.{Step}
 use Rattle.rambo_run.specs.Worlds.{WorldState, first_world}
 use Rattle.rambo_run.specs.Steps.{refusal}

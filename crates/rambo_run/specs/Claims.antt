@@ -6,9 +6,9 @@ use Rattle.std.specs.Prelude.{true, false}
 use Rattle.rambo_names.specs.Quorums.{QuorumSystem}
 use Rattle.rambo_tag.specs.Tags.{tag_lt, tag_of}
 use Rattle.rambo_tag.specs.Copies.{joined}
-use Rattle.rambo_atomic.specs.Calls.{key_of, is_get}
-use Rattle.rambo_atomic.specs.Histories.{answered_before}
-use Rattle.rambo_atomic.specs.Proper.{IsProper, IsProperForAll, Stands}
+use Rattle.rambo_history.specs.Calls.{key_of, is_get}
+use Rattle.rambo_history.specs.Histories.{answered_before}
+use Rattle.rambo_history.specs.Proper.{IsProper, IsProperForAll, Stands}
 use Rattle.rambo_config_map.specs.Maps.{active_at, end_of}
 use Rattle.rambo_joiner.specs.Statuses.{is_active}
 use Rattle.rambo_phase.specs.Phases.{above}

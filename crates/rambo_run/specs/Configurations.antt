@@ -5,8 +5,8 @@ use Rattle.std.specs.FinMap as map
 use Rattle.rambo_names.specs.Quorums.{QuorumSystem}
 use Rattle.rambo_tag.specs.declared.tag.Tag.{Tag}
 use Rattle.rambo_tag.specs.Tags.{tag_lt, tag_of}
-use Rattle.rambo_atomic.specs.Calls.{key_of, is_get}
-use Rattle.rambo_atomic.specs.Proper.{Stands}
+use Rattle.rambo_history.specs.Calls.{key_of, is_get}
+use Rattle.rambo_history.specs.Proper.{Stands}
 use Rattle.rambo_config_map.specs.Maps.{end_of}
 use Rattle.rambo_gc.specs.Collections.{CollectionState, only}
 use Rattle.rambo_gc.specs.Turns.{HasFirstQuorum, HasSecondQuorum}

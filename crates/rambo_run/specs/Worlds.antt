@@ -6,7 +6,7 @@ use Rattle.rambo_names.specs.Names.{rising, count_of}
 use Rattle.rambo_names.specs.Refusals.{Cause, cause}
 use Rattle.rambo_names.specs.Quorums.{QuorumSystem}
 use Rattle.rambo_tag.specs.Copies.{Copies}
-use Rattle.rambo_atomic.specs.declared.event.Event.{Event}
+use Rattle.rambo_history.specs.declared.event.Event.{Event}
 use Rattle.rambo_gossip.specs.declared.letter.Letter.{Letter}
 use Rattle.rambo_node.specs.Nodes.{NodeState, first_node}
 use Rattle.rambo_sequence.specs.declared.mark.Mark.{Mark}

@@ -1,7 +1,7 @@
 //! What a run gives.
 
 use crate::step::Step;
-use rambo_atomic::{CallId, History};
+use rambo_history::{CallId, History};
 use rambo_names::{Name, Quorums, Refusal};
 use rambo_node::Effect;
 use rambo_sequence::KeySequence;

@@ -1,6 +1,6 @@
 //! Runs that go on, of any kind.
 ghost use Rattle.std.specs.Prelude.{◌≡◌, List, ℕ, None, IfOk, IfErr, OnOk, OnErr};
-ghost use Rattle.rambo_atomic.specs.Proper.{IsProper};
+ghost use Rattle.rambo_history.specs.Proper.{IsProper};
 ghost use Rattle.rambo_sequence.specs.Sequences.{sequences_of, sequence_in};
 ghost use Rattle.rambo_run.specs.declared.step.Step.TheVariants as step;
 ghost use Rattle.rambo_run.specs.Ongoing.{RunningOf, AgreesSoFar};
@@ -10,7 +10,7 @@ ghost use Rattle.rambo_run.specs.Told.{sent, called, delivered, advanced};
 
 use crate::outcome::NodeMap;
 use crate::step::Step;
-use rambo_atomic::{Answer, CallId, History, Op};
+use rambo_history::{Answer, CallId, History, Op};
 use rambo_names::{Name, Quorums, Refusal};
 use rambo_node::Effect;
 use rambo_sequence::KeySequence;

@@ -1,7 +1,7 @@
 //! The steps of a run.
 ghost use Rattle.std.specs.Prelude.{◌≡◌, ◌≢◌, ℕ, IsOk, IfOk, IfErr};
 
-use rambo_atomic::{CallId, Op};
+use rambo_history::{CallId, Op};
 use rambo_names::{Members, Name, Quorums, Refusal};
 
 /// One event of a run.

@@ -2,14 +2,14 @@
 use Rattle.std.proofs.Common.{◌≡◌, ℕ, ◌+◌, ◌≤◌, Bool, true, false, cond, if◌then◌else◌, List, [], ◌∷◌, ◌++◌, length, suc, Option, Some, None, refl, sym, ap, ◌∙◌, subst, inl, inr, arith, true≢false, append_assoc, append-nil}
 use Rattle.std.specs.List.{position}
 use Rattle.std.specs.Option.{option_map}
-use Rattle.rambo_atomic.specs.declared.operation.Answer.{Answer}
-use Rattle.rambo_atomic.specs.declared.event.CallId.{CallId}
-use Rattle.rambo_atomic.specs.declared.event.Event.{Event}
-use Rattle.rambo_atomic.specs.declared.event.Event.TheVariants as event
-use Rattle.rambo_atomic.specs.Calls.{same_call}
-use Rattle.rambo_atomic.specs.Histories.{answered_at, is_answer}
-use Rattle.rambo_atomic.proofs.LookUps.{position-cons}
-use Rattle.rambo_atomic.proofs.Pushes.{same_call-path, same_call-refl}
+use Rattle.rambo_history.specs.declared.operation.Answer.{Answer}
+use Rattle.rambo_history.specs.declared.event.CallId.{CallId}
+use Rattle.rambo_history.specs.declared.event.Event.{Event}
+use Rattle.rambo_history.specs.declared.event.Event.TheVariants as event
+use Rattle.rambo_history.specs.Calls.{same_call}
+use Rattle.rambo_history.specs.Histories.{answered_at, is_answer}
+use Rattle.rambo_history.proofs.LookUps.{position-cons}
+use Rattle.rambo_history.proofs.Pushes.{same_call-path, same_call-refl}
 use Rattle.rambo_sequence.specs.Sequences.{SequenceOf}
 use Rattle.rambo_sequence.proofs.Members.{Member, pick, some_inj, none-some, member_middle, member_stands, stands_member, member_left, member_right, member_cases}
 use Rattle.rambo_sequence.specs.StoreOrders.{IsLeft, IsFirstAnswered, GoesNext, IsOrder, has, through, behind, given_through, left_behind, all_calls, order_from, order_of, NoTwice}

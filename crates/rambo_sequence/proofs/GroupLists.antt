@@ -7,8 +7,8 @@ use Rattle.std.specs.Map.{keys_of as group_keys}
 use Rattle.std.proofs.lemmas.Map.Keys.{IsDistinct-head, IsDistinct-tail}
 use Rattle.std.proofs.lemmas.Map.Made.{is_some-lookup}
 use Rattle.rambo_tag.proofs.Keys.{key_cmp, bytes_eq-itself, bytes_eq-true}
-use Rattle.rambo_atomic.specs.declared.event.Event.{Event}
-use Rattle.rambo_atomic.specs.Calls.{key_of}
+use Rattle.rambo_history.specs.declared.event.Event.{Event}
+use Rattle.rambo_history.specs.Calls.{key_of}
 use Rattle.rambo_sequence.specs.declared.mark.Mark.{Mark}
 use Rattle.rambo_sequence.specs.declared.ranking.RankedCall.{RankedCall}
 use Rattle.rambo_sequence.specs.Groups.{Group, group_sequence, calls_at, with_call, some_calls, HasGroups}

@@ -8,7 +8,7 @@ use Rattle.std.proofs.lemmas.Map.Keys.{IsDistinct-head, IsDistinct-tail}
 use Rattle.rambo_tag.specs.Tags.{bytes_lt}
 use Rattle.rambo_tag.proofs.Keys.{key_cmp, bytes_eq-itself, bytes_eq-true}
 use Rattle.rambo_tag.proofs.CopyOrder.{bytes_lt-cmp}
-use Rattle.rambo_atomic.specs.Calls.{key_of}
+use Rattle.rambo_history.specs.Calls.{key_of}
 use Rattle.rambo_sequence.specs.declared.mark.Mark.{Mark}
 use Rattle.rambo_sequence.specs.Sequences.{with_key, keys_of}
 use Rattle.rambo_sequence.proofs.WeakOrders.{lt-gt, IsStrictWeakOrder-from_total}

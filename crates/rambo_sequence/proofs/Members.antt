@@ -1,6 +1,6 @@
 -- Members of lists, and items in their places
 use Rattle.std.proofs.Common.{◌≡◌, ◌⊎◌, ℕ, zero, suc, ◌<◌, length, Bool, true, false, if◌then◌else◌, List, [], ◌∷◌, ◌++◌, Option, Some, None, slice_get, slice_set, refl, sym, ap, subst, inl, inr, ⊎_elim, true≢false, arith}
-use Rattle.rambo_atomic.specs.Proper.{Stands}
+use Rattle.rambo_history.specs.Proper.{Stands}
 
 -- which branch was taken, with the test
 pub pick : {A : Type 0} (b : Bool) (x y : A) → ((b ≡ true) × ((if b then x else y) ≡ x)) ⊎ ((b ≡ false) × ((if b then x else y) ≡ y))

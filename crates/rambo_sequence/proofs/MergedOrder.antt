@@ -4,22 +4,20 @@ use Rattle.std.specs.Prelude.{IsSome, fold}
 use Rattle.std.specs.Option.{IsSomeAnd}
 use Rattle.std.proofs.lemmas.Bool.Decides.{nat_tests}
 use Rattle.rambo_tag.proofs.Keys.{bytes_eq-true, bytes_eq-itself}
-use Rattle.rambo_atomic.specs.declared.operation.Op.{Op}
-use Rattle.rambo_atomic.specs.declared.operation.Op.TheVariants as op
-use Rattle.rambo_atomic.specs.declared.event.CallId.{CallId}
-use Rattle.rambo_atomic.specs.declared.event.Event.{Event}
-use Rattle.rambo_atomic.specs.declared.event.Event.TheVariants as event
-use Rattle.rambo_atomic.specs.declared.operation.Answer.{Answer}
-use Rattle.rambo_atomic.specs.Calls.{key_of, is_get, answer_for, same_call}
-use Rattle.rambo_atomic.specs.Forms.{IsWellFormed}
-use Rattle.rambo_atomic.specs.Histories.{call_in, answer_in, answered_at, called_at, answered_before}
-use Rattle.rambo_atomic.specs.Proper.{Stands, IsProper, IsDistinct, KeepsRealTime, IsProperForAll, after_op}
-use Rattle.rambo_atomic.specs.Tallies.{is_of_key}
-use Rattle.rambo_atomic.specs.Tests.{is_before}
-use Rattle.rambo_atomic.proofs.Asked.{some_and, call_kept, answered_called}
-use Rattle.rambo_atomic.proofs.Pushes.{same_call-path}
-use Rattle.rambo_atomic.proofs.RealTime.{answered_before-places}
-use Rattle.rambo_atomic.proofs.Splits.{splits-tail}
+use Rattle.rambo_history.specs.declared.operation.Op.{Op}
+use Rattle.rambo_history.specs.declared.operation.Op.TheVariants as op
+use Rattle.rambo_history.specs.declared.event.CallId.{CallId}
+use Rattle.rambo_history.specs.declared.event.Event.{Event}
+use Rattle.rambo_history.specs.declared.event.Event.TheVariants as event
+use Rattle.rambo_history.specs.declared.operation.Answer.{Answer}
+use Rattle.rambo_history.specs.Calls.{key_of, is_get, answer_for, same_call}
+use Rattle.rambo_history.specs.Forms.{IsWellFormed}
+use Rattle.rambo_history.specs.Histories.{call_in, answer_in, answered_at, called_at, answered_before, is_before}
+use Rattle.rambo_history.specs.Proper.{Stands, IsProper, IsDistinct, KeepsRealTime, IsProperForAll, after_op}
+use Rattle.rambo_history.proofs.Asked.{some_and, call_kept, answered_called}
+use Rattle.rambo_history.proofs.Pushes.{same_call-path}
+use Rattle.rambo_history.proofs.AnsweredBefore.{answered_before-places}
+use Rattle.rambo_history.proofs.Splits.{splits-tail}
 use Rattle.rambo_sequence.specs.Sequences.{SequenceOf, sequence_in}
 use Rattle.rambo_sequence.proofs.Members.{Member, pick, none-some, member_middle, member_stands, stands_member, member_cases}
 use Rattle.rambo_sequence.proofs.GivenOrder.{cut}
@@ -64,6 +62,11 @@ all_over (s ∷ ss) key o = elim (pick (bytes_eq s.key key) s.calls (sequence_in
 ]
 
 -- ---- calls of a key
+-- whether there is an operation, and it is of the key
+abbrev is_of_key : List ℕ → Option Op → Bool
+is_of_key key None = false
+is_of_key key (Some op) = bytes_eq (key_of op) key
+
 other_key : (o : Option Op) (a b : List ℕ) → is_of_key a o ≡ true → bytes_eq a b ≡ false → is_of_key b o ≡ false
 other_key None a b h e = refl
 other_key (Some p) a b h e = ap (λ k. bytes_eq k b) (bytes_eq-true (key_of p) a h) ∙ e

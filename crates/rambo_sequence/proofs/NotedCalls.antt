@@ -2,13 +2,13 @@
 use Rattle.std.proofs.Common.{◌≡◌, ◌⊎◌, ℕ, zero, suc, ◌+◌, ◌-◌, ◌<◌, Bool, true, false, if◌then◌else◌, List, [], ◌∷◌, ◌++◌, length, length-append, take, drop, get_or, map, Option, Some, None, slice_get, slice_set, refl, sym, ap, ◌∙◌, subst, inl, inr, true≢false, append_assoc, append-nil, arith}
 use Rattle.std.proofs.Math.Seq.{take-append_seam, drop-append_seam}
 use Rattle.std.specs.Borrow.{Bor}
-use Rattle.rambo_atomic.specs.declared.operation.Op.{Op}
-use Rattle.rambo_atomic.specs.declared.operation.Answer.{Answer}
-use Rattle.rambo_atomic.specs.declared.event.CallId.{CallId}
-use Rattle.rambo_atomic.specs.declared.event.Event.{Event}
-use Rattle.rambo_atomic.specs.declared.event.Event.TheVariants as event
-use Rattle.rambo_atomic.specs.Calls.{same_call}
-use Rattle.rambo_atomic.proofs.Pushes.{same_call-path, same_call-refl}
+use Rattle.rambo_history.specs.declared.operation.Op.{Op}
+use Rattle.rambo_history.specs.declared.operation.Answer.{Answer}
+use Rattle.rambo_history.specs.declared.event.CallId.{CallId}
+use Rattle.rambo_history.specs.declared.event.Event.{Event}
+use Rattle.rambo_history.specs.declared.event.Event.TheVariants as event
+use Rattle.rambo_history.specs.Calls.{same_call}
+use Rattle.rambo_history.proofs.Pushes.{same_call-path, same_call-refl}
 use Rattle.rambo_sequence.specs.declared.store_order.Place.{Place}
 use Rattle.rambo_sequence.specs.CallPlaces.{noted, all_noted, left_of, lists, joined}
 use Rattle.rambo_sequence.specs.Sequences.{SequenceOf}

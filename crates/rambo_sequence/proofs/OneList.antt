@@ -5,8 +5,8 @@ use Rattle.std.proofs.lemmas.List.Elements.{All-from_recursion, recursion_from_A
 use Rattle.std.proofs.lemmas.List.Kept.{AllPairs-cons}
 use Rattle.rambo_tag.specs.Tags.{bytes_lt}
 use Rattle.rambo_tag.proofs.Keys.{bytes_eq-itself, bytes_eq-true}
-use Rattle.rambo_atomic.specs.declared.event.Event.{Event}
-use Rattle.rambo_atomic.specs.Calls.{key_of}
+use Rattle.rambo_history.specs.declared.event.Event.{Event}
+use Rattle.rambo_history.specs.Calls.{key_of}
 use Rattle.rambo_sequence.specs.declared.mark.Mark.{Mark}
 use Rattle.rambo_sequence.specs.Sequences.{SequenceOf, keys_of, sequence_of, sequences_of}
 use Rattle.rambo_sequence.specs.Laws.{AreSequences, GivenAreSequences, OneList}

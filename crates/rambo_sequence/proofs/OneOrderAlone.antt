@@ -1,13 +1,13 @@
 -- Only one list is one order of all sequences
 use Rattle.std.proofs.Common.{◌≡◌, ◌⊎◌, ℕ, suc, ◌≤◌, Bool, true, false, cond, List, [], ◌∷◌, ◌++◌, Option, Some, None, refl, sym, ap, ◌∙◌, subst, inl, inr, arith}
 use Rattle.std.specs.Option.{option_map}
-use Rattle.rambo_atomic.specs.declared.event.CallId.{CallId}
-use Rattle.rambo_atomic.specs.declared.event.Event.{Event}
-use Rattle.rambo_atomic.specs.declared.event.Event.TheVariants as event
-use Rattle.rambo_atomic.specs.Calls.{same_call}
-use Rattle.rambo_atomic.specs.Histories.{answered_at, is_answer}
-use Rattle.rambo_atomic.proofs.LookUps.{position-cons}
-use Rattle.rambo_atomic.proofs.Pushes.{same_call-path}
+use Rattle.rambo_history.specs.declared.event.CallId.{CallId}
+use Rattle.rambo_history.specs.declared.event.Event.{Event}
+use Rattle.rambo_history.specs.declared.event.Event.TheVariants as event
+use Rattle.rambo_history.specs.Calls.{same_call}
+use Rattle.rambo_history.specs.Histories.{answered_at, is_answer}
+use Rattle.rambo_history.proofs.LookUps.{position-cons}
+use Rattle.rambo_history.proofs.Pushes.{same_call-path}
 use Rattle.rambo_sequence.specs.Sequences.{SequenceOf}
 use Rattle.rambo_sequence.specs.StoreOrders.{IsLeft, IsFirstAnswered, GoesNext, IsOrder, NoTwice, OneOrder, all_calls}
 use Rattle.rambo_sequence.proofs.Members.{Member, some_inj, none-some, member_stands, stands_member, member_left}

@@ -1,8 +1,8 @@
 -- Where the calls of all sequences stand
 use Rattle.std.specs.Borrow.{Bor}
 use Rattle.std.specs.Prelude.{ℕ, ◌+◌, List, [], ◌∷◌, ◌++◌, length, map, Option, Some, if◌then◌else◌}
-use Rattle.rambo_atomic.specs.declared.event.CallId.{CallId}
-use Rattle.rambo_atomic.specs.Calls.{same_call}
+use Rattle.rambo_history.specs.declared.event.CallId.{CallId}
+use Rattle.rambo_history.specs.Calls.{same_call}
 use Rattle.rambo_sequence.specs.declared.store_order.Place.{Place}
 use Rattle.rambo_sequence.specs.Sequences.{SequenceOf}
 

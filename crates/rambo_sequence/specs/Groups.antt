@@ -5,7 +5,7 @@ use Rattle.std.specs.Map.{lookup}
 use Rattle.std.specs.Str.{bytes_eq}
 use Rattle.std.specs.declared.vec.Vec.{Vec}
 use Rattle.std.specs.declared.alloc.Global.{Global}
-use Rattle.rambo_atomic.specs.declared.event.Event.{Event}
+use Rattle.rambo_history.specs.declared.event.Event.{Event}
 use Rattle.rambo_sequence.specs.declared.mark.Mark.{Mark}
 use Rattle.rambo_sequence.specs.declared.ranking.RankedCall.{RankedCall}
 use Rattle.rambo_sequence.specs.RankedCalls.{ranked_calls, sorted_calls}

@@ -2,9 +2,9 @@
 use Rattle.std.specs.Prelude.{◌≡◌, ◌≢◌, ◌≤◌, ◌↔◌, ℕ, true, false, List, map, filter, All, AllPairs, Any, Contains, IsPermutation}
 use Rattle.std.specs.Str.{bytes_eq}
 use Rattle.rambo_tag.specs.Tags.{tag_lt, tag_of, bytes_lt}
-use Rattle.rambo_atomic.specs.declared.event.CallId.{CallId}
-use Rattle.rambo_atomic.specs.declared.event.Event.{Event}
-use Rattle.rambo_atomic.specs.Calls.{key_of, is_get}
+use Rattle.rambo_history.specs.declared.event.CallId.{CallId}
+use Rattle.rambo_history.specs.declared.event.Event.{Event}
+use Rattle.rambo_history.specs.Calls.{key_of, is_get}
 use Rattle.rambo_sequence.specs.declared.mark.Mark.{Mark}
 use Rattle.rambo_sequence.specs.Sequences.{SequenceOf, call_place, sequence_of, sequences_of}
 

@@ -1,13 +1,13 @@
 -- One order of the calls of all keys
 use Rattle.std.specs.Str.{bytes_eq}
 use Rattle.std.specs.Prelude.{◌≡◌, ◌⊎◌, ℕ, ◌≤◌, List, [], ◌∷◌, ◌++◌, Bool, true, false, if◌then◌else◌, None, Some}
-use Rattle.rambo_atomic.specs.declared.event.CallId.{CallId}
-use Rattle.rambo_atomic.specs.declared.event.Event.{Event}
-use Rattle.rambo_atomic.specs.declared.event.Event.TheVariants as event
-use Rattle.rambo_atomic.specs.Calls.{same_call}
-use Rattle.rambo_atomic.specs.Histories.{answered_at}
-use Rattle.rambo_atomic.specs.Proper.{Stands, IsProper, IsProperForAll}
-use Rattle.rambo_atomic.specs.Forms.{IsWellFormed}
+use Rattle.rambo_history.specs.declared.event.CallId.{CallId}
+use Rattle.rambo_history.specs.declared.event.Event.{Event}
+use Rattle.rambo_history.specs.declared.event.Event.TheVariants as event
+use Rattle.rambo_history.specs.Calls.{same_call}
+use Rattle.rambo_history.specs.Histories.{answered_at}
+use Rattle.rambo_history.specs.Proper.{Stands, IsProper, IsProperForAll}
+use Rattle.rambo_history.specs.Forms.{IsWellFormed}
 use Rattle.rambo_sequence.specs.Sequences.{SequenceOf, sequence_in}
 
 -- a call is left in what remains of the sequences

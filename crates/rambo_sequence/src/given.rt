@@ -10,7 +10,7 @@ use crate::mark::Mark;
 use crate::ranking::RankedCall;
 use crate::sorting::in_order;
 use indexmap::IndexMap;
-use rambo_atomic::{CallId, History};
+use rambo_history::{CallId, History};
 use rambo_names::{Bytes, Refusal};
 use std::alloc::{AllocError, Global};
 

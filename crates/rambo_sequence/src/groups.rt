@@ -6,7 +6,7 @@ ghost use Rattle.std.specs.Str.{bytes_eq};
 use crate::mark::Mark;
 use crate::ranking::RankedCall;
 use indexmap::IndexMap;
-use rambo_atomic::History;
+use rambo_history::History;
 use rambo_names::{Bytes, Refusal};
 use std::alloc::Global;
 

@@ -1,6 +1,6 @@
 //! Sequences of keys.
 
-use rambo_atomic::CallId;
+use rambo_history::CallId;
 use rambo_names::Bytes;
 use std::marker::Model;
 

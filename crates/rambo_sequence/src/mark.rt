@@ -1,6 +1,6 @@
 //! What stands in the sequences of a run.
 
-use rambo_atomic::{CallId, Op};
+use rambo_history::{CallId, Op};
 use rambo_tag::Version;
 
 /// A set that took a tag, or a get that was answered, with the copy that it sent round.

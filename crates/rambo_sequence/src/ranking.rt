@@ -4,7 +4,7 @@ ghost use Rattle.rambo_sequence.specs.Sequences.{call_place, rank};
 ghost use Rattle.rambo_sequence.specs.RankedCalls.{sort_key_of, ranked};
 
 use crate::mark::Mark;
-use rambo_atomic::{CallId, History};
+use rambo_history::{CallId, History};
 
 /// A mark's tag and its rank under that tag.
 #[derive(Clone, Copy, PartialEq, Eq, PartialOrd, Ord)]

@@ -3,7 +3,7 @@ ghost use Rattle.std.specs.Prelude.{◌≡◌, IfOk, IfErr, OnOk, map};
 ghost use Rattle.rambo_sequence.specs.RankedCalls.{sorted_calls};
 
 use crate::ranking::RankedCall;
-use rambo_atomic::CallId;
+use rambo_history::CallId;
 use rambo_names::Refusal;
 use std::alloc::{AllocError, Global};
 

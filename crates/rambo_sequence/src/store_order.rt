@@ -1,13 +1,13 @@
 //! One order of the calls of all keys.
 ghost use Rattle.std.specs.Prelude.{◌≡◌, ◌++◌, ◌-◌, ◌<◌, [], None, IfOk, IfErr, OnOk, map, length, take, drop, get_or, slice_set};
 ghost use Rattle.std.specs.Map.{lookup};
-ghost use Rattle.rambo_atomic.specs.Calls.{same_call};
-ghost use Rattle.rambo_atomic.specs.declared.event.CallId.{CallId};
+ghost use Rattle.rambo_history.specs.Calls.{same_call};
+ghost use Rattle.rambo_history.specs.declared.event.CallId.{CallId};
 ghost use Rattle.rambo_sequence.specs.CallPlaces.{noted, all_noted, lists, joined};
 ghost use Rattle.rambo_sequence.specs.StoreOrders.{NoTwice, all_calls, order_of};
 
 use crate::key_sequence::KeySequence;
-use rambo_atomic::{CallId, Event, History};
+use rambo_history::{CallId, Event, History};
 use rambo_names::Refusal;
 use std::alloc::Global;
 use std::collections::HashMap;

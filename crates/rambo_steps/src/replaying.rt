@@ -1,7 +1,7 @@
 //! Scripts over a run of any kind.
 ghost use Rattle.std.specs.Prelude.{◌≡◌, ◌≢◌, ◌⊎◌, ◌++◌, Ok, IsOk, OnOk, IfOk, IfErr};
 ghost use Rattle.std.specs.Option.{option_copied};
-ghost use Rattle.rambo_atomic.specs.Histories.{call_in};
+ghost use Rattle.rambo_history.specs.Histories.{call_in};
 ghost use Rattle.rambo_run.specs.declared.step.Step.TheVariants as step;
 ghost use Rattle.rambo_check.specs.Lines.{items_text};
 ghost use Rattle.rambo_outcome.specs.Outcomes.{call_items, order_items_in};
@@ -9,7 +9,7 @@ ghost use Rattle.rambo_sequence.specs.StoreOrders.{NoTwice, all_calls, order_of}
 ghost use Rattle.rambo_lines.specs.Faults.{IsLineFault, TellNoStep, TellsBytes};
 ghost use Rattle.rambo_steps.specs.Runs.{TellsFounders, IsFounded, Takes, TakesStep, TakesTold, IsPartsFault, IsReplayBehind, GivesUpBehind, ended, IsFaultAt};
 
-use rambo_atomic::{CallId, History, Op};
+use rambo_history::{CallId, History, Op};
 use rambo_lines::{
     Place, StepKind, at_line, get_asked, read_call, read_founders, read_kind, read_letter,
     read_names, read_parts, set_asked,

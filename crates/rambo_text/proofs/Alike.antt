@@ -4,7 +4,7 @@ use Rattle.std.specs.List.{AllByRecursion}
 use Rattle.std.proofs.lemmas.Fmt.{decimal_injective}
 use Rattle.std.proofs.lemmas.Bool.Decides.{nat_tests}
 use Rattle.std.proofs.lemmas.List.Elements.{recursion_from_All}
-use Rattle.rambo_atomic.specs.declared.event.CallId.{CallId}
+use Rattle.rambo_history.specs.declared.event.CallId.{CallId}
 use Rattle.rambo_text.specs.Signs.{digit_of, pairs_text, hex_text, call_text, IsCall, AreBytes}
 use Rattle.rambo_text.proofs.Dots.{call_parts}
 use Rattle.rambo_text.proofs.Lacking.{lacks-decimal}

@@ -1,6 +1,6 @@
 -- The parts of the sign of a call
 use Rattle.std.proofs.Common.{◌≡◌, ℕ, ◌<◌, List, ◌∷◌, ◌++◌, decimal, sym, ◌∙◌, arith, lit<}
-use Rattle.rambo_atomic.specs.declared.event.CallId.{CallId}
+use Rattle.rambo_history.specs.declared.event.CallId.{CallId}
 use Rattle.rambo_text.specs.Signs.{call_text, IsCall}
 use Rattle.rambo_text.specs.Words.{Lacks}
 use Rattle.rambo_text.proofs.Lacking.{lacks-decimal}

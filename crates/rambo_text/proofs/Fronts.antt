@@ -5,7 +5,7 @@ use Rattle.rambo_names.specs.Names.{IsName}
 use Rattle.rambo_names.specs.Signs.{BeginsWith}
 use Rattle.rambo_names.proofs.Leading.{same_end}
 use Rattle.rambo_names.proofs.Numerals.{digits}
-use Rattle.rambo_atomic.specs.declared.event.CallId.{CallId}
+use Rattle.rambo_history.specs.declared.event.CallId.{CallId}
 use Rattle.rambo_text.specs.Signs.{call_text, IsCall}
 
 -- the number at the front of a line is known by the line

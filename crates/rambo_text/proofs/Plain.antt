@@ -7,7 +7,7 @@ use Rattle.rambo_names.specs.Names.{NameSet}
 use Rattle.rambo_names.specs.Signs.{set_text, joined, behind_commas, member_text, weight_text, conf_text}
 use Rattle.rambo_names.specs.Weights.{Weights, weight_of, evenly}
 use Rattle.rambo_names.proofs.ConfTexts.{parts, conf_parts, even_text, weight_most}
-use Rattle.rambo_atomic.specs.declared.event.CallId.{CallId}
+use Rattle.rambo_history.specs.declared.event.CallId.{CallId}
 use Rattle.rambo_text.specs.Signs.{digit_of, pairs_text, hex_text, call_text, IsCall}
 use Rattle.rambo_text.specs.Words.{Lacks, words_text, more_words}
 use Rattle.rambo_text.proofs.Lacking.{lacks-append, lacks-decimal}

@@ -3,7 +3,7 @@ use Rattle.std.specs.Prelude.{◌≡◌, ◌⊎◌, ℕ, ◌<◌, ◌^◌, List,
 use Rattle.rambo_names.specs.Names.{IsName, NameSet}
 use Rattle.rambo_names.specs.Signs.{set_text, conf_text}
 use Rattle.rambo_names.specs.Weights.{Weights}
-use Rattle.rambo_atomic.specs.declared.event.CallId.{CallId}
+use Rattle.rambo_history.specs.declared.event.CallId.{CallId}
 use Rattle.rambo_text.specs.declared.fault.Fault.{Fault}
 use Rattle.rambo_text.specs.declared.fault.Fault.TheVariants.{BadNumber, BadHex}
 use Rattle.rambo_text.specs.Signs.{call_text, hex_text, standing_text, IsCall, AreBytes}

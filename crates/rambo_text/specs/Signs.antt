@@ -3,7 +3,7 @@ use Rattle.std.specs.Prelude.{◌≡◌, ℕ, ◌+◌, ◌<◌, ◌≤◌, ◌^�
 use Rattle.rambo_names.specs.Names.{IsName}
 use Rattle.rambo_names.specs.Signs.{conf_text}
 use Rattle.rambo_names.specs.Weights.{Weights}
-use Rattle.rambo_atomic.specs.declared.event.CallId.{CallId}
+use Rattle.rambo_history.specs.declared.event.CallId.{CallId}
 
 -- the digit of a number below 16
 abbrev pub digit_of : ℕ → ℕ

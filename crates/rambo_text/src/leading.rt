@@ -2,10 +2,10 @@
 ghost use Rattle.std.specs.Prelude.{◌≡◌, ◌≢◌, ◌∷◌, ℕ, List, decimal, IfSome, IfNone};
 ghost use Rattle.rambo_names.specs.Names.{IsName};
 ghost use Rattle.rambo_names.specs.Signs.{BeginsWith};
-ghost use Rattle.rambo_atomic.specs.declared.event.CallId.{CallId};
+ghost use Rattle.rambo_history.specs.declared.event.CallId.{CallId};
 ghost use Rattle.rambo_text.specs.Signs.{call_text, IsCall};
 
-use rambo_atomic::CallId;
+use rambo_history::CallId;
 use rambo_names::{Name, leading_num};
 
 /// The name that a line begins with, and what stands behind its last digit.

@@ -2,13 +2,13 @@
 ghost use Rattle.std.specs.Prelude.{◌≡◌, ◌≢◌, ◌⊎◌, ℕ, List, ◌∷◌, ◌++◌, length, ◌<◌, ◌≤◌, ◌/◌, ◌%◌, decimal, Option, IfSome, IfNone, IfOk, IfErr};
 ghost use Rattle.rambo_names.specs.Names.{IsName};
 ghost use Rattle.rambo_names.specs.Weights.{Weights};
-ghost use Rattle.rambo_atomic.specs.declared.event.CallId.{CallId};
+ghost use Rattle.rambo_history.specs.declared.event.CallId.{CallId};
 ghost use Rattle.rambo_text.specs.Signs.{digit_of, pairs_text, hex_text, call_text, standing_text, IsCall, AreBytes};
 
 use crate::fault::Fault;
 use crate::leading::{leading_call, leading_name};
 use crate::numbers::number_of;
-use rambo_atomic::CallId;
+use rambo_history::CallId;
 use rambo_names::{Bytes, Name, Weighted, read_conf};
 use std::alloc::Global;
 

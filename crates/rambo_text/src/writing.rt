@@ -3,7 +3,7 @@ ghost use Rattle.std.specs.Prelude.{◌≡◌, ◌++◌, decimal, OnOk, OnErr, I
 ghost use Rattle.rambo_text.specs.Signs.{hex_text, call_text, standing_text};
 
 use crate::digits::{MOST_DIGITS, push_num, push_pairs};
-use rambo_atomic::CallId;
+use rambo_history::CallId;
 use rambo_names::{Name, Refusal, Weighted, write_conf};
 use std::alloc::AllocError;
 

@@ -1,8 +1,8 @@
 -- What a call asks, as a node tells it: a set of this key, or no set
 use Rattle.std.proofs.Common.{◌≡◌, Bool, true, false, List, ℕ, [], Option, None, Some, ap, subst, ◌∙◌}
 use Rattle.std.proofs.lemmas.Bool.{false≢true}
-use Rattle.rambo_atomic.specs.declared.operation.Op.{Op}
-use Rattle.rambo_atomic.specs.declared.operation.Op.TheVariants as op
+use Rattle.rambo_history.specs.declared.operation.Op.{Op}
+use Rattle.rambo_history.specs.declared.operation.Op.TheVariants as op
 
 is_set : Option Op → Bool
 is_set (Some (op.Set key value)) = true

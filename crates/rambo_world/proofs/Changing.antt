@@ -1,6 +1,6 @@
 -- What a change of a node does to the world
 use Rattle.std.proofs.Common.{◌≡◌, ℕ, ◌-◌, false, List, Option, None, Some, slice_set, refl, sym, ap, ◌∙◌}
-use Rattle.rambo_atomic.specs.declared.event.Event.{Event}
+use Rattle.rambo_history.specs.declared.event.Event.{Event}
 use Rattle.rambo_node.specs.declared.change.Change.{Change}
 use Rattle.rambo_node.specs.declared.effect.Effect.{Effect}
 use Rattle.rambo_node.specs.Changes.{made_by}

@@ -10,7 +10,7 @@ use Rattle.rambo_names.specs.Quorums.{QuorumSystem}
 use Rattle.rambo_tag.specs.declared.keyed_version.KeyedVersion.{KeyedVersion}
 use Rattle.rambo_tag.specs.Copies.{Copies, joined}
 use Rattle.rambo_tag.specs.Logs.{greatest_of}
-use Rattle.rambo_atomic.specs.declared.event.Event.{Event}
+use Rattle.rambo_history.specs.declared.event.Event.{Event}
 use Rattle.rambo_gossip.specs.declared.letter.Letter.{Letter}
 use Rattle.rambo_gossip.specs.Letters.{letter_with}
 use Rattle.rambo_node.specs.declared.change.Change.TheVariants as change

@@ -14,9 +14,9 @@ use Rattle.rambo_tag.specs.Logs.{greatest_after, greatest_of}
 use Rattle.rambo_tag.proofs.CopyOrder.{is_newer-from_lt}
 use Rattle.rambo_tag.proofs.Joins.{joined-empty}
 use Rattle.rambo_tag.proofs.Logged.{greatest_after-append, greatest_of-append, joined-greatest_of}
-use Rattle.rambo_atomic.specs.declared.event.CallId.{CallId}
-use Rattle.rambo_atomic.specs.declared.operation.Op.{Op}
-use Rattle.rambo_atomic.specs.declared.operation.Op.TheVariants as op
+use Rattle.rambo_history.specs.declared.event.CallId.{CallId}
+use Rattle.rambo_history.specs.declared.operation.Op.{Op}
+use Rattle.rambo_history.specs.declared.operation.Op.TheVariants as op
 use Rattle.rambo_gossip.specs.declared.letter.Letter.{Letter}
 use Rattle.rambo_gossip.specs.declared.letter.Kind.{Kind}
 use Rattle.rambo_gossip.specs.declared.letter.Kind.TheVariants as kind

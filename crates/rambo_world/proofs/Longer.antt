@@ -3,9 +3,9 @@ use Rattle.std.proofs.Common.{◌≡◌, ◌+◌, ◌<◌, take, get_or, ℕ, Li
 use Rattle.std.proofs.lemmas.List.{take_more}
 use Rattle.rambo_names.specs.declared.refusal.Refusal.{Refusal}
 use Rattle.rambo_names.specs.Quorums.{QuorumSystem, IsSound}
-use Rattle.rambo_atomic.specs.Proper.{IsProper, IsProperForAll}
-use Rattle.rambo_atomic.specs.declared.event.CallId.{CallId}
-use Rattle.rambo_atomic.specs.declared.event.Event.{Event}
+use Rattle.rambo_history.specs.Proper.{IsProper, IsProperForAll}
+use Rattle.rambo_history.specs.declared.event.CallId.{CallId}
+use Rattle.rambo_history.specs.declared.event.Event.{Event}
 use Rattle.rambo_sequence.specs.Sequences.{sequence_in}
 use Rattle.rambo_sequence.specs.StoreOrders.{IsOrder, order_of}
 use Rattle.rambo_sequence.proofs.Outcomes.{sequence_in-sequences_of}

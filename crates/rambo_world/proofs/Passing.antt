@@ -8,7 +8,7 @@ use Rattle.rambo_names.specs.declared.refusal.Refusal.TheVariants.{NotActive, St
 use Rattle.rambo_names.specs.Names.{IsName}
 use Rattle.rambo_names.specs.Quorums.{QuorumSystem}
 use Rattle.rambo_names.specs.Refusals.{least}
-use Rattle.rambo_atomic.specs.declared.event.Event.{Event}
+use Rattle.rambo_history.specs.declared.event.Event.{Event}
 use Rattle.rambo_joiner.specs.Statuses.{is_idle, is_stopped}
 use Rattle.rambo_tag.specs.Copies.{Copies, joined}
 use Rattle.rambo_tag.specs.Logs.{greatest_of}

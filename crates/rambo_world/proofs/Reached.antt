@@ -2,7 +2,7 @@
 use Rattle.std.proofs.Common.{◌≡◌, ℕ, List, [], ◌∷◌, ◌++◌, Result, Ok, Err, IfOk, OnOk, OnErr, refl, sym, ap, ◌∙◌, subst}
 use Rattle.rambo_names.specs.declared.refusal.Refusal.{Refusal}
 use Rattle.rambo_names.specs.Quorums.{QuorumSystem, IsSound}
-use Rattle.rambo_atomic.specs.Proper.{IsProper, IsProperForAll}
+use Rattle.rambo_history.specs.Proper.{IsProper, IsProperForAll}
 use Rattle.rambo_sequence.specs.Sequences.{SequenceOf, sequence_in, sequence_of, sequences_of}
 use Rattle.rambo_sequence.specs.StoreOrders.{IsOrder}
 use Rattle.rambo_sequence.proofs.Outcomes.{sequence_in-sequences_of}

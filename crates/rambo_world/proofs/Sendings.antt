@@ -11,7 +11,7 @@ use Rattle.rambo_gossip.specs.declared.letter.Gossip.{Gossip}
 use Rattle.rambo_gossip.specs.declared.letter.Kind.{Kind}
 use Rattle.rambo_gossip.specs.declared.letter.Kind.TheVariants as kind
 use Rattle.rambo_gossip.specs.Letters.{kind_with}
-use Rattle.rambo_atomic.specs.declared.event.Event.{Event}
+use Rattle.rambo_history.specs.declared.event.Event.{Event}
 use Rattle.rambo_node.specs.Letters.{letter_for, gossip_for}
 use Rattle.rambo_node.specs.declared.change.Change.TheVariants as change
 use Rattle.rambo_node.specs.Changes.{made_by}

@@ -10,7 +10,7 @@ use Rattle.rambo_tag.specs.Copies.{joined}
 use Rattle.rambo_tag.specs.Logs.{greatest_of}
 use Rattle.rambo_tag.proofs.Logged.{greatest_of-nil}
 use Rattle.rambo_tag.proofs.Joins.{joined-empty}
-use Rattle.rambo_atomic.specs.declared.event.Event.{Event}
+use Rattle.rambo_history.specs.declared.event.Event.{Event}
 use Rattle.rambo_joiner.specs.Statuses.{is_idle}
 use Rattle.rambo_node.specs.Nodes.{NodeState, first_node}
 use Rattle.rambo_sequence.specs.declared.mark.Mark.{Mark}

@@ -11,7 +11,7 @@ ghost use Rattle.rambo_world.specs.Direct.{passed, pass_refusal, told_refusal, I
 
 use crate::running::answer_got;
 use crate::state::State;
-use rambo_atomic::{Answer, CallId, History, Op};
+use rambo_history::{Answer, CallId, History, Op};
 use rambo_names::{Name, Quorums, Refusal};
 use rambo_run::may_found;
 use rambo_tag::Replica;

@@ -2,14 +2,14 @@
 ghost use Rattle.std.specs.Prelude.{◌≡◌, ◌<◌, ◌++◌, ◌∷◌, [], false, true, None, Some, OnErr, IfOk, IfErr};
 ghost use Rattle.std.specs.Vec.{vec_capacity, vec_len};
 ghost use Rattle.rambo_names.specs.Refusals.{least};
-ghost use Rattle.rambo_atomic.specs.Faults.{fault_of};
+ghost use Rattle.rambo_history.specs.Faults.{fault_of};
 ghost use Rattle.rambo_run.specs.Steps.{causes_at, sends, turn_at, with_event, with_mark};
 ghost use Rattle.rambo_run.specs.Worlds.{node_at};
 ghost use Rattle.rambo_world.specs.Logging.{keeps_copies};
 ghost use Rattle.rambo_world.specs.Worlds.{EventFits};
 
 use crate::state::State;
-use rambo_atomic::{CallId, Event, History, Op};
+use rambo_history::{CallId, Event, History, Op};
 use rambo_names::{Name, Quorums, Refusal};
 use rambo_node::{Change, Deed, Effect};
 use rambo_sequence::Mark;

@@ -5,7 +5,7 @@ ghost use Rattle.rambo_names.specs.Refusals.{least};
 ghost use Rattle.rambo_tag.specs.declared.keyed_version.KeyedVersion.{KeyedVersion};
 ghost use Rattle.rambo_tag.specs.Copies.{joined};
 ghost use Rattle.rambo_tag.specs.Logs.{greatest_of};
-ghost use Rattle.rambo_atomic.specs.declared.operation.Op.TheVariants as asked;
+ghost use Rattle.rambo_history.specs.declared.operation.Op.TheVariants as asked;
 ghost use Rattle.rambo_calls.specs.Calls.{query_in};
 ghost use Rattle.rambo_gossip.specs.Letters.{letter_with};
 ghost use Rattle.rambo_logs.specs.NodeLogs.{part, extended};
@@ -18,9 +18,9 @@ ghost use Rattle.rambo_world.specs.Kept.{KeptNode, states_of, state_at, kept_at,
 ghost use Rattle.rambo_world.specs.Logging.{listed, keeps_copies};
 ghost use Rattle.rambo_world.specs.Direct.{outlined_for, brought_from};
 
-use rambo_atomic::{CallId, Op};
 use rambo_config_map::Places;
 use rambo_gossip::LetterOutline;
+use rambo_history::{CallId, Op};
 use rambo_letters::Outline;
 use rambo_logs::Logs;
 use rambo_names::{Name, Quorums, Refusal};

@@ -1,7 +1,7 @@
 //! Runs that go on.
 ghost use Rattle.std.specs.Prelude.{◌≡◌, List, ℕ, None, IfOk, IfErr, OnOk};
 ghost use Rattle.rambo_names.specs.Refusals.{least, IsRefusal};
-ghost use Rattle.rambo_atomic.specs.Proper.{IsProper, IsProperForAll};
+ghost use Rattle.rambo_history.specs.Proper.{IsProper, IsProperForAll};
 ghost use Rattle.rambo_sequence.specs.Sequences.{sequence_in};
 ghost use Rattle.rambo_sequence.specs.StoreOrders.{IsOrder};
 ghost use Rattle.rambo_run.specs.Runs.{results_from, run_from, outcome_at};
@@ -12,7 +12,7 @@ ghost use Rattle.rambo_run.specs.Worlds.{founding_causes};
 
 use crate::runs::outcome;
 use crate::state::State;
-use rambo_atomic::{Answer, CallId, History, Op};
+use rambo_history::{Answer, CallId, History, Op};
 use rambo_names::{Name, Quorums, Refusal};
 use rambo_node::Effect;
 use rambo_run::{NodeMap, Outcome, Run, Step, may_found};

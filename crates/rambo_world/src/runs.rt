@@ -1,7 +1,7 @@
 //! Whole runs.
 ghost use Rattle.std.specs.Prelude.{◌≡◌, List, ℕ, None, IfOk, IfErr, OnOk};
 ghost use Rattle.rambo_names.specs.Refusals.{least, IsRefusal};
-ghost use Rattle.rambo_atomic.specs.Proper.{IsProper, IsProperForAll};
+ghost use Rattle.rambo_history.specs.Proper.{IsProper, IsProperForAll};
 ghost use Rattle.rambo_sequence.specs.Sequences.{sequence_in};
 ghost use Rattle.rambo_sequence.specs.StoreOrders.{IsOrder, NoTwice, all_calls};
 ghost use Rattle.rambo_run.specs.Claims.{Agrees};

@@ -9,8 +9,8 @@ ghost use Rattle.rambo_sequence.specs.StoreOrders.{NoTwice, all_calls, order_of}
 ghost use Rattle.rambo_run.specs.Legal.{EventsFit};
 
 use crate::nodes::Nodes;
-use rambo_atomic::{CallId, History};
 use rambo_config_map::ConfigMap;
+use rambo_history::{CallId, History};
 use rambo_letters::Letters;
 use rambo_logs::MergedCounts;
 use rambo_names::{Name, Quorums, Refusal};

@@ -1,7 +1,7 @@
 //! Worlds.
 ghost use Rattle.std.specs.Prelude.{◌≡◌, ◌++◌, ◌∷◌, [], List, ℕ, Some, None, IfOk, IfErr, OnOk, OnErr};
 ghost use Rattle.rambo_names.specs.Refusals.{least, IsRefusal};
-ghost use Rattle.rambo_atomic.specs.Proper.{IsProper};
+ghost use Rattle.rambo_history.specs.Proper.{IsProper};
 ghost use Rattle.rambo_node.specs.Nodes.{NodeState};
 ghost use Rattle.rambo_run.specs.Claims.{Agrees};
 ghost use Rattle.rambo_run.specs.Steps.{refusal, turn};
@@ -11,8 +11,8 @@ ghost use Rattle.rambo_world.specs.Worlds.{WorldOf, state};
 ghost use Rattle.rambo_run.specs.Legal.{IsLegal};
 
 use crate::state::State;
-use rambo_atomic::{CallId, History};
 use rambo_config_map::ConfigMap;
+use rambo_history::{CallId, History};
 use rambo_names::{Name, Quorums, Refusal};
 use rambo_node::Effect;
 use rambo_run::{Step, may_found};

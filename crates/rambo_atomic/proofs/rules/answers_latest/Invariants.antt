@@ -1,5 +1,5 @@
 use Rattle.std.proofs.Common.{◌≡◌, ◌-◌, length, take, drop}
-use Rattle.rambo_atomic.specs.Proper.{held_after}
+use Rattle.rambo_history.specs.Proper.{held_after}
 use Rattle.rambo_atomic.specs.Tests.{all_told, none_held}
 use Rattle.rambo_atomic.proofs.rules.answers_latest.Given as goal
 

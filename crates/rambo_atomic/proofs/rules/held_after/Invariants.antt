@@ -1,7 +1,7 @@
 use Rattle.std.proofs.Common.{◌≡◌, length, fold}
 use Rattle.std.specs.Option.{option_copied}
-use Rattle.rambo_atomic.specs.Histories.{call_in}
-use Rattle.rambo_atomic.specs.Proper.{after_op, held_after}
+use Rattle.rambo_history.specs.Histories.{call_in}
+use Rattle.rambo_history.specs.Proper.{after_op, held_after}
 use Rattle.rambo_atomic.proofs.rules.held_after.Given as goal
 
 abbrev pub invariant-loop-id : goal.invariant-loop-id

@@ -1,6 +1,6 @@
 use Rattle.std.proofs.Common.{ap, ◌∙◌}
 use Rattle.rambo_atomic.specs.Tests.{keeps_real_time}
-use Rattle.rambo_atomic.proofs.Pushes.{uncalled, uncalled-unanswered}
+use Rattle.rambo_history.proofs.Pushes.{uncalled, uncalled-unanswered}
 use Rattle.rambo_atomic.proofs.RealTime.{unknown-call}
 use Rattle.rambo_atomic.proofs.rules.keeps_real_time.Goals as goal
 

@@ -1,5 +1,5 @@
 use Rattle.std.proofs.Common.{◌∙◌, ◌<◌, ◌≤◌, ◌++◌, ◌∷◌, [], length, sym, ap, arith}
-use Rattle.rambo_atomic.specs.Faults.{fault_of}
+use Rattle.rambo_history.specs.Faults.{fault_of}
 use Rattle.rambo_run.specs.Worlds.{node_at}
 use Rattle.rambo_run.specs.Steps.{refusal, turn, with_letter, with_event, with_mark}
 use Rattle.rambo_names.proofs.Sizes.{up_fits, back_fits}

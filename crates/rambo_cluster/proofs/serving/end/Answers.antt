@@ -1,6 +1,6 @@
 use Rattle.std.proofs.Common.{◌≡◌}
 use Rattle.rambo_names.specs.Weights.{weighted_majorities}
-use Rattle.rambo_atomic.specs.Proper.{IsProperForAll}
+use Rattle.rambo_history.specs.Proper.{IsProperForAll}
 use Rattle.rambo_run.specs.Runs.{run, given_order}
 use Rattle.rambo_post.proofs.Closings.{order_of}
 use Rattle.rambo_cluster.proofs.serving.end.Goals as goal

@@ -1,5 +1,5 @@
 use Rattle.std.proofs.Common.{◌<◌, length, sym, ap, ◌∙◌, subst}
-use Rattle.rambo_atomic.specs.Histories.{answer_in}
+use Rattle.rambo_history.specs.Histories.{answer_in}
 use mathlib.Core.List.{IsPrefix}
 use Rattle.rambo_book.specs.Kept.{state}
 use Rattle.rambo_pass.specs.Passes.{PassView, noted, entry_at}

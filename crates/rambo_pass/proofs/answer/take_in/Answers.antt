@@ -1,5 +1,5 @@
 use Rattle.std.proofs.Common.{◌≡◌, ◌<◌, length, Some, refl, sym, ap, ◌∙◌, subst, inl, inr}
-use Rattle.rambo_atomic.specs.Histories.{answer_in}
+use Rattle.rambo_history.specs.Histories.{answer_in}
 use Rattle.rambo_run.specs.Worlds.{node_at}
 use Rattle.rambo_book.specs.Kept.{state}
 use Rattle.rambo_pass.specs.Passes.{PassView, IsNone, entry_at, noted}

@@ -3,7 +3,7 @@ use Rattle.std.proofs.Common.{◌≡◌, List, [], ◌∷◌, ◌++◌, length, 
 use Rattle.std.proofs.lemmas.List.{append-nil}
 use Rattle.std.proofs.lemmas.List.Elements.{All-push}
 use mathlib.Core.List.{IsPrefix}
-use Rattle.rambo_atomic.specs.Proper.{IsProperForAll}
+use Rattle.rambo_history.specs.Proper.{IsProperForAll}
 use Rattle.rambo_run.specs.Runs.{given_order}
 use Rattle.rambo_book.specs.Kept.{BookView, state}
 use Rattle.rambo_run.specs.Legal.{IsLegal}

@@ -1,5 +1,5 @@
 use Rattle.std.proofs.Common.{◌≡◌, ◌∷◌, ◌++◌, ◌∙◌, sym, ap, subst}
-use Rattle.rambo_atomic.specs.declared.event.Event.TheVariants as event
+use Rattle.rambo_history.specs.declared.event.Event.TheVariants as event
 use Rattle.rambo_sequence.specs.CallPlaces.{lists, joined}
 use Rattle.rambo_sequence.proofs.NotedCalls.{SoFar, so_far_first, so_far_call, so_far_unknown, so_far_given, so_far_last, place_there}
 use Rattle.rambo_sequence.proofs.store_order.one_order.Goals as goal

@@ -1,6 +1,6 @@
 use Rattle.std.proofs.Common.{length}
 use Rattle.std.specs.Map.{lookup}
-use Rattle.rambo_atomic.specs.Calls.{same_call}
+use Rattle.rambo_history.specs.Calls.{same_call}
 use Rattle.rambo_sequence.specs.CallPlaces.{lists}
 use Rattle.rambo_sequence.proofs.NotedCalls.{SoFar}
 use Rattle.rambo_sequence.proofs.store_order.one_order.Given as goal

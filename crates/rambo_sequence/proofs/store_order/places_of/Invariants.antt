@@ -1,7 +1,7 @@
 use Rattle.std.proofs.Common.{◌≡◌, ◌+◌, length, None}
 use Rattle.std.specs.Map.{lookup}
-use Rattle.rambo_atomic.specs.declared.event.CallId.{CallId}
-use Rattle.rambo_atomic.specs.Calls.{same_call}
+use Rattle.rambo_history.specs.declared.event.CallId.{CallId}
+use Rattle.rambo_history.specs.Calls.{same_call}
 use Rattle.rambo_sequence.specs.CallPlaces.{all_noted}
 use Rattle.rambo_sequence.proofs.store_order.places_of.Given as goal
 

@@ -1,7 +1,7 @@
 use Rattle.std.proofs.Common.{◌≡◌, sym, ◌∙◌, subst}
 use Rattle.rambo_names.proofs.Sizes.{up_fits, back_fits, variant_fits}
 use Rattle.rambo_run.proofs.Lists.{some_inj}
-use Rattle.rambo_atomic.specs.Proper.{IsProperForAll}
+use Rattle.rambo_history.specs.Proper.{IsProperForAll}
 use Rattle.rambo_run.specs.Legal.{IsLegal}
 use Rattle.rambo_run.specs.Runs.{run, given_order}
 use Rattle.rambo_post.proofs.Closings.{left_order}

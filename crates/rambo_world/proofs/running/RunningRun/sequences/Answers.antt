@@ -1,5 +1,5 @@
 use Rattle.std.proofs.Common.{◌≡◌, ℕ, List, IfOk, subst}
-use Rattle.rambo_atomic.specs.Proper.{IsProper}
+use Rattle.rambo_history.specs.Proper.{IsProper}
 use Rattle.rambo_sequence.specs.Sequences.{sequences_of, sequence_in}
 use Rattle.rambo_run.specs.Ongoing.{RunningOf}
 use Rattle.rambo_names.proofs.Sizes.{up_fits, back_fits}

@@ -1,6 +1,6 @@
 use Rattle.std.proofs.Common.{◌≡◌, ◌∙◌, None, refl, sym, ap, subst, arith}
 use Rattle.rambo_names.specs.Refusals.{least}
-use Rattle.rambo_atomic.specs.Faults.{fault_of}
+use Rattle.rambo_history.specs.Faults.{fault_of}
 use Rattle.rambo_node.specs.declared.change.Change.TheVariants as change
 use Rattle.rambo_run.specs.Steps.{causes_at, turn_at, with_event, with_mark}
 use Rattle.rambo_run.specs.Worlds.{node_at}

@@ -1,8 +1,8 @@
 use Rattle.std.proofs.lemmas.Grind.{common_steps}
 use Rattle.std.proofs.Common.{◌≡◌, ◌∙◌, ◌++◌, ◌∷◌, [], None, Some, refl, sym, ap, subst, arith}
 use Rattle.rambo_names.specs.Refusals.{least}
-use Rattle.rambo_atomic.specs.declared.event.Event.TheVariants as event
-use Rattle.rambo_atomic.specs.Faults.{fault_of}
+use Rattle.rambo_history.specs.declared.event.Event.TheVariants as event
+use Rattle.rambo_history.specs.Faults.{fault_of}
 use Rattle.rambo_node.specs.Changes.{made_by}
 use Rattle.rambo_node.specs.declared.change.Change.TheVariants as change
 use Rattle.rambo_node.specs.declared.effect.Effect.TheVariants as effect

@@ -3,7 +3,7 @@ use Rattle.rambo_sequence.specs.Sequences.{sequence_of}
 use Rattle.rambo_world.specs.Worlds.{state}
 use Rattle.rambo_names.proofs.Sizes.{up_fits, back_fits}
 use Rattle.std.proofs.lemmas.Result.{IfOk-weaker}
-use Rattle.rambo_atomic.specs.Proper.{IsProper}
+use Rattle.rambo_history.specs.Proper.{IsProper}
 use Rattle.rambo_run.proofs.EveryRun.{is_atomic}
 use Rattle.rambo_world.proofs.world.World.sequence.Goals as goal
 

@@ -1,8 +1,0 @@
--- What a contract sees of a history
-use Rattle.std.specs.Prelude.{ℕ, List}
-use Rattle.rambo_atomic.specs.declared.event.Event.{Event}
-
--- the events, and how many more of them can be pushed with no memory taken
-pub record HistoryState : Type 0 where
-  pub events : List Event
-  pub room : ℕ
