@@ -10,6 +10,7 @@ use Rattle.rambo_gossip.specs.declared.letter.Letter.{Letter}
 use Rattle.rambo_node.specs.Changes.{made_by}
 use Rattle.rambo_node.specs.Nodes.{NodeState}
 use Rattle.rambo_run.specs.declared.step.Step.{Step}
+use Rattle.rambo_run.specs.declared.step.Step.TheVariants as step
 use Rattle.rambo_run.specs.Steps.{Meant, refusal, with_letter, with_event, with_mark}
 use Rattle.rambo_run.specs.Runs.{run}
 use Rattle.rambo_roll.specs.Rolls.{Idle}
@@ -20,8 +21,9 @@ use Rattle.rambo_run.specs.Legal.{IsLegal}
 use Rattle.rambo_run.specs.Actors.{actor}
 use Rattle.rambo_run.specs.Steps.{meant_in}
 use Rattle.rambo_deeds.specs.Deeds.{judged, done}
-use Rattle.rambo_book.specs.Kept.{BookView, KeeperView, AreSent, IsKeeper, IsBook, IsServedBy, Told, state}
+use Rattle.rambo_book.specs.Kept.{BookView, KeeperView, AreSent, IsKeeper, IsBook, IsServedBy, Told, lightened, state}
 use Rattle.rambo_run.proofs.GoingOn.{prefix_trans}
+use Rattle.rambo_book.proofs.Standing.{light_sent, light_count}
 use Rattle.rambo_book.proofs.Judging.{Judged, judged_by, begun, Finished, finished, kept_on}
 
 -- the condition of a commit, of what the book and the keeper are made of
@@ -77,16 +79,17 @@ module _ {Q : Type 0} {s : QuorumSystem Q} {agreed : Option Q} {most : ℕ} {rol
 
   module _ {new : NodeState Q} {d : Done Q} (h : Finished s f steps st name letters history marks new d) where
     pub book_after : (rolled' steps' : List (Step Q)) (letters' : List (Letter Q)) (history' : List Event) (marks' : List Mark) → length steps < capacity
-        → rolled' ≡ rolled ++ st ∷ [] → steps' ≡ steps ++ st ∷ [] → letters' ≡ with_letter letters d.letter → history' ≡ with_event history d.event → marks' ≡ with_mark marks d.mark
+        → (came : Option ℕ) → ((n : ℕ) → came ≡ Some n → st ≡ step.Deliver n)
+        → rolled' ≡ rolled ++ st ∷ [] → steps' ≡ steps ++ st ∷ [] → letters' ≡ lightened (with_letter letters d.letter) came → history' ≡ with_event history d.event → marks' ≡ with_mark marks d.mark
         → IsBook s agreed most rolled' f steps' letters' history' marks' capacity
-    book_after rolled' steps' letters' history' marks' less r e l v m =
-        let more : IsBook s agreed most (rolled ++ st ∷ []) f (steps ++ st ∷ []) (with_letter letters d.letter) (with_event history d.event) (with_mark marks d.mark) capacity = record {
+    book_after rolled' steps' letters' history' marks' less came comes r e l v m =
+        let more : IsBook s agreed most (rolled ++ st ∷ []) f (steps ++ st ∷ []) (lightened (with_letter letters d.letter) came) (with_event history d.event) (with_mark marks d.mark) capacity = record {
           founded = b.founded;
           terms = b.terms;
           all = ap (λ l. l ++ st ∷ []) b.all;
           fits = omega (arith, less, length-append steps (st ∷ []));
           legal = h.legal;
-          sent = h.sent;
+          sent = light_sent (run s f (steps ++ st ∷ [])) (with_letter letters d.letter) came h.sent (λ n whole is. h.heard n whole (comes n is));
           told = h.told;
           marked = h.marked;
         } in
@@ -96,3 +99,8 @@ module _ {Q : Type 0} {s : QuorumSystem Q} {agreed : Option Q} {most : ℕ} {rol
     keeper_after held longer same e =
         let p : IsPrefix seen (steps ++ st ∷ []) = prefix_trans seen steps (steps ++ st ∷ []) (begun s agreed most rolled f steps letters history marks capacity holds name node tray seen b k idle) (st ∷ [], refl) in
         subst (IsKeeper s agreed held name new tray) (sym e) (kept_on s agreed f holds held name node new tray seen (steps ++ st ∷ []) b.founded k same p h.node)
+
+-- the letters that are kept are as many as were sent
+pub counted_light : {Q : Type 0} {s : QuorumSystem Q} {f : Q} {steps : List (Step Q)} {st : Step Q} {name : ℕ} {letters : List (Letter Q)} {history : List Event} {marks : List Mark} {new : NodeState Q} {d : Done Q}
+    → Finished s f steps st name letters history marks new d → (came : Option ℕ) → length (lightened (with_letter letters d.letter) came) ≡ length (run s f (steps ++ st ∷ [])).letters
+counted_light {letters = letters} {d = d} h came = light_count (with_letter letters d.letter) came ∙ h.sent.0

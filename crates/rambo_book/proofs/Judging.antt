@@ -7,11 +7,19 @@ use Rattle.rambo_names.specs.Refusals.{least}
 use Rattle.rambo_history.specs.declared.event.Event.{Event}
 use Rattle.rambo_history.specs.Faults.{fault_of}
 use Rattle.rambo_gossip.specs.declared.letter.Letter.{Letter}
+use Rattle.rambo_gossip.specs.declared.letter.Kind.{Kind}
+use Rattle.rambo_gossip.specs.declared.letter.Kind.TheVariants as kind
+use Rattle.rambo_gossip.specs.Short.{copies_in}
+use Rattle.rambo_tag.specs.Copies.{joined}
+use Rattle.rambo_tag.proofs.Joins.{joined-empty, joined-again}
+use Rattle.rambo_node.specs.declared.change.Change.TheVariants as change
 use Rattle.rambo_node.specs.Changes.{Made, made_by}
+use Rattle.rambo_node.specs.Hearing.{heard_kind, heard_join, heard_gossip}
 use Rattle.rambo_node.specs.Nodes.{NodeState}
 use Rattle.rambo_run.specs.declared.step.Step.{Step}
-use Rattle.rambo_run.specs.Worlds.{WorldState, node_at}
-use Rattle.rambo_run.specs.Steps.{Meant, meant, meant_in, causes_at, causes_of, causes, refusal, with_letter, with_event, with_mark, Turn, turn_by, turn_at, turn_of, turn}
+use Rattle.rambo_run.specs.declared.step.Step.TheVariants as step
+use Rattle.rambo_run.specs.Worlds.{WorldState, node_at, copies_of, held_by, letter_at}
+use Rattle.rambo_run.specs.Steps.{Meant, meant, meant_in, delivery, causes_at, causes_of, causes, refusal, with_letter, with_event, with_mark, Turn, turn_by, turn_at, turn_of, turn}
 use Rattle.rambo_run.specs.Runs.{run}
 use Rattle.rambo_run.specs.Legal.{IsLegal}
 use Rattle.rambo_run.specs.Actors.{actor}
@@ -27,7 +35,7 @@ use Rattle.rambo_deeds.specs.declared.mail.Mail.{Mail}
 use Rattle.rambo_deeds.specs.Deeds.{judged, done}
 use Rattle.rambo_book.specs.Kept.{AreSent, IsKeeper, IsBook, IsServedBy}
 use Rattle.rambo_book.proofs.Idle.{idle_node}
-use Rattle.rambo_book.proofs.Standing.{Alike, alike, sent_more, done_counts, mail_longer}
+use Rattle.rambo_book.proofs.Standing.{Alike, alike, sent_more, done_counts, mail_longer, letter-left, IsHeard}
 
 judge_of : {Q : Type 0} (s : QuorumSystem Q) (w : WorldState Q) (x : NodeState Q) (name : ℕ) (o : Option (Meant Q)) → node_at w name ≡ Some x → ((m : Meant Q) → o ≡ Some m → m.name ≡ name)
     → least (causes_of s w o) ≡ judged s x o
@@ -85,6 +93,27 @@ pub record Finished {Q : Type 0} (s : QuorumSystem Q) (f : Q) (steps : List (Ste
   pub effect : d.effect ≡ (turn (run s f steps) st).effect
   pub node : node_at (run s f (steps ++ st ∷ [])) name ≡ Some new
   pub acts : actor steps st ≡ name
+  pub heard : (n : ℕ) (whole : Letter Q) → st ≡ step.Deliver n → letter_at (run s f (steps ++ st ∷ [])).letters n ≡ Some whole → IsHeard (run s f (steps ++ st ∷ [])) whole
+
+-- what is delivered is a letter that was sent
+delivered_letter : {Q : Type 0} (o : Option (Letter Q)) (m : Meant Q) → delivery o ≡ Some m → (l : Letter Q) × (o ≡ Some l) × (record { name = l.addressee; change = change.Deliver l } ≡ m)
+delivered_letter None m e = absurd (true≢false (sym (ap is_some e)))
+delivered_letter (Some l) m e = (l, refl, some_inj _ m e)
+
+-- its addressee then holds its copies
+heard_joined : {Q : Type 0} (x : NodeState Q) (j : ℕ) (k : Kind Q) → (heard_kind x j k).registers ≡ joined x.registers (copies_in k)
+unfolding heard_join heard_gossip
+heard_joined x j kind.Join = sym (joined-empty x.registers)
+heard_joined x j (kind.Gossip g) = refl
+
+made_joined : {Q : Type 0} (x : NodeState Q) (l : Letter Q) → (made_by x (change.Deliver l)).node.registers ≡ joined x.registers (copies_in l.kind)
+unfolding made_by
+made_joined x l = heard_joined x l.sender l.kind
+
+holds_heard : {Q : Type 0} (x new : NodeState Q) (l : Letter Q) → new ≡ (made_by x (change.Deliver l)).node → joined new.registers (copies_in l.kind) ≡ new.registers
+holds_heard x new l is =
+    let e : new.registers ≡ joined x.registers (copies_in l.kind) = ap (λ x. x.registers) is ∙ made_joined x l in
+    ap (λ r. joined r (copies_in l.kind)) e ∙ joined-again x.registers (copies_in l.kind) ∙ sym e
 
 turn_is : {Q : Type 0} (w : WorldState Q) (st : Step Q) (m : Meant Q) (x : NodeState Q) → meant w st ≡ Some m → node_at w m.name ≡ Some x → turn w st ≡ turn_by w m.name (made_by x m.change)
 unfolding turn
@@ -112,6 +141,8 @@ module _ {Q : Type 0} (s : QuorumSystem Q) (f : Q) (steps : List (Step Q)) (st :
       let nodes : (turn w st).world.nodes ≡ slice_set w.nodes (name - 1) made.node = ap (λ (t : Turn _). t.world.nodes) t ∙ ap (λ n. slice_set w.nodes (n - 1) made.node) own in
       let list : (run s f (steps ++ st ∷ [])).letters ≡ with_letter w.letters d.letter =
       ap (λ (w : WorldState _). w.letters) more ∙ ap (λ (t : Turn _). t.world.letters) t ∙ sym (ap (λ (d : Done _). with_letter w.letters d.letter) e) in
+      let there_after : node_at (run s f (steps ++ st ∷ [])) name ≡ Some new =
+      ap (λ w. node_at w name) more ∙ own_put w (turn w st).world name node made.node j.here nodes ∙ ap Some (sym (after kept.0 kept.1 ∙ ap (λ (m : Made _). m.node) makes)) in
       record {
         accepted = accepted;
         legal = legal-more s f steps st legal accepted;
@@ -122,8 +153,16 @@ module _ {Q : Type 0} (s : QuorumSystem Q) (f : Q) (steps : List (Step Q)) (st :
             let grown : (turn w st).world.history ≡ w.history ++ v ∷ [] = ap (λ (t : Turn _). t.world.history) t ∙ ap (with_event w.history) (sym (ap (λ (d : Done _). d.event) e) ∙ is) in
             ap (λ h. fault_of h v) told ∙ events_fit_run s f steps st v accepted grown;
         effect = ap (λ (d : Done _). d.effect) e ∙ sym (ap (λ (t : Turn _). t.effect) t);
-        node = ap (λ w. node_at w name) more ∙ own_put w (turn w st).world name node made.node j.here nodes ∙ ap Some (sym (after kept.0 kept.1 ∙ ap (λ (m : Made _). m.node) makes));
+        node = there_after;
         acts = acts steps w st m (addressees s f steps legal) means ∙ own;
+        heard = λ n whole is there.
+            let it = delivered_letter (letter_at w.letters n) m (ap (meant w) (sym is) ∙ means) in
+            let same : it.0 ≡ whole = some_inj it.0 whole (sym (letter-left s f steps (steps ++ st ∷ []) (st ∷ [], refl) n it.0 it.1) ∙ there) in
+            let to : whole.addressee ≡ name = ap (λ (l : Letter _). l.addressee) (sym same) ∙ ap (λ (m : Meant _). m.name) it.2 ∙ own in
+            let after_it : new ≡ (made_by node (change.Deliver whole)).node =
+            after kept.0 kept.1 ∙ ap (λ (m : Made _). m.node) makes ∙ ap (λ (m : Meant _). (made_by node m.change).node) (sym it.2) ∙ ap (λ l. (made_by node (change.Deliver l)).node) same in
+            let held : held_by (run s f (steps ++ st ∷ [])) whole.addressee ≡ new.registers = ap (held_by (run s f (steps ++ st ∷ []))) to ∙ ap copies_of there_after in
+            subst (λ r. joined r (copies_in whole.kind) ≡ r) (sym held) (holds_heard node new whole after_it);
       }
 
 -- a keeper that has seen more, whose node is that of what it has seen

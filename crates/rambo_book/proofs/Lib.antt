@@ -8,3 +8,4 @@ pub mod Trays
 pub mod Taking
 pub mod Clearing
 pub mod OneOrder
+pub mod Posting

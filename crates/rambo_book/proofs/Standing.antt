@@ -1,6 +1,7 @@
 -- Kept letters stand for those that were sent: they mean the same, and go on to do so
-use Rattle.std.proofs.Common.{◌≡◌, ◌⊎◌, ℕ, zero, suc, ◌+◌, List, [], ◌∷◌, length, get_or, All, Option, None, Some, false, slice_get, refl, sym, ap, ◌∙◌, subst, inl, inr, arith}
-use Rattle.std.proofs.lemmas.List.{length-append}
+use Rattle.std.proofs.Common.{◌≡◌, ◌⊎◌, ℕ, zero, suc, ◌+◌, ◌-◌, List, [], ◌∷◌, length, get_or, All, Option, None, Some, false, slice_get, slice_set, refl, sym, ap, ◌∙◌, subst, inl, inr, arith}
+use Rattle.std.proofs.lemmas.List.{length-append, length-set}
+use Rattle.std.proofs.lemmas.Bool.{cases_eq}
 use mathlib.Core.List.{IsPrefix}
 use Rattle.std.specs.FinMap as map
 use Rattle.rambo_names.specs.Quorums.{QuorumSystem}
@@ -8,8 +9,12 @@ use Rattle.rambo_names.specs.Refusals.{least}
 use Rattle.rambo_tag.specs.Copies.{Copies, joined}
 use Rattle.rambo_tag.proofs.CopyOrder.{is_below, is_newer-is_below, not_below-trans, greater-right}
 use Rattle.rambo_tag.proofs.Joins.{get-joined}
+use Rattle.rambo_tag.proofs.Keys.{key_cmp}
 use Rattle.rambo_gossip.specs.declared.letter.Letter.{Letter}
-use Rattle.rambo_gossip.specs.Short.{IsShort}
+use Rattle.rambo_gossip.specs.declared.letter.Kind.{Kind}
+use Rattle.rambo_gossip.specs.declared.letter.Kind.TheVariants as kind
+use Rattle.rambo_gossip.specs.Letters.{kind_with, letter_with}
+use Rattle.rambo_gossip.specs.Short.{copies_in, IsShort}
 use Rattle.rambo_node.specs.declared.change.Change.TheVariants as change
 use Rattle.rambo_node.specs.declared.effect.Effect.{Effect}
 use Rattle.rambo_node.specs.Changes.{Made, made_by, refusal_of}
@@ -20,12 +25,13 @@ use Rattle.rambo_run.specs.declared.step.Step.TheVariants as step
 use Rattle.rambo_run.specs.Worlds.{WorldState, node_at, copies_of, held_by, letter_at}
 use Rattle.rambo_run.specs.Steps.{Meant, meant, meant_in, delivery, with_letter, effect_in}
 use Rattle.rambo_run.specs.Runs.{run}
-use Rattle.rambo_run.proofs.Lists.{some_inj, get_more}
+use Rattle.rambo_run.proofs.Lists.{none-some, some_inj, get_more}
 use Rattle.rambo_run.proofs.Growing.{copies_are_kept}
 use Rattle.rambo_run.proofs.Legal.{get-left, run-grows}
 use Rattle.rambo_deeds.specs.declared.mail.Mail.{Mail}
 use Rattle.rambo_deeds.specs.Deeds.{judged, done, name_in}
-use Rattle.rambo_book.specs.Kept.{StandsFor, AreSent, IsMailOf, IsServedBy}
+use Rattle.rambo_sequence.proofs.Members.{set_here, set_there}
+use Rattle.rambo_book.specs.Kept.{StandsFor, AreSent, IsMailOf, IsServedBy, lightened_at, lightened}
 
 -- two changes that a step may mean come to the same for a node
 pub record Alike {Q : Type 0} (s : QuorumSystem Q) (x : NodeState Q) (o p : Option (Meant Q)) : Type 0 where
@@ -151,7 +157,7 @@ module _ {Q : Type 0} (s : QuorumSystem Q) (f : Q) (xs ys : List (Step Q)) (p : 
   pub stands_longer : (l whole : Letter Q) → StandsFor (run s f xs) l whole → StandsFor (run s f ys) l whole
   stands_longer l whole short = short_longer l whole (held_by (run s f xs) whole.addressee) (held_by (run s f ys) whole.addressee) (copies_are_kept s f xs ys p whole.addressee) short
 
-  letter-left : (i : ℕ) (l : Letter Q) → letter_at (run s f xs).letters i ≡ Some l → letter_at (run s f ys).letters i ≡ Some l
+  pub letter-left : (i : ℕ) (l : Letter Q) → letter_at (run s f xs).letters i ≡ Some l → letter_at (run s f ys).letters i ≡ Some l
   letter-left zero l e = e
   letter-left (suc i) l e =
       let g = (run-grows s f xs ys p).letters in
@@ -187,3 +193,63 @@ module _ {Q : Type 0} (s : QuorumSystem Q) (f : Q) (xs ys : List (Step Q)) (p : 
       at_place place l whole (inl e) (inr h) = absurd (apart_too place h.0 l e)
       at_place place l whole (inr e) (inl h) = absurd (apart place e.0 whole h)
       at_place place l whole (inr e) (inr h) = subst (λ l. StandsFor (run s f ys) l whole) (sym h.1 ∙ e.1) (whole_is_short whole _)
+
+-- the addressee of a letter holds its copies
+abbrev pub IsHeard : {Q : Type 0} → WorldState Q → Letter Q → Type 0
+IsHeard w whole = joined (held_by w whole.addressee) (copies_in whole.kind) ≡ held_by w whole.addressee
+
+-- so it needs none
+kind_again : {Q : Type 0} (k : Kind Q) (c d : Copies) → kind_with (kind_with k c) d ≡ kind_with k d
+kind_again kind.Join c d = refl
+kind_again (kind.Gossip g) c d = refl
+
+none_in : {Q : Type 0} (k : Kind Q) (key : List ℕ) → map.get (copies_in (kind_with k map.empty)) key ≡ None
+none_in kind.Join key = map.get-empty key_cmp key
+none_in (kind.Gossip g) key = map.get-empty key_cmp key
+
+stands_light : {Q : Type 0} (w : WorldState Q) (l whole : Letter Q) → StandsFor w l whole → IsHeard w whole → StandsFor w (letter_with l map.empty) whole
+stands_light w l whole short heard =
+    let held = held_by w whole.addressee in
+    record {
+      rest = (λ i. record l { kind = kind_again l.kind map.empty (copies_in whole.kind) i }) ∙ short.rest;
+      part = λ key v e. absurd (none-some v (sym (none_in l.kind key) ∙ e));
+      held_anyway = λ key v e f.
+          let above : is_below (map.get held key) (map.get (copies_in whole.kind) key) ≡ false =
+          subst (λ o. is_below o (map.get (copies_in whole.kind) key) ≡ false) (sym (get-joined held (copies_in whole.kind) key) ∙ ap (λ r. map.get r key) heard) (greater-right (map.get held key) (map.get (copies_in whole.kind) key)) in
+          is_newer-is_below (map.get held key) v ∙ ap (is_below (map.get held key)) (sym e) ∙ above;
+    }
+
+light_one : {Q : Type 0} (w : WorldState Q) (letters : List (Letter Q)) (i : ℕ) (old : Letter Q) → AreSent w letters → slice_get letters i ≡ Some old → ((whole : Letter Q) → slice_get w.letters i ≡ Some whole → IsHeard w whole)
+    → AreSent w (slice_set letters i (letter_with old map.empty))
+light_one {Q} w letters i old sent there heard = (
+  length-set letters i (letter_with old map.empty) ∙ sent.0,
+  λ place l whole e h. elim (cases_eq place i) [
+    | inl same ↦ (
+        let is : letter_with old map.empty ≡ l = some_inj _ l (sym (set_here letters i old (letter_with old map.empty) there) ∙ ap (slice_get (slice_set letters i (letter_with old map.empty))) (sym same) ∙ e) in
+        let at : slice_get w.letters i ≡ Some whole = ap (slice_get w.letters) (sym same) ∙ h in
+        subst (λ l. StandsFor w l whole) is (stands_light w old whole (sent.1 i old whole there at) (heard whole at)))
+    | inr other ↦ sent.1 place l whole (sym (set_there letters i place (letter_with old map.empty) other) ∙ e) h
+  ],
+)
+
+light_at : {Q : Type 0} (w : WorldState Q) (letters : List (Letter Q)) (n : ℕ) (o : Option (Letter Q)) → letter_at letters n ≡ o → AreSent w letters → ((whole : Letter Q) → letter_at w.letters n ≡ Some whole → IsHeard w whole)
+    → AreSent w (lightened_at letters n o)
+light_at w letters n None e sent heard = sent
+light_at w letters zero (Some l) e sent heard = absurd (none-some l e)
+light_at w letters (suc i) (Some l) e sent heard =
+    let same : i ≡ suc i - 1 = omega arith in
+    subst (λ k. AreSent w (slice_set letters k (letter_with l map.empty))) same (light_one w letters i l sent e heard)
+
+-- the letter of a number that was heard leaves out its copies
+pub light_sent : {Q : Type 0} (w : WorldState Q) (letters : List (Letter Q)) (o : Option ℕ) → AreSent w letters → ((n : ℕ) (whole : Letter Q) → o ≡ Some n → letter_at w.letters n ≡ Some whole → IsHeard w whole)
+    → AreSent w (lightened letters o)
+light_sent w letters None sent heard = sent
+light_sent w letters (Some n) sent heard = light_at w letters n (letter_at letters n) refl sent (λ whole e. heard n whole refl e)
+
+light_count_at : {Q : Type 0} (letters : List (Letter Q)) (n : ℕ) (o : Option (Letter Q)) → length (lightened_at letters n o) ≡ length letters
+light_count_at letters n None = refl
+light_count_at letters n (Some l) = length-set letters (n - 1) (letter_with l map.empty)
+
+pub light_count : {Q : Type 0} (letters : List (Letter Q)) (o : Option ℕ) → length (lightened letters o) ≡ length letters
+light_count letters None = refl
+light_count letters (Some n) = light_count_at letters n (letter_at letters n)

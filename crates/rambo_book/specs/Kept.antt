@@ -1,10 +1,12 @@
 -- What a keeper and the book are, whenever their lock is free
-use Rattle.std.specs.Prelude.{◌≡◌, ℕ, ◌≤◌, ◌<◌, ◌⊎◌, List, length, slice_get, All, Option, Some, None}
+use Rattle.std.specs.Prelude.{◌≡◌, ℕ, ◌-◌, ◌≤◌, ◌<◌, ◌⊎◌, List, length, slice_get, slice_set, All, Option, Some, None}
+use Rattle.std.specs.FinMap as copies
 use Rattle.rambo_names.specs.declared.refusal.Refusal.{Refusal}
 use Rattle.rambo_names.specs.declared.refusal.Refusal.TheVariants.{HistoryFull, OutOfMemory}
 use Rattle.rambo_names.specs.Quorums.{QuorumSystem}
 use Rattle.rambo_history.specs.declared.event.Event.{Event}
 use Rattle.rambo_gossip.specs.declared.letter.Letter.{Letter}
+use Rattle.rambo_gossip.specs.Letters.{letter_with}
 use Rattle.rambo_gossip.specs.Short.{IsShort}
 use Rattle.rambo_node.specs.Nodes.{NodeState}
 use Rattle.rambo_run.specs.declared.step.Step.{Step}
@@ -21,12 +23,15 @@ pub record KeeperView (Q : Type 0) : Type 0 where
   pub tray : List (Mail Q)
   pub seen : List (Step Q)
 
--- waiting: of the names 1, 2, .. the numbers of the letters that wait for each, the oldest first
+-- waiting: of the names 1, 2, .. the numbers of the letters that wait for each, the oldest first; each letter of which lose
+-- divides the number waits nowhere, and each other that twice divides waits twice
 pub record BookView (Q : Type 0) : Type 0 where
   pub founders : Q
   pub steps : List (Step Q)
   pub capacity : ℕ
   pub waiting : List (List ℕ)
+  pub lose : ℕ
+  pub twice : ℕ
 
 -- the world that the steps of a book make
 abbrev pub state : {Q : Type 0} → QuorumSystem Q → BookView Q → WorldState Q
@@ -41,6 +46,15 @@ abbrev pub AreSent : {Q : Type 0} → WorldState Q → List (Letter Q) → Type 
 AreSent {Q} w letters =
     (length letters ≡ length w.letters)
     × ((place : ℕ) (l whole : Letter Q) → slice_get letters place ≡ Some l → slice_get w.letters place ≡ Some whole → StandsFor w l whole)
+
+-- kept letters, once that of a number, if there is one, has left out its copies
+abbrev pub lightened_at : {Q : Type 0} → List (Letter Q) → ℕ → Option (Letter Q) → List (Letter Q)
+lightened_at letters number None = letters
+lightened_at letters number (Some l) = slice_set letters (number - 1) (letter_with l copies.empty)
+
+abbrev pub lightened : {Q : Type 0} → List (Letter Q) → Option ℕ → List (Letter Q)
+lightened letters None = letters
+lightened letters (Some number) = lightened_at letters number (letter_at letters number)
 
 -- a letter to this name, which stands for that of its number
 abbrev pub IsMailOf : {Q : Type 0} → WorldState Q → ℕ → Mail Q → Type 0

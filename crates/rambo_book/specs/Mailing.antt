@@ -1,11 +1,11 @@
 -- Which letters went to a tray, and which left it
-use Rattle.std.specs.Prelude.{◌≡◌, ℕ, Bool, false, nat_eq, if◌then◌else◌, List, [], ◌∷◌, ◌++◌, map, take, drop, length, Option, None, Some}
+use Rattle.std.specs.Prelude.{◌≡◌, ℕ, Bool, false, nat_eq, if◌then◌else◌, List, [], ◌∷◌, ◌++◌, map, take, drop, replicate, length, Option, None, Some}
 use Rattle.rambo_gossip.specs.declared.letter.Letter.{Letter}
 use Rattle.rambo_joiner.specs.Statuses.{is_stopped}
 use Rattle.rambo_run.specs.Worlds.{WorldState, letter_at}
-use Rattle.rambo_mail.specs.Waiting.{waiting_for, with_waiting}
+use Rattle.rambo_mail.specs.Waiting.{waiting_for, with_waiting, times}
 use Rattle.rambo_deeds.specs.declared.mail.Mail.{Mail}
-use Rattle.rambo_book.specs.Kept.{KeeperView}
+use Rattle.rambo_book.specs.Kept.{BookView, KeeperView}
 
 abbrev pub goes_to : {Q : Type 0} → ℕ → Option (Letter Q) → Bool
 goes_to name None = false
@@ -21,6 +21,12 @@ pub record IsBehind {Q : Type 0} (before : List (Mail Q)) (numbers : List ℕ) (
   pub more : List (Mail Q)
   pub tray : after ≡ before ++ more
   pub numbered : map (λ (m : Mail Q). m.number) more ≡ numbers
+
+-- what waits once a step was done that sends the letter of this number to these names: it waits behind the others, unless
+-- it is lost
+abbrev pub waiting_after : {Q : Type 0} → BookView Q → List ℕ → ℕ → List (List ℕ)
+waiting_after b [] number = b.waiting
+waiting_after b (to ∷ more) number = with_waiting b.waiting to (waiting_for b.waiting to ++ replicate (times b.lose b.twice number) number)
 
 -- so many of the letters that wait for a name, the oldest, went to its tray, and the others wait
 pub record AreTaken {Q : Type 0} (w : WorldState Q) (name count : ℕ) (lists left : List (List ℕ)) (before after : List (Mail Q)) : Type 0 where

@@ -44,7 +44,7 @@ impl<J: Terms<Q>, Q: Quorums> Model for Book<J, Q> {
 
     ghost coded = { Prim.hlevel (codes, names_code, Q.code) };
 
-    ghost view = { λ b. record { founders = b.founders; steps = b.steps.items; capacity = b.capacity; waiting = b.mails } };
+    ghost view = { λ b. record { founders = b.founders; steps = b.steps.items; capacity = b.capacity; waiting = b.mails.waiting; lose = b.mails.lose; twice = b.mails.twice } };
 
     ghost invariant = { λ b. IsBook Q.system J.founders J.capacity b.roll.1 b.founders b.steps.items b.letters.items b.history.events b.marks.items b.capacity };
 }
@@ -61,7 +61,7 @@ impl<J: Terms<Q>, Q: Quorums> Book<J, Q> {
         requires roll { roll.1 ≡ [] }
         requires founders { J.founders ≡ Some founders }
         requires capacity { capacity ≡ J.capacity }
-        ensures { result ≡ record { founders = founders; steps = []; capacity = capacity; waiting = mails } }
+        ensures { result ≡ record { founders = founders; steps = []; capacity = capacity; waiting = mails.waiting; lose = mails.lose; twice = mails.twice } }
     {
         Book {
             roll,

@@ -1,12 +1,13 @@
 //! A step goes into the book, and its node takes it.
-ghost use Rattle.std.specs.Prelude.{◌≡◌, ◌≢◌, ◌<◌, ◌++◌, ◌∷◌, [], None, Some, length, option_to_list, OnOk, OnErr, IfOk, IfErr};
+ghost use Rattle.std.specs.Prelude.{◌≡◌, ◌≢◌, ◌<◌, ℕ, ◌++◌, ◌∷◌, [], None, Some, length, option_to_list, OnOk, OnErr, IfOk, IfErr};
 ghost use Rattle.std.specs.Vec.{vec_len, vec_capacity};
 ghost use Rattle.rambo_history.specs.Faults.{fault_of};
 ghost use Rattle.rambo_run.specs.Actors.{sent_by};
 ghost use Rattle.rambo_run.specs.Runs.{run};
 ghost use Rattle.rambo_run.specs.Steps.{refusal, turn, with_letter, with_event, with_mark};
 ghost use Rattle.rambo_run.specs.Worlds.{node_at};
-ghost use Rattle.rambo_book.specs.Kept.{KeeperView, IsServedBy, Told, state};
+ghost use Rattle.rambo_book.specs.Kept.{KeeperView, IsServedBy, Told, lightened, state};
+ghost use Rattle.rambo_book.specs.Mailing.{waiting_after};
 
 use crate::book::Book;
 use crate::keeper::Keeper;
@@ -60,7 +61,7 @@ pub fn commit<J: Terms<Q>, Q: Quorums, S: Replica>(
     ensures legal { OnOk result (refusal Q.system (state Q.system book.old) step ≡ None) }
     ensures effect { IfOk result (λ e. e ≡ (turn (state Q.system book.old) step).effect) }
     ensures book { OnOk result (book.new ≡ record book.old { steps = book.old.steps ++ step ∷ []; waiting = book.new.waiting }) }
-    ensures waiting { OnOk result (sent_by step ≡ [] → book.new.waiting ≡ book.old.waiting) }
+    ensures waiting { OnOk result (book.new.waiting ≡ waiting_after book.old (sent_by step) (length (state Q.system book.new).letters)) }
     ensures keeper { OnOk result (keeper.new ≡ record keeper.old { node = keeper.new.node; seen = book.old.steps ++ step ∷ [] }) }
     ensures node { OnOk result (node_at (state Q.system book.new) keeper.old.name ≡ Some keeper.new.node) }
     ensures same { OnErr result ((book.new ≡ book.old) × (keeper.new ≡ keeper.old)) }
@@ -88,6 +89,7 @@ pub fn commit<J: Terms<Q>, Q: Quorums, S: Replica>(
         return Err(Refusal::OutOfMemory);
     };
     let posting = posting_of(keeper.name, &keeper.worker, letters.as_slice(), &step);
+    let came = delivered(&step);
     let Ok(done) = keeper.worker.act(alloc, letters.as_slice(), &step) else {
         return Err(Refusal::OutOfMemory);
     };
@@ -102,6 +104,7 @@ pub fn commit<J: Terms<Q>, Q: Quorums, S: Replica>(
     push_event(history, event);
     push_mark(marks, mark);
     push_letter(letters, letter);
+    leave_out_copies(letters, came);
     mails.post(&posting, letters.len());
     Ok(effect)
 }
@@ -115,7 +118,8 @@ fn make_room<Q: Quorums>(
     mails: &mut Mails,
     step: &Step<Q>,
 ) -> Result<(), Refusal>
-    ensures same { (steps.new.items ≡ steps.old.items) × (letters.new.items ≡ letters.old.items) × (history.new.events ≡ history.old.events) × (marks.new.items ≡ marks.old.items) × (mails.new ≡ mails.old) }
+    ensures same { (steps.new.items ≡ steps.old.items) × (letters.new.items ≡ letters.old.items) × (history.new.events ≡ history.old.events) × (marks.new.items ≡ marks.old.items) × (mails.new ≡ record mails.old { ready = mails.new.ready }) }
+    ensures ready { OnOk result (option_to_list mails.new.ready ≡ sent_by step.now) }
     ensures room { OnOk result ((vec_len steps.new < vec_capacity steps.new) × (vec_len letters.new < vec_capacity letters.new) × (0 < history.new.room) × (vec_len marks.new < vec_capacity marks.new)) }
 {
     mails.make_room(step)?;
@@ -160,6 +164,29 @@ fn push_letter<Q: Quorums>(letters: &mut Vec<SharedLetter<Q>>, letter: Option<Sh
     }
 }
 
+// The number of the letter that a step lets come, if it lets one come.
+fn delivered<Q: Quorums>(step: &Step<Q>) -> Option<u64>
+    ensures { (number : ℕ) → result ≡ Some number → step.now ≡ Step.Deliver number }
+{
+    match step {
+        Step::Deliver(number) => Some(*number),
+        _ => None,
+    }
+}
+
+// The letter of this number, if it was sent, needs no copies any more: its addressee holds them.
+fn leave_out_copies<Q: Quorums>(letters: &mut Vec<SharedLetter<Q>>, number: Option<u64>)
+    ensures { letters.new.items ≡ lightened letters.old.items number }
+{
+    let Some(number) = number else {
+        return;
+    };
+    if number == 0 || number as usize > letters.len() {
+        return;
+    }
+    letters[number as usize - 1].leave_out_copies();
+}
+
 // What the step of the node of this name means for the mail.
 fn posting_of<Q: Quorums, S: Replica>(
     by: Name,
@@ -179,7 +206,7 @@ fn posting_of<Q: Quorums, S: Replica>(
 // The number of a letter and who sent it, if it was sent.
 fn sender_of<Q: Quorums>(letters: &[SharedLetter<Q>], number: u64) -> Option<(u64, Name)> {
     match letter_of(letters, number) {
-        Some(letter) => Some((number, letter.get().sender)),
+        Some(letter) => Some((number, letter.sender())),
         None => None,
     }
 }

@@ -40,7 +40,7 @@ pub fn take_letter<J: Terms<Q>, Q: Quorums, S: Replica>(
     let Some(letter) = letter_of(book.letters.as_slice(), number) else {
         return Ok(());
     };
-    if letter.get().addressee != keeper.name {
+    if letter.addressee() != keeper.name {
         return Ok(());
     }
     let letter = letter.share()?;

@@ -1,3 +1,4 @@
 pub mod Fitting
 pub mod Letters
 pub mod Means
+pub mod Outlines

@@ -44,9 +44,9 @@ module _ {Q : Type 0} (s : QuorumSystem Q) (x y : NodeState Q) (same : x ≡ y) 
   done_after c (Err b) m h = h
 
   -- who sends a letter stays as it is
-  pub sender_stays : {A B : Type 0} (to : ℕ) (r : Result A B) → Means ls st (change.Send to) → OnOk r ((m : Meant Q) → meant_in ls st ≡ Some m → y ≡ (made_by y m.change).node)
+  pub sender_stays : {A B : Type 0} (to : ℕ) (r : Result A B) → Means ls st (change.Send to) → OnOk r ((m : Meant Q) → meant_in ls st ≡ Some m → x ≡ (made_by y m.change).node)
   unfolding made_by
-  sender_stays to (Ok a) m = λ other e. ap (λ c. (made_by y c).node) (changed (change.Send to) m other e)
+  sender_stays to (Ok a) m = λ other e. same ∙ ap (λ c. (made_by y c).node) (changed (change.Send to) m other e)
   sender_stays to (Err b) m = tt
 
 -- the same of a delivery, whose letter is looked up

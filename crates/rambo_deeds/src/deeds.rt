@@ -6,15 +6,17 @@ ghost use Rattle.rambo_run.specs.Steps.{Meant, meant_in, sends};
 ghost use Rattle.rambo_run.specs.Worlds.{letter_at};
 ghost use Rattle.rambo_deeds.specs.Deeds.{judged, done, name_in};
 
-use crate::letter::SharedLetter;
+use crate::letter::{SharedLetter, hear, may_hear};
 use crate::worker::Worker;
 use rambo_history::Event;
+use rambo_letters::Standing;
 use rambo_names::{Name, Quorums, Refusal};
 use rambo_node::{Change, Deed, Effect, Node};
 use rambo_run::Step;
 use rambo_sequence::Mark;
 use rambo_tag::Replica;
 use std::alloc::Global;
+use std::sync::Arc;
 
 /// What a step did besides changing its node: what is told of it, and what goes to the history, the marks and the letters.
 #[derive(Drop)]
@@ -60,7 +62,7 @@ fn addressee<Q: Quorums>(letters: &[SharedLetter<Q>], number: u64) -> Option<Nam
     ensures { result ≡ name_in (meant_in letters.now (Step.Deliver number)) }
 {
     match letter_of(letters, number) {
-        Some(letter) => Some(letter.get().addressee),
+        Some(letter) => Some(letter.addressee()),
         None => None,
     }
 }
@@ -75,7 +77,7 @@ impl<Q: Quorums, S: Replica> Worker<Q, S> {
             Step::Call(_, op) => return self.node.may_call(op),
             Step::Send(_, to) => return self.node.may_send(*to),
             Step::Advance(id) => return self.node.may_advance(id),
-            Step::Deliver(number) => return may_hear(&self.node, letters, *number),
+            Step::Deliver(number) => return may_deliver(&self.node, letters, *number),
             Step::Join(_, contacts) => Change::Join(*contacts),
             Step::Again(id) => Change::Again(*id),
             Step::Collect(_) => Change::Collect,
@@ -105,8 +107,8 @@ impl<Q: Quorums, S: Replica> Worker<Q, S> {
         ensures refused { IfErr result (λ r. r ≡ Refusal.OutOfMemory) }
     {
         let change = match step {
-            Step::Send(_, to) => return send(alloc, &self.node, letters, *to),
-            Step::Deliver(number) => return hear(&mut self.node, letters, *number),
+            Step::Send(_, to) => return send(alloc, &self.node, &mut self.told, letters, *to),
+            Step::Deliver(number) => return deliver(alloc, &mut self.node, letters, *number),
             Step::Call(_, op) => Change::Call(op.clone()?),
             Step::Advance(id) => Change::Advance(*id),
             Step::Join(_, contacts) => Change::Join(*contacts),
@@ -123,7 +125,7 @@ impl<Q: Quorums, S: Replica> Worker<Q, S> {
 }
 
 // Why the node doesn't hear the letter of a number, if it doesn't.
-fn may_hear<Q: Quorums, S: Replica>(
+fn may_deliver<Q: Quorums, S: Replica>(
     node: &Node<Q, S>,
     letters: &[SharedLetter<Q>],
     number: u64,
@@ -132,7 +134,7 @@ fn may_hear<Q: Quorums, S: Replica>(
     ensures refused { IfErr result (λ r. judged Q.system node.now (meant_in letters.now (Step.Deliver number)) ≡ Some r) }
 {
     match letter_of(letters, number) {
-        Some(letter) => node.may_hear(letter.get()),
+        Some(letter) => may_hear(node, letter),
         None => Err(Refusal::NoSuchLetter),
     }
 }
@@ -165,10 +167,12 @@ fn go_on<Q: Quorums, S: Replica>(
     })
 }
 
-// The node's letter, which isn't refused.
+// The node's letter, which isn't refused. It shares what it tells of configurations with the node's last one, if that told
+// the same.
 fn send<Q: Quorums, S: Replica>(
     alloc: Global,
     node: &Node<Q, S>,
+    told: &mut Option<Arc<Standing<Q>, Global>>,
     letters: &[SharedLetter<Q>],
     to: Name,
 ) -> Result<Done<Q>, Refusal>
@@ -182,12 +186,13 @@ fn send<Q: Quorums, S: Replica>(
         effect: Effect::Sent(letters.len() as u64 + 1),
         event: None,
         mark: None,
-        letter: Some(SharedLetter::new(alloc, letter)?),
+        letter: Some(SharedLetter::new(alloc, letter, told)?),
     })
 }
 
 // Hears the letter of a number, which isn't refused.
-fn hear<Q: Quorums, S: Replica>(
+fn deliver<Q: Quorums, S: Replica>(
+    alloc: Global,
     node: &mut Node<Q, S>,
     letters: &[SharedLetter<Q>],
     number: u64,
@@ -202,7 +207,7 @@ fn hear<Q: Quorums, S: Replica>(
         Some(letter) => letter,
         None => return Err(Refusal::OutOfMemory),
     };
-    node.hear(letter.get())?;
+    hear(alloc, node, letter)?;
     Ok(Done {
         effect: Effect::Done,
         event: None,

@@ -1,48 +1,81 @@
 //! Letters that several share.
-ghost use Rattle.std.specs.Prelude.{◌≡◌, IfOk, IfErr};
+ghost use Rattle.std.specs.Prelude.{◌≡◌, None, Some, unwrap_or, option_copied, OnOk, OnErr, IfOk, IfErr};
+ghost use Rattle.std.specs.FinMap as map;
+ghost use Rattle.rambo_gossip.specs.Letters.{letter_with};
+ghost use Rattle.rambo_gossip.specs.Short.{copies_in};
+ghost use Rattle.rambo_node.specs.Changes.{refusal_of, made_by};
+ghost use Rattle.rambo_node.specs.declared.change.Change.TheVariants as change;
 
-use rambo_gossip::Letter;
-use rambo_names::{Quorums, Refusal};
+use crate::gossip::SharedGossip;
+use rambo_gossip::{Kind, Letter, LetterOutline};
+use rambo_letters::Standing;
+use rambo_names::{Name, Quorums, Refusal};
+use rambo_node::Node;
+use rambo_tag::{NoCopies, Pack, Replica};
 use std::alloc::Global;
 use std::marker::Model;
 use std::sync::Arc;
 
-/// A letter that several own, seen as the letter.
+/// A letter that several own, seen as the letter, in 64 bytes. They share its copies, and it shares what its sender told of
+/// configurations with those that told the same.
 pub struct SharedLetter<Q: Quorums> {
-    letter: Arc<Letter<Q>, Global>,
+    sender: Name,
+    addressee: Name,
+    // None where the sender wants to join.
+    gossip: Option<SharedGossip<Q>>,
 }
 
 // By hand, so that those who drop it needn't follow all that is in it.
 impl<Q: Quorums> Drop for SharedLetter<Q> {
     fn drop(self) {
-        let SharedLetter { letter: _letter } = self;
+        let SharedLetter {
+            sender: _sender,
+            addressee: _addressee,
+            gossip: _gossip,
+        } = self;
     }
 }
 
 impl<Q: Quorums> Model for SharedLetter<Q> {
-    ghost use Rattle.std.specs.Arc.{arc_value};
     ghost use Rattle.std.specs.Coded.{codes};
     ghost use Rattle.rambo_names.specs.Names.{names_code};
     ghost use Rattle.rambo_tag.specs.Copies.{copies_code};
     ghost use Rattle.rambo_gossip.specs.declared.letter.Letter.{Letter};
+    ghost use Rattle.rambo_letters.specs.Kept.{kind_of};
 
     ghost Value = { Letter Q };
 
     ghost coded = { Prim.hlevel (codes, names_code, copies_code, Q.code) };
 
-    ghost view = { λ l. arc_value l.letter };
+    ghost view = { λ l. record { sender = l.sender; addressee = l.addressee; kind = kind_of l.gossip } };
 }
 
 impl<Q: Quorums> SharedLetter<Q> {
-    /// This letter, which has one owner.
-    ///
-    /// `OutOfMemory` where there is no room for it.
-    pub fn new(alloc: Global, letter: Letter<Q>) -> Result<SharedLetter<Q>, Refusal>
+    // This letter, which has one owner. What it tells of configurations it shares with the letter before, if that told the
+    // same.
+    //
+    // `OutOfMemory` where there is no room for it.
+    pub(crate) fn new(
+        alloc: Global,
+        letter: Letter<Q>,
+        told: &mut Option<Arc<Standing<Q>, Global>>,
+    ) -> Result<SharedLetter<Q>, Refusal>
         ensures same { IfOk result (λ l. l ≡ letter) }
         ensures refused { IfErr result (λ r. r ≡ Refusal.OutOfMemory) }
     {
+        let Letter {
+            sender,
+            addressee,
+            kind,
+        } = letter;
+        let gossip = match kind {
+            Kind::Join => None,
+            Kind::Gossip(gossip) => Some(SharedGossip::new(alloc, gossip, told)?),
+        };
         Ok(SharedLetter {
-            letter: Arc::new(alloc, letter)?,
+            sender,
+            addressee,
+            gossip,
         })
     }
 
@@ -53,15 +86,91 @@ impl<Q: Quorums> SharedLetter<Q> {
         ensures same { IfOk result (λ l. l ≡ self.now) }
         ensures refused { IfErr result (λ r. r ≡ Refusal.OutOfMemory) }
     {
+        let gossip = match &self.gossip {
+            None => None,
+            Some(gossip) => Some(gossip.share()?),
+        };
         Ok(SharedLetter {
-            letter: Arc::try_clone(&self.letter)?,
+            sender: self.sender,
+            addressee: self.addressee,
+            gossip,
         })
     }
 
-    /// The letter.
-    pub fn get(&self) -> &Letter<Q>
-        ensures { result.now ≡ self.now }
+    /// Who sent it.
+    pub fn sender(&self) -> Name
+        ensures { result ≡ self.now.sender }
     {
-        &self.letter
+        self.sender
+    }
+
+    /// Whom it goes to.
+    pub fn addressee(&self) -> Name
+        ensures { result ≡ self.now.addressee }
+    {
+        self.addressee
+    }
+
+    /// The letter without its copies.
+    pub fn outline(&self) -> LetterOutline<'_, Q>
+        ensures { result ≡ letter_with self.now map.empty }
+    {
+        let gossip = match &self.gossip {
+            None => None,
+            Some(gossip) => Some(gossip.outline()),
+        };
+        LetterOutline {
+            sender: self.sender,
+            addressee: self.addressee,
+            gossip,
+        }
+    }
+
+    /// Its copies, if it has any.
+    pub fn copies(&self) -> Option<&Pack>
+        ensures { unwrap_or (option_copied result) map.empty ≡ copies_in self.now.kind }
+    {
+        match &self.gossip {
+            None => None,
+            Some(gossip) => gossip.copies(),
+        }
+    }
+
+    /// It has no copies any more. Its other owners keep them.
+    pub fn leave_out_copies(&mut self)
+        ensures { self.new ≡ letter_with self.old map.empty }
+    {
+        if let Some(gossip) = &mut self.gossip {
+            gossip.leave_out_copies();
+        }
+    }
+}
+
+/// Why a node refuses a letter, if it does. It takes no memory.
+pub fn may_hear<Q: Quorums, S: Replica>(
+    node: &Node<Q, S>,
+    letter: &SharedLetter<Q>,
+) -> Result<(), Refusal>
+    ensures ok { OnOk result (refusal_of Q.system node.now (change.Deliver letter.now) ≡ None) }
+    ensures refused { IfErr result (λ r. refusal_of Q.system node.now (change.Deliver letter.now) ≡ Some r) }
+{
+    node.may_hear_outlined(&letter.outline())
+}
+
+// A node hears a letter, which isn't refused.
+pub(crate) fn hear<Q: Quorums, S: Replica>(
+    alloc: Global,
+    node: &mut Node<Q, S>,
+    letter: &SharedLetter<Q>,
+) -> Result<(), Refusal>
+    requires { refusal_of Q.system node.old (change.Deliver letter.now) ≡ None }
+    ensures node { OnOk result (node.new ≡ (made_by node.old (change.Deliver letter.now)).node) }
+    ensures err { OnErr result (node.new ≡ node.old) }
+    ensures refused { IfErr result (λ r. r ≡ Refusal.OutOfMemory) }
+{
+    let outline = letter.outline();
+    match letter.copies() {
+        Some(copies) => node.hear_outlined(&outline, copies),
+        None => node.hear_outlined(&outline, NoCopies::new(alloc).pack()),
     }
 }

@@ -2,15 +2,16 @@
 //!
 //! - `Worker`: a node that takes steps; `Done`: what a step did besides changing its node.
 //! - `SharedLetter`: a letter that several own; `Mail`: one in a tray, with its number.
-//! - `letter_of`: the letter of a number; `named_by`: whose step a step is.
+//! - `may_hear`: why a node refuses such a letter; `letter_of`: the letter of a number; `named_by`: whose step a step is.
 #![tactic(auto)]
 
 mod deeds;
+mod gossip;
 mod letter;
 mod mail;
 mod worker;
 
 pub use deeds::{Done, letter_of, named_by};
-pub use letter::SharedLetter;
+pub use letter::{SharedLetter, may_hear};
 pub use mail::Mail;
 pub use worker::Worker;

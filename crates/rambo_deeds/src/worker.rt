@@ -3,13 +3,18 @@ ghost use Rattle.std.specs.Prelude.{◌≡◌};
 ghost use Rattle.rambo_joiner.specs.Statuses.{is_stopped};
 
 use rambo_config_map::ConfigMap;
+use rambo_letters::Standing;
 use rambo_names::{Members, Name, Quorums, Refusal};
 use rambo_node::{Change, Node};
 use rambo_tag::Replica;
+use std::alloc::Global;
 use std::marker::Model;
+use std::sync::Arc;
 
 /// A node that takes steps.
 pub struct Worker<Q: Quorums, S: Replica> {
+    // What it told of configurations in its last letter, for the next ones that tell the same.
+    pub(crate) told: Option<Arc<Standing<Q>, Global>>,
     pub(crate) node: Node<Q, S>,
     // Never filled: it tells the prover that a change has a size.
     spare: Option<Change<Q>>,
@@ -19,6 +24,7 @@ pub struct Worker<Q: Quorums, S: Replica> {
 impl<Q: Quorums, S: Replica> Drop for Worker<Q, S> {
     fn drop(self) {
         let Worker {
+            told: _told,
             node: _node,
             spare: _spare,
         } = self;
@@ -43,7 +49,11 @@ impl<Q: Quorums, S: Replica> Worker<Q, S> {
     pub fn new(node: Node<Q, S>) -> Worker<Q, S>
         ensures { result ≡ node }
     {
-        Worker { node, spare: None }
+        Worker {
+            told: None,
+            node,
+            spare: None,
+        }
     }
 
     /// Its node.

@@ -11,3 +11,4 @@ mod standing;
 
 pub use letters::Letters;
 pub use outline::Outline;
+pub use standing::Standing;

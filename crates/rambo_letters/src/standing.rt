@@ -9,15 +9,18 @@ use rambo_paxos::{Ballot, Offer, Proposal, Vote};
 
 /// What a sender told of configurations, which the letters that it sends one behind the other mostly have in common.
 #[derive(Drop)]
-pub(crate) struct Standing<Q: Quorums> {
-    pub(crate) vote: Vote<Q>,
-    pub(crate) offer: Option<Offer<Q>>,
-    pub(crate) map: ConfigMap<Q>,
+pub struct Standing<Q: Quorums> {
+    /// Its vote for the first place that its map doesn't know.
+    pub vote: Vote<Q>,
+    /// What its own attempt for that place asks, if it has one.
+    pub offer: Option<Offer<Q>>,
+    /// Its configuration map.
+    pub map: ConfigMap<Q>,
 }
 
 impl<Q: Quorums> Standing<Q> {
-    // What gossip tells of configurations.
-    pub(crate) fn of(gossip: &GossipOutline<'_, Q>) -> Standing<Q>
+    /// What gossip tells of configurations.
+    pub fn of(gossip: &GossipOutline<'_, Q>) -> Standing<Q>
         ensures { result ≡ standing_of gossip.now }
     {
         Standing {
@@ -27,8 +30,8 @@ impl<Q: Quorums> Standing<Q> {
         }
     }
 
-    // Whether gossip tells just this of configurations.
-    pub(crate) fn is_told_by(&self, gossip: &GossipOutline<'_, Q>) -> bool
+    /// Whether gossip tells just this of configurations.
+    pub fn is_told_by(&self, gossip: &GossipOutline<'_, Q>) -> bool
         ensures { IsTrue result → self.now ≡ standing_of gossip.now }
     {
         self.map.same(gossip.map)

@@ -1,6 +1,9 @@
 //! The mail of a book: which letters wait for which name.
-ghost use Rattle.std.specs.Prelude.{◌≡◌, ◌-◌, None, drop, slice_get, IfErr};
-ghost use Rattle.rambo_mail.specs.Waiting.{waiting_for, with_waiting};
+ghost use Rattle.std.specs.Prelude.{◌≡◌, ◌+◌, ◌-◌, ◌<◌, ◌≤◌, None, Some, [], drop, replicate, slice_get, slice_set, option_to_list, OnOk, OnErr, IfOk, IfErr};
+ghost use Rattle.std.specs.FinSet as set;
+ghost use Rattle.rambo_names.specs.Names.{IsName};
+ghost use Rattle.rambo_run.specs.Actors.{sent_by};
+ghost use Rattle.rambo_mail.specs.Waiting.{waiting_for, with_waiting, divides, sent, is_marked, heard_by, came, posted};
 
 use crate::posting::Posting;
 use crate::queue::Queue;
@@ -26,6 +29,8 @@ pub struct Mails {
     lose: u64,
     twice: u64,
     passes: u64,
+    // Whom there is room for a letter to.
+    ready: Option<Name>,
 }
 
 // By hand, so that those who drop it needn't follow all that is in it.
@@ -38,20 +43,31 @@ impl Drop for Mails {
             lose: _,
             twice: _,
             passes: _,
+            ready: _,
         } = self;
     }
 }
 
 impl Model for Mails {
-    ghost use Rattle.std.specs.Prelude.{List, ℕ};
+    ghost use Rattle.std.specs.Prelude.{length};
+    ghost use Rattle.std.specs.Coded.{codes};
+    ghost use Rattle.rambo_names.specs.Names.{names_code};
+    ghost use Rattle.rambo_mail.specs.Queues.{numbers_of, IsMail};
+    ghost use Rattle.rambo_mail.specs.Waiting.{MailState};
 
-    ghost Value = { List (List ℕ) };
+    ghost Value = { MailState };
 
-    ghost view = { λ m. m.queues.items };
+    ghost coded = { Prim.hlevel (codes, names_code) };
+
+    ghost view = { λ m. record { waiting = numbers_of m.queues.items; heard = m.heard.items; marks = m.marks.items; lose = m.lose; twice = m.twice; passes = m.passes; ready = m.ready } };
+
+    ghost invariant = { λ m. IsMail m.queues.items (length m.heard.items) m.marks m.ready };
 }
 
 // Whether each n-th is meant, and this is one. 0 means none.
-fn divides(each: u64, number: u64) -> bool {
+fn divides(each: u64, number: u64) -> bool
+    ensures { result ≡ divides each number }
+{
     match number.checked_rem(each) {
         Some(rest) => rest == 0,
         None => false,
@@ -60,7 +76,9 @@ fn divides(each: u64, number: u64) -> bool {
 
 // The place of a name in a list of all.
 fn place_of(name: Name) -> usize
-    ensures { result ≡ name - 1 }
+    ensures place { result ≡ name - 1 }
+    ensures within { result < 64 }
+    ensures named { IsName name }
 {
     name.number() as usize - 1
 }
@@ -71,11 +89,12 @@ impl Mails {
     ///
     /// `OutOfMemory` where there is no room for it.
     pub fn new(alloc: Global, lose: u64, twice: u64) -> Result<Mails, Refusal>
-        ensures { IfErr result (λ r. r ≡ Refusal.OutOfMemory) }
+        ensures none { IfOk result (λ m. m ≡ record { waiting = replicate 64 []; heard = replicate 64 set.empty; marks = []; lose = lose; twice = twice; passes = 0; ready = None }) }
+        ensures refused { IfErr result (λ r. r ≡ Refusal.OutOfMemory) }
     {
         let mut queues = Vec::new(alloc);
         let mut heard = Vec::new(alloc);
-        for _ in 0..NAMES {
+        for place in 0..NAMES {
             queues.push(Queue::new(alloc))?;
             heard.push(Members::empty())?;
         }
@@ -86,40 +105,44 @@ impl Mails {
             lose,
             twice,
             passes: 0,
+            ready: None,
         })
     }
 
     /// Counts one pass more. `NoPassLeft` where there are 32.
     pub fn count_pass(&mut self) -> Result<(), Refusal>
-        ensures same { self.new ≡ self.old }
+        ensures counted { OnOk result ((self.old.passes < 32) × (self.new ≡ record self.old { passes = self.old.passes + 1 })) }
+        ensures same { OnErr result ((32 ≤ self.old.passes) × (self.new ≡ self.old)) }
         ensures refused { IfErr result (λ r. r ≡ Refusal.NoPassLeft) }
     {
         if self.passes >= PASSES {
             return Err(Refusal::NoPassLeft);
         }
-        self.passes = self.passes.wrapping_add(1);
+        self.passes += 1;
         Ok(())
     }
 
     /// Makes room for the letter of a step, if it sends one, which may have to wait twice.
     ///
-    /// `OutOfMemory` where there is none.
+    /// `OutOfMemory` where there is none; there is then room for no letter.
     pub fn make_room<Q: Quorums>(&mut self, step: &Step<Q>) -> Result<(), Refusal>
-        ensures { self.new ≡ self.old }
+        ensures same { self.new ≡ record self.old { ready = self.new.ready } }
+        ensures ready { OnOk result (option_to_list self.new.ready ≡ sent_by step.now) }
+        ensures refused { IfErr result (λ r. r ≡ Refusal.OutOfMemory) }
     {
+        self.ready = None;
         let Step::Send(_, to) = step else {
             return Ok(());
         };
         self.marks.reserve(1)?;
-        match self.queues.get_mut(place_of(*to)) {
-            Some(queue) => queue.make_room(),
-            None => Ok(()),
-        }
+        self.queues[place_of(*to)].make_room()?;
+        self.ready = Some(*to);
+        Ok(())
     }
 
-    /// The step was done; so many letters were sent with it.
+    /// The step was done, with which so many letters were sent. There is room for its letter, if it sends one.
     pub fn post(&mut self, posting: &Posting, letters: usize)
-        ensures { posting.now.to ≡ None → self.new ≡ self.old }
+        ensures { posting.now.to ≡ self.old.ready → self.new ≡ posted self.old posting.now letters }
     {
         if let Some(to) = posting.to {
             self.note_sent(to, letters as u64, posting.marked);
@@ -130,63 +153,67 @@ impl Mails {
     }
 
     // The letter of a number waits for this name, for which there is room.
-    fn note_sent(&mut self, to: Name, number: u64, marked: bool) {
+    fn note_sent(&mut self, to: Name, number: u64, marked: bool)
+        ensures { self.old.ready ≡ Some to → self.new ≡ sent self.old to number marked }
+    {
+        self.ready = None;
         let _ = self.marks.push(marked).is_ok();
         if divides(self.lose, number) {
             return;
         }
         let twice = divides(self.twice, number);
-        if let Some(queue) = self.queues.get_mut(place_of(to)) {
-            queue.push(number);
-            if twice {
-                queue.push(number);
-            }
+        let place = place_of(to);
+        self.queues[place].push(number);
+        if twice {
+            self.queues[place].push(number);
         }
     }
 
     // The node of a name heard the letter of this number.
     fn note_heard(&mut self, name: Name, number: u64, sender: Name)
-        ensures { self.new ≡ self.old }
+        ensures { self.new ≡ came self.old name number sender }
     {
-        let marked = match self.marks.get(number.wrapping_sub(1) as usize) {
+        if self.is_marked(number) {
+            let place = place_of(name);
+            self.heard[place] = self.heard[place].with(sender);
+        }
+    }
+
+    // Whether the letter of a number is marked.
+    fn is_marked(&self, number: u64) -> bool
+        ensures { result ≡ is_marked self.now.marks number }
+    {
+        if number == 0 {
+            return false;
+        }
+        match self.marks.get(number as usize - 1) {
             Some(marked) => *marked,
             None => false,
-        };
-        if !marked {
-            return;
-        }
-        if let Some(heard) = self.heard.get_mut(place_of(name)) {
-            *heard = heard.with(sender);
         }
     }
 
     /// The letter that waits for a name for the longest time, by its number.
     pub fn first(&self, name: Name) -> Option<u64>
-        ensures { result ≡ slice_get (waiting_for self.now name) 0 }
+        ensures { result ≡ slice_get (waiting_for self.now.waiting name) 0 }
     {
-        self.queues.get(place_of(name))?.first()
+        self.queues[place_of(name)].first()
     }
 
     /// That letter waits no more.
     pub fn drop_first(&mut self, name: Name)
-        ensures { self.new ≡ with_waiting self.old name (drop 1 (waiting_for self.old name)) }
+        ensures { self.new ≡ record self.old { waiting = with_waiting self.old.waiting name (drop 1 (waiting_for self.old.waiting name)) } }
     {
-        if let Some(queue) = self.queues.get_mut(place_of(name)) {
-            queue.drop_first();
-        }
+        self.queues[place_of(name)].drop_first();
     }
 
     /// Who sent a marked letter that the node of a name heard since this was last asked.
     pub fn take_heard(&mut self, name: Name) -> Members
-        ensures { self.new ≡ self.old }
+        ensures names { result ≡ heard_by self.old.heard name }
+        ensures rest { self.new ≡ record self.old { heard = slice_set self.old.heard (name - 1) set.empty } }
     {
-        match self.heard.get_mut(place_of(name)) {
-            Some(heard) => {
-                let senders = *heard;
-                *heard = Members::empty();
-                senders
-            }
-            None => Members::empty(),
-        }
+        let place = place_of(name);
+        let senders = self.heard[place];
+        self.heard[place] = Members::empty();
+        senders
     }
 }

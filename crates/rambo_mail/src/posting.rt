@@ -1,5 +1,5 @@
 //! What a step means for the mail.
-ghost use Rattle.std.specs.Prelude.{◌≡◌, option_to_list};
+ghost use Rattle.std.specs.Prelude.{◌≡◌, ◌&&◌, is_some, option_to_list};
 ghost use Rattle.rambo_run.specs.Actors.{sent_by};
 
 use rambo_names::{Name, Quorums};
@@ -26,7 +26,8 @@ impl Posting {
         is_open: bool,
         came: Option<(u64, Name)>,
     ) -> Posting
-        ensures { option_to_list result.to ≡ sent_by step.now }
+        ensures to { option_to_list result.to ≡ sent_by step.now }
+        ensures rest { result ≡ record { by = by; to = result.to; marked = is_some result.to && is_open; came = came } }
     {
         let to = sent_by(step);
         Posting {

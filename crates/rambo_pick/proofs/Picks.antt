@@ -1,5 +1,5 @@
 -- What is first of a list that isn't refused
-use Rattle.std.proofs.Common.{◌≡◌, ℕ, zero, suc, ◌+◌, ◌<◌, ◌≤◌, List, [], ◌∷◌, length, drop, add-one, Option, None, Some, is_some, true, false, slice_get, refl, sym, ap, ◌∙◌, arith}
+use Rattle.std.proofs.Common.{◌≡◌, ℕ, zero, suc, ◌+◌, ◌<◌, ◌≤◌, Bool, true, false, cond, List, [], ◌∷◌, ◌++◌, map, find, length, drop, add-one, Option, None, Some, is_none, is_some, option_map, slice_get, refl, sym, ap, ◌∙◌, arith}
 use Rattle.rambo_names.specs.declared.refusal.Refusal.{Refusal}
 use Rattle.rambo_names.specs.Quorums.{QuorumSystem}
 use Rattle.rambo_history.specs.declared.event.CallId.{CallId}
@@ -7,56 +7,83 @@ use Rattle.rambo_calls.specs.Calls.{CallState, number_in}
 use Rattle.rambo_node.specs.declared.change.Change.TheVariants as change
 use Rattle.rambo_node.specs.Changes.{refusal_of}
 use Rattle.rambo_node.specs.Nodes.{NodeState, id_of}
+use Rattle.rambo_run.specs.declared.step.Step.{Step}
+use Rattle.rambo_run.specs.declared.step.Step.TheVariants as step
 use Rattle.rambo_run.proofs.Lists.{none-some, some_inj}
 use Rattle.rambo_deeds.proofs.Letters.{none_of}
 use Rattle.rambo_deeds.specs.declared.mail.Mail.{Mail}
-use Rattle.rambo_pick.specs.Picking.{chosen, heard_first, moved_first}
+use Rattle.rambo_pick.specs.Picking.{Candidate, delivery, advance, is_accepted, first_of}
 
-some_of : (o : Option Refusal) → is_some o ≡ true → (r : Refusal) × (o ≡ Some r)
-some_of None e = absurd cc
-some_of (Some r) e = (r, refl)
+-- what is found at the beginning of a list is found in all of it
+found_in : {A B : Type 0} (test : Bool) (f : A → B) (a : A) (u v : Option A) (b : B) → (option_map f u ≡ Some b → option_map f v ≡ Some b) → option_map f (cond test (Some a) u) ≡ Some b → option_map f (cond test (Some a) v) ≡ Some b
+found_in true f a u v b h e = e
+found_in false f a u v b h e = h e
 
-pub taken_first : {A : Type 0} (o : Option Refusal) (a : A) (rest : Option A) → is_some o ≡ false → chosen o a rest ≡ Some a
-taken_first o a rest e = ap (λ o. chosen o a rest) (none_of o e)
+passed_by : {A B : Type 0} (test : Bool) (f : A → B) (a : A) (u v w : Option A) → (option_map f u ≡ None → option_map f v ≡ option_map f w) → option_map f (cond test (Some a) u) ≡ None → option_map f (cond test (Some a) v) ≡ option_map f w
+passed_by true f a u v w h e = absurd (none-some (f a) (sym e))
+passed_by false f a u v w h e = h e
 
-pub passed : {A : Type 0} (o : Option Refusal) (a : A) (rest : Option A) → is_some o ≡ true → chosen o a rest ≡ rest
-passed o a rest e = ap (λ o. chosen o a rest) (some_of o e).1
+pub first_there : {Q : Type 0} (s : QuorumSystem Q) (x : NodeState Q) (cs ds : List (Candidate Q)) (st : Step Q) → first_of s x cs ≡ Some st → first_of s x (cs ++ ds) ≡ Some st
+first_there s x [] ds st e = absurd (none-some st e)
+first_there s x (c ∷ cs) ds st e = found_in (is_accepted s x c) (λ (c : Candidate _). c.step) c (find (is_accepted s x) cs) (find (is_accepted s x) (cs ++ ds)) st (first_there s x cs ds st) e
 
--- the first letter of a list that is there is taken or not
-pub heard_here : {Q : Type 0} (s : QuorumSystem Q) (x : NodeState Q) (rest : List (Mail Q)) (m : Mail Q) (others : List (Mail Q)) → rest ≡ m ∷ others → is_some (refusal_of s x (change.Deliver m.letter)) ≡ false → heard_first s x rest ≡ Some m.number
-heard_here s x rest m others e none = ap (heard_first s x) e ∙ taken_first (refusal_of s x (change.Deliver m.letter)) m.number (heard_first s x others) none
+pub first_behind : {Q : Type 0} (s : QuorumSystem Q) (x : NodeState Q) (cs ds : List (Candidate Q)) → first_of s x cs ≡ None → first_of s x (cs ++ ds) ≡ first_of s x ds
+first_behind s x [] ds e = refl
+first_behind s x (c ∷ cs) ds e = passed_by (is_accepted s x c) (λ (c : Candidate _). c.step) c (find (is_accepted s x) cs) (find (is_accepted s x) (cs ++ ds)) (find (is_accepted s x) ds) (first_behind s x cs ds) e
 
-pub heard_later : {Q : Type 0} (s : QuorumSystem Q) (x : NodeState Q) (rest : List (Mail Q)) (m : Mail Q) (others : List (Mail Q)) → rest ≡ m ∷ others → is_some (refusal_of s x (change.Deliver m.letter)) ≡ true → heard_first s x rest ≡ heard_first s x others
-heard_later s x rest m others e some = ap (heard_first s x) e ∙ passed (refusal_of s x (change.Deliver m.letter)) m.number (heard_first s x others) some
+-- the first of a list is taken or not
+not_none : {A : Type 0} (o : Option A) → is_some o ≡ true → is_none o ≡ false
+not_none None e = absurd cc
+not_none (Some a) e = refl
 
-pub heard_none : {Q : Type 0} (s : QuorumSystem Q) (x : NodeState Q) (rest : List (Mail Q)) → length rest ≡ 0 → heard_first s x rest ≡ None
+pub taken : {Q : Type 0} (s : QuorumSystem Q) (x : NodeState Q) (c : Candidate Q) (cs : List (Candidate Q)) → is_some (refusal_of s x c.change) ≡ false → first_of s x (c ∷ cs) ≡ Some c.step
+taken s x c cs none = ap (λ o. option_map (λ (c : Candidate _). c.step) (cond (is_none o) (Some c) (find (is_accepted s x) cs))) (none_of (refusal_of s x c.change) none)
+
+pub passed : {Q : Type 0} (s : QuorumSystem Q) (x : NodeState Q) (c : Candidate Q) (cs : List (Candidate Q)) → is_some (refusal_of s x c.change) ≡ true → first_of s x (c ∷ cs) ≡ first_of s x cs
+passed s x c cs some = ap (λ t. option_map (λ (c : Candidate _). c.step) (cond t (Some c) (find (is_accepted s x) cs))) (not_none (refusal_of s x c.change) some)
+
+-- so is the first letter of a tray
+pub heard_here : {Q : Type 0} (s : QuorumSystem Q) (x : NodeState Q) (rest : List (Mail Q)) (m : Mail Q) (others : List (Mail Q)) → rest ≡ m ∷ others → is_some (refusal_of s x (change.Deliver m.letter)) ≡ false
+    → first_of s x (map delivery rest) ≡ Some (step.Deliver m.number)
+heard_here s x rest m others e none = ap (λ ms. first_of s x (map delivery ms)) e ∙ taken s x (delivery m) (map delivery others) none
+
+pub heard_later : {Q : Type 0} (s : QuorumSystem Q) (x : NodeState Q) (rest : List (Mail Q)) (m : Mail Q) (others : List (Mail Q)) → rest ≡ m ∷ others → is_some (refusal_of s x (change.Deliver m.letter)) ≡ true
+    → first_of s x (map delivery rest) ≡ first_of s x (map delivery others)
+heard_later s x rest m others e some = ap (λ ms. first_of s x (map delivery ms)) e ∙ passed s x (delivery m) (map delivery others) some
+
+pub heard_none : {Q : Type 0} (s : QuorumSystem Q) (x : NodeState Q) (rest : List (Mail Q)) → length rest ≡ 0 → first_of s x (map delivery rest) ≡ None
 heard_none s x [] e = refl
 heard_none s x (m ∷ ms) e = absurd (omega (arith, e))
 
--- the same of a call, by its place
+-- and a call, by its place
 at_first : {Q : Type 0} (name : ℕ) (cs : List (CallState Q)) (k : ℕ) (id : CallId) → Some id ≡ id_of name (number_in (slice_get cs k)) → (c : CallState Q) × ((drop k cs ≡ c ∷ drop (suc k) cs) × (id ≡ record { name = name; number = c.number }))
 at_first name [] zero id e = absurd (none-some id (sym e))
 at_first name [] (suc k) id e = absurd (none-some id (sym e))
 at_first name (c ∷ cs) zero id e = (c, (refl, some_inj id (record { name = name; number = c.number }) e))
 at_first name (c ∷ cs) (suc k) id e = at_first name cs k id e
 
-pub moved_here : {Q : Type 0} (s : QuorumSystem Q) (x : NodeState Q) (cs : List (CallState Q)) (k : ℕ) (id : CallId) → Some id ≡ id_of x.name (number_in (slice_get cs k)) → is_some (refusal_of s x (change.Advance id)) ≡ false → moved_first s x (drop k cs) ≡ Some id
+pub moved_here : {Q : Type 0} (s : QuorumSystem Q) (x : NodeState Q) (cs : List (CallState Q)) (k : ℕ) (id : CallId) → Some id ≡ id_of x.name (number_in (slice_get cs k)) → is_some (refusal_of s x (change.Advance id)) ≡ false
+    → first_of s x (map (advance x.name) (drop k cs)) ≡ Some (step.Advance id)
 moved_here s x cs k id there none =
     let r = at_first x.name cs k id there in
-    ap (moved_first s x) r.1.0 ∙ ap (λ i. chosen (refusal_of s x (change.Advance i)) i (moved_first s x (drop (suc k) cs))) (sym r.1.1) ∙ taken_first (refusal_of s x (change.Advance id)) id (moved_first s x (drop (suc k) cs)) none
+    ap (λ cs. first_of s x (map (advance x.name) cs)) r.1.0
+    ∙ taken s x (advance x.name r.0) (map (advance x.name) (drop (suc k) cs)) (ap (λ i. is_some (refusal_of s x (change.Advance i))) (sym r.1.1) ∙ none)
+    ∙ ap (λ i. Some (step.Advance i)) (sym r.1.1)
 
-pub moved_later : {Q : Type 0} (s : QuorumSystem Q) (x : NodeState Q) (cs : List (CallState Q)) (k : ℕ) (id : CallId) → Some id ≡ id_of x.name (number_in (slice_get cs k)) → is_some (refusal_of s x (change.Advance id)) ≡ true → moved_first s x (drop (k + 1) cs) ≡ moved_first s x (drop k cs)
+pub moved_later : {Q : Type 0} (s : QuorumSystem Q) (x : NodeState Q) (cs : List (CallState Q)) (k : ℕ) (id : CallId) → Some id ≡ id_of x.name (number_in (slice_get cs k)) → is_some (refusal_of s x (change.Advance id)) ≡ true
+    → first_of s x (map (advance x.name) (drop (k + 1) cs)) ≡ first_of s x (map (advance x.name) (drop k cs))
 moved_later s x cs k id there some =
     let r = at_first x.name cs k id there in
-    ap (λ n. moved_first s x (drop n cs)) (add-one k)
-    ∙ sym (ap (moved_first s x) r.1.0 ∙ ap (λ i. chosen (refusal_of s x (change.Advance i)) i (moved_first s x (drop (suc k) cs))) (sym r.1.1) ∙ passed (refusal_of s x (change.Advance id)) id (moved_first s x (drop (suc k) cs)) some)
+    ap (λ n. first_of s x (map (advance x.name) (drop n cs))) (add-one k)
+    ∙ sym (ap (λ cs. first_of s x (map (advance x.name) cs)) r.1.0
+    ∙ passed s x (advance x.name r.0) (map (advance x.name) (drop (suc k) cs)) (ap (λ i. is_some (refusal_of s x (change.Advance i))) (sym r.1.1) ∙ some))
 
 pub there_is : {Q : Type 0} (name : ℕ) (cs : List (CallState Q)) (k : ℕ) → k < length cs → None ≡ id_of name (number_in (slice_get cs k)) → ⊥
 there_is name [] k lt e = omega (arith, lt)
 there_is name (c ∷ cs) zero lt e = none-some (record { name = name; number = c.number }) e
 there_is name (c ∷ cs) (suc k) lt e = there_is name cs k (omega (arith, lt)) e
 
-pub moved_none : {Q : Type 0} (s : QuorumSystem Q) (x : NodeState Q) (cs : List (CallState Q)) (k : ℕ) → length cs ≤ k → moved_first s x (drop k cs) ≡ None
+pub moved_none : {Q : Type 0} (s : QuorumSystem Q) (x : NodeState Q) (cs : List (CallState Q)) (k : ℕ) → length cs ≤ k → first_of s x (map (advance x.name) (drop k cs)) ≡ None
 moved_none s x [] zero e = refl
 moved_none s x [] (suc k) e = refl
 moved_none s x (c ∷ cs) zero e = absurd (omega (arith, e))

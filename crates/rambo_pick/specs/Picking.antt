@@ -1,9 +1,8 @@
 -- What a node does first of what it may do by itself, by its own judgement
-use Rattle.std.specs.Prelude.{ℕ, List, [], ◌∷◌, Option, None, Some}
-use Rattle.rambo_names.specs.declared.refusal.Refusal.{Refusal}
+use Rattle.std.specs.Prelude.{ℕ, Bool, is_none, find, List, [], ◌∷◌, ◌++◌, map, Option, option_map}
 use Rattle.rambo_names.specs.Quorums.{QuorumSystem}
-use Rattle.rambo_history.specs.declared.event.CallId.{CallId}
 use Rattle.rambo_calls.specs.Calls.{CallState}
+use Rattle.rambo_node.specs.declared.change.Change.{Change}
 use Rattle.rambo_node.specs.declared.change.Change.TheVariants as change
 use Rattle.rambo_node.specs.Changes.{refusal_of}
 use Rattle.rambo_node.specs.Nodes.{NodeState}
@@ -11,37 +10,29 @@ use Rattle.rambo_run.specs.declared.step.Step.{Step}
 use Rattle.rambo_run.specs.declared.step.Step.TheVariants as step
 use Rattle.rambo_deeds.specs.declared.mail.Mail.{Mail}
 
--- this one, unless it is refused
-abbrev pub chosen : {A : Type 0} → Option Refusal → A → Option A → Option A
-chosen None a rest = Some a
-chosen (Some r) a rest = rest
+-- a step that a node may do by itself, and the change that it means
+pub record Candidate (Q : Type 0) : Type 0 where
+  pub step : Step Q
+  pub change : Change Q
 
--- the first letter of a tray that a node doesn't refuse
-abbrev pub heard_first : {Q : Type 0} → QuorumSystem Q → NodeState Q → List (Mail Q) → Option ℕ
-heard_first s x [] = None
-heard_first s x (m ∷ ms) = chosen (refusal_of s x (change.Deliver m.letter)) m.number (heard_first s x ms)
+abbrev pub delivery : {Q : Type 0} → Mail Q → Candidate Q
+delivery m = record { step = step.Deliver m.number; change = change.Deliver m.letter }
 
--- the first of these calls that a node lets go on
-abbrev pub moved_first : {Q : Type 0} → QuorumSystem Q → NodeState Q → List (CallState Q) → Option CallId
-moved_first s x [] = None
-moved_first s x (c ∷ cs) = chosen (refusal_of s x (change.Advance (record { name = x.name; number = c.number }))) (record { name = x.name; number = c.number }) (moved_first s x cs)
+abbrev pub advance : {Q : Type 0} → ℕ → CallState Q → Candidate Q
+advance name c = record { step = step.Advance (record { name = name; number = c.number }); change = change.Advance (record { name = name; number = c.number }) }
 
-abbrev pub or_then : {A : Type 0} → Option A → Option A → Option A
-or_then None b = b
-or_then (Some a) b = Some a
+abbrev pub of_configurations : {Q : Type 0} → ℕ → List (Candidate Q)
+of_configurations name =
+    record { step = step.AdvanceCollect name; change = change.AdvanceCollect } ∷ record { step = step.AdvanceRecon name; change = change.AdvanceRecon } ∷ []
 
-abbrev pub delivery_of : {Q : Type 0} → Option ℕ → Option (Step Q)
-delivery_of None = None
-delivery_of (Some n) = Some (step.Deliver n)
+-- of a node that has this tray: each letter comes, the oldest first; each open call goes on, the oldest first; its
+-- collection goes on; its attempt goes on
+abbrev pub candidates : {Q : Type 0} → NodeState Q → List (Mail Q) → List (Candidate Q)
+candidates x tray = map delivery tray ++ (map (advance x.name) x.calls ++ of_configurations x.name)
 
-abbrev pub advance_of : {Q : Type 0} → Option CallId → Option (Step Q)
-advance_of None = None
-advance_of (Some id) = Some (step.Advance id)
+abbrev pub is_accepted : {Q : Type 0} → QuorumSystem Q → NodeState Q → Candidate Q → Bool
+is_accepted s x c = is_none (refusal_of s x c.change)
 
--- the collection of a node, or its attempt, if it doesn't refuse to go on with it
-abbrev pub turned_first : {Q : Type 0} → QuorumSystem Q → ℕ → NodeState Q → Option (Step Q)
-turned_first s name x = chosen (refusal_of s x change.AdvanceCollect) (step.AdvanceCollect name) (chosen (refusal_of s x change.AdvanceRecon) (step.AdvanceRecon name) None)
-
--- what the node of a name does first, by its own judgement
-abbrev pub own_first : {Q : Type 0} → QuorumSystem Q → ℕ → NodeState Q → List (Mail Q) → Option (Step Q)
-own_first s name x tray = or_then (delivery_of (heard_first s x tray)) (or_then (advance_of (moved_first s x x.calls)) (turned_first s name x))
+-- the step of the first of these that a node doesn't refuse
+abbrev pub first_of : {Q : Type 0} → QuorumSystem Q → NodeState Q → List (Candidate Q) → Option (Step Q)
+first_of {Q} s x cs = option_map (λ (c : Candidate Q). c.step) (find (is_accepted s x) cs)

@@ -1,22 +1,21 @@
 //! What a node does first of what it may do by itself.
-ghost use Rattle.std.specs.Prelude.{◌≡◌};
+ghost use Rattle.std.specs.Prelude.{◌≡◌, map, option_map};
 ghost use Rattle.rambo_node.specs.Changes.{refusal_of};
 ghost use Rattle.rambo_node.specs.declared.change.Change.TheVariants as change;
-ghost use Rattle.rambo_pick.specs.Picking.{heard_first, moved_first, turned_first, own_first};
+ghost use Rattle.rambo_pick.specs.Picking.{first_of, candidates, delivery, advance, of_configurations};
 
-use rambo_deeds::{Mail, Worker};
-use rambo_gossip::Letter;
+use rambo_deeds::{Mail, SharedLetter, Worker, may_hear};
 use rambo_history::CallId;
-use rambo_names::{Name, Quorums, Refusal};
+use rambo_names::{Quorums, Refusal};
 use rambo_node::{Change, Node};
 use rambo_run::Step;
 use rambo_tag::Replica;
 
 // Why a node doesn't hear a letter, if it doesn't.
-fn unheard<Q: Quorums, S: Replica>(node: &Node<Q, S>, letter: &Letter<Q>) -> Option<Refusal>
+fn unheard<Q: Quorums, S: Replica>(node: &Node<Q, S>, letter: &SharedLetter<Q>) -> Option<Refusal>
     ensures { result ≡ refusal_of Q.system node.now (change.Deliver letter.now) }
 {
-    match node.may_hear(letter) {
+    match may_hear(node, letter) {
         Ok(()) => None,
         Err(refusal) => Some(refusal),
     }
@@ -44,11 +43,11 @@ fn refused<Q: Quorums, S: Replica>(node: &Node<Q, S>, change: &Change<Q>) -> Opt
 
 // The first letter that the node hears.
 fn heard_first<Q: Quorums, S: Replica>(node: &Node<Q, S>, tray: &[Mail<Q>]) -> Option<u64>
-    ensures { result ≡ heard_first Q.system node.now tray.now }
+    ensures { option_map Step.Deliver result ≡ first_of Q.system node.now (map delivery tray.now) }
 {
     let mut rest = tray;
     while let Some((mail, others)) = rest.split_first() {
-        if unheard(node, mail.letter.get()).is_none() {
+        if unheard(node, &mail.letter).is_none() {
             return Some(mail.number);
         }
         rest = others;
@@ -58,7 +57,7 @@ fn heard_first<Q: Quorums, S: Replica>(node: &Node<Q, S>, tray: &[Mail<Q>]) -> O
 
 // The first open call that goes on.
 fn moved_first<Q: Quorums, S: Replica>(node: &Node<Q, S>) -> Option<CallId>
-    ensures { result ≡ moved_first Q.system node.now node.now.calls }
+    ensures { option_map Step.Advance result ≡ first_of Q.system node.now (map (advance node.now.name) node.now.calls) }
 {
     for place in 0..node.count_calls() {
         let Some(id) = node.call_at(place) else {
@@ -72,29 +71,28 @@ fn moved_first<Q: Quorums, S: Replica>(node: &Node<Q, S>) -> Option<CallId>
 }
 
 // The collection of a node, or its attempt, if it goes on.
-fn turned_first<Q: Quorums, S: Replica>(worker: &Worker<Q, S>, name: Name) -> Option<Step<Q>>
-    ensures { result ≡ turned_first Q.system name worker.now }
+fn turned_first<Q: Quorums, S: Replica>(worker: &Worker<Q, S>) -> Option<Step<Q>>
+    ensures { result ≡ first_of Q.system worker.now (of_configurations worker.now.name) }
 {
     let node = worker.node();
     if refused(node, &Change::AdvanceCollect).is_none() {
-        return Some(Step::AdvanceCollect(name));
+        return Some(Step::AdvanceCollect(node.name()));
     }
     if refused(node, &Change::AdvanceRecon).is_none() {
-        return Some(Step::AdvanceRecon(name));
+        return Some(Step::AdvanceRecon(node.name()));
     }
     None
 }
 
-/// What the node of this name that has this tray does by itself: it hears the first letter of the tray that it doesn't refuse,
-/// or else goes on with its first open call that goes on, or with its collection, or with its attempt.
+/// What a node that has this tray does by itself: the first that it doesn't refuse of the delivery of each letter in the tray,
+/// the oldest first, the advance of each open call, the oldest first, and the advances of its collection and its attempt.
 ///
 /// It takes no memory.
 pub fn first_step<Q: Quorums, S: Replica>(
     worker: &Worker<Q, S>,
-    name: Name,
     tray: &[Mail<Q>],
 ) -> Option<Step<Q>>
-    ensures { result ≡ own_first Q.system name worker.now tray.now }
+    ensures { result ≡ first_of Q.system worker.now (candidates worker.now tray.now) }
 {
     let node = worker.node();
     if let Some(number) = heard_first(node, tray) {
@@ -103,5 +101,5 @@ pub fn first_step<Q: Quorums, S: Replica>(
     if let Some(id) = moved_first(node) {
         return Some(Step::Advance(id));
     }
-    turned_first(worker, name)
+    turned_first(worker)
 }

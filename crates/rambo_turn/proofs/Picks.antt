@@ -1,9 +1,7 @@
 -- What a keeper's node says of the steps that it may do by itself is what the run of what it saw says
-use Rattle.std.proofs.Common.{◌≡◌, ℕ, suc, List, [], ◌∷◌, ◌++◌, All, Option, None, Some, refl, sym, ap, ◌∙◌, arith}
-use Rattle.rambo_names.specs.declared.refusal.Refusal.{Refusal}
+use Rattle.std.proofs.Common.{◌≡◌, ℕ, suc, Bool, true, false, cond, List, [], ◌∷◌, ◌++◌, map, find, All, Option, None, Some, is_none, option_map, refl, sym, ap, ◌∙◌, arith}
 use Rattle.rambo_names.specs.Quorums.{QuorumSystem}
 use Rattle.rambo_names.specs.Refusals.{least}
-use Rattle.rambo_history.specs.declared.event.CallId.{CallId}
 use Rattle.rambo_calls.specs.Calls.{CallState}
 use Rattle.rambo_node.specs.declared.change.Change.TheVariants as change
 use Rattle.rambo_node.specs.Changes.{refusal_of}
@@ -16,113 +14,95 @@ use Rattle.rambo_run.proofs.Lists.{some_inj}
 use Rattle.rambo_deeds.specs.declared.mail.Mail.{Mail}
 use Rattle.std.specs.Prelude.{IfSome}
 use Rattle.rambo_book.specs.Kept.{IsMailOf, IsServedBy}
-use Rattle.rambo_pick.specs.Picking.{chosen, heard_first, moved_first, or_then, delivery_of, advance_of, own_first}
-use Rattle.rambo_turn.specs.Turns.{first_of, deliveries, advances, candidates}
+use Rattle.rambo_pick.specs.Picking as pick
+use Rattle.rambo_pick.specs.Picking.{Candidate, candidates, advance, of_configurations, is_accepted}
+use Rattle.rambo_turn.specs.Turns.{first_of, steps_of}
 use Rattle.rambo_book.proofs.Judging.{refusal_is}
 use Rattle.rambo_book.proofs.Standing.{verdict_alike, short_here}
 
-chosen_then : {A : Type 0} (o : Option Refusal) (a : A) (b c : Option A) → chosen o a (or_then b c) ≡ or_then (chosen o a b) c
-chosen_then None a b c = refl
-chosen_then (Some r) a b c = refl
+-- each of a list
+abbrev pub Each : {A : Type 0} → (A → Type 0) → List A → Type 0
+Each P [] = Unit {0}
+Each P (a ∷ more) = P a × Each P more
 
-chosen_delivery : {Q : Type 0} (o : Option Refusal) (n : ℕ) (rest : Option ℕ) → chosen {A = Step Q} o (step.Deliver n) (delivery_of rest) ≡ delivery_of (chosen o n rest)
-chosen_delivery None n rest = refl
-chosen_delivery (Some r) n rest = refl
+each_append : {A : Type 0} (P : A → Type 0) (xs ys : List A) → Each P xs → Each P ys → Each P (xs ++ ys)
+each_append P [] ys a b = b
+each_append P (x ∷ xs) ys a b = (a.0, each_append P xs ys a.1 b)
 
-chosen_advance : {Q : Type 0} (o : Option Refusal) (id : CallId) (rest : Option CallId) → chosen {A = Step Q} o (step.Advance id) (advance_of rest) ≡ advance_of (chosen o id rest)
-chosen_advance None id rest = refl
-chosen_advance (Some r) id rest = refl
+each_delivery : {Q : Type 0} (P : Candidate Q → Type 0) (M : Mail Q → Type 0) (tray : List (Mail Q)) → All M tray → ((m : Mail Q) → M m → P (pick.delivery m)) → Each P (map pick.delivery tray)
+each_delivery P M [] all h = tt
+each_delivery P M (m ∷ ms) all h = (h m (all 0 m (omega arith)), each_delivery P M ms (λ k d lt. all (suc k) d (omega (arith, lt))) h)
 
-first_append : {Q : Type 0} (s : QuorumSystem Q) (w : WorldState Q) (xs ys : List (Step Q)) → first_of s w (xs ++ ys) ≡ or_then (first_of s w xs) (first_of s w ys)
-first_append s w [] ys = refl
-first_append s w (x ∷ xs) ys = ap (chosen (refusal s w x) x) (first_append s w xs ys) ∙ chosen_then (refusal s w x) x (first_of s w xs) (first_of s w ys)
+each_advance : {Q : Type 0} (P : Candidate Q → Type 0) (name : ℕ) (cs : List (CallState Q)) → ((c : CallState Q) → P (advance name c)) → Each P (map (advance name) cs)
+each_advance P name [] h = tt
+each_advance P name (c ∷ cs) h = (h c, each_advance P name cs h)
 
--- a world in which the node of a name is this one
-module _ {Q : Type 0} (s : QuorumSystem Q) (w : WorldState Q) (name : ℕ) (x : NodeState Q) (here : node_at w name ≡ Some x) where
-  hears : (m : Mail Q) → IsMailOf w name m → refusal s w (step.Deliver m.number) ≡ refusal_of s x (change.Deliver m.letter)
+-- each of what a node may do by itself
+pub each_candidate : {Q : Type 0} (P : Candidate Q → Type 0) (M : Mail Q → Type 0) (x : NodeState Q) (tray : List (Mail Q)) → All M tray → ((m : Mail Q) → M m → P (pick.delivery m)) → ((c : CallState Q) → P (advance x.name c))
+    → P (record { step = step.AdvanceCollect x.name; change = change.AdvanceCollect }) → P (record { step = step.AdvanceRecon x.name; change = change.AdvanceRecon }) → Each P (candidates x tray)
+each_candidate P M x tray all hears moves collects bids =
+    each_append P (map pick.delivery tray) (map (advance x.name) x.calls ++ of_configurations x.name) (each_delivery P M tray all hears)
+    (each_append P (map (advance x.name) x.calls) (of_configurations x.name) (each_advance P x.name x.calls moves) (collects, (bids, tt)))
+
+-- what is first of steps, where the node says of each what the run says
+mapped : {A B : Type 0} (test : Bool) (f : A → B) (a : A) (o : Option A) → cond test (Some (f a)) (option_map f o) ≡ option_map f (cond test (Some a) o)
+mapped true f a o = refl
+mapped false f a o = refl
+
+first_alike : {Q : Type 0} (s : QuorumSystem Q) (w : WorldState Q) (x : NodeState Q) (cs : List (Candidate Q)) → Each (λ (c : Candidate Q). refusal s w c.step ≡ refusal_of s x c.change) cs
+    → first_of s w (map (λ (c : Candidate Q). c.step) cs) ≡ pick.first_of s x cs
+first_alike s w x [] alike = refl
+first_alike s w x (c ∷ cs) alike =
+    ap (λ o. cond (is_none o) (Some c.step) (first_of s w (map (λ (c : Candidate _). c.step) cs))) alike.0
+    ∙ ap (cond (is_accepted s x c) (Some c.step)) (first_alike s w x cs alike.1)
+    ∙ mapped (is_accepted s x c) (λ (c : Candidate _). c.step) c (find (is_accepted s x) cs)
+
+found_has : {A : Type 0} (P : A → Type 0) (test : Bool) (a : A) (rest : Option A) → P a → IfSome rest P → IfSome (cond test (Some a) rest) P
+found_has P true a rest p h = p
+found_has P false a rest p h = h
+
+first_has : {Q : Type 0} (s : QuorumSystem Q) (w : WorldState Q) (P : Step Q → Type 0) (cs : List (Candidate Q)) → Each (λ (c : Candidate Q). P c.step) cs → IfSome (first_of s w (map (λ (c : Candidate Q). c.step) cs)) P
+first_has s w P [] a = tt
+first_has s w P (c ∷ cs) a = found_has P (is_none (refusal s w c.step)) c.step (first_of s w (map (λ (c : Candidate _). c.step) cs)) a.0 (first_has s w P cs a.1)
+
+pub first_each : {Q : Type 0} (s : QuorumSystem Q) (w : WorldState Q) (P : Step Q → Type 0) (x : NodeState Q) (tray : List (Mail Q)) → Each (λ (c : Candidate Q). P c.step) (candidates x tray) → IfSome (first_of s w (steps_of x tray)) P
+first_each s w P x tray = first_has s w P (candidates x tray)
+
+-- a world in which the node of its name is this one
+module _ {Q : Type 0} (s : QuorumSystem Q) (w : WorldState Q) (x : NodeState Q) (here : node_at w x.name ≡ Some x) where
+  hears : (m : Mail Q) → IsMailOf w x.name m → refusal s w (step.Deliver m.number) ≡ refusal_of s x (change.Deliver m.letter)
   hears m is =
       refusal_is s w (step.Deliver m.number)
       ∙ ap (λ o. least (causes_of s w (delivery o))) is.1
       ∙ ap (λ n. least (causes_at s (node_at w n) (change.Deliver is.0))) is.3
       ∙ ap (λ o. least (causes_at s o (change.Deliver is.0))) here
-      ∙ sym (verdict_alike s x m.letter is.0 (short_here w name x here m.letter is.0 is.2 is.3))
+      ∙ sym (verdict_alike s x m.letter is.0 (short_here w x.name x here m.letter is.0 is.2 is.3))
 
-  moves : (id : CallId) → id.name ≡ name → refusal s w (step.Advance id) ≡ refusal_of s x (change.Advance id)
-  moves id own = refusal_is s w (step.Advance id) ∙ ap (λ n. least (causes_at s (node_at w n) (change.Advance id))) own ∙ ap (λ o. least (causes_at s o (change.Advance id))) here
+  moves : (c : CallState Q) → refusal s w (advance x.name c).step ≡ refusal_of s x (advance x.name c).change
+  moves c = refusal_is s w (advance x.name c).step ∙ ap (λ o. least (causes_at s o (advance x.name c).change)) here
 
-  pub collects : refusal s w (step.AdvanceCollect name) ≡ refusal_of s x change.AdvanceCollect
-  collects = refusal_is s w (step.AdvanceCollect name) ∙ ap (λ o. least (causes_at s o change.AdvanceCollect)) here
+  collects : refusal s w (step.AdvanceCollect x.name) ≡ refusal_of s x change.AdvanceCollect
+  collects = refusal_is s w (step.AdvanceCollect x.name) ∙ ap (λ o. least (causes_at s o change.AdvanceCollect)) here
 
-  pub bids : refusal s w (step.AdvanceRecon name) ≡ refusal_of s x change.AdvanceRecon
-  bids = refusal_is s w (step.AdvanceRecon name) ∙ ap (λ o. least (causes_at s o change.AdvanceRecon)) here
+  bids : refusal s w (step.AdvanceRecon x.name) ≡ refusal_of s x change.AdvanceRecon
+  bids = refusal_is s w (step.AdvanceRecon x.name) ∙ ap (λ o. least (causes_at s o change.AdvanceRecon)) here
 
-  delivered : (tray : List (Mail Q)) → All (IsMailOf w name) tray → first_of s w (deliveries tray) ≡ delivery_of (heard_first s x tray)
-  delivered [] all = refl
-  delivered (m ∷ ms) all =
-      let rest : All (IsMailOf w name) ms = λ k d lt. all (suc k) d (omega (arith, lt)) in
-      let own : IsMailOf w name m = all 0 m (omega arith) in
-      ap (λ o. chosen o (step.Deliver m.number) (first_of s w (deliveries ms))) (hears m own)
-      ∙ ap (chosen (refusal_of s x (change.Deliver m.letter)) (step.Deliver m.number)) (delivered ms rest)
-      ∙ chosen_delivery (refusal_of s x (change.Deliver m.letter)) m.number (heard_first s x ms)
-
-  moved : x.name ≡ name → (cs : List (CallState Q)) → first_of s w (advances name cs) ≡ advance_of (moved_first s x cs)
-  moved own [] = refl
-  moved own (c ∷ cs) =
-      let id : CallId = record { name = x.name; number = c.number } in
-      ap (λ n. chosen (refusal s w (step.Advance (record { name = n; number = c.number }))) (step.Advance (record { name = n; number = c.number })) (first_of s w (advances name cs))) (sym own)
-      ∙ ap (λ o. chosen o (step.Advance id) (first_of s w (advances name cs))) (moves id own)
-      ∙ ap (chosen (refusal_of s x (change.Advance id)) (step.Advance id)) (moved own cs)
-      ∙ chosen_advance (refusal_of s x (change.Advance id)) id (moved_first s x cs)
-
-  pub first_is : x.name ≡ name → (tray : List (Mail Q)) → All (IsMailOf w name) tray → first_of s w (candidates name x tray) ≡ own_first s name x tray
-  first_is own tray all =
-      let two = step.AdvanceCollect name ∷ step.AdvanceRecon name ∷ [] in
-      first_append s w (deliveries tray) (advances name x.calls ++ two)
-      ∙ ap (λ o. or_then o (first_of s w (advances name x.calls ++ two))) (delivered tray all)
-      ∙ ap (or_then (delivery_of (heard_first s x tray)))
-      (first_append s w (advances name x.calls) two
-      ∙ ap (λ o. or_then o (first_of s w two)) (moved own x.calls)
-      ∙ ap (λ o. or_then (advance_of (moved_first s x x.calls)) (chosen o (step.AdvanceCollect name) (chosen (refusal s w (step.AdvanceRecon name)) (step.AdvanceRecon name) None))) collects
-      ∙ ap (λ o. or_then (advance_of (moved_first s x x.calls)) (chosen (refusal_of s x change.AdvanceCollect) (step.AdvanceCollect name) (chosen o (step.AdvanceRecon name) None))) bids)
-
--- each of these steps
-abbrev pub Each : {Q : Type 0} → (Step Q → Type 0) → List (Step Q) → Type 0
-Each P [] = Unit {0}
-Each P (st ∷ sts) = P st × Each P sts
-
-pub each_append : {Q : Type 0} (P : Step Q → Type 0) (xs ys : List (Step Q)) → Each P xs → Each P ys → Each P (xs ++ ys)
-each_append P [] ys a b = b
-each_append P (x ∷ xs) ys a b = (a.0, each_append P xs ys a.1 b)
-
-chosen_has : {Q : Type 0} (P : Step Q → Type 0) (o : Option Refusal) (st : Step Q) (rest : Option (Step Q)) → P st → IfSome rest P → IfSome (chosen o st rest) P
-chosen_has P None st rest p h = p
-chosen_has P (Some r) st rest p h = h
-
-pub first_has : {Q : Type 0} (s : QuorumSystem Q) (w : WorldState Q) (P : Step Q → Type 0) (sts : List (Step Q)) → Each P sts → IfSome (first_of s w sts) P
-first_has s w P [] a = tt
-first_has s w P (st ∷ sts) a = chosen_has P (refusal s w st) st (first_of s w sts) a.0 (first_has s w P sts a.1)
+  pub first_is : (tray : List (Mail Q)) → All (IsMailOf w x.name) tray → first_of s w (steps_of x tray) ≡ pick.first_of s x (candidates x tray)
+  first_is tray all = first_alike s w x (candidates x tray) (each_candidate (λ (c : Candidate Q). refusal s w c.step ≡ refusal_of s x c.change) (IsMailOf w x.name) x tray all hears moves collects bids)
 
 -- what a keeper may pick is of its own node
-module _ {Q : Type 0} (w : WorldState Q) (name : ℕ) where
-  named_by : (st : Step Q) (m : Meant Q) → meant w st ≡ Some m → m.name ≡ name → IsServedBy w st name
+module _ {Q : Type 0} (w : WorldState Q) (x : NodeState Q) where
+  named_by : (st : Step Q) (m : Meant Q) → meant w st ≡ Some m → m.name ≡ x.name → IsServedBy w st x.name
   named_by st m is own = λ n e. ap (λ (m : Meant _). m.name) (some_inj n m (sym e ∙ is)) ∙ own
 
-  served_mail : (tray : List (Mail Q)) → All (IsMailOf w name) tray → Each (λ st. IsServedBy w st name) (deliveries tray)
-  served_mail [] all = tt
-  served_mail (m ∷ ms) all =
-      let own : IsMailOf w name m = all 0 m (omega arith) in
-      (named_by (step.Deliver m.number) (record { name = own.0.addressee; change = change.Deliver own.0 }) (ap delivery own.1) own.3, served_mail ms (λ k d lt. all (suc k) d (omega (arith, lt))))
+  served_letter : (m : Mail Q) → IsMailOf w x.name m → IsServedBy w (step.Deliver m.number) x.name
+  served_letter m own = named_by (step.Deliver m.number) (record { name = own.0.addressee; change = change.Deliver own.0 }) (ap delivery own.1) own.3
 
-  served_calls : (cs : List (CallState Q)) → Each (λ st. IsServedBy w st name) (advances name cs)
-  served_calls [] = tt
-  served_calls (c ∷ cs) =
-      let id : CallId = record { name = name; number = c.number } in
-      (named_by (step.Advance id) (record { name = name; change = change.Advance id }) refl refl, served_calls cs)
+  served_call : (c : CallState Q) → IsServedBy w (advance x.name c).step x.name
+  served_call c = named_by (advance x.name c).step (record { name = x.name; change = (advance x.name c).change }) refl refl
 
-  pub first_served : (s : QuorumSystem Q) (x : NodeState Q) (tray : List (Mail Q)) → All (IsMailOf w name) tray → IfSome (first_of s w (candidates name x tray)) (λ st. IsServedBy w st name)
-  first_served s x tray all =
-      let P = λ (st : Step Q). IsServedBy w st name in
-      first_has s w P (candidates name x tray)
-      (each_append P (deliveries tray) (advances name x.calls ++ step.AdvanceCollect name ∷ step.AdvanceRecon name ∷ []) (served_mail tray all)
-      (each_append P (advances name x.calls) (step.AdvanceCollect name ∷ step.AdvanceRecon name ∷ []) (served_calls x.calls)
-      (named_by (step.AdvanceCollect name) (record { name = name; change = change.AdvanceCollect }) refl refl, (named_by (step.AdvanceRecon name) (record { name = name; change = change.AdvanceRecon }) refl refl, tt))))
+  pub first_served : (s : QuorumSystem Q) (tray : List (Mail Q)) → All (IsMailOf w x.name) tray → IfSome (first_of s w (steps_of x tray)) (λ st. IsServedBy w st x.name)
+  first_served s tray all =
+      first_each s w (λ st. IsServedBy w st x.name) x tray
+      (each_candidate (λ (c : Candidate Q). IsServedBy w c.step x.name) (IsMailOf w x.name) x tray all served_letter served_call
+      (named_by (step.AdvanceCollect x.name) (record { name = x.name; change = change.AdvanceCollect }) refl refl) (named_by (step.AdvanceRecon x.name) (record { name = x.name; change = change.AdvanceRecon }) refl refl))

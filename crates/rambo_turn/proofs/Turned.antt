@@ -1,10 +1,9 @@
 -- What a keeper may do by itself, and what its turn comes to
-use Rattle.std.proofs.Common.{◌≡◌, ◌≢◌, ◌⊎◌, inl, inr, ℕ, ◌<◌, List, [], ◌∷◌, ◌++◌, length, Option, None, Some, Result, Ok, Err, OnErr, IfOk, IfErr, IfSome, refl, sym, ap, ◌∙◌, subst}
+use Rattle.std.proofs.Common.{◌≡◌, ◌≢◌, ◌⊎◌, inl, inr, ℕ, ◌<◌, Bool, true, false, cond, List, [], ◌∷◌, ◌++◌, find, length, Option, None, Some, is_none, Result, Ok, Err, OnErr, IfOk, IfErr, IfSome, refl, sym, ap, ◌∙◌, subst}
 use Rattle.rambo_names.specs.declared.refusal.Refusal.{Refusal}
 use Rattle.rambo_names.specs.declared.refusal.Refusal.TheVariants.{OutOfMemory}
 use Rattle.rambo_names.specs.Quorums.{QuorumSystem}
 use Rattle.rambo_history.specs.declared.operation.Op.{Op}
-use Rattle.rambo_calls.specs.Calls.{CallState}
 use Rattle.rambo_node.specs.Nodes.{NodeState}
 use Rattle.rambo_run.specs.declared.step.Step.{Step}
 use Rattle.rambo_run.specs.declared.step.Step.TheVariants as step
@@ -16,25 +15,29 @@ use Rattle.rambo_deeds.specs.declared.mail.Mail.{Mail}
 use Rattle.rambo_turn.specs.declared.turn.Turn.{Turn}
 use Rattle.rambo_book.specs.Kept.{BookView, KeeperView, Told, state}
 use Rattle.rambo_book.specs.Mailing.{AreTaken, all_for}
-use Rattle.rambo_pick.specs.Picking.{chosen}
-use Rattle.rambo_turn.specs.Turns.{first_of, deliveries, advances, candidates, cleared, next_of, HasDone, CannotDo, mailed, informed, IsTurn, IsRefusedTurn}
-use Rattle.rambo_turn.proofs.Picks.{Each, each_append, first_has}
+use Rattle.rambo_pick.specs.Picking.{Candidate}
+use Rattle.rambo_turn.specs.Turns.{first_of, steps_of, cleared, next_of, HasDone, CannotDo, mailed, informed, IsTurn, IsRefusedTurn}
+use Rattle.rambo_turn.proofs.Picks.{each_candidate, first_each}
 
-chosen_is : {A : Type 0} (o : Option Refusal) (a b : A) (rest : Option A) → chosen o a rest ≡ Some b → ((o ≡ None) × (a ≡ b)) ⊎ (rest ≡ Some b)
-chosen_is None a b rest e = inl (refl, some_inj a b e)
-chosen_is (Some r) a b rest e = inr e
+found_here : {A : Type 0} (test : A → Bool) (t : Bool) (x a : A) (rest : Option A) → test x ≡ t → (rest ≡ Some a → test a ≡ true) → cond t (Some x) rest ≡ Some a → test a ≡ true
+found_here test true x a rest is h e = ap test (sym (some_inj x a e)) ∙ is
+found_here test false x a rest is h e = h e
+
+found_accepted : {A : Type 0} (test : A → Bool) (xs : List A) (a : A) → find test xs ≡ Some a → test a ≡ true
+found_accepted test [] a e = absurd (none-some a e)
+found_accepted test (x ∷ xs) a e = found_here test (test x) x a (find test xs) refl (found_accepted test xs a) e
+
+none_where : {A : Type 0} (o : Option A) → is_none o ≡ true → o ≡ None
+none_where None e = refl
+none_where (Some a) e = absurd cc
 
 -- what comes first isn't refused
 pub first_accepted : {Q : Type 0} (s : QuorumSystem Q) (w : WorldState Q) (sts : List (Step Q)) (st : Step Q) → first_of s w sts ≡ Some st → refusal s w st ≡ None
-first_accepted s w [] st e = absurd (none-some st e)
-first_accepted s w (x ∷ xs) st e = elim (chosen_is (refusal s w x) x st (first_of s w xs) e) [
-  | inl h ↦ ap (refusal s w) (sym h.1) ∙ h.0
-  | inr rest ↦ first_accepted s w xs st rest
-]
+first_accepted s w sts st e = none_where (refusal s w st) (found_accepted (λ st. is_none (refusal s w st)) sts st e)
 
 -- a next step that is refused is refused by the book alone
 pub cannot_do : {Q : Type 0} (s : QuorumSystem Q) (b : BookView Q) (k : KeeperView Q) (st : Step Q) (e : Refusal) → next_of s b k ≡ Some st → Told (refusal s (state s b) st) (length b.steps) b.capacity e → CannotDo s b k e
-cannot_do s b k st e first told = (st, first, subst (λ o. Told o (length b.steps) b.capacity e) (first_accepted s (state s b) (candidates k.name k.node k.tray) st first) told)
+cannot_do s b k st e first told = (st, first, subst (λ o. Told o (length b.steps) b.capacity e) (first_accepted s (state s b) (steps_of k.node k.tray) st first) told)
 
 -- a step that delivers no letter leaves a tray as it is
 pub cleared_other : {Q : Type 0} (tray : List (Mail Q)) (st : Step Q) → ((number : ℕ) → st ≡ step.Deliver number → ⊥) → cleared tray st ≡ tray
@@ -56,23 +59,13 @@ pub record IsQuiet {Q : Type 0} (st : Step Q) : Type 0 where
   pub no_call : (name : ℕ) (op : Op) → st ≢ step.Call name op
   pub unsent : sent_by st ≡ []
 
-quiet_deliveries : {Q : Type 0} (tray : List (Mail Q)) → Each IsQuiet (deliveries tray)
-quiet_deliveries [] = tt
-quiet_deliveries (m ∷ ms) = (record { no_call = λ name op e. absurd cc; unsent = refl }, quiet_deliveries ms)
-
-quiet_advances : {Q : Type 0} (name : ℕ) (cs : List (CallState Q)) → Each IsQuiet (advances {Q = Q} name cs)
-quiet_advances name [] = tt
-quiet_advances name (c ∷ cs) = (record { no_call = λ name op e. absurd cc; unsent = refl }, quiet_advances name cs)
-
-quiet_last : {Q : Type 0} (name : ℕ) → Each {Q = Q} IsQuiet (step.AdvanceCollect name ∷ step.AdvanceRecon name ∷ [])
-quiet_last name = (record { no_call = λ name op e. absurd cc; unsent = refl }, (record { no_call = λ name op e. absurd cc; unsent = refl }, tt))
-
-pub first_quiet : {Q : Type 0} (s : QuorumSystem Q) (w : WorldState Q) (name : ℕ) (x : NodeState Q) (tray : List (Mail Q)) (st : Step Q) → first_of s w (candidates name x tray) ≡ Some st → IsQuiet st
-first_quiet s w name x tray st e =
+pub first_quiet : {Q : Type 0} (s : QuorumSystem Q) (w : WorldState Q) (x : NodeState Q) (tray : List (Mail Q)) (st : Step Q) → first_of s w (steps_of x tray) ≡ Some st → IsQuiet st
+first_quiet {Q} s w x tray st e =
+    let quiet = λ (c : Candidate Q). IsQuiet c.step in
     subst (λ o. IfSome o IsQuiet) e
-    (first_has s w IsQuiet (candidates name x tray)
-    (each_append IsQuiet (deliveries tray) (advances name x.calls ++ step.AdvanceCollect name ∷ step.AdvanceRecon name ∷ []) (quiet_deliveries tray)
-    (each_append IsQuiet (advances name x.calls) (step.AdvanceCollect name ∷ step.AdvanceRecon name ∷ []) (quiet_advances name x.calls) (quiet_last name))))
+    (first_each s w IsQuiet x tray
+    (each_candidate quiet (λ m. Unit {0}) x tray (λ k d lt. tt) (λ m own. record { no_call = λ name op e. absurd cc; unsent = refl }) (λ c. record { no_call = λ name op e. absurd cc; unsent = refl })
+    (record { no_call = λ name op e. absurd cc; unsent = refl }) (record { no_call = λ name op e. absurd cc; unsent = refl })))
 
 -- a turn of a keeper that has seen all steps (b, k to c, l), has then taken its mail (to d, m), and has done this
 module _ {Q : Type 0} (s : QuorumSystem Q) (b c d after : BookView Q) (k l m later : KeeperView Q) (see_book : c ≡ b) (see_keeper : l ≡ record k { seen = b.steps })

@@ -1,9 +1,8 @@
 -- What a keeper does by itself: the first step of a list that isn't refused
-use Rattle.std.specs.Prelude.{◌≡◌, ◌⊎◌, ◌<◌, ℕ, List, [], ◌∷◌, ◌++◌, length, Option, None, Some}
+use Rattle.std.specs.Prelude.{◌≡◌, ◌⊎◌, ◌<◌, ℕ, List, [], ◌∷◌, ◌++◌, map, find, length, Option, None, Some, is_none}
 use Rattle.rambo_names.specs.declared.refusal.Refusal.{Refusal}
 use Rattle.rambo_names.specs.declared.refusal.Refusal.TheVariants.{OutOfMemory}
 use Rattle.rambo_names.specs.Quorums.{QuorumSystem}
-use Rattle.rambo_calls.specs.Calls.{CallState}
 use Rattle.rambo_node.specs.Nodes.{NodeState}
 use Rattle.rambo_run.specs.declared.step.Step.{Step}
 use Rattle.rambo_run.specs.declared.step.Step.TheVariants as step
@@ -14,25 +13,15 @@ use Rattle.rambo_turn.specs.declared.turn.Turn.{Turn}
 use Rattle.rambo_turn.specs.declared.turn.Turn.TheVariants as turned
 use Rattle.rambo_book.specs.Kept.{BookView, KeeperView, Told, state}
 use Rattle.rambo_book.specs.Mailing.{without, AreTaken, all_for}
-use Rattle.rambo_pick.specs.Picking.{chosen}
+use Rattle.rambo_pick.specs.Picking.{Candidate, candidates}
 
 -- the first of these steps that isn't refused
 abbrev pub first_of : {Q : Type 0} → QuorumSystem Q → WorldState Q → List (Step Q) → Option (Step Q)
-first_of s w [] = None
-first_of s w (st ∷ sts) = chosen (refusal s w st) st (first_of s w sts)
+first_of {Q} s w sts = find (λ (st : Step Q). is_none (refusal s w st)) sts
 
-abbrev pub deliveries : {Q : Type 0} → List (Mail Q) → List (Step Q)
-deliveries [] = []
-deliveries (m ∷ ms) = step.Deliver m.number ∷ deliveries ms
-
-abbrev pub advances : {Q : Type 0} → ℕ → List (CallState Q) → List (Step Q)
-advances name [] = []
-advances name (c ∷ cs) = step.Advance (record { name = name; number = c.number }) ∷ advances name cs
-
--- of the node of a name, that has this tray: each letter comes, the oldest first; each open call goes on, the oldest
--- first; its collection goes on; its attempt goes on
-abbrev pub candidates : {Q : Type 0} → ℕ → NodeState Q → List (Mail Q) → List (Step Q)
-candidates name x tray = deliveries tray ++ (advances name x.calls ++ step.AdvanceCollect name ∷ step.AdvanceRecon name ∷ [])
+-- the steps that a node that has this tray may do by itself
+abbrev pub steps_of : {Q : Type 0} → NodeState Q → List (Mail Q) → List (Step Q)
+steps_of {Q} x tray = map (λ (c : Candidate Q). c.step) (candidates x tray)
 
 -- a book has a step more
 abbrev pub longer : {Q : Type 0} → BookView Q → Step Q → BookView Q
@@ -55,7 +44,7 @@ cleared tray (step.Stop n) = tray
 
 -- what a keeper that has seen all steps does next, if there is something to do
 abbrev pub next_of : {Q : Type 0} → QuorumSystem Q → BookView Q → KeeperView Q → Option (Step Q)
-next_of s b k = first_of s (state s b) (candidates k.name k.node k.tray)
+next_of s b k = first_of s (state s b) (steps_of k.node k.tray)
 
 -- it did this: its next step, or nothing where there is none
 abbrev pub HasDone : {Q : Type 0} → QuorumSystem Q → BookView Q → BookView Q → KeeperView Q → KeeperView Q → Turn Q → Type 0

@@ -1,7 +1,7 @@
 //! What a keeper does by itself.
 ghost use Rattle.std.specs.Prelude.{◌≡◌, Some};
 ghost use Rattle.rambo_run.specs.Runs.{run};
-ghost use Rattle.rambo_turn.specs.Turns.{first_of, candidates};
+ghost use Rattle.rambo_turn.specs.Turns.{first_of, steps_of};
 
 use rambo_book::{Keeper, Terms};
 use rambo_names::Quorums;
@@ -14,8 +14,8 @@ use rambo_tag::Replica;
 ///
 /// It takes no memory.
 pub fn pick<J: Terms<Q>, Q: Quorums, S: Replica>(keeper: &Keeper<J, Q, S>) -> Option<Step<Q>>
-    ensures { (f : Q) → J.founders ≡ Some f → result ≡ first_of Q.system (run Q.system f keeper.now.seen) (candidates keeper.now.name keeper.now.node keeper.now.tray) }
+    ensures { (f : Q) → J.founders ≡ Some f → result ≡ first_of Q.system (run Q.system f keeper.now.seen) (steps_of keeper.now.node keeper.now.tray) }
 {
     keeper.facts();
-    first_step(keeper.worker(), keeper.name(), keeper.tray())
+    first_step(keeper.worker(), keeper.tray())
 }

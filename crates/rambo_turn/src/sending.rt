@@ -2,6 +2,7 @@
 ghost use Rattle.std.specs.Prelude.{◌≡◌, ◌++◌, ◌∷◌, [], None, length, OnOk, OnErr, IfOk, IfErr};
 ghost use Rattle.rambo_run.specs.Steps.{refusal, turn};
 ghost use Rattle.rambo_book.specs.Kept.{IsServedBy, Told, state};
+ghost use Rattle.rambo_book.specs.Mailing.{waiting_after};
 
 use rambo_book::{Book, Keeper, Terms, commit};
 use rambo_names::{Name, Quorums, Refusal};
@@ -20,7 +21,7 @@ pub fn send_in<J: Terms<Q>, Q: Quorums, S: Replica>(
 ) -> Result<u64, Refusal>
     requires { keeper.old.name ≡ from }
     ensures effect { IfOk result (λ number. Effect.Sent number ≡ (turn (state Q.system book.old) (Step.Send from to)).effect) }
-    ensures book { OnOk result (book.new ≡ record book.old { steps = book.old.steps ++ Step.Send from to ∷ []; waiting = book.new.waiting }) }
+    ensures book { OnOk result (book.new ≡ record book.old { steps = book.old.steps ++ Step.Send from to ∷ []; waiting = waiting_after book.old (to ∷ []) (length (state Q.system book.new).letters) }) }
     ensures same { OnErr result ((book.new ≡ book.old) × (keeper.new ≡ keeper.old)) }
     ensures told { IfErr result (λ r. Told (refusal Q.system (state Q.system book.old) (Step.Send from to)) (length book.old.steps) book.old.capacity r) }
 {

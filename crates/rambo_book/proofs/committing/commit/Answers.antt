@@ -6,9 +6,13 @@ use Rattle.rambo_names.proofs.Sizes.{up_fits, back_fits}
 use Rattle.rambo_run.specs.Actors.{actor}
 use Rattle.rambo_run.specs.Steps.{meant_in}
 use Rattle.rambo_deeds.specs.Deeds.{judged}
-use Rattle.rambo_book.specs.Kept.{BookView, state}
-use Rattle.rambo_book.proofs.Commits.{served_inside, told_outside, book_same, verdict, told_refused, told_full, told_memory, finished_here, book_after, keeper_after}
-use Rattle.rambo_book.proofs.Taking.{unlisted}
+use Rattle.rambo_book.specs.Kept.{BookView, lightened, state}
+use Rattle.rambo_run.specs.Runs.{run}
+use Rattle.rambo_run.specs.Actors.{sent_by}
+use Rattle.rambo_mail.specs.Waiting.{MailState}
+use Rattle.rambo_book.specs.Mailing.{waiting_after}
+use Rattle.rambo_book.proofs.Posting.{same_to, posted_lose, posted_twice, posted_waiting, kept_with}
+use Rattle.rambo_book.proofs.Commits.{counted_light, served_inside, told_outside, book_same, verdict, told_refused, told_full, told_memory, finished_here, book_after, keeper_after}
 use Rattle.rambo_book.proofs.committing.commit.Goals as goal
 
 pub returns-in-Err-clause-same : goal.returns-in-Err-clause-same
@@ -41,7 +45,7 @@ invariant_of-book-in_default-make_room g c =
 
 pub returns-in_default-make_room-clause-same : goal.returns-in_default-make_room-clause-same
 returns-in_default-make_room-clause-same g c = (
-  (λ i. record { founders = c.book.inside.founders; steps = c.make_room.ensures.same.0 i; capacity = c.book.inside.capacity; waiting = c.make_room.ensures.same.4 i }) ∙ c.book.view_is,
+  (λ i. record { founders = c.book.inside.founders; steps = c.make_room.ensures.same.0 i; capacity = c.book.inside.capacity; waiting = (c.make_room.ensures.same.4 i).waiting; lose = (c.make_room.ensures.same.4 i).lose; twice = (c.make_room.ensures.same.4 i).twice }) ∙ c.book.view_is,
   (λ i. record { name = c.keeper.inside.name; node = c.keeper.inside.worker; tray = c.keeper.inside.tray.items; seen = (c.agree.ensures.keeper i).1 }) ∙ c.keeper.view_is,
 )
 
@@ -60,7 +64,7 @@ invariant_of-book-in_default-act g c =
 
 pub returns-in_default-act-clause-same : goal.returns-in_default-act-clause-same
 returns-in_default-act-clause-same g c = (
-  (λ i. record { founders = c.book.inside.founders; steps = c.make_room.ensures.same.0 i; capacity = c.book.inside.capacity; waiting = c.make_room.ensures.same.4 i }) ∙ c.book.view_is,
+  (λ i. record { founders = c.book.inside.founders; steps = c.make_room.ensures.same.0 i; capacity = c.book.inside.capacity; waiting = (c.make_room.ensures.same.4 i).waiting; lose = (c.make_room.ensures.same.4 i).lose; twice = (c.make_room.ensures.same.4 i).twice }) ∙ c.book.view_is,
   (λ i. record { name = c.keeper.inside.name; node = c.in_default-act.ensures.err i; tray = c.keeper.inside.tray.items; seen = (c.agree.ensures.keeper i).1 }) ∙ c.keeper.view_is,
 )
 
@@ -114,10 +118,11 @@ invariant_of-book-2 g c =
     let served = served_inside s _ _ _ _ c.args.step c.book.view_is c.keeper.view_is c.requires in
     let done = finished_here c.book.invariant c.keeper.invariant c.agree.ensures.idle c.args.step served c.as_slice.result.now c.as_slice-3.result.now c.act.new.self c.in-Ok-act.done c.as_slice.ensures.value (c.as_slice-3.ensures.value ∙ room.1) c.in_default.ensures.ok c.in-Ok-act.ensures.node c.in-Ok-act.ensures.done in
     let less : length c.book.inside.steps.items < c.book.inside.capacity = omega (arith, c.if-len-capacity.false, c.len.ensures, c.book.inside.steps.ok.0) in
-    book_after c.book.invariant c.keeper.invariant c.agree.ensures.idle c.args.step served done c.add.new.self.1 c.push_reserved.new.self.items c.push_letter.new.letters.items c.push_event.new.history.events c.push_mark.new.marks.items less
+    book_after c.book.invariant c.keeper.invariant c.agree.ensures.idle c.args.step served done c.add.new.self.1 c.push_reserved.new.self.items c.leave_out_copies.new.letters.items c.push_event.new.history.events c.push_mark.new.marks.items less
+    c.delivered-came.result c.delivered-came.ensures
     (ap (λ r. r.1) c.add.ensures.roll ∙ ap (λ r. r.1 ++ c.args.step ∷ []) c.agree.ensures.roll)
     (c.push_reserved.ensures.items ∙ ap (λ l. l ++ c.args.step ∷ []) room.0)
-    (c.push_letter.ensures ∙ ap (λ ls. with_letter ls c.in-Ok-act.done.letter) room.1)
+    (c.leave_out_copies.ensures ∙ ap (λ ls. lightened ls c.delivered-came.result) (c.push_letter.ensures ∙ ap (λ ls. with_letter ls c.in-Ok-act.done.letter) room.1))
     (c.push_event.ensures ∙ ap (λ es. with_event es c.in-Ok-act.done.event) room.2)
     (c.push_mark.ensures ∙ ap (λ ms. with_mark ms c.in-Ok-act.done.mark) room.3)
 
@@ -145,11 +150,38 @@ returns-clause-effect g c =
 
 pub returns-clause-book : goal.returns-clause-book
 returns-clause-book g c =
-    (λ i. record { founders = c.book.inside.founders; steps = (c.push_reserved.ensures.items ∙ ap (λ l. l ++ c.args.step ∷ []) c.make_room.ensures.same.0) i; capacity = c.book.inside.capacity; waiting = c.post.new.self })
-    ∙ ap (λ (b : BookView _). record { founders = b.founders; steps = b.steps ++ c.args.step ∷ []; capacity = b.capacity; waiting = c.post.new.self }) c.book.view_is
+    let m = c.make_room.new.mails in
+    let p = c.posting_of-posting.result in
+    let n = c.len-2.result in
+    let posted = c.post.ensures (same_to p.to m.ready (sent_by c.args.step) c.posting_of-posting.ensures c.in-Ok.ensures.ready) in
+    let lose = ap (λ (m : MailState). m.lose) posted ∙ posted_lose m p n ∙ ap (λ (m : MailState). m.lose) c.make_room.ensures.same.4 in
+    let twice = ap (λ (m : MailState). m.twice) posted ∙ posted_twice m p n ∙ ap (λ (m : MailState). m.twice) c.make_room.ensures.same.4 in
+    (λ i. record {
+      founders = c.book.inside.founders;
+      steps = (c.push_reserved.ensures.items ∙ ap (λ l. l ++ c.args.step ∷ []) c.make_room.ensures.same.0) i;
+      capacity = c.book.inside.capacity;
+      waiting = c.post.new.self.waiting;
+      lose = lose i;
+      twice = twice i;
+    })
+    ∙ ap (λ (b : BookView _). record b { steps = b.steps ++ c.args.step ∷ []; waiting = c.post.new.self.waiting }) c.book.view_is
 
 pub returns-clause-waiting : goal.returns-clause-waiting
-returns-clause-waiting g c = λ quiet. c.post.ensures (unlisted c.posting_of-posting.result.to (c.posting_of-posting.ensures ∙ quiet)) ∙ c.make_room.ensures.same.4 ∙ ap (λ (b : BookView _). b.waiting) c.book.view_is
+returns-clause-waiting g c =
+    let s = g.Q.Quorums.system in
+    let m = c.make_room.new.mails in
+    let p = c.posting_of-posting.result in
+    let n = c.len-2.result in
+    let posted = c.post.ensures (same_to p.to m.ready (sent_by c.args.step) c.posting_of-posting.ensures c.in-Ok.ensures.ready) in
+    let served = served_inside s _ _ _ _ c.args.step c.book.view_is c.keeper.view_is c.requires in
+    let done = finished_here c.book.invariant c.keeper.invariant c.agree.ensures.idle c.args.step served c.as_slice.result.now c.as_slice-3.result.now c.act.new.self c.in-Ok-act.done c.as_slice.ensures.value (c.as_slice-3.ensures.value ∙ c.make_room.ensures.same.1) c.in_default.ensures.ok c.in-Ok-act.ensures.node c.in-Ok-act.ensures.done in
+    let letters = c.leave_out_copies.ensures ∙ ap (λ ls. lightened ls c.delivered-came.result) (c.push_letter.ensures ∙ ap (λ ls. with_letter ls c.in-Ok-act.done.letter) c.make_room.ensures.same.1) in
+    let steps = c.push_reserved.ensures.items ∙ ap (λ l. l ++ c.args.step ∷ []) c.make_room.ensures.same.0 in
+    let count = c.len-2.ensures ∙ c.leave_out_copies.new.letters.ok.0 ∙ ap length letters ∙ counted_light done c.delivered-came.result ∙ ap (λ l. length (run s c.book.inside.founders l).letters) (sym steps) in
+    ap (λ (m : MailState). m.waiting) posted
+    ∙ posted_waiting c.book.inside.founders c.book.inside.steps.items c.book.inside.capacity m p n
+    ∙ (λ i. waiting_after (kept_with c.book.inside.founders c.book.inside.steps.items c.book.inside.capacity (c.make_room.ensures.same.4 i)) (c.posting_of-posting.ensures i) (count i))
+    ∙ ap (λ b. waiting_after b (sent_by c.args.step) (length (run s c.book.inside.founders c.push_reserved.new.self.items).letters)) c.book.view_is
 
 pub returns-clause-keeper : goal.returns-clause-keeper
 returns-clause-keeper g c =
@@ -161,7 +193,7 @@ returns-clause-node g c =
     let s = g.Q.Quorums.system in
     let served = served_inside s _ _ _ _ c.args.step c.book.view_is c.keeper.view_is c.requires in
     let done = finished_here c.book.invariant c.keeper.invariant c.agree.ensures.idle c.args.step served c.as_slice.result.now c.as_slice-3.result.now c.act.new.self c.in-Ok-act.done c.as_slice.ensures.value (c.as_slice-3.ensures.value ∙ c.make_room.ensures.same.1) c.in_default.ensures.ok c.in-Ok-act.ensures.node c.in-Ok-act.ensures.done in
-    (λ i. node_at (state s (record { founders = c.book.inside.founders; steps = (c.push_reserved.ensures.items ∙ ap (λ l. l ++ c.args.step ∷ []) c.make_room.ensures.same.0) i; capacity = c.book.inside.capacity; waiting = c.post.new.self })) (sym c.keeper.view_is i).name) ∙ done.node
+    (λ i. node_at (state s (record { founders = c.book.inside.founders; steps = (c.push_reserved.ensures.items ∙ ap (λ l. l ++ c.args.step ∷ []) c.make_room.ensures.same.0) i; capacity = c.book.inside.capacity; waiting = c.post.new.self.waiting; lose = c.post.new.self.lose; twice = c.post.new.self.twice })) (sym c.keeper.view_is i).name) ∙ done.node
 
 pub posting_of-posting-requires : goal.posting_of-posting-requires
 posting_of-posting-requires g c = back_fits _ _ _ (up_fits _ _ _ c.requires-raw.1.1.1.0)

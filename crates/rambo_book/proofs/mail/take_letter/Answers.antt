@@ -1,6 +1,5 @@
 use Rattle.std.proofs.Common.{◌≡◌, Bool, not, nat_eq, eqb-true, true, false, refl, Some, [], ◌∷◌, ◌++◌, sym, ap, ◌∙◌, subst}
 use Rattle.std.proofs.lemmas.Bool.{not-false}
-use Rattle.rambo_deeds.proofs.Fitting.{letter_fits}
 use Rattle.rambo_gossip.specs.declared.letter.Letter.{Letter}
 use Rattle.rambo_run.specs.Runs.{run}
 use Rattle.rambo_run.specs.Worlds.{letter_at}
@@ -11,14 +10,11 @@ use Rattle.rambo_book.proofs.Taking.{nothing_behind}
 use Rattle.rambo_book.proofs.Trays.{tray_more, sent_one}
 use Rattle.rambo_book.proofs.mail.take_letter.Goals as goal
 
-pub get-requires : goal.get-requires
-get-requires g c = letter_fits 1 g.row.Q g.Q.Quorums g.Q.PartialEq g.met.Q.Quorums.small
-
 pub invariant_of-keeper-2 : goal.invariant_of-keeper-2
 invariant_of-keeper-2 g c =
     let same = ap (λ (k : KeeperView _). k.seen) c.keeper.view_is ∙ c.requires ∙ sym (ap (λ (b : BookView _). b.steps) c.book.view_is) in
     let there = ap (λ ls. letter_at ls c.args.number) (sym c.as_slice.ensures.value) ∙ sym c.in-Some.ensures ∙ ap Some (sym c.in_ok-letter.ensures.same) in
-    let own = ap (λ (l : Letter _). l.addressee) (c.in_ok-letter.ensures.same ∙ sym c.get.ensures) ∙ eqb-true c.get.result.now.addressee c.keeper.inside.name (not-false (nat_eq c.get.result.now.addressee c.keeper.inside.name) (sym c.ne.ensures ∙ c.if-ne.false)) in
+    let own = ap (λ (l : Letter _). l.addressee) c.in_ok-letter.ensures.same ∙ sym c.addressee.ensures ∙ eqb-true c.addressee.result c.keeper.inside.name (not-false (nat_eq c.addressee.result c.keeper.inside.name) (sym c.ne.ensures ∙ c.if-ne.false)) in
     tray_more c.book.invariant c.keeper.invariant same c.args.number c.in_ok-letter.letter c.push_reserved.new.self.items there own
     (c.push_reserved.ensures.items ∙ ap (λ tray. tray ++ record { number = c.args.number; letter = c.in_ok-letter.letter } ∷ []) c.in_ok-reserve.ensures.items)
 
@@ -44,7 +40,7 @@ returns-then-ne-clause-tray g c =
     let n = c.args.number in
     let tray = k.tray.items in
     let there = ap (λ ls. letter_at ls n) (sym c.as_slice.ensures.value) ∙ sym c.in-Some.ensures in
-    let other = ap (goes_to k.name) (there ∙ ap Some (sym c.get.ensures)) ∙ unlike (nat_eq c.get.result.now.addressee k.name) (sym c.ne.ensures ∙ c.if-ne.true) in
+    let other = ap (goes_to k.name) there ∙ ap (λ a. nat_eq a k.name) (sym c.addressee.ensures) ∙ unlike (nat_eq c.addressee.result k.name) (sym c.ne.ensures ∙ c.if-ne.true) in
     subst (λ b. IsBehind c.args.keeper.now.tray (sent_to (state s b) c.args.keeper.now.name (n ∷ [])) c.args.keeper.now.tray) c.book.view_is
     (subst (λ (v : KeeperView _). IsBehind v.tray (sent_to (run s b.founders b.steps.items) v.name (n ∷ [])) v.tray) c.keeper.view_is
     (subst (λ ns. IsBehind tray ns tray) (sym (sent_one (run s b.founders b.steps.items) b.letters.items k.name n false c.book.invariant.sent other)) (nothing_behind tray)))
@@ -56,8 +52,8 @@ returns-clause-tray g c =
     let k = c.keeper.inside in
     let n = c.args.number in
     let there = ap (λ ls. letter_at ls n) (sym c.as_slice.ensures.value) ∙ sym c.in-Some.ensures in
-    let own : nat_eq c.get.result.now.addressee k.name ≡ true = not-false (nat_eq c.get.result.now.addressee k.name) (sym c.ne.ensures ∙ c.if-ne.false) in
-    let here = ap (goes_to k.name) (there ∙ ap Some (sym c.get.ensures)) ∙ own in
+    let own : nat_eq c.addressee.result k.name ≡ true = not-false (nat_eq c.addressee.result k.name) (sym c.ne.ensures ∙ c.if-ne.false) in
+    let here = ap (goes_to k.name) there ∙ ap (λ a. nat_eq a k.name) (sym c.addressee.ensures) ∙ own in
     let mail : Mail _ = record { number = n; letter = c.in_ok-letter.letter } in
     let pushed : IsBehind k.tray.items (sent_to (run s b.founders b.steps.items) k.name (n ∷ [])) c.push_reserved.new.self.items = record {
       more = mail ∷ [];

@@ -1,7 +1,4 @@
 use Rattle.std.proofs.Common.{refl, sym, ap, ◌∙◌, length, is_some, arith}
-use Rattle.rambo_deeds.proofs.Fitting.{letter_fits}
-use Rattle.rambo_node.specs.Changes.{refusal_of}
-use Rattle.rambo_node.specs.declared.change.Change.TheVariants as change
 use Rattle.rambo_pick.proofs.Picks.{heard_here, heard_later, heard_none}
 use Rattle.rambo_pick.proofs.picking.heard_first.Goals as goal
 
@@ -16,14 +13,11 @@ returns g c = sym (c.loop-mail.invariant ∙ heard_none g.Q.Quorums.system c.arg
 
 pub returns-then-is_none : goal.returns-then-is_none
 returns-then-is_none g c =
-    sym (c.loop-mail.invariant ∙ heard_here g.Q.Quorums.system c.args.node.now c.loop-mail.rest.now c.in-Some.mail.now c.in-Some.others.now c.in-Some.ensures.cases.0 (ap (λ l. is_some (refusal_of g.Q.Quorums.system c.args.node.now (change.Deliver l))) (sym c.get.ensures) ∙ ap is_some (sym c.unheard.ensures) ∙ c.if-is_none.ensures))
+    sym (c.loop-mail.invariant ∙ heard_here g.Q.Quorums.system c.args.node.now c.loop-mail.rest.now c.in-Some.mail.now c.in-Some.others.now c.in-Some.ensures.cases.0 (ap is_some (sym c.unheard.ensures) ∙ c.if-is_none.ensures))
 
 pub loop-mail-preserved : goal.loop-mail-preserved
 loop-mail-preserved g c =
-    c.loop-mail.invariant ∙ heard_later g.Q.Quorums.system c.args.node.now c.loop-mail.rest.now c.in-Some.mail.now c.in-Some.others.now c.in-Some.ensures.cases.0 (ap (λ l. is_some (refusal_of g.Q.Quorums.system c.args.node.now (change.Deliver l))) (sym c.get.ensures) ∙ ap is_some (sym c.unheard.ensures) ∙ c.if-is_none.ensures)
+    c.loop-mail.invariant ∙ heard_later g.Q.Quorums.system c.args.node.now c.loop-mail.rest.now c.in-Some.mail.now c.in-Some.others.now c.in-Some.ensures.cases.0 (ap is_some (sym c.unheard.ensures) ∙ c.if-is_none.ensures)
 
 pub unheard-requires : goal.unheard-requires
-unheard-requires g c = (c.requires-raw.1.1, letter_fits 0 g.row.Q g.Q.Quorums g.Q.PartialEq g.met.Q.Quorums.small)
-
-pub get-requires : goal.get-requires
-get-requires g c = letter_fits 0 g.row.Q g.Q.Quorums g.Q.PartialEq g.met.Q.Quorums.small
+unheard-requires g c = c.requires-raw.1.1

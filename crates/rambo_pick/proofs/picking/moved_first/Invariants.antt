@@ -1,6 +1,6 @@
-use Rattle.std.proofs.Common.{◌≡◌, drop}
-use Rattle.rambo_pick.specs.Picking.{moved_first}
+use Rattle.std.proofs.Common.{◌≡◌, map, drop}
+use Rattle.rambo_pick.specs.Picking.{advance, first_of}
 use Rattle.rambo_pick.proofs.picking.moved_first.Given as goal
 
 abbrev pub invariant-loop-place : goal.invariant-loop-place
-invariant-loop-place g l = moved_first g.Q.Quorums.system l.node (drop l.place l.node.calls) ≡ moved_first g.Q.Quorums.system l.node l.node.calls
+invariant-loop-place g l = first_of g.Q.Quorums.system l.node (map (advance l.node.name) (drop l.place l.node.calls)) ≡ first_of g.Q.Quorums.system l.node (map (advance l.node.name) l.node.calls)

@@ -1,5 +1,6 @@
-use Rattle.std.proofs.Common.{true≢false, Some, ◌∷◌, [], ◌++◌, sym, ap, ◌∙◌}
+use Rattle.std.proofs.Common.{true≢false, length, Some, ◌∷◌, [], ◌++◌, sym, ap, ◌∙◌}
 use Rattle.rambo_book.specs.Kept.{BookView, KeeperView, state}
+use Rattle.rambo_book.specs.Mailing.{waiting_after}
 use Rattle.rambo_turn.specs.Turns.{cleared, CannotDo}
 use Rattle.rambo_names.proofs.Errors.{err_kept}
 use Rattle.rambo_turn.proofs.Turned.{IsQuiet, cannot_do, first_quiet}
@@ -17,7 +18,7 @@ clear_up-requires g c = c.requires-raw.1.1.1.0
 pub returns-in_err-told-clause-cause : goal.returns-in_err-told-clause-cause
 returns-in_err-told-clause-cause g c =
     let k = c.args.keeper.now in
-    let quiet : IsQuiet c.in-Some.step = first_quiet g.Q.Quorums.system (state g.Q.Quorums.system c.args.book.now) k.name k.node k.tray c.in-Some.step (sym c.in-Some.ensures.first) in
+    let quiet : IsQuiet c.in-Some.step = first_quiet g.Q.Quorums.system (state g.Q.Quorums.system c.args.book.now) k.node k.tray c.in-Some.step (sym c.in-Some.ensures.first) in
     absurd (true≢false (sym (c.in_err-told.ensures.other quiet.no_call)))
 
 pub returns-in_err-commit-clause-cause : goal.returns-in_err-commit-clause-cause
@@ -32,10 +33,10 @@ returns-clause-did g c =
     let b = c.args.book.now in
     let k = c.args.keeper.now in
     let first = sym c.in-Some.ensures.first in
-    let quiet : IsQuiet c.in-Some.step = first_quiet g.Q.Quorums.system (state g.Q.Quorums.system b) k.name k.node k.tray c.in-Some.step first in
+    let quiet : IsQuiet c.in-Some.step = first_quiet g.Q.Quorums.system (state g.Q.Quorums.system b) k.node k.tray c.in-Some.step first in
     let told = c.in_ok-told.ensures.same in
     let done = c.in_ok-commit.ensures in
-    let waiting = done.waiting quiet.unsent in
+    let waiting = done.waiting ∙ ap (λ l. waiting_after b l (length (state g.Q.Quorums.system c.commit.new.book).letters)) quiet.unsent in
     let later = c.clear_up.ensures in (
       first ∙ ap Some (sym told),
       done.book ∙ (λ i. record b { steps = b.steps ++ sym told i ∷ []; waiting = waiting i }),

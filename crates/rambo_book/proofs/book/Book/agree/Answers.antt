@@ -18,4 +18,4 @@ returns-clause-node g c =
     let s = g.Q.Quorums.system in
     let here = still _ _ _ _ _ _ _ _ _ _ _ _ _ _ _ c.self.invariant c.keeper.invariant c.agree.ensures.idle in
     subst (λ b. node_at (state s b) c.args.keeper.now.name ≡ Some c.args.keeper.now.node) c.self.view_is
-    (subst (λ (k : KeeperView _). node_at (state s (record { founders = c.self.inside.founders; steps = c.self.inside.steps.items; capacity = c.self.inside.capacity; waiting = c.self.inside.mails })) k.name ≡ Some k.node) c.keeper.view_is here)
+    (subst (λ (k : KeeperView _). node_at (state s (record { founders = c.self.inside.founders; steps = c.self.inside.steps.items; capacity = c.self.inside.capacity; waiting = c.self.inside.mails.waiting; lose = c.self.inside.mails.lose; twice = c.self.inside.mails.twice })) k.name ≡ Some k.node) c.keeper.view_is here)

@@ -16,8 +16,8 @@ may_send-requires g c = back_fits _ _ _ (next _ _ _ _ (up_fits _ _ _ c.requires-
 pub may_advance-requires : goal.may_advance-requires
 may_advance-requires g c = back_fits _ _ _ (next _ _ _ _ (up_fits _ _ _ c.requires-raw.1.1))
 
-pub may_hear-requires : goal.may_hear-requires
-may_hear-requires g c = back_fits _ _ _ (next _ _ _ _ (up_fits _ _ _ c.requires-raw.1.1))
+pub may_deliver-requires : goal.may_deliver-requires
+may_deliver-requires g c = back_fits _ _ _ (next _ _ _ _ (up_fits _ _ _ c.requires-raw.1.1))
 
 pub judge-requires : goal.judge-requires
 judge-requires g c = (back_fits _ _ _ (next _ _ _ _ (up_fits _ _ _ c.requires-raw.1.1)), variant_fits _ _ _ _ (back_fits _ _ _ (up_fits _ _ _ c.requires-raw.1.1)))
@@ -36,7 +36,7 @@ returns-in-Advance-clause-refused g c =
 
 pub returns-in-Deliver-clause-refused : goal.returns-in-Deliver-clause-refused
 returns-in-Deliver-clause-refused g c =
-    refused_as g.Q.Quorums.system c.self.inside.node c.args.self.now c.self.view_is c.args.letters.now c.args.step.now _ c.in-Deliver.is c.may_hear.result c.may_hear.ensures.refused
+    refused_as g.Q.Quorums.system c.self.inside.node c.args.self.now c.self.view_is c.args.letters.now c.args.step.now _ c.in-Deliver.is c.may_deliver.result c.may_deliver.ensures.refused
 
 -- a step of each other kind means the change that is made of it
 means : (g : Over) (c : goal.Joined-change g) → Means c.args.letters.now c.args.step.now c.match-step.change

@@ -1,0 +1,157 @@
+//! What letters that several share say.
+ghost use Rattle.std.specs.Prelude.{◌≡◌, unwrap_or, option_copied, IfOk, IfErr};
+ghost use Rattle.std.specs.Arc.{arc_value};
+ghost use Rattle.std.specs.FinMap as map;
+ghost use Rattle.rambo_gossip.specs.Letters.{gossip_with};
+ghost use Rattle.rambo_gossip.specs.Outlines.{gossip_outlined};
+ghost use Rattle.rambo_letters.specs.Shared.{standing_of};
+
+use rambo_gossip::{Gossip, GossipOutline};
+use rambo_letters::Standing;
+use rambo_names::{Members, Quorums, Refusal};
+use rambo_tag::Pack;
+use std::alloc::Global;
+use std::marker::Model;
+use std::sync::Arc;
+
+/// What an active node knows, in a letter that several own.
+pub(crate) struct SharedGossip<Q: Quorums> {
+    known: Members,
+    number: u64,
+    heard: u64,
+    standing: Arc<Standing<Q>, Global>,
+    // None where there are none.
+    copies: Option<Arc<Pack, Global>>,
+}
+
+// By hand, so that those who drop it needn't follow all that is in it.
+impl<Q: Quorums> Drop for SharedGossip<Q> {
+    fn drop(self) {
+        let SharedGossip {
+            known: _known,
+            number: _,
+            heard: _,
+            standing: _standing,
+            copies: _copies,
+        } = self;
+    }
+}
+
+impl<Q: Quorums> Model for SharedGossip<Q> {
+    ghost use Rattle.std.specs.Prelude.{option_map, unwrap_or};
+    ghost use Rattle.std.specs.Arc.{arc_value};
+    ghost use Rattle.std.specs.FinMap as map;
+    ghost use Rattle.std.specs.Coded.{codes};
+    ghost use Rattle.rambo_names.specs.Names.{names_code};
+    ghost use Rattle.rambo_tag.specs.Copies.{copies_code};
+    ghost use Rattle.rambo_gossip.specs.declared.letter.Gossip.{Gossip};
+
+    ghost Value = { Gossip Q };
+
+    ghost coded = { Prim.hlevel (codes, names_code, copies_code, Q.code) };
+
+    ghost view = { λ g. record { known = g.known; copies = unwrap_or (option_map arc_value g.copies) map.empty; map = (arc_value g.standing).map; number = g.number; heard = g.heard; vote = (arc_value g.standing).vote; offer = (arc_value g.standing).offer } };
+}
+
+impl<Q: Quorums> SharedGossip<Q> {
+    // This gossip, which has one owner. What it tells of configurations it shares with what was told last, if that is the
+    // same, and else tells last.
+    //
+    // `OutOfMemory` where there is no room for it.
+    pub(crate) fn new(
+        alloc: Global,
+        gossip: Gossip<Q>,
+        told: &mut Option<Arc<Standing<Q>, Global>>,
+    ) -> Result<SharedGossip<Q>, Refusal>
+        ensures same { IfOk result (λ g. g ≡ gossip) }
+        ensures refused { IfErr result (λ r. r ≡ Refusal.OutOfMemory) }
+    {
+        let standing = shared(alloc, told, &gossip.outline())?;
+        let Gossip {
+            known,
+            copies,
+            map: _map,
+            number,
+            heard,
+            vote: _vote,
+            offer: _offer,
+        } = gossip;
+        Ok(SharedGossip {
+            known,
+            number,
+            heard,
+            standing,
+            copies: Some(Arc::new(alloc, copies)?),
+        })
+    }
+
+    // The same for one owner more.
+    //
+    // `OutOfMemory` where the count of owners is full.
+    pub(crate) fn share(&self) -> Result<SharedGossip<Q>, Refusal>
+        ensures same { IfOk result (λ g. g ≡ self.now) }
+        ensures refused { IfErr result (λ r. r ≡ Refusal.OutOfMemory) }
+    {
+        let copies = match &self.copies {
+            None => None,
+            Some(copies) => Some(Arc::try_clone(copies)?),
+        };
+        Ok(SharedGossip {
+            known: self.known,
+            number: self.number,
+            heard: self.heard,
+            standing: Arc::try_clone(&self.standing)?,
+            copies,
+        })
+    }
+
+    // All of it but its copies.
+    pub(crate) fn outline(&self) -> GossipOutline<'_, Q>
+        ensures { gossip_outlined result ≡ gossip_with self.now map.empty }
+    {
+        GossipOutline {
+            known: self.known,
+            map: &self.standing.map,
+            number: self.number,
+            heard: self.heard,
+            vote: &self.standing.vote,
+            offer: self.standing.offer,
+        }
+    }
+
+    // Its copies, if it has any.
+    pub(crate) fn copies(&self) -> Option<&Pack>
+        ensures { unwrap_or (option_copied result) map.empty ≡ self.now.copies }
+    {
+        match &self.copies {
+            None => None,
+            Some(copies) => Some(copies),
+        }
+    }
+
+    // It has no copies any more.
+    pub(crate) fn leave_out_copies(&mut self)
+        ensures { self.new ≡ gossip_with self.old map.empty }
+    {
+        self.copies = None;
+    }
+}
+
+// What gossip tells of configurations: what was told last, if that is the same.
+fn shared<Q: Quorums>(
+    alloc: Global,
+    told: &mut Option<Arc<Standing<Q>, Global>>,
+    gossip: &GossipOutline<'_, Q>,
+) -> Result<Arc<Standing<Q>, Global>, Refusal>
+    ensures same { IfOk result (λ t. arc_value t ≡ standing_of gossip.now) }
+    ensures refused { IfErr result (λ r. r ≡ Refusal.OutOfMemory) }
+{
+    if let Some(standing) = told {
+        if standing.is_told_by(gossip) {
+            return Ok(Arc::try_clone(standing)?);
+        }
+    }
+    let standing = Arc::new(alloc, Standing::of(gossip))?;
+    *told = Some(Arc::try_clone(&standing)?);
+    Ok(standing)
+}
