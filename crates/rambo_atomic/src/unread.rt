@@ -74,6 +74,7 @@ impl Unread {
     ///
     /// `Read` where the source fails, and `Memory` where there is no room for the bytes. What was read is
     /// held then too.
+    #[inline(always)]
     pub fn find_line<R: Source>(&mut self, reader: &mut R) -> Result<bool, StreamFault>
         requires { KnowsEnd self.old (R.left reader.old) }
         ensures knows { KnowsEnd self.new (R.left reader.new) }

@@ -87,6 +87,7 @@ pub(crate) fn read_call_and_pair(
 /// Any number of calls.
 ///
 /// `OutOfMemory` where there is no room for a call, and no fault stands before it.
+#[inline(always)]
 pub(crate) fn read_calls(alloc: Global, more: Option<&[u8]>) -> Result<Vec<CallId>, Fault>
     ensures calls { IfOk result (λ cs. All IsCall cs.items × AreMore (option_copied more.entry) (map call_text cs.items)) }
     ensures fault { IfErr result (λ f. ((f ≡ fault.OutOfMemory) × FollowCalls (option_copied more.entry))
