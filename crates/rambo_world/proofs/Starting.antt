@@ -80,11 +80,6 @@ first_next s founders place made x is node =
     ∙ first_push s founders place 1
     ∙ ap (λ m. first_nodes s founders (rising m 1)) (let e : suc place ≡ place + 1 = omega arith in e)
 
-pub first_length : {Q : Type 0} (s : QuorumSystem Q) (founders : Q) (k n : ℕ) → length (first_nodes s founders (rising k n)) ≡ k
-unfolding rising
-first_length s founders zero n = refl
-first_length s founders (suc k) n = ap suc (first_length s founders k (n + 1))
-
 -- with empty logs they are the nodes before any step
 pub first_kept_nodes : {Q : Type 0} (s : QuorumSystem Q) (founders : Q) (ns : List ℕ) (count : ℕ) → kept_of (first_nodes s founders ns) (replicate count []) ≡ fresh_nodes s founders ns
 unfolding fresh_nodes

@@ -1,23 +1,20 @@
 -- The letters and the counts after a step of the nodes
-use Rattle.std.proofs.Common.{◌≡◌, ℕ, suc, ◌-◌, ◌≤◌, List, [], ◌∷◌, take, length, Option, None, Some, slice_get, refl, sym, ap, ◌∙◌, inl, inr, subst, arith}
+use Rattle.std.proofs.Common.{◌≡◌, ℕ, suc, ◌-◌, ◌≤◌, List, [], ◌∷◌, take, length, None, Some, slice_get, refl, sym, ap, ◌∙◌, inl, inr, subst, arith}
 use Rattle.std.proofs.lemmas.Bool.{false≢true}
-use Rattle.std.specs.Option.{is_some, IsSomeAnd}
+use Rattle.std.specs.Option.{is_some}
 use Rattle.std.proofs.lemmas.Option.{slice_get_past, slice_get_cases}
 use Rattle.std.proofs.lemmas.List.{length-append, take-append-le}
 use Rattle.rambo_tag.specs.declared.keyed_version.KeyedVersion.{KeyedVersion}
 use Rattle.rambo_tag.specs.Copies.{Copies, joined}
 use Rattle.rambo_tag.specs.Logs.{greatest_of}
 use Rattle.rambo_tag.proofs.Logged.{greatest_of-append, joined-absorbed}
+use Rattle.rambo_history.proofs.Asked.{some_and}
 use Rattle.rambo_gossip.specs.Letters.{letter_with}
 use Rattle.rambo_letters.specs.Kept.{SentState}
 use Rattle.rambo_logs.specs.Merged.{merged_at}
 use Rattle.rambo_world.specs.Kept.{KeptNode, Extends, log_in, log_at, whole_letter, whole_letters, IsRecorded, Grows, AllGrow, IsSent, HasMerged, IsKept}
 use Rattle.rambo_letters.proofs.Lists.{some_is}
 use Rattle.rambo_world.proofs.Growth.{Extends-refl}
-
-pub some_and : {X : Type 0} (P : X → Type 0) (o : Option X) → IsSomeAnd o P → (y : X) × (o ≡ Some y) × P y
-some_and P None e = absurd e
-some_and P (Some y) e = (y, refl, e)
 
 -- a node gains copies alone, so it keeps what it has merged
 pub keeps_merged : {Q : Type 0} (x y : KeptNode Q) (c : Copies) → IsRecorded x → Grows x y → joined x.state.registers c ≡ x.state.registers → joined y.state.registers c ≡ y.state.registers

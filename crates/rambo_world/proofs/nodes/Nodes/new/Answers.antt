@@ -4,12 +4,13 @@ use Rattle.rambo_names.specs.Names.{rising}
 use Rattle.rambo_tag.specs.declared.keyed_version.KeyedVersion.{KeyedVersion}
 use Rattle.rambo_world.specs.Kept.{kept_of}
 use Rattle.rambo_names.proofs.Sizes.{up_fits, back_fits}
-use Rattle.rambo_world.proofs.Starting.{first_length, first_kept_nodes}
+use Rattle.rambo_run.proofs.FirstWorlds.{first_count}
+use Rattle.rambo_world.proofs.Starting.{first_kept_nodes}
 use Rattle.rambo_world.proofs.nodes.Nodes.new.Goals as goal
 
 pub invariant_of-result : goal.invariant_of-result
 invariant_of-result g c =
-    (ap length c.in_ok-list.ensures.first ∙ first_length g.Q.Quorums.system c.args.founders 64 1, ap (λ s. length s.logs) c.in_ok-logs.ensures.empty ∙ length-replicate {A = List KeyedVersion} 64 [])
+    (ap length c.in_ok-list.ensures.first ∙ first_count g.Q.Quorums.system c.args.founders 64 1, ap (λ s. length s.logs) c.in_ok-logs.ensures.empty ∙ length-replicate {A = List KeyedVersion} 64 [])
 
 pub returns-clause-first : goal.returns-clause-first
 returns-clause-first g c =
