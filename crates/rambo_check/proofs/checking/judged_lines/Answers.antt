@@ -1,5 +1,5 @@
 use Rattle.std.proofs.Common.{◌≡◌, ◌++◌, ◌&&◌, Bool, true, false, sym, ap, ◌∙◌}
-use Rattle.rambo_check.specs.Verdicts.{order_verdict_text, all_yes, yes_to_all}
+use Rattle.rambo_check.specs.Verdicts.{order_verdict_text}
 use Rattle.rambo_check.proofs.checking.judged_lines.Goals.{then-each_yes, else-each_yes}
 use Rattle.rambo_check.proofs.checking.judged_lines.Goals as goal
 

@@ -1,4 +1,4 @@
-use Rattle.std.proofs.Common.{List, ℕ, Some, cond, ap, ◌∙◌, subst}
+use Rattle.std.proofs.Common.{Some, cond, ap, ◌∙◌, subst}
 use Rattle.std.specs.Map.{lookup}
 use Rattle.std.specs.Str.{bytes_eq}
 use Rattle.rambo_atomic.specs.Verdicts.{IsVerdict}

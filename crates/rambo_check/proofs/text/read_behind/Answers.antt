@@ -1,8 +1,14 @@
-use Rattle.std.proofs.Common.{◌≡◌, ◌+◌, refl, sym, ap, subst, ◌∙◌}
+use Rattle.std.proofs.Common.{◌≡◌, ◌≢◌, ◌⊎◌, inl, inr, ℕ, ◌+◌, Result, Ok, Err, refl, sym, ap, subst, ◌∙◌}
 use Rattle.std.specs.Bool.{MatchBool}
+use Rattle.std.specs.Result.{IsErrAnd, IfErr}
+use Rattle.rambo_atomic.specs.Streams.{counted}
+use Rattle.rambo_atomic.specs.declared.whole.StreamFault.{StreamFault}
+use Rattle.rambo_atomic.specs.declared.whole.StreamFault.TheVariants as stream
 use Rattle.rambo_atomic.specs.Unreads.{HoldsLine, IsDone}
 use Rattle.rambo_text.specs.declared.fault.ScriptFault.{ScriptFault}
-use Rattle.rambo_text.specs.Versions.{in_whole}
+use Rattle.rambo_text.specs.declared.fault.ReplayFault.{ReplayFault}
+use Rattle.rambo_text.specs.declared.fault.ReplayFault.TheVariants as fault
+use Rattle.rambo_text.specs.Faults.{of_stream}
 use Rattle.rambo_check.proofs.TextSteps.{ReadSoFar, read_start, read_more, read_on, read_end, read_fault}
 use Rattle.rambo_check.proofs.text.read_behind.Goals as goal
 
@@ -45,3 +51,19 @@ returns-clause-told g c =
     let now = read_more _ _ _ _ (g.R.Source.left c.find_line.new.reader) c.loop-line.evidence c.loop-line.unread u c.loop-line.line c.loop-line.invariant.read found.bytes found.ended in
     let done : IsDone u = subst (λ b. MatchBool b (HoldsLine u) (IsDone u)) c.if-branch.false found.line in
     read_end _ _ _ _ c.loop-line.evidence u c.loop-line.line now done found.knows
+
+-- a source that is read in vain for want of memory has failed as often as before
+kept : {X : Type 0} (r : Result X ReplayFault) (f : StreamFault) (now before first : ℕ) → IsErrAnd r (λ told. told ≡ of_stream f)
+    → ((f ≡ stream.Read) × (now ≡ counted before)) ⊎ ((f ≡ stream.Memory) × (now ≡ before)) → before ≡ first
+    → IfErr r (λ told. told ≢ fault.Read → now ≡ first)
+kept (Ok x) f now before first is why same = absurd is
+kept (Err told) f now before first is why same =
+    λ other. elim why [
+      | inl read ↦ absurd (other (is ∙ ap of_stream read.0))
+      | inr none ↦ none.1 ∙ same
+    ]
+
+pub returns-in_err-read_rest-clause-other : goal.returns-in_err-read_rest-clause-other
+returns-in_err-read_rest-clause-other g c =
+    kept c.from_residual-in_err-read_rest.result c.in_err-read_rest.field-0.0 _ _ _ c.from_residual-in_err-read_rest.ensures.1 c.in_err-read_rest.ensures.fault
+    (c.in_ok-find_line.ensures.fine ∙ c.loop-line.invariant.fine)

@@ -1,9 +1,9 @@
-use Rattle.std.proofs.Common.{◌≡◌, ◌++◌, [], ap, subst, ◌∙◌}
+use Rattle.std.proofs.Common.{◌≡◌, ◌++◌, ap, subst, ◌∙◌}
 use Rattle.std.specs.Bool.{MatchBool}
 use Rattle.rambo_atomic.specs.Unreads.{UnreadState, TakesIn, HoldsLine, IsDone}
 use Rattle.rambo_text.specs.declared.fault.ScriptFault.{ScriptFault}
 use Rattle.rambo_check.specs.Texts.{IsHeadFault}
-use Rattle.rambo_check.proofs.TextSteps.{taken_more, none_told, head_told, bad_head_told}
+use Rattle.rambo_check.proofs.TextSteps.{taken_more, head_told, bad_head_told}
 use Rattle.rambo_check.proofs.text.read_version.Goals as goal
 
 pub returns-in-Ok-clause-head : goal.returns-in-Ok-clause-head
