@@ -24,11 +24,11 @@ impl<Q: Quorums, S: Replica> Node<Q, S> {
     // A call that isn't refused begins.
     #[tactic(auto, unfolding(crate::specs::Changes::made_by, crate::specs::Operations::called))]
     pub(crate) fn do_call(&mut self, op: Op) -> Result<Deed<Q>, Refusal>
-        requires { refusal_of Q.system self.old (change.Call op) ≡ None }
-        ensures node { OnOk result (self.new ≡ (made_by self.old (change.Call op)).node) }
-        ensures deed { IfOk result (λ d. d ≡ (made_by self.old (change.Call op)).deed) }
+        requires { refusal_of Q.system self.old.state (change.Call op) ≡ None }
+        ensures node { OnOk result (self.new.state ≡ (made_by self.old.state (change.Call op)).node) }
+        ensures deed { IfOk result (λ d. d ≡ (made_by self.old.state (change.Call op)).deed) }
         ensures refused { IfErr result (λ r. r ≡ Refusal.OutOfMemory) }
-        ensures err { OnErr result (self.new ≡ self.old) }
+        ensures err { OnErr result (self.new.state ≡ self.old.state) }
     {
         let id = self.next_id();
         let event = Event::Call(id, op.clone()?);
@@ -43,8 +43,8 @@ impl<Q: Quorums, S: Replica> Node<Q, S> {
 
     // The id of the next call.
     fn next_id(&self) -> CallId
-        requires { is_last self.now.made ≡ false }
-        ensures { result ≡ record { name = self.now.name; number = self.now.made + 1 } }
+        requires { is_last self.now.state.made ≡ false }
+        ensures { result ≡ record { name = self.now.state.name; number = self.now.state.made + 1 } }
     {
         CallId {
             name: self.name,
@@ -58,11 +58,11 @@ impl<Q: Quorums, S: Replica> Node<Q, S> {
     /// `OutOfMemory` where there is no room for the call; the node is then as it was.
     #[tactic(auto, unfolding(crate::specs::Changes::made_by, crate::specs::Operations::called))]
     pub fn begin(&mut self, op: Op) -> Result<CallId, Refusal>
-        requires { refusal_of Q.system self.old (change.Call op) ≡ None }
-        ensures node { OnOk result (self.new ≡ (made_by self.old (change.Call op)).node) }
-        ensures id { IfOk result (λ id. id ≡ record { name = self.old.name; number = self.old.made + 1 }) }
+        requires { refusal_of Q.system self.old.state (change.Call op) ≡ None }
+        ensures node { OnOk result (self.new.state ≡ (made_by self.old.state (change.Call op)).node) }
+        ensures id { IfOk result (λ id. id ≡ record { name = self.old.state.name; number = self.old.state.made + 1 }) }
         ensures refused { IfErr result (λ r. r ≡ Refusal.OutOfMemory) }
-        ensures err { OnErr result (self.new ≡ self.old) }
+        ensures err { OnErr result (self.new.state ≡ self.old.state) }
     {
         let id = self.next_id();
         self.calls
@@ -75,8 +75,8 @@ impl<Q: Quorums, S: Replica> Node<Q, S> {
     // A phase that isn't refused begins anew.
     #[tactic(auto, unfolding(crate::specs::Changes::made_by, crate::specs::Operations::called_again))]
     pub(crate) fn do_again(&mut self, id: CallId)
-        requires { refusal_of Q.system self.old (change.Again id) ≡ None }
-        ensures { self.new ≡ (made_by self.old (change.Again id)).node }
+        requires { refusal_of Q.system self.old.state (change.Again id) ≡ None }
+        ensures { self.new.state ≡ (made_by self.old.state (change.Again id)).node }
     {
         let place = self.place_of(&id);
         self.number += 1;
@@ -89,12 +89,12 @@ impl<Q: Quorums, S: Replica> Node<Q, S> {
     /// `OutOfMemory` where there is no room for what is new; the node and the deed are then as they were.
     #[tactic(auto, unfolding(crate::specs::Changes::made_by))]
     pub fn go_on(&mut self, id: CallId, deed: &mut Deed<Q>) -> Result<(), Refusal>
-        requires accepted { refusal_of Q.system self.old (change.Advance id) ≡ None }
+        requires accepted { refusal_of Q.system self.old.state (change.Advance id) ≡ None }
         requires quiet { deed.old ≡ quiet_deed }
-        ensures node { OnOk result (self.new ≡ (made_by self.old (change.Advance id)).node) }
-        ensures deed { OnOk result (deed.new ≡ (made_by self.old (change.Advance id)).deed) }
+        ensures node { OnOk result (self.new.state ≡ (made_by self.old.state (change.Advance id)).node) }
+        ensures deed { OnOk result (deed.new ≡ (made_by self.old.state (change.Advance id)).deed) }
         ensures refused { IfErr result (λ r. r ≡ Refusal.OutOfMemory) }
-        ensures err { OnErr result ((self.new ≡ self.old) × (deed.new ≡ deed.old)) }
+        ensures err { OnErr result ((self.new.state ≡ self.old.state) × (deed.new ≡ deed.old)) }
     {
         let place = self.place_of(&id);
         let asked = match self.query_at(place) {
@@ -106,14 +106,14 @@ impl<Q: Quorums, S: Replica> Node<Q, S> {
 
     // A met propagation at this place is answered.
     fn close(&mut self, id: CallId, place: usize, deed: &mut Deed<Q>) -> Result<(), Refusal>
-        requires open { is_missing (open_call self.old id) ≡ false }
-        requires told { query_in (open_call self.old id) ≡ None }
-        requires place { place ≡ place_of id.number self.old.calls }
+        requires open { is_missing (open_call self.old.state id) ≡ false }
+        requires told { query_in (open_call self.old.state id) ≡ None }
+        requires place { place ≡ place_of id.number self.old.state.calls }
         requires quiet { deed.old ≡ quiet_deed }
-        ensures node { OnOk result (self.new ≡ (advanced self.old id (open_call self.old id)).node) }
-        ensures deed { OnOk result (deed.new ≡ (advanced self.old id (open_call self.old id)).deed) }
+        ensures node { OnOk result (self.new.state ≡ (advanced self.old.state id (open_call self.old.state id)).node) }
+        ensures deed { OnOk result (deed.new ≡ (advanced self.old.state id (open_call self.old.state id)).deed) }
         ensures refused { IfErr result (λ r. r ≡ Refusal.OutOfMemory) }
-        ensures err { OnErr result ((self.new ≡ self.old) × (deed.new ≡ deed.old)) }
+        ensures err { OnErr result ((self.new.state ≡ self.old.state) × (deed.new ≡ deed.old)) }
     {
         tell_answered(deed, id, self.calls.get(place))?;
         self.calls.close(place);
@@ -128,14 +128,14 @@ impl<Q: Quorums, S: Replica> Node<Q, S> {
         asked: Op,
         deed: &mut Deed<Q>,
     ) -> Result<(), Refusal>
-        requires asked { query_in (open_call self.old id) ≡ Some asked }
-        requires place { place ≡ place_of id.number self.old.calls }
-        requires next { query_spent self.old (Some asked) ≡ false }
+        requires asked { query_in (open_call self.old.state id) ≡ Some asked }
+        requires place { place ≡ place_of id.number self.old.state.calls }
+        requires next { query_spent self.old.state (Some asked) ≡ false }
         requires quiet { deed.old ≡ quiet_deed }
-        ensures node { OnOk result (self.new ≡ (advanced self.old id (open_call self.old id)).node) }
-        ensures deed { OnOk result (deed.new ≡ (advanced self.old id (open_call self.old id)).deed) }
+        ensures node { OnOk result (self.new.state ≡ (advanced self.old.state id (open_call self.old.state id)).node) }
+        ensures deed { OnOk result (deed.new ≡ (advanced self.old.state id (open_call self.old.state id)).deed) }
         ensures refused { IfErr result (λ r. r ≡ Refusal.OutOfMemory) }
-        ensures err { OnErr result ((self.new ≡ self.old) × (deed.new ≡ deed.old)) }
+        ensures err { OnErr result ((self.new.state ≡ self.old.state) × (deed.new ≡ deed.old)) }
     {
         match asked {
             Op::Get(key) => {
@@ -157,13 +157,13 @@ impl<Q: Quorums, S: Replica> Node<Q, S> {
         value: Bytes,
         deed: &mut Deed<Q>,
     ) -> Result<(), Refusal>
-        requires next { is_last self.old.number ≡ false }
-        requires tags { tags_spent self.old (asked.Set key value) ≡ false }
+        requires next { is_last self.old.state.number ≡ false }
+        requires tags { tags_spent self.old.state (asked.Set key value) ≡ false }
         requires quiet { deed.old ≡ quiet_deed }
-        ensures node { OnOk result (self.new ≡ propagation_begun (record self.old { registers = map.insert self.old.registers key (new_copy self.old key value) }) place (Some (new_copy self.old key value))) }
-        ensures deed { OnOk result (deed.new ≡ move_deed id (asked.Set key value) (Some (new_copy self.old key value))) }
+        ensures node { OnOk result (self.new.state ≡ propagation_begun (record self.old.state { registers = map.insert self.old.state.registers key (new_copy self.old.state key value) }) place (Some (new_copy self.old.state key value))) }
+        ensures deed { OnOk result (deed.new ≡ move_deed id (asked.Set key value) (Some (new_copy self.old.state key value))) }
         ensures refused { IfErr result (λ r. r ≡ Refusal.OutOfMemory) }
-        ensures err { OnErr result ((self.new ≡ self.old) × (deed.new ≡ deed.old)) }
+        ensures err { OnErr result ((self.new.state ≡ self.old.state) × (deed.new ≡ deed.old)) }
     {
         let tag = Tag {
             sequence: sequence_of(self.registers.copy(key.as_slice())) + 1,
@@ -191,9 +191,9 @@ impl<Q: Quorums, S: Replica> Node<Q, S> {
 
     // Holds this copy of a key.
     fn hold(&mut self, key: Bytes, version: Version) -> Result<(), Refusal>
-        ensures ok { OnOk result (self.new ≡ record self.old { registers = map.insert self.old.registers key version }) }
+        ensures ok { OnOk result (self.new.state ≡ record self.old.state { registers = map.insert self.old.state.registers key version }) }
         ensures refused { IfErr result (λ r. r ≡ Refusal.OutOfMemory) }
-        ensures err { OnErr result (self.new ≡ self.old) }
+        ensures err { OnErr result (self.new.state ≡ self.old.state) }
     {
         self.registers.put(key, version)?;
         Ok(())
@@ -201,8 +201,8 @@ impl<Q: Quorums, S: Replica> Node<Q, S> {
 
     // The propagation of the call at a place begins.
     pub(crate) fn propagate(&mut self, place: usize, kept: Option<Version>)
-        requires { is_last self.old.number ≡ false }
-        ensures { self.new ≡ propagation_begun self.old place kept }
+        requires { is_last self.old.state.number ≡ false }
+        ensures { self.new.state ≡ propagation_begun self.old.state place kept }
     {
         self.number += 1;
         self.calls

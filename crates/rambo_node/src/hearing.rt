@@ -26,9 +26,9 @@ impl<Q: Quorums, S: Replica> Node<Q, S> {
     /// it doesn't know, 22 where there is no room for the list of its copies.
     #[tactic(auto, unfolding(crate::specs::Changes::made_by))]
     pub fn letter_for(&self, to: Name) -> Result<Letter<Q>, Refusal>
-        ensures judged { OnOk result (refusal_of Q.system self.now (change.Send to) ≡ None) }
-        ensures letter { IfOk result (λ l. (made_by self.now (change.Send to)).letter ≡ Some l) }
-        ensures refused { IfErr result (IsRefusal (refusal_of Q.system self.now (change.Send to))) }
+        ensures judged { OnOk result (refusal_of Q.system self.now.state (change.Send to) ≡ None) }
+        ensures letter { IfOk result (λ l. (made_by self.now.state (change.Send to)).letter ≡ Some l) }
+        ensures refused { IfErr result (IsRefusal (refusal_of Q.system self.now.state (change.Send to))) }
     {
         self.may_send(to)?;
         let copies = self.registers.pack()?;
@@ -37,7 +37,7 @@ impl<Q: Quorums, S: Replica> Node<Q, S> {
 
     /// The letter for a name, without its copies. It takes no memory.
     pub fn outline_for(&self, to: Name) -> LetterOutline<'_, Q>
-        ensures { result ≡ letter_with (letter_for self.now to) map.empty }
+        ensures { result ≡ letter_with (letter_for self.now.state to) map.empty }
     {
         LetterOutline {
             sender: self.name,
@@ -57,11 +57,11 @@ impl<Q: Quorums, S: Replica> Node<Q, S> {
     /// none.
     #[tactic(auto, unfolding(crate::specs::Changes::made_by))]
     pub fn hear(&mut self, letter: &Letter<Q>) -> Result<(), Refusal>
-        ensures judged { OnOk result (refusal_of Q.system self.old (change.Deliver letter.now) ≡ None) }
-        ensures node { OnOk result (self.new ≡ (made_by self.old (change.Deliver letter.now)).node) }
-        ensures refused { IfErr result (IsRefusal (refusal_of Q.system self.old (change.Deliver letter.now))) }
-        ensures join { letter.now.kind ≡ Kind.Join → IfErr result (λ r. refusal_of Q.system self.old (change.Deliver letter.now) ≡ Some r) }
-        ensures err { OnErr result (self.new ≡ self.old) }
+        ensures judged { OnOk result (refusal_of Q.system self.old.state (change.Deliver letter.now) ≡ None) }
+        ensures node { OnOk result (self.new.state ≡ (made_by self.old.state (change.Deliver letter.now)).node) }
+        ensures refused { IfErr result (IsRefusal (refusal_of Q.system self.old.state (change.Deliver letter.now))) }
+        ensures join { letter.now.kind ≡ Kind.Join → IfErr result (λ r. refusal_of Q.system self.old.state (change.Deliver letter.now) ≡ Some r) }
+        ensures err { OnErr result (self.new.state ≡ self.old.state) }
     {
         self.may_hear(letter)?;
         self.do_hear(letter)
@@ -77,11 +77,11 @@ impl<Q: Quorums, S: Replica> Node<Q, S> {
         outline: &LetterOutline<'_, Q>,
         copies: &Pack,
     ) -> Result<(), Refusal>
-        requires { refusal_of Q.system self.old (change.Deliver outline.now) ≡ None }
-        ensures node { OnOk result (self.new ≡ (made_by self.old (change.Deliver (letter_with outline.now copies.now))).node) }
+        requires { refusal_of Q.system self.old.state (change.Deliver outline.now) ≡ None }
+        ensures node { OnOk result (self.new.state ≡ (made_by self.old.state (change.Deliver (letter_with outline.now copies.now))).node) }
         ensures refused { IfErr result (λ r. r ≡ Refusal.OutOfMemory) }
         ensures join { outline.now.kind ≡ Kind.Join → IsOk result }
-        ensures err { OnErr result (self.new ≡ self.old) }
+        ensures err { OnErr result (self.new.state ≡ self.old.state) }
     {
         match &outline.gossip {
             None => {
@@ -96,10 +96,10 @@ impl<Q: Quorums, S: Replica> Node<Q, S> {
 impl<Q: Quorums, S: Replica> Node<Q, S> {
     // Hears a letter that isn't refused.
     pub(crate) fn do_hear(&mut self, letter: &Letter<Q>) -> Result<(), Refusal>
-        ensures ok { OnOk result (refusal_of Q.system self.old (change.Deliver letter.now) ≡ None → self.new ≡ heard_letter self.old letter.now) }
+        ensures ok { OnOk result (refusal_of Q.system self.old.state (change.Deliver letter.now) ≡ None → self.new.state ≡ heard_letter self.old.state letter.now) }
         ensures refused { IfErr result (λ r. r ≡ Refusal.OutOfMemory) }
         ensures join { letter.now.kind ≡ Kind.Join → IsOk result }
-        ensures err { OnErr result (self.new ≡ self.old) }
+        ensures err { OnErr result (self.new.state ≡ self.old.state) }
     {
         match &letter.kind {
             Kind::Join => {
@@ -112,7 +112,7 @@ impl<Q: Quorums, S: Replica> Node<Q, S> {
 
     // What the node tells a name besides copies, if it is active.
     fn gossip_outline(&self, to: Name) -> Option<GossipOutline<'_, Q>>
-        ensures { outlined result ≡ kind_with (letter_for self.now to).kind map.empty }
+        ensures { outlined result ≡ kind_with (letter_for self.now.state to).kind map.empty }
     {
         if !self.status.is_active() {
             return None;
@@ -129,8 +129,8 @@ impl<Q: Quorums, S: Replica> Node<Q, S> {
 
     // The phase number after gossip with this heard number and map, if there is one.
     fn number_after(&self, heard: u64, map: &ConfigMap<Q>) -> u64
-        ensures { (any_gap heard map.now self.now.calls && is_last self.now.number) ≡ false
-            → result ≡ number_after self.now.number heard map.now self.now.calls }
+        ensures { (any_gap heard map.now self.now.state.calls && is_last self.now.state.number) ≡ false
+            → result ≡ number_after self.now.state.number heard map.now self.now.state.calls }
     {
         self.calls.number_after(self.number, heard, map)
     }
@@ -138,7 +138,7 @@ impl<Q: Quorums, S: Replica> Node<Q, S> {
     // A joining node makes itself known.
     #[tactic(auto, unfolding(crate::specs::Hearing::heard_join))]
     fn meet(&mut self, from: Name)
-        ensures { self.new ≡ heard_join self.old from }
+        ensures { self.new.state ≡ heard_join self.old.state from }
     {
         self.known = self.known.with(from);
     }
@@ -150,10 +150,10 @@ impl<Q: Quorums, S: Replica> Node<Q, S> {
         gossip: &GossipOutline<'_, Q>,
         copies: &Pack,
     ) -> Result<(), Refusal>
-        ensures ok { OnOk result ((any_gap gossip.now.heard gossip.now.map.now self.old.calls && is_last self.old.number) ≡ false
-            → self.new ≡ heard_gossip self.old from (gossip_with (gossip_outlined gossip.now) copies.now)) }
+        ensures ok { OnOk result ((any_gap gossip.now.heard gossip.now.map.now self.old.state.calls && is_last self.old.state.number) ≡ false
+            → self.new.state ≡ heard_gossip self.old.state from (gossip_with (gossip_outlined gossip.now) copies.now)) }
         ensures refused { IfErr result (λ r. r ≡ Refusal.OutOfMemory) }
-        ensures err { OnErr result (self.new ≡ self.old) }
+        ensures err { OnErr result (self.new.state ≡ self.old.state) }
     {
         let own = self.number_after(gossip.heard, gossip.map);
         self.calls.make_room(gossip.map)?;

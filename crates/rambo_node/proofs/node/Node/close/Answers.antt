@@ -8,17 +8,17 @@ use Rattle.rambo_node.proofs.node.Node.close.Goals as goal
 
 pub returns-clause-node : goal.returns-clause-node
 returns-clause-node g c =
-    let x = c.args.self.now in
+    let x = c.args.self.now.state in
     let p = c.args.place in
-    ap (with_calls (calls_of c.close.new.self)) c.self.view_is
-    ∙ ap (λ cs. with_calls cs x) (c.close.ensures ∙ ap (λ y. remove y.calls p) c.self.view_is ∙ ap (remove x.calls) c.requires.place)
+    ap (with_calls (calls_of c.close.new.self.list)) (ap (λ v. v.state) c.self.view_is)
+    ∙ ap (λ cs. with_calls cs x) (c.close.ensures ∙ ap (λ v. remove v.state.calls p) c.self.view_is ∙ ap (remove x.calls) c.requires.place)
     ∙ (call_closes x c.args.id c.requires.open c.requires.told).0
 
 pub returns-clause-deed : goal.returns-clause-deed
 returns-clause-deed g c =
-    let x = c.args.self.now in
+    let x = c.args.self.now.state in
     c.in_ok-tell_answered.ensures.ok
-    ∙ ap (answered_from c.args.id) (c.get.ensures ∙ ap (λ y. slice_get y.calls c.args.place) c.self.view_is ∙ ap (slice_get x.calls) c.requires.place)
+    ∙ ap (answered_from c.args.id) (c.get.ensures ∙ ap (λ v. slice_get v.state.calls c.args.place) c.self.view_is ∙ ap (slice_get x.calls) c.requires.place)
     ∙ (call_closes x c.args.id c.requires.open c.requires.told).1
 
 pub close-requires : goal.close-requires

@@ -10,7 +10,7 @@ use Rattle.rambo_node.proofs.node.Node.do_hear.Goals as goal
 
 pub returns-in-Gossip-clause-ok : goal.returns-in-Gossip-clause-ok
 returns-in-Gossip-clause-ok g c =
-    let x = c.args.self.now in
+    let x = c.args.self.now.state in
     let j = c.args.letter.now.sender in
     let gap = ap (λ o. any_gap o.heard o.map x.calls && is_last x.number) c.outline.ensures in
     on_ok_weaker c.merge.result

@@ -12,7 +12,7 @@ use Rattle.rambo_node.proofs.node.Node.hear_outlined.Goals as goal
 pub returns-in-Some-clause-node : goal.returns-in-Some-clause-node
 unfolding made_by
 returns-in-Some-clause-node g c =
-    let x = c.args.self.now in
+    let x = c.args.self.now.state in
     let copies = c.args.copies.now in
     let j = c.outline.inside.sender in
     let kind_is = sym (ap (λ l. l.kind) c.outline.view_is) ∙ ap outlined c.in-Some.is in

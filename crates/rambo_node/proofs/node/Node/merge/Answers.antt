@@ -14,7 +14,7 @@ use Rattle.rambo_node.proofs.node.Node.merge.Goals as goal
 pub returns-clause-ok : goal.returns-clause-ok
 unfolding heard_gossip
 returns-clause-ok g c next =
-    let v = c.self.view_is in
+    let v = ap (λ v. v.state) c.self.view_is in
     let from = c.args.from in
     let gossip = c.args.gossip.now in
     let name = ap (λ n. n.name) v in

@@ -8,8 +8,8 @@ use Rattle.rambo_node.proofs.node.Node.set.Goals as goal
 
 pub overflow_add-tag : goal.overflow_add-tag
 overflow_add-tag g c =
-    let x = c.args.self.now in
-    let held : option_copied c.copy.result ≡ map.get x.registers c.args.key = c.copy.ensures ∙ ap (map.get _) c.as_slice.ensures ∙ ap (λ y. map.get y.registers c.args.key) c.self.view_is in
+    let x = c.args.self.now.state in
+    let held : option_copied c.copy.result ≡ map.get x.registers c.args.key = c.copy.ensures ∙ ap (map.get _) c.as_slice.ensures ∙ ap (λ v. map.get v.state.registers c.args.key) c.self.view_is in
     has_next c.sequence_of.result (assumption) (ap is_last (c.sequence_of.ensures ∙ ap (λ v. (tag_of v).sequence) held) ∙ c.requires.tags)
 
 pub propagate-requires : goal.propagate-requires
