@@ -30,8 +30,8 @@ impl<Q: Quorums, S: Replica> Node<Q, S> {
         ensures err { OnErr result (self.new.state ≡ self.old.state) }
     {
         // (one way out: what a change holds is dropped on each)
-        match self.judge(&change) {
-            Ok(()) => self.act(&change),
+        match self.ready(&change) {
+            Ok(prepared) => Ok(self.carry_out(prepared)),
             Err(refusal) => Err(refusal),
         }
     }
@@ -273,7 +273,7 @@ impl<Q: Quorums, S: Replica> Node<Q, S> {
 impl<Q: Quorums, S: Replica> Node<Q, S> {
     // Begins to join.
     #[tactic(auto, unfolding(crate::specs::Operations::joined_by))]
-    fn do_join(&mut self, contacts: Members)
+    pub(crate) fn do_join(&mut self, contacts: Members)
         ensures { self.new.state ≡ joined_by self.old.state contacts }
     {
         self.status = Status::Joining;
@@ -282,7 +282,7 @@ impl<Q: Quorums, S: Replica> Node<Q, S> {
 
     // Stops.
     #[tactic(auto, unfolding(crate::specs::Operations::stopped))]
-    fn do_stop(&mut self)
+    pub(crate) fn do_stop(&mut self)
         ensures { self.new.state ≡ stopped self.old.state }
     {
         self.status = Status::Stopped;

@@ -10,7 +10,10 @@ use Rattle.rambo_node.proofs.Sizes.{deliver_fits}
 use Rattle.rambo_node.proofs.node.Node.act.Goals as goal
 
 pub do_hear-requires : goal.do_hear-requires
-do_hear-requires g c = (c.requires-raw.1.1.0, deliver_fits _ _ _ _ _ _ _ _ c.requires-raw.1.1.1.0)
+do_hear-requires g c = (
+  c.requires-raw.1.1.0,
+  (deliver_fits _ _ _ _ _ _ _ _ c.requires-raw.1.1.1.0, subst (λ ch. refusal_of g.Q.Quorums.system c.args.self.now.state ch ≡ None) c.in-Deliver.is c.requires),
+)
 
 pub do_call-requires : goal.do_call-requires
 do_call-requires g c = (
@@ -48,8 +51,7 @@ pub returns-in_ok-do_hear-in-Deliver-clause-node : goal.returns-in_ok-do_hear-in
 unfolding made_by
 returns-in_ok-do_hear-in-Deliver-clause-node g c =
     let x = c.args.self.now.state in
-    c.in_ok-do_hear-in-Deliver.ensures.ok (subst (λ ch. refusal_of g.Q.Quorums.system x ch ≡ None) c.in-Deliver.is c.requires)
-    ∙ sym (ap (λ ch. (made_by x ch).node) c.in-Deliver.is)
+    c.in_ok-do_hear-in-Deliver.ensures.node ∙ sym (ap (λ ch. (made_by x ch).node) c.in-Deliver.is)
 
 pub returns-in_ok-go_on-in-Advance-clause-deed : goal.returns-in_ok-go_on-in-Advance-clause-deed
 returns-in_ok-go_on-in-Advance-clause-deed g c = c.in_ok-go_on-in-Advance.ensures.deed ∙ sym (ap (λ ch. (made_by c.args.self.now.state ch).deed) c.in-Advance.is)
