@@ -14,15 +14,3 @@ returns-clause-refused g c = assumption
 
 pub returns-clause-err : goal.returns-clause-err
 returns-clause-err g c = assumption
-
-pub returns-in_err-begin-clause-node : goal.returns-in_err-begin-clause-node
-returns-in_err-begin-clause-node g c = grind arith
-
-pub returns-in_err-begin-clause-deed : goal.returns-in_err-begin-clause-deed
-returns-in_err-begin-clause-deed g c = grind arith
-
-pub returns-in_err-begin-clause-refused : goal.returns-in_err-begin-clause-refused
-returns-in_err-begin-clause-refused g c = grind arith
-
-pub returns-in_err-begin-clause-err : goal.returns-in_err-begin-clause-err
-returns-in_err-begin-clause-err g c = grind arith
