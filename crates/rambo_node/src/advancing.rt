@@ -5,7 +5,7 @@ ghost use Rattle.std.specs.Option.{option_copied};
 ghost use Rattle.rambo_tag.specs.Tags.{tag_of};
 ghost use Rattle.rambo_history.specs.declared.operation.Op.TheVariants as asked;
 ghost use Rattle.rambo_node.specs.Changes.{refusal_of, made_by, quiet_deed};
-ghost use Rattle.rambo_node.specs.Kept.{move_deed};
+ghost use Rattle.rambo_node.specs.Kept.{answered_from, move_deed};
 ghost use Rattle.rambo_calls.specs.Calls.{query_in};
 ghost use Rattle.rambo_node.specs.Operations.{new_copy, taken};
 ghost use Rattle.rambo_node.specs.Prepared.{IsFound, HasRoomFor, put_by};
@@ -110,7 +110,7 @@ impl<Q: Quorums, S: Replica> Node<Q, S> {
                 Ok(())
             }
             None => {
-                tell_answered(deed, id, self.calls.get(place))?;
+                self.tell_answer(id, place, deed)?;
                 self.finish_answer(place);
                 Ok(())
             }
@@ -169,6 +169,21 @@ impl<Q: Quorums, S: Replica> Node<Q, S> {
             }
             Op::Set(key, value) => self.tell_set(id, key, value, deed),
         }
+    }
+
+    // What a met propagation at this place does is told in this deed, which told of nothing before.
+    pub(crate) fn tell_answer(
+        &self,
+        id: CallId,
+        place: usize,
+        deed: &mut Deed<Q>,
+    ) -> Result<(), Refusal>
+        requires { deed.old ≡ quiet_deed }
+        ensures deed { OnOk result (deed.new ≡ answered_from id (slice_get self.now.state.calls place)) }
+        ensures refused { IfErr result (λ r. r ≡ Refusal.OutOfMemory) }
+        ensures err { OnErr result (deed.new ≡ deed.old) }
+    {
+        tell_answered(deed, id, self.calls.get(place))
     }
 
     // A set takes the next tag of its key, and its new copy will be put and go round.

@@ -7,7 +7,7 @@ ghost use Rattle.rambo_node.specs.Prepared.{IsPrepared, IsReady, Prepares, chang
 ghost use Rattle.rambo_node.specs.declared.change.Change.TheVariants as change;
 
 use crate::change::Change;
-use crate::deed::{Deed, tell_answered};
+use crate::deed::Deed;
 use crate::effect::Effect;
 use crate::node::Node;
 use crate::prepared::{AnswerTurn, Prepared, QueryTurn, Quick, Turn};
@@ -156,7 +156,7 @@ impl<Q: Quorums, S: Replica> Node<Q, S> {
                 Ok(Prepared::moved(deed, QueryTurn { id, place, taken }))
             }
             None => {
-                tell_answered(&mut deed, id, self.calls.get(place))?;
+                self.tell_answer(id, place, &mut deed)?;
                 Ok(Prepared::answered(deed, id, place))
             }
         }

@@ -5,22 +5,21 @@ use Rattle.rambo_node.specs.Kept.{answered_from}
 use Rattle.rambo_node.specs.Prepared.{HasRoomFor, put_by}
 use Rattle.rambo_node.specs.declared.change.Change.TheVariants as change
 use Rattle.rambo_node.proofs.Readiness.{found_there, found_asked, found_next, query_ends, query_tells, answer_ends, answer_tells}
-use Rattle.rambo_names.proofs.Sizes.{up_fits, back_fits, next, variant_fits}
 use Rattle.rambo_node.proofs.node.Node.go_on.Goals as goal
 
-pub ready_place-place-requires : goal.ready_place-place-requires
-ready_place-place-requires g c = (c.requires-raw.1.1.0, c.requires.accepted)
+pub ready_place-requires : goal.ready_place-requires
+ready_place-requires g c = (c.requires-raw.1.1.0, c.requires.accepted)
 
-pub tell_query-taken-requires : goal.tell_query-taken-requires
-tell_query-taken-requires g c =
-    let x = c.ready_place-place.new.self.state in
+pub tell_query-requires : goal.tell_query-requires
+tell_query-requires g c =
+    let x = c.ready_place.new.self.state in
     let p = c.in_ok-place in
     let asked = found_asked g.Q.Quorums.system x c.args.id p.place p.ensures.found (Some c.in-Some.asked.now) (sym (ap option_copied c.in-Some.is) ∙ c.query_at.ensures) in
     (c.requires-raw.1.1.0, ((found_next g.Q.Quorums.system x c.args.id p.place p.ensures.found c.in-Some.asked.now asked).1, c.requires.quiet))
 
 pub finish_query-requires : goal.finish_query-requires
 finish_query-requires g c =
-    let v = c.ready_place-place.new.self in
+    let v = c.ready_place.new.self in
     let p = c.in_ok-place in
     let is = sym (ap option_copied c.in-Some.is) ∙ c.query_at.ensures in
     let asked = found_asked g.Q.Quorums.system v.state c.args.id p.place p.ensures.found (Some c.in-Some.asked.now) is in
@@ -32,7 +31,7 @@ finish_query-requires g c =
 
 pub returns-in_ok-taken-in-Some-clause-node : goal.returns-in_ok-taken-in-Some-clause-node
 returns-in_ok-taken-in-Some-clause-node g c =
-    let x = c.ready_place-place.new.self.state in
+    let x = c.ready_place.new.self.state in
     let p = c.in_ok-place in
     let t = c.in_ok-taken-in-Some in
     let asked = found_asked g.Q.Quorums.system x c.args.id p.place p.ensures.found (Some c.in-Some.asked.now) (sym (ap option_copied c.in-Some.is) ∙ c.query_at.ensures) in
@@ -41,35 +40,29 @@ returns-in_ok-taken-in-Some-clause-node g c =
 
 pub returns-in_ok-taken-in-Some-clause-deed : goal.returns-in_ok-taken-in-Some-clause-deed
 returns-in_ok-taken-in-Some-clause-deed g c =
-    let x = c.ready_place-place.new.self.state in
+    let x = c.ready_place.new.self.state in
     let p = c.in_ok-place in
     let asked = found_asked g.Q.Quorums.system x c.args.id p.place p.ensures.found (Some c.in-Some.asked.now) (sym (ap option_copied c.in-Some.is) ∙ c.query_at.ensures) in
     c.in_ok-taken-in-Some.ensures.deed ∙ query_tells x c.args.id c.in-Some.asked.now asked ∙ ap (λ y. (made_by y (change.Advance c.args.id)).deed) p.ensures.same
 
-pub get-requires : goal.get-requires
-get-requires g c =
-    let calls = back_fits _ _ _ (next _ _ _ _ (up_fits _ _ _ c.requires-raw.1.1.0)) in
-    (calls, variant_fits _ _ _ _ (back_fits _ _ _ (up_fits _ _ _ calls)))
+pub tell_answer-requires : goal.tell_answer-requires
+tell_answer-requires g c = (c.requires-raw.1.1.0, c.requires.quiet)
 
-pub tell_answered-requires : goal.tell_answered-requires
-tell_answered-requires g c = (variant_fits _ _ _ _ (back_fits _ _ _ (up_fits _ _ _ (back_fits _ _ _ (next _ _ _ _ (up_fits _ _ _ c.requires-raw.1.1.0))))), c.requires.quiet)
-
-pub returns-in_ok-tell_answered-in-None-clause-node : goal.returns-in_ok-tell_answered-in-None-clause-node
-returns-in_ok-tell_answered-in-None-clause-node g c =
-    let x = c.ready_place-place.new.self.state in
+pub returns-in_ok-tell_answer-in-None-clause-node : goal.returns-in_ok-tell_answer-in-None-clause-node
+returns-in_ok-tell_answer-in-None-clause-node g c =
+    let x = c.ready_place.new.self.state in
     let p = c.in_ok-place in
     let f = p.ensures.found in
     let round = found_asked g.Q.Quorums.system x c.args.id p.place f None (sym (ap option_copied c.in-None.is) ∙ c.query_at.ensures) in
     c.finish_answer.ensures ∙ answer_ends x c.args.id (found_there g.Q.Quorums.system x c.args.id p.place f) round p.place f.own
     ∙ ap (λ y. (made_by y (change.Advance c.args.id)).node) p.ensures.same
 
-pub returns-in_ok-tell_answered-in-None-clause-deed : goal.returns-in_ok-tell_answered-in-None-clause-deed
-returns-in_ok-tell_answered-in-None-clause-deed g c =
-    let x = c.ready_place-place.new.self.state in
+pub returns-in_ok-tell_answer-in-None-clause-deed : goal.returns-in_ok-tell_answer-in-None-clause-deed
+returns-in_ok-tell_answer-in-None-clause-deed g c =
+    let x = c.ready_place.new.self.state in
     let p = c.in_ok-place in
     let f = p.ensures.found in
     let round = found_asked g.Q.Quorums.system x c.args.id p.place f None (sym (ap option_copied c.in-None.is) ∙ c.query_at.ensures) in
-    c.in_ok-tell_answered-in-None.ensures.ok
-    ∙ ap (answered_from c.args.id) (c.get.ensures ∙ ap (λ v. slice_get v.state.calls p.place) c.self.view_is ∙ ap (slice_get x.calls) f.own)
+    c.in_ok-tell_answer-in-None.ensures.deed ∙ ap (λ n. answered_from c.args.id (slice_get x.calls n)) f.own
     ∙ answer_tells x c.args.id (found_there g.Q.Quorums.system x c.args.id p.place f) round
     ∙ ap (λ y. (made_by y (change.Advance c.args.id)).deed) p.ensures.same

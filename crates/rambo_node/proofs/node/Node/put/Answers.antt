@@ -9,5 +9,6 @@ put_room-requires g c = subst (λ v. 0 < v.room.keys) (sym c.self.view_is) (subs
 pub returns-in-Some : goal.returns-in-Some
 returns-in-Some g c =
     let x = c.args.self.now.state in
-    let put = c.put_room.ensures ∙ ap (λ v. map.insert v.state.registers c.in-Some.key c.in-Some.version) c.self.view_is ∙ sym (ap (with_put x.registers) c.in-Some.is) in
+    let copy = c.in-Some.field-0 in
+    let put = c.put_room.ensures ∙ ap (λ v. map.insert v.state.registers copy.key copy.version) c.self.view_is ∙ sym (ap (with_put x.registers) c.in-Some.is) in
     λ i. record ((c.self.view_is i).state) { registers = put i }

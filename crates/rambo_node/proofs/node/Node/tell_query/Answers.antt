@@ -15,7 +15,7 @@ tell_set-requires g c = (c.requires-raw.1.1.0, (sym (ap (tags_spent c.args.self.
 pub returns-in_ok-held-in-Get-clause-kept : goal.returns-in_ok-held-in-Get-clause-kept
 returns-in_ok-held-in-Get-clause-kept g c =
     let x = c.args.self.now.state in
-    c.in_ok-held-in-Get.ensures.same ∙ c.copy.ensures ∙ ap (map.get _) c.as_slice.ensures ∙ ap (λ v. map.get v.state.registers c.in-Get.key.now) c.self.view_is ∙ sym (ap (taken x) c.in-Get.is)
+    c.in_ok-held-in-Get.ensures.same ∙ c.copy.ensures ∙ ap (map.get _) c.as_slice.ensures ∙ ap (λ v. map.get v.state.registers c.in-Get.key) c.self.view_is ∙ sym (ap (taken x) c.in-Get.is)
 
 pub returns-in_ok-held-in-Get-clause-put : goal.returns-in_ok-held-in-Get-clause-put
 returns-in_ok-held-in-Get-clause-put g c = sym (ap (λ o. put_by c.args.self.now.state (Some o)) c.in-Get.is)
