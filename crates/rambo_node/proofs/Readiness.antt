@@ -101,6 +101,10 @@ gossip_ends x j g copies = refl
 pub outline_ready : {Q : Type 0} (v : RoomyNode Q) (g o : Gossip Q) (newer : Copies) (number : ℕ) → o ≡ gossip_with g map.empty → IsReadyGossip v g newer number → IsReadyGossip v o newer number
 outline_ready v g o newer number e h = subst (λ p. IsReadyGossip v p newer number) (sym e) (record { counted = h.counted; keys = h.keys; phases = h.phases })
 
+-- and of a copy of it
+pub same_ready : {Q : Type 0} (v : RoomyNode Q) (g o : Gossip Q) (newer : Copies) (number : ℕ) → o ≡ g → IsReadyGossip v g newer number → IsReadyGossip v o newer number
+same_ready v g o newer number e h = subst (λ p. IsReadyGossip v p newer number) (sym e) h
+
 -- a letter with those of its copies that are newer comes to the same
 module _ {Q : Type 0} (x : NodeState Q) (l : Letter Q) (newer : Copies) (same : joined x.registers newer ≡ joined x.registers (copies_in l.kind)) where
   short_is : letter_with (letter_with l map.empty) newer ≡ letter_with l newer

@@ -6,8 +6,9 @@ use Rattle.rambo_gossip.specs.Letters.{gossip_with}
 use Rattle.rambo_gossip.specs.Outlines.{gossip_outlined}
 use Rattle.rambo_calls.specs.Hearing.{number_after}
 use Rattle.rambo_calls.specs.Kept.{IsRoomy}
-use Rattle.rambo_node.specs.Prepared.{IsReadyGossip}
+use Rattle.rambo_node.proofs.Readiness.{same_ready}
 use Rattle.rambo_names.proofs.Sizes.{up_fits, back_fits, next}
+use Rattle.rambo_node.proofs.Sizes.{gossip_fits}
 use Rattle.rambo_node.proofs.node.Node.ready_gossip.Goals as goal
 
 pub number_after-number-requires : goal.number_after-number-requires
@@ -18,6 +19,9 @@ room_for-requires g c = (c.requires-raw.1.1.0, back_fits _ _ _ (up_fits _ _ _ c.
 
 pub alloc-requires : goal.alloc-requires
 alloc-requires g c = back_fits _ _ _ (next _ _ _ _ (up_fits _ _ _ c.requires-raw.1.1.0))
+
+pub with_copies-requires : goal.with_copies-requires
+with_copies-requires g c = gossip_fits 0 g.row.Q g.Q.Quorums g.Q.PartialEq g.met.Q.Quorums.small
 
 pub returns-clause-letter : goal.returns-clause-letter
 returns-clause-letter g c =
@@ -34,7 +38,7 @@ returns-clause-ready g c =
     let gossip = c.args.gossip.now in
     let is = c.with_copies.ensures ∙ ap (gossip_with (gossip_outlined gossip)) c.empty-none.ensures in
     let v = ap (λ n. n.state) c.self.view_is ∙ c.in_ok-room_for.ensures.same in
-    subst (λ o. IsReadyGossip _ o c.in_ok-newer.newer c.number_after-number.result) (sym is) (record {
+    same_ready _ (gossip_outlined gossip) c.with_copies.result c.in_ok-newer.newer c.number_after-number.result is (record {
       counted = c.number_after-number.ensures ∙ sym (ap (λ x. number_after x.number gossip.heard gossip.map.now x.calls) v);
       keys = c.in_ok-room.ensures.ok;
       phases = subst (λ n. IsRoomy gossip.map.now n.room.calls.list) (sym c.self.view_is) c.in_ok-room_for.ensures.room;

@@ -11,6 +11,7 @@ use Rattle.rambo_node.specs.Prepared.{IsReadyKind}
 use Rattle.rambo_node.specs.Refusals.{restarts, is_last}
 use Rattle.rambo_node.proofs.Judged.{hear_next}
 use Rattle.rambo_names.proofs.Sizes.{up_fits, back_fits, variant_fits}
+use Rattle.rambo_node.proofs.Sizes.{hear_fits}
 use Rattle.rambo_node.proofs.node.Node.ready_letter.Goals as goal
 
 pub returns-in-Join-clause-letter : goal.returns-in-Join-clause-letter
@@ -31,7 +32,7 @@ pub ready_gossip-requires : goal.ready_gossip-requires
 ready_gossip-requires g c =
     let x = c.args.self.now.state in
     let gap = ap (λ o. any_gap o.heard o.map x.calls && is_last x.number) c.outline.ensures in
-    (c.requires-raw.1.1.0, gap ∙ sym (ap (λ k. restarts x k && is_last x.number) c.in-Gossip.is) ∙ hear_next x c.args.letter.now.kind c.requires)
+    (c.requires-raw.1.1.0, (hear_fits 0 g.row.Q g.Q.Quorums g.Q.PartialEq g.met.Q.Quorums.small, gap ∙ sym (ap (λ k. restarts x k && is_last x.number) c.in-Gossip.is) ∙ hear_next x c.args.letter.now.kind c.requires))
 
 pub returns-in-Gossip-clause-letter : goal.returns-in-Gossip-clause-letter
 returns-in-Gossip-clause-letter g c =
