@@ -6,10 +6,7 @@ use Rattle.std.specs.List.{remove}
 use Rattle.rambo_names.specs.Quorums.{QuorumSystem}
 use Rattle.rambo_names.specs.Refusals.{least}
 use Rattle.rambo_tag.specs.Copies.{Copies, joined}
-use Rattle.rambo_tag.specs.declared.keyed_version.KeyedVersion.{KeyedVersion}
-use Rattle.rambo_tag.specs.declared.version.Version.{Version}
 use Rattle.rambo_history.specs.declared.event.CallId.{CallId}
-use Rattle.rambo_history.specs.declared.event.Event.{Event}
 use Rattle.rambo_history.specs.declared.event.Event.TheVariants as event
 use Rattle.rambo_history.specs.declared.operation.Op.{Op}
 use Rattle.rambo_history.specs.declared.operation.Op.TheVariants as op
@@ -18,29 +15,25 @@ use Rattle.rambo_gc.specs.declared.gc_move.GcMove.{GcMove}
 use Rattle.rambo_gc.specs.declared.gc_move.GcMove.TheVariants as move
 use Rattle.rambo_gc.specs.Collections.{CollectionState}
 use Rattle.rambo_gossip.specs.declared.letter.Gossip.{Gossip}
-use Rattle.rambo_gossip.specs.declared.letter.Kind.{Kind}
 use Rattle.rambo_gossip.specs.declared.letter.Kind.TheVariants as kind
 use Rattle.rambo_gossip.specs.declared.letter.Letter.{Letter}
-use Rattle.rambo_gossip.specs.Letters.{gossip_with, kind_with, letter_with}
+use Rattle.rambo_gossip.specs.Letters.{gossip_with, letter_with}
 use Rattle.rambo_gossip.specs.Short.{copies_in}
 use Rattle.rambo_paxos.specs.declared.bid.Bid.{Bid}
 use Rattle.rambo_paxos.specs.declared.bid.Bid.TheVariants as bid
 use Rattle.rambo_paxos.specs.Attempts.{AttemptState, bid_of}
-use Rattle.rambo_sequence.specs.declared.mark.Mark.{Mark}
 use Rattle.rambo_calls.specs.Calls.{CallState, place_of, find_call, query_in, is_missing}
-use Rattle.rambo_node.specs.declared.change.Change.{Change}
 use Rattle.rambo_node.specs.declared.change.Change.TheVariants as change
 use Rattle.rambo_node.specs.declared.deed.Deed.{Deed}
-use Rattle.rambo_node.specs.declared.prepared.Prepared.{Prepared}
 use Rattle.rambo_node.specs.declared.prepared.Turn.TheVariants as turn
 use Rattle.rambo_node.specs.declared.prepared.Quick.{Quick}
 use Rattle.rambo_node.specs.declared.prepared.Quick.TheVariants as quick
 use Rattle.rambo_node.specs.declared.prepared.HearTurn.{HearTurn}
 use Rattle.rambo_node.specs.declared.prepared.Taken.{Taken}
-use Rattle.rambo_node.specs.Changes.{refusal_of, made_by, told, copy_put, quiet, bid_made, decided, collection_turned, collection_advanced, attempt_advanced, rebid_made, begun_again}
+use Rattle.rambo_node.specs.Changes.{refusal_of, made_by, told, quiet, bid_made, decided, collection_turned, collection_advanced, attempt_advanced, rebid_made, begun_again}
 use Rattle.rambo_node.specs.Hearing.{heard_letter, heard_gossip, heard_rest}
 use Rattle.rambo_node.specs.Kept.{answered_from, move_deed, propagation_begun}
-use Rattle.rambo_node.specs.Nodes.{NodeState, Room, RoomyNode, open_call}
+use Rattle.rambo_node.specs.Nodes.{NodeState, RoomyNode, open_call}
 use Rattle.rambo_node.specs.Operations.{taken, with_copy}
 use Rattle.rambo_node.specs.Prepared.{quick_change, put_by, with_put, HasRoomFor, query_done, IsFound, IsReadyGossip, IsReadyKind, Prepares}
 use Rattle.rambo_node.specs.Reconfigurations.{collection_move, attempt_ended}

@@ -189,8 +189,7 @@ impl<Q: Quorums, S: Replica> Node<Q, S> {
         hear_vote(&mut self.attempt, &self.map, from, gossip.map, gossip.vote);
         hear_offer(&mut self.vote, &self.map, gossip.map, &gossip.offer);
         self.map.merge(gossip.map);
-        self.calls
-            .hear(from, gossip.heard, gossip.map, number, &self.map, self.name);
+        self.calls.hear(from, gossip.heard, gossip.map, number, &self.map, self.name);
         self.status.wake();
         self.known = self.known.union(gossip.known);
         self.heard.raise(from, gossip.number);
@@ -290,13 +289,7 @@ impl<Q: Quorums, S: Replica> Node<Q, S> {
     }
 
     // Gossip is heard that is ready.
-    fn finish_gossip(
-        &mut self,
-        from: Name,
-        gossip: &GossipOutline<'_, Q>,
-        newer: Pack,
-        number: u64,
-    )
+    fn finish_gossip(&mut self, from: Name, gossip: &GossipOutline<'_, Q>, newer: Pack, number: u64)
         requires { IsReadyGossip self.old (gossip_outlined gossip.now) newer number }
         ensures { self.new.state ≡ heard_gossip self.old.state from (gossip_with (gossip_outlined gossip.now) newer) }
     {

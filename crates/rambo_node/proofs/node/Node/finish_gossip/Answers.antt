@@ -1,4 +1,4 @@
-use Rattle.std.proofs.Common.{◌≡◌, sym, ap, ◌∙◌, subst}
+use Rattle.std.proofs.Common.{sym, ap, ◌∙◌, subst}
 use Rattle.rambo_tag.specs.Copies.{joined, HasRoom}
 use Rattle.rambo_calls.specs.Hearing.{number_after}
 use Rattle.rambo_calls.specs.Kept.{IsRoomy}
@@ -12,11 +12,13 @@ merge_room-requires g c = subst (λ n. HasRoom n.room.keys n.state.registers c.a
 
 pub settle-requires : goal.settle-requires
 settle-requires g c =
-    let gossip = c.args.gossip.now in
-    (c.requires-raw.1.1.0, (
-      subst (λ n. IsRoomy gossip.map.now n.room.calls.list) (sym c.self.view_is) c.requires.phases,
-      c.requires.counted ∙ sym (ap (λ n. number_after n.state.number gossip.heard gossip.map.now n.state.calls) c.self.view_is),
-    ))
+    let gossip = c.args.gossip.now in (
+      c.requires-raw.1.1.0,
+      (
+        subst (λ n. IsRoomy gossip.map.now n.room.calls.list) (sym c.self.view_is) c.requires.phases,
+        c.requires.counted ∙ sym (ap (λ n. number_after n.state.number gossip.heard gossip.map.now n.state.calls) c.self.view_is),
+      ),
+    )
 
 pub returns : goal.returns
 returns g c =

@@ -1,4 +1,4 @@
-use Rattle.std.proofs.Common.{◌≡◌, None, Some, slice_get, sym, ap, ◌∙◌, subst}
+use Rattle.std.proofs.Common.{None, Some, slice_get, sym, ap, ◌∙◌, subst}
 use Rattle.std.specs.Option.{option_copied}
 use Rattle.rambo_node.specs.Changes.{made_by}
 use Rattle.rambo_node.specs.Kept.{answered_from}
@@ -23,11 +23,13 @@ finish_query-requires g c =
     let p = c.in_ok-place in
     let is = sym (ap option_copied c.in-Some.is) ∙ c.query_at.ensures in
     let asked = found_asked g.Q.Quorums.system v.state c.args.id p.place p.ensures.found (Some c.in-Some.asked.now) is in
-    let room = subst (λ q. HasRoomFor v.room (put_by v.state q)) (sym is) p.ensures.room in
-    (c.requires-raw.1.1.0, (
-      (found_next g.Q.Quorums.system v.state c.args.id p.place p.ensures.found c.in-Some.asked.now asked).0,
-      subst (HasRoomFor v.room) (sym c.in_ok-taken-in-Some.ensures.put) room,
-    ))
+    let room = subst (λ q. HasRoomFor v.room (put_by v.state q)) (sym is) p.ensures.room in (
+      c.requires-raw.1.1.0,
+      (
+        (found_next g.Q.Quorums.system v.state c.args.id p.place p.ensures.found c.in-Some.asked.now asked).0,
+        subst (HasRoomFor v.room) (sym c.in_ok-taken-in-Some.ensures.put) room,
+      ),
+    )
 
 pub returns-in_ok-taken-in-Some-clause-node : goal.returns-in_ok-taken-in-Some-clause-node
 returns-in_ok-taken-in-Some-clause-node g c =

@@ -1,4 +1,4 @@
-use Rattle.std.proofs.Common.{◌≡◌, sym, ap, ◌∙◌, subst}
+use Rattle.std.proofs.Common.{sym, ap, ◌∙◌, subst}
 use Rattle.rambo_tag.specs.Copies.{joined}
 use Rattle.rambo_calls.specs.Hearing.{number_after}
 use Rattle.rambo_calls.specs.Kept.{IsRoomy}
@@ -17,11 +17,13 @@ room_for-requires g c = (c.requires-raw.1.1.0, back_fits _ _ _ (up_fits _ _ _ c.
 pub settle-requires : goal.settle-requires
 settle-requires g c =
     let gossip = c.args.gossip.now in
-    let v = ap (λ n. n.state) c.self.view_is ∙ c.in_ok-room_for.ensures.same in
-    (c.requires-raw.1.1.0, (
-      subst (λ n. IsRoomy gossip.map.now n.room.calls.list) (sym c.self.view_is) c.in_ok-room_for.ensures.room,
-      c.number_after-number.ensures ∙ sym (ap (λ x. number_after x.number gossip.heard gossip.map.now x.calls) v),
-    ))
+    let v = ap (λ n. n.state) c.self.view_is ∙ c.in_ok-room_for.ensures.same in (
+      c.requires-raw.1.1.0,
+      (
+        subst (λ n. IsRoomy gossip.map.now n.room.calls.list) (sym c.self.view_is) c.in_ok-room_for.ensures.room,
+        c.number_after-number.ensures ∙ sym (ap (λ x. number_after x.number gossip.heard gossip.map.now x.calls) v),
+      ),
+    )
 
 pub returns-clause-ok : goal.returns-clause-ok
 returns-clause-ok g c =

@@ -1,4 +1,4 @@
-use Rattle.std.proofs.Common.{◌≡◌, None, Some, slice_get, sym, ap, ◌∙◌, subst}
+use Rattle.std.proofs.Common.{None, Some, slice_get, sym, ap, ◌∙◌, subst}
 use Rattle.std.specs.Option.{option_copied}
 use Rattle.rambo_node.specs.Kept.{answered_from}
 use Rattle.rambo_node.specs.Prepared.{HasRoomFor, put_by, Prepares}

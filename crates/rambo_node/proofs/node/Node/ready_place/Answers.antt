@@ -1,4 +1,4 @@
-use Rattle.std.proofs.Common.{◌≡◌, sym, subst}
+use Rattle.std.proofs.Common.{sym, subst}
 use Rattle.rambo_node.specs.Prepared.{IsFound}
 use Rattle.rambo_node.proofs.Judged.{advance_next}
 use Rattle.rambo_node.proofs.node.Node.ready_place.Goals as goal
