@@ -107,10 +107,14 @@ IsReady v (turn.Answer t) = IsReadyAnswer v t
 IsReady v (turn.Hear t) = IsReadyKind v t.letter.kind t.newer t.number
 IsReady v (turn.Quick q) = Unit {0}
 
--- a change isn't refused, and is ready
-pub record IsPrepared {Q : Type 0} (s : QuorumSystem Q) (v : RoomyNode Q) (p : Prepared Q) : Type 0 where
-  pub accepted : refusal_of s v.state (change_of p) ≡ None
-  pub ready : IsReady v p.turn
+-- and its change isn't refused
+pub record IsReadyTurn {Q : Type 0} (s : QuorumSystem Q) (v : RoomyNode Q) (t : Turn Q) : Type 0 where
+  pub accepted : refusal_of s v.state (turn_change t) ≡ None
+  pub ready : IsReady v t
+
+-- a change is prepared, whatever became of what will be told of it
+abbrev pub IsPrepared : {Q : Type 0} → QuorumSystem Q → RoomyNode Q → Prepared Q → Type 0
+IsPrepared s v p = IsReadyTurn s v p.turn
 
 -- it comes to this change, and what that will do besides changing the node is told
 pub record Prepares {Q : Type 0} (s : QuorumSystem Q) (v : RoomyNode Q) (c : Change Q) (p : Prepared Q) : Type 0 where

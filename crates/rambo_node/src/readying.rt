@@ -3,7 +3,7 @@ ghost use Rattle.std.specs.Prelude.{◌≡◌, None, Some, false, IsOk, OnOk, If
 ghost use Rattle.rambo_names.specs.Refusals.{IsRefusal};
 ghost use Rattle.rambo_node.specs.Changes.{refusal_of, made_by};
 ghost use Rattle.rambo_node.specs.Memory.{needs_memory};
-ghost use Rattle.rambo_node.specs.Prepared.{IsPrepared, IsReady, Prepares, change_of, turn_change, quick_change};
+ghost use Rattle.rambo_node.specs.Prepared.{IsPrepared, IsReadyTurn, Prepares, change_of, turn_change, quick_change};
 ghost use Rattle.rambo_node.specs.declared.change.Change.TheVariants as change;
 
 use crate::change::Change;
@@ -168,8 +168,7 @@ impl<Q: Quorums, S: Replica> Node<Q, S> {
     // Of any change.
     #[tactic(auto, unfolding(crate::specs::Changes::made_by))]
     fn finish_turn(&mut self, turn: Turn<Q>) -> Effect<Q>
-        requires accepted { refusal_of Q.system self.old.state (turn_change turn) ≡ None }
-        requires ready { IsReady self.old turn }
+        requires { IsReadyTurn Q.system self.old turn }
         ensures node { self.new.state ≡ (made_by self.old.state (turn_change turn)).node }
         ensures effect { result ≡ (made_by self.old.state (turn_change turn)).deed.effect }
     {
