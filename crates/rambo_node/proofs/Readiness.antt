@@ -15,9 +15,10 @@ use Rattle.rambo_gc.specs.declared.gc_move.GcMove.{GcMove}
 use Rattle.rambo_gc.specs.declared.gc_move.GcMove.TheVariants as move
 use Rattle.rambo_gc.specs.Collections.{CollectionState}
 use Rattle.rambo_gossip.specs.declared.letter.Gossip.{Gossip}
+use Rattle.rambo_gossip.specs.declared.letter.Kind.{Kind}
 use Rattle.rambo_gossip.specs.declared.letter.Kind.TheVariants as kind
 use Rattle.rambo_gossip.specs.declared.letter.Letter.{Letter}
-use Rattle.rambo_gossip.specs.Letters.{gossip_with, letter_with}
+use Rattle.rambo_gossip.specs.Letters.{gossip_with, kind_with, letter_with}
 use Rattle.rambo_gossip.specs.Short.{copies_in}
 use Rattle.rambo_paxos.specs.declared.bid.Bid.{Bid}
 use Rattle.rambo_paxos.specs.declared.bid.Bid.TheVariants as bid
@@ -113,6 +114,14 @@ module _ {Q : Type 0} (x : NodeState Q) (l : Letter Q) (newer : Copies) (same : 
   short_judged s =
       ap (λ (n : Letter Q). least (hear_causes x n.kind)) short_is
       ∙ ap least ((heard_alike x l newer (copies_in l.kind) same).1 ∙ ap (λ (n : Letter Q). hear_causes x n.kind) (own_copies l))
+
+-- other copies are refused alike
+pub copies_judged : {Q : Type 0} (s : QuorumSystem Q) (x : NodeState Q) (l : Letter Q) (copies : Copies) → refusal_of s x (change.Deliver (letter_with l copies)) ≡ refusal_of s x (change.Deliver l)
+copies_judged s x l copies = ap least (causes_alike x l.kind copies)
+  where
+    causes_alike : {Q : Type 0} (x : NodeState Q) (k : Kind Q) (copies : Copies) → hear_causes x (kind_with k copies) ≡ hear_causes x k
+    causes_alike x kind.Join copies = refl
+    causes_alike x (kind.Gossip g) copies = refl
 
 -- of what needs no memory an effect is told, and nothing else
 abbrev TellsNothing : {Q : Type 0} → Deed Q → Type 0

@@ -220,6 +220,26 @@ impl<Q: Quorums, S: Replica> Node<Q, S> {
         }
     }
 
+    // Of a letter that is told by its outline and its copies.
+    pub(crate) fn ready_outlined(
+        &mut self,
+        outline: &LetterOutline<'_, Q>,
+        copies: &Pack,
+    ) -> Result<HearTurn<Q>, Refusal>
+        requires { refusal_of Q.system self.old.state (change.Deliver outline.now) ≡ None }
+        ensures same { self.new.state ≡ self.old.state }
+        ensures letter { IfOk result (λ t. t.letter ≡ letter_with (letter_with outline.now copies.now) map.empty) }
+        ensures newer { IfOk result (λ t. joined self.old.state.registers t.newer ≡ joined self.old.state.registers (copies_in (letter_with outline.now copies.now).kind)) }
+        ensures ready { IfOk result (λ t. IsReadyKind self.new t.letter.kind t.newer t.number) }
+        ensures refused { IfErr result (λ r. r ≡ Refusal.OutOfMemory) }
+        ensures join { outline.now.kind ≡ Kind.Join → IsOk result }
+    {
+        match &outline.gossip {
+            None => Ok(self.ready_join(outline.sender, outline.addressee)),
+            Some(gossip) => { self.ready_gossip(outline.sender, outline.addressee, gossip, copies) }
+        }
+    }
+
     // Of one of a joining node.
     fn ready_join(&self, sender: Name, addressee: Name) -> HearTurn<Q>
         ensures letter { result.letter ≡ record { sender = sender; addressee = addressee; kind = Kind.Join } }

@@ -1,6 +1,7 @@
 //! A change in two halves: the first may fail, and the second changes the node.
 ghost use Rattle.std.specs.Prelude.{◌≡◌, None, Some, false, IsOk, OnOk, IfOk, IfErr};
 ghost use Rattle.rambo_names.specs.Refusals.{IsRefusal};
+ghost use Rattle.rambo_gossip.specs.Letters.{letter_with};
 ghost use Rattle.rambo_node.specs.Changes.{refusal_of, made_by};
 ghost use Rattle.rambo_node.specs.Memory.{needs_memory};
 ghost use Rattle.rambo_node.specs.Prepared.{IsPrepared, IsReadyTurn, Prepares, change_of, turn_change, quick_change};
@@ -11,10 +12,10 @@ use crate::deed::Deed;
 use crate::effect::Effect;
 use crate::node::Node;
 use crate::prepared::{AnswerTurn, Prepared, QueryTurn, Quick, Turn};
-use rambo_gossip::Letter;
+use rambo_gossip::{Kind, Letter, LetterOutline};
 use rambo_history::{CallId, Event, Op};
 use rambo_names::{Quorums, Refusal};
-use rambo_tag::Replica;
+use rambo_tag::{Pack, Replica};
 
 impl<Q: Quorums, S: Replica> Node<Q, S> {
     /// The first half of a change: it is judged, room is made for all that is new, and what it will do is found. Nothing of
@@ -35,6 +36,51 @@ impl<Q: Quorums, S: Replica> Node<Q, S> {
     {
         self.judge(change)?;
         self.prepare(change)
+    }
+
+    /// The first half of a change that isn't refused: what `ready` does where `judge` finds no cause.
+    ///
+    /// `OutOfMemory` where there is no room for what is new, which only a call, its advance and a letter of an active node
+    /// may need.
+    pub fn prepare(&mut self, change: &Change<Q>) -> Result<Prepared<Q>, Refusal>
+        requires { refusal_of Q.system self.old.state change.now ≡ None }
+        ensures same { self.new.state ≡ self.old.state }
+        ensures prepares { IfOk result (Prepares Q.system self.new change.now) }
+        ensures refused { IfErr result (λ r. r ≡ Refusal.OutOfMemory) }
+        ensures no_memory { needs_memory change.now ≡ false → IsOk result }
+    {
+        match change {
+            Change::Join(contacts) => Ok(self.prepare_quick(Quick::Join(*contacts))),
+            Change::Call(op) => self.prepare_call(op),
+            Change::Send(to) => Ok(self.prepare_quick(Quick::Send(*to))),
+            Change::Deliver(letter) => self.prepare_letter(letter),
+            Change::Advance(id) => self.prepare_advance(*id),
+            Change::Again(id) => Ok(self.prepare_quick(Quick::Again(*id))),
+            Change::Collect => Ok(self.prepare_quick(Quick::Collect)),
+            Change::AdvanceCollect => Ok(self.prepare_quick(Quick::AdvanceCollect)),
+            Change::Recon(wish) => Ok(self.prepare_quick(Quick::Recon(*wish))),
+            Change::Rebid => Ok(self.prepare_quick(Quick::Rebid)),
+            Change::AdvanceRecon => Ok(self.prepare_quick(Quick::AdvanceRecon)),
+            Change::Stop => Ok(self.prepare_quick(Quick::Stop)),
+        }
+    }
+
+    /// The first half of the delivery of a letter that isn't refused, which is told by its outline and its copies.
+    ///
+    /// `OutOfMemory` where there is no room for what is new. The wish of a node to join needs none.
+    pub fn prepare_outlined(
+        &mut self,
+        outline: &LetterOutline<'_, Q>,
+        copies: &Pack,
+    ) -> Result<Prepared<Q>, Refusal>
+        requires { refusal_of Q.system self.old.state (change.Deliver outline.now) ≡ None }
+        ensures same { self.new.state ≡ self.old.state }
+        ensures prepares { IfOk result (Prepares Q.system self.new (change.Deliver (letter_with outline.now copies.now))) }
+        ensures refused { IfErr result (λ r. r ≡ Refusal.OutOfMemory) }
+        ensures join { outline.now.kind ≡ Kind.Join → IsOk result }
+    {
+        let turn = self.ready_outlined(outline, copies)?;
+        Ok(Prepared::quiet(Turn::Hear(turn)))
     }
 
     /// The second half of a change that is ready: the node changes. What is told of it is answered.
@@ -78,30 +124,6 @@ impl<Q: Quorums, S: Replica> Node<Q, S> {
 
 // The first half of a change that isn't refused.
 impl<Q: Quorums, S: Replica> Node<Q, S> {
-    // Of any change.
-    fn prepare(&mut self, change: &Change<Q>) -> Result<Prepared<Q>, Refusal>
-        requires { refusal_of Q.system self.old.state change.now ≡ None }
-        ensures same { self.new.state ≡ self.old.state }
-        ensures prepares { IfOk result (Prepares Q.system self.new change.now) }
-        ensures refused { IfErr result (λ r. r ≡ Refusal.OutOfMemory) }
-        ensures no_memory { needs_memory change.now ≡ false → IsOk result }
-    {
-        match change {
-            Change::Join(contacts) => Ok(self.prepare_quick(Quick::Join(*contacts))),
-            Change::Call(op) => self.prepare_call(op),
-            Change::Send(to) => Ok(self.prepare_quick(Quick::Send(*to))),
-            Change::Deliver(letter) => self.prepare_letter(letter),
-            Change::Advance(id) => self.prepare_advance(*id),
-            Change::Again(id) => Ok(self.prepare_quick(Quick::Again(*id))),
-            Change::Collect => Ok(self.prepare_quick(Quick::Collect)),
-            Change::AdvanceCollect => Ok(self.prepare_quick(Quick::AdvanceCollect)),
-            Change::Recon(wish) => Ok(self.prepare_quick(Quick::Recon(*wish))),
-            Change::Rebid => Ok(self.prepare_quick(Quick::Rebid)),
-            Change::AdvanceRecon => Ok(self.prepare_quick(Quick::AdvanceRecon)),
-            Change::Stop => Ok(self.prepare_quick(Quick::Stop)),
-        }
-    }
-
     // Of one that needs no memory.
     fn prepare_quick(&self, quick: Quick<Q>) -> Prepared<Q>
         requires { refusal_of Q.system self.now.state (quick_change quick) ≡ None }
