@@ -245,6 +245,7 @@ impl<Q: Quorums, S: Replica> Node<Q, S> {
         ensures letter { result.letter ≡ record { sender = sender; addressee = addressee; kind = Kind.Join } }
         ensures newer { result.newer ≡ map.empty }
     {
+        let number = self.number;
         HearTurn {
             letter: Letter {
                 sender,
@@ -252,7 +253,7 @@ impl<Q: Quorums, S: Replica> Node<Q, S> {
                 kind: Kind::Join,
             },
             newer: Pack::empty(self.calls.alloc()),
-            number: self.number,
+            number,
         }
     }
 
