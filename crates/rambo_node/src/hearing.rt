@@ -245,7 +245,6 @@ impl<Q: Quorums, S: Replica> Node<Q, S> {
         ensures letter { result.letter ≡ record { sender = sender; addressee = addressee; kind = Kind.Join } }
         ensures newer { result.newer ≡ map.empty }
     {
-        let number = self.number;
         HearTurn {
             letter: Letter {
                 sender,
@@ -253,7 +252,7 @@ impl<Q: Quorums, S: Replica> Node<Q, S> {
                 kind: Kind::Join,
             },
             newer: Pack::empty(self.calls.alloc()),
-            number,
+            number: self.number,
         }
     }
 
