@@ -7,6 +7,11 @@ use Rattle.rambo_calls.specs.declared.open_call.OpenCall.{OpenCall}
 use Rattle.rambo_calls.specs.declared.stage.Stage.TheVariants.{Propagation}
 use Rattle.rambo_calls.specs.Calls.{CallState}
 
+-- open calls as they are kept, and for how many more there is room
+pub record KeptCalls (Q : Type 0) : Type 0 where
+  pub list : List (OpenCall Q)
+  pub room : ℕ
+
 abbrev pub call_of : {Q : Type 0} → OpenCall Q → CallState Q
 call_of c = record { number = c.number; op = c.op; stage = c.stage; phase = c.phase.state }
 

@@ -1,5 +1,5 @@
 //! The open calls of a node, the oldest first.
-ghost use Rattle.std.specs.Prelude.{◌≡◌, ◌-◌, ◌^◌, ◌++◌, ◌∷◌, [], length, min, IsOk, OnOk, OnErr, IfErr, remove, slice_get, map as list_map};
+ghost use Rattle.std.specs.Prelude.{◌≡◌, ◌<◌, ◌≤◌, ◌-◌, ◌^◌, ◌++◌, ◌∷◌, [], length, min, IsOk, OnOk, OnErr, IfErr, remove, slice_get, map as list_map};
 ghost use Rattle.std.specs.Option.{option_copied};
 ghost use Rattle.rambo_calls.specs.Calls.{place_of, find_call, number_in};
 ghost use Rattle.rambo_calls.specs.Hearing.{any_gap, number_after, restarted, heard_call};
@@ -35,22 +35,23 @@ impl<Q: Quorums> Drop for OpenCalls<Q> {
 }
 
 impl<Q: Quorums> Model for OpenCalls<Q> {
-    ghost use Rattle.std.specs.Prelude.{List};
+    ghost use Rattle.std.specs.Prelude.{◌-◌};
+    ghost use Rattle.std.specs.Vec.{vec_len, vec_capacity};
     ghost use Rattle.std.specs.Coded.{codes};
     ghost use Rattle.rambo_names.specs.Names.{names_code};
-    ghost use Rattle.rambo_calls.specs.declared.open_call.OpenCall.{OpenCall};
+    ghost use Rattle.rambo_calls.specs.Kept.{KeptCalls};
 
-    ghost Value = { List (OpenCall Q) };
+    ghost Value = { KeptCalls Q };
 
     ghost coded = { Prim.hlevel (codes, names_code, Q.code) };
 
-    ghost view = { λ c. c.list.items };
+    ghost view = { λ c. record { list = c.list.items; room = vec_capacity c.list - vec_len c.list } };
 }
 
 impl<Q: Quorums> OpenCalls<Q> {
     /// No call. Its memory will come from this allocator.
     pub fn new(alloc: Global) -> Self
-        ensures { result ≡ [] }
+        ensures { result.list ≡ [] }
     {
         OpenCalls {
             list: Vec::new(alloc),
@@ -65,9 +66,22 @@ impl<Q: Quorums> OpenCalls<Q> {
 
     /// How many there are.
     pub fn len(&self) -> usize
-        ensures { result ≡ length self.now }
+        ensures { result ≡ length self.now.list }
     {
         self.list.len()
+    }
+
+    /// Makes room for one call more. The calls stay, whatever the answer, and so does the room that there is.
+    ///
+    /// `OutOfMemory` where there is none.
+    pub fn reserve(&mut self) -> Result<(), Refusal>
+        ensures same { self.new.list ≡ self.old.list }
+        ensures kept { self.old.room ≤ self.new.room }
+        ensures ok { OnOk result (0 < self.new.room) }
+        ensures refused { IfErr result (λ r. r ≡ Refusal.OutOfMemory) }
+    {
+        self.list.reserve(1)?;
+        Ok(())
     }
 
     /// Opens a call of this number in its query, under a phase number: its phase begins with this map, and with the
@@ -82,13 +96,30 @@ impl<Q: Quorums> OpenCalls<Q> {
         map: &ConfigMap<Q>,
         me: Name,
     ) -> Result<(), Refusal>
-        ensures ok { OnOk result (calls_of self.new ≡ calls_of self.old ++ record { number = number; op = op; stage = Query; phase = started phase_number map.now me } ∷ []) }
-        ensures err { OnErr result (self.new ≡ self.old) }
+        ensures ok { OnOk result (calls_of self.new.list ≡ calls_of self.old.list ++ record { number = number; op = op; stage = Query; phase = started phase_number map.now me } ∷ []) }
+        ensures err { OnErr result (self.new.list ≡ self.old.list) }
         ensures refused { IfErr result (λ r. r ≡ Refusal.OutOfMemory) }
+    {
+        self.reserve()?;
+        self.open_reserved(number, op, phase_number, map, me);
+        Ok(())
+    }
+
+    /// Opens a call of this number in its query, where there is room for one call more: what `open` does. It takes no
+    /// memory and can't fail.
+    pub fn open_reserved(
+        &mut self,
+        number: u64,
+        op: Op,
+        phase_number: u64,
+        map: &ConfigMap<Q>,
+        me: Name,
+    )
+        requires { 0 < self.old.room }
+        ensures { calls_of self.new.list ≡ calls_of self.old.list ++ record { number = number; op = op; stage = Query; phase = started phase_number map.now me } ∷ [] }
     {
         let alloc = self.alloc();
         let place = self.list.len();
-        self.list.reserve(1)?;
         self.list.push_reserved(OpenCall {
             number,
             op,
@@ -97,7 +128,6 @@ impl<Q: Quorums> OpenCalls<Q> {
         });
         // (it begins where it lies: a phase is large, and where it is moved it is copied whole)
         self.restart(place, phase_number, map, me);
-        Ok(())
     }
 
     /// The call at a place sends a copy round, in a phase that begins under this phase number with this map. It takes no
@@ -110,7 +140,7 @@ impl<Q: Quorums> OpenCalls<Q> {
         map: &ConfigMap<Q>,
         me: Name,
     )
-        ensures { calls_of self.new ≡ with_call place (slice_get (calls_of self.old) place) (propagating kept (started phase_number map.now me)) (calls_of self.old) }
+        ensures { calls_of self.new.list ≡ with_call place (slice_get (calls_of self.old.list) place) (propagating kept (started phase_number map.now me)) (calls_of self.old.list) }
     {
         if place >= self.list.len() {
             return;
@@ -121,7 +151,7 @@ impl<Q: Quorums> OpenCalls<Q> {
     /// The phase of the call at a place begins anew, under this phase number with this map. It takes no memory. Where
     /// there is no call, nothing changes.
     pub fn restart(&mut self, place: usize, phase_number: u64, map: &ConfigMap<Q>, me: Name)
-        ensures { calls_of self.new ≡ with_call place (slice_get (calls_of self.old) place) (restarted phase_number map.now me) (calls_of self.old) }
+        ensures { calls_of self.new.list ≡ with_call place (slice_get (calls_of self.old.list) place) (restarted phase_number map.now me) (calls_of self.old.list) }
     {
         if place >= self.list.len() {
             return;
@@ -131,7 +161,7 @@ impl<Q: Quorums> OpenCalls<Q> {
 
     /// Takes the call at a place out, if there is one.
     pub fn close(&mut self, place: usize)
-        ensures { calls_of self.new ≡ remove (calls_of self.old) place }
+        ensures { calls_of self.new.list ≡ remove (calls_of self.old.list) place }
     {
         if place >= self.list.len() {
             return;
@@ -144,9 +174,9 @@ impl<Q: Quorums> OpenCalls<Q> {
     /// `OutOfMemory` where there is none; never where the calls have this room already. The calls are as they were,
     /// whatever the answer.
     pub fn make_room(&mut self, map: &ConfigMap<Q>) -> Result<(), Refusal>
-        ensures same { calls_of self.new ≡ calls_of self.old }
-        ensures ok { OnOk result (IsRoomy map.now self.new) }
-        ensures succeeds { IsRoomy map.now self.old → IsOk result }
+        ensures same { calls_of self.new.list ≡ calls_of self.old.list }
+        ensures ok { OnOk result (IsRoomy map.now self.new.list) }
+        ensures succeeds { IsRoomy map.now self.old.list → IsOk result }
         ensures refused { IfErr result (λ r. r ≡ Refusal.OutOfMemory) }
     {
         make_room(self.list.as_mut_slice(), map)
@@ -165,8 +195,8 @@ impl<Q: Quorums> OpenCalls<Q> {
         merged: &ConfigMap<Q>,
         me: Name,
     )
-        requires { IsRoomy map.now self.old }
-        ensures { calls_of self.new ≡ list_map (heard_call heard from map.now number merged.now me) (calls_of self.old) }
+        requires { IsRoomy map.now self.old.list }
+        ensures { calls_of self.new.list ≡ list_map (heard_call heard from map.now number merged.now me) (calls_of self.old.list) }
     {
         hear(
             self.list.as_mut_slice(),
@@ -181,35 +211,35 @@ impl<Q: Quorums> OpenCalls<Q> {
 
     /// The place of the first call of a number, or how many calls there are where none has it.
     pub fn place_of(&self, number: u64) -> usize
-        ensures { result ≡ place_of number (calls_of self.now) }
+        ensures { result ≡ place_of number (calls_of self.now.list) }
     {
         place_of(self.list.as_slice(), number)
     }
 
     /// The call at a place, if there is one.
     pub fn get(&self, place: usize) -> Option<&OpenCall<Q>>
-        ensures { call_found (option_copied result) ≡ slice_get (calls_of self.now) place }
+        ensures { call_found (option_copied result) ≡ slice_get (calls_of self.now.list) place }
     {
         call_at(self.list.as_slice(), place)
     }
 
     /// The call of a number, if there is one.
     pub fn find(&self, number: u64) -> Option<&OpenCall<Q>>
-        ensures { call_found (option_copied result) ≡ find_call number (calls_of self.now) }
+        ensures { call_found (option_copied result) ≡ find_call number (calls_of self.now.list) }
     {
         self.get(self.place_of(number))
     }
 
     /// The number of the call at a place, if there is one.
     pub fn number_at(&self, place: usize) -> Option<u64>
-        ensures { result ≡ number_in (slice_get (calls_of self.now) place) }
+        ensures { result ≡ number_in (slice_get (calls_of self.now.list) place) }
     {
         number_at(self.list.as_slice(), place)
     }
 
     /// Whether a letter with this heard number and map restarts a phase: whether it is a reply whose map leaves a gap.
     pub fn any_gap(&self, heard: u64, map: &ConfigMap<Q>) -> bool
-        ensures { result ≡ any_gap heard map.now (calls_of self.now) }
+        ensures { result ≡ any_gap heard map.now (calls_of self.now.list) }
     {
         any_gap(self.list.as_slice(), heard, map)
     }
@@ -217,7 +247,7 @@ impl<Q: Quorums> OpenCalls<Q> {
     /// The phase number after a letter with this heard number and map, where it was this one: one more where a phase
     /// begins anew, but at most the greatest number.
     pub fn number_after(&self, number: u64, heard: u64, map: &ConfigMap<Q>) -> u64
-        ensures { result ≡ min (number_after number heard map.now (calls_of self.now)) (2 ^ 64 - 1) }
+        ensures { result ≡ min (number_after number heard map.now (calls_of self.now.list)) (2 ^ 64 - 1) }
     {
         if !self.any_gap(heard, map) {
             return number;

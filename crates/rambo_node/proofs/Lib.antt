@@ -3,6 +3,7 @@ pub mod Judged
 pub mod LastNumbers
 pub mod Memory
 pub mod Fitting
+pub mod Readiness
 pub mod Sizes
 mod Own
 pub mod Telling

@@ -1,5 +1,5 @@
 -- What follows where no memory is needed
-use Rattle.std.proofs.Common.{◌≡◌, false, Result, Ok, Err, IsOk, IfErr, refl, sym}
+use Rattle.std.proofs.Common.{◌≡◌, false, Result, Ok, Err, IsOk, IfErr, OnOk, refl, sym}
 use Rattle.std.proofs.lemmas.Bool.{true≢false}
 use Rattle.rambo_gossip.specs.declared.letter.Kind.{Kind}
 use Rattle.rambo_gossip.specs.declared.letter.Kind.TheVariants as kind
@@ -14,3 +14,8 @@ IfErr-from_ok (Err y) Q ok = absurd (true≢false (sym ok))
 pub join_from_no_gossip : {Q : Type 0} (k : Kind Q) → is_gossip k ≡ false → k ≡ kind.Join
 join_from_no_gossip kind.Join e = refl
 join_from_no_gossip (kind.Gossip g) e = absurd (true≢false e)
+
+-- what holds anyway holds where it succeeds
+pub OnOk-always : {T E : Type 0} (r : Result T E) (P : Type 0) → P → OnOk r P
+OnOk-always (Ok x) P p = p
+OnOk-always (Err y) P p = tt

@@ -49,6 +49,10 @@ heard_gossip x j g = record x {
   vote = vote_after x g;
 }
 
+-- all of it but the copies
+abbrev pub heard_rest : {Q : Type 0} → NodeState Q → ℕ → Gossip Q → NodeState Q
+heard_rest x j g = record (heard_gossip x j g) { registers = x.registers }
+
 -- a letter of a joining node makes its sender known
 unfoldable pub heard_join : {Q : Type 0} → NodeState Q → ℕ → NodeState Q
 heard_join x j = record x { known = set.insert x.known j }

@@ -7,4 +7,5 @@ pub mod Operations
 pub mod Reconfigurations
 pub mod Refusals
 pub mod Changes
+pub mod Prepared
 pub mod Claims

@@ -13,6 +13,7 @@ use Rattle.rambo_paxos.specs.Votes.{VoteState, empty_vote}
 use Rattle.rambo_joiner.specs.declared.status.Status.{Status}
 use Rattle.rambo_joiner.specs.declared.status.Status.TheVariants.{Idle, Active}
 use Rattle.rambo_calls.specs.Calls.{CallState, find_call}
+use Rattle.rambo_calls.specs.Kept.{KeptCalls}
 
 -- status and names: who takes part, as far as the node knows; registers: its copies; map: its configurations;
 -- number: its phase number; made: the number of its last call; heard: of the names 1, 2, .. the greatest phase number
@@ -31,6 +32,16 @@ pub record NodeState (Q : Type 0) : Type 0 where
   pub collection : Option CollectionState
   pub attempt : Option (AttemptState Q)
   pub vote : VoteState Q
+
+-- the room that a node has made: for how many keys more, and its open calls as they are kept
+pub record Room (Q : Type 0) : Type 0 where
+  pub keys : ℕ
+  pub calls : KeptCalls Q
+
+-- a node, and the room that it has made
+pub record RoomyNode (Q : Type 0) : Type 0 where
+  pub state : NodeState Q
+  pub room : Room Q
 
 -- the open call of an id: none where the id is of another node
 abbrev pub open_call : {Q : Type 0} → NodeState Q → CallId → Option (CallState Q)

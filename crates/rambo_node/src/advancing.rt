@@ -1,20 +1,21 @@
-//! How open calls begin and go on.
-ghost use Rattle.std.specs.Prelude.{◌≡◌, ◌+◌, None, Some, false, IfOk, IfErr, OnOk, OnErr};
-ghost use Rattle.std.specs.FinMap as map;
+//! How open calls begin and go on: each in two halves, of which the first makes room and finds what is new, and the second
+//! (in `finishing`) changes the node.
+ghost use Rattle.std.specs.Prelude.{◌≡◌, ◌+◌, ◌<◌, None, Some, false, slice_get, IfOk, IfErr, OnOk, OnErr};
 ghost use Rattle.std.specs.Option.{option_copied};
-ghost use Rattle.rambo_history.specs.declared.operation.Op.TheVariants as asked;
 ghost use Rattle.rambo_tag.specs.Tags.{tag_of};
-ghost use Rattle.rambo_node.specs.Changes.{refusal_of, made_by, advanced, quiet_deed};
-ghost use Rattle.rambo_node.specs.Kept.{move_deed, propagation_begun};
-ghost use Rattle.rambo_node.specs.Nodes.{open_call};
-ghost use Rattle.rambo_calls.specs.Calls.{place_of, query_in, is_missing};
-ghost use Rattle.rambo_node.specs.Operations.{new_copy};
-ghost use Rattle.rambo_node.specs.Refusals.{is_last, query_spent, tags_spent};
+ghost use Rattle.rambo_history.specs.declared.operation.Op.TheVariants as asked;
+ghost use Rattle.rambo_node.specs.Changes.{refusal_of, made_by, quiet_deed};
+ghost use Rattle.rambo_node.specs.Kept.{answered_from, move_deed};
+ghost use Rattle.rambo_calls.specs.Calls.{query_in};
+ghost use Rattle.rambo_node.specs.Operations.{new_copy, taken};
+ghost use Rattle.rambo_node.specs.Prepared.{IsFound, HasRoomFor, put_by};
+ghost use Rattle.rambo_node.specs.Refusals.{is_last, tags_spent};
 ghost use Rattle.rambo_node.specs.declared.change.Change.TheVariants as change;
 
 use crate::deed::{Deed, clone_of, tell_answered};
 use crate::effect::Effect;
 use crate::node::Node;
+use crate::prepared::Taken;
 use rambo_history::{CallId, Event, Op};
 use rambo_names::{Bytes, Quorums, Refusal};
 use rambo_sequence::Mark;
@@ -24,11 +25,11 @@ impl<Q: Quorums, S: Replica> Node<Q, S> {
     // A call that isn't refused begins.
     #[tactic(auto, unfolding(crate::specs::Changes::made_by, crate::specs::Operations::called))]
     pub(crate) fn do_call(&mut self, op: Op) -> Result<Deed<Q>, Refusal>
-        requires { refusal_of Q.system self.old (change.Call op) ≡ None }
-        ensures node { OnOk result (self.new ≡ (made_by self.old (change.Call op)).node) }
-        ensures deed { IfOk result (λ d. d ≡ (made_by self.old (change.Call op)).deed) }
+        requires { refusal_of Q.system self.old.state (change.Call op) ≡ None }
+        ensures node { OnOk result (self.new.state ≡ (made_by self.old.state (change.Call op)).node) }
+        ensures deed { IfOk result (λ d. d ≡ (made_by self.old.state (change.Call op)).deed) }
         ensures refused { IfErr result (λ r. r ≡ Refusal.OutOfMemory) }
-        ensures err { OnErr result (self.new ≡ self.old) }
+        ensures err { OnErr result (self.new.state ≡ self.old.state) }
     {
         let id = self.next_id();
         let event = Event::Call(id, op.clone()?);
@@ -42,9 +43,9 @@ impl<Q: Quorums, S: Replica> Node<Q, S> {
     }
 
     // The id of the next call.
-    fn next_id(&self) -> CallId
-        requires { is_last self.now.made ≡ false }
-        ensures { result ≡ record { name = self.now.name; number = self.now.made + 1 } }
+    pub(crate) fn next_id(&self) -> CallId
+        requires { is_last self.now.state.made ≡ false }
+        ensures { result ≡ record { name = self.now.state.name; number = self.now.state.made + 1 } }
     {
         CallId {
             name: self.name,
@@ -56,27 +57,32 @@ impl<Q: Quorums, S: Replica> Node<Q, S> {
     /// call.
     ///
     /// `OutOfMemory` where there is no room for the call; the node is then as it was.
-    #[tactic(auto, unfolding(crate::specs::Changes::made_by, crate::specs::Operations::called))]
+    #[tactic(auto, unfolding(crate::specs::Changes::made_by))]
     pub fn begin(&mut self, op: Op) -> Result<CallId, Refusal>
-        requires { refusal_of Q.system self.old (change.Call op) ≡ None }
-        ensures node { OnOk result (self.new ≡ (made_by self.old (change.Call op)).node) }
-        ensures id { IfOk result (λ id. id ≡ record { name = self.old.name; number = self.old.made + 1 }) }
+        requires { refusal_of Q.system self.old.state (change.Call op) ≡ None }
+        ensures node { OnOk result (self.new.state ≡ (made_by self.old.state (change.Call op)).node) }
+        ensures id { IfOk result (λ id. id ≡ record { name = self.old.state.name; number = self.old.state.made + 1 }) }
         ensures refused { IfErr result (λ r. r ≡ Refusal.OutOfMemory) }
-        ensures err { OnErr result (self.new ≡ self.old) }
+        ensures err { OnErr result (self.new.state ≡ self.old.state) }
     {
-        let id = self.next_id();
-        self.calls
-            .open(id.number, op, self.number + 1, &self.map, self.name)?;
-        self.number += 1;
-        self.made = id.number;
-        Ok(id)
+        self.room_for_call()?;
+        Ok(self.finish_call(op))
+    }
+
+    // Makes room for one call more.
+    pub(crate) fn room_for_call(&mut self) -> Result<(), Refusal>
+        ensures same { self.new.state ≡ self.old.state }
+        ensures ok { OnOk result (0 < self.new.room.calls.room) }
+        ensures refused { IfErr result (λ r. r ≡ Refusal.OutOfMemory) }
+    {
+        self.calls.reserve()
     }
 
     // A phase that isn't refused begins anew.
     #[tactic(auto, unfolding(crate::specs::Changes::made_by, crate::specs::Operations::called_again))]
     pub(crate) fn do_again(&mut self, id: CallId)
-        requires { refusal_of Q.system self.old (change.Again id) ≡ None }
-        ensures { self.new ≡ (made_by self.old (change.Again id)).node }
+        requires { refusal_of Q.system self.old.state (change.Again id) ≡ None }
+        ensures { self.new.state ≡ (made_by self.old.state (change.Again id)).node }
     {
         let place = self.place_of(&id);
         self.number += 1;
@@ -89,124 +95,133 @@ impl<Q: Quorums, S: Replica> Node<Q, S> {
     /// `OutOfMemory` where there is no room for what is new; the node and the deed are then as they were.
     #[tactic(auto, unfolding(crate::specs::Changes::made_by))]
     pub fn go_on(&mut self, id: CallId, deed: &mut Deed<Q>) -> Result<(), Refusal>
-        requires accepted { refusal_of Q.system self.old (change.Advance id) ≡ None }
+        requires accepted { refusal_of Q.system self.old.state (change.Advance id) ≡ None }
         requires quiet { deed.old ≡ quiet_deed }
-        ensures node { OnOk result (self.new ≡ (made_by self.old (change.Advance id)).node) }
-        ensures deed { OnOk result (deed.new ≡ (made_by self.old (change.Advance id)).deed) }
+        ensures node { OnOk result (self.new.state ≡ (made_by self.old.state (change.Advance id)).node) }
+        ensures deed { OnOk result (deed.new ≡ (made_by self.old.state (change.Advance id)).deed) }
         ensures refused { IfErr result (λ r. r ≡ Refusal.OutOfMemory) }
-        ensures err { OnErr result ((self.new ≡ self.old) × (deed.new ≡ deed.old)) }
+        ensures err { OnErr result ((self.new.state ≡ self.old.state) × (deed.new ≡ deed.old)) }
     {
-        let place = self.place_of(&id);
-        let asked = match self.query_at(place) {
-            Some(op) => op.clone()?,
-            None => return self.close(id, place, deed),
-        };
-        self.answer_query(id, place, asked, deed)
+        let place = self.ready_place(&id)?;
+        match self.query_at(place) {
+            Some(asked) => {
+                let taken = self.tell_query(id, asked, deed)?;
+                self.finish_query(place, taken);
+                Ok(())
+            }
+            None => {
+                self.tell_answer(id, place, deed)?;
+                self.finish_answer(place);
+                Ok(())
+            }
+        }
     }
 
-    // A met propagation at this place is answered.
-    fn close(&mut self, id: CallId, place: usize, deed: &mut Deed<Q>) -> Result<(), Refusal>
-        requires open { is_missing (open_call self.old id) ≡ false }
-        requires told { query_in (open_call self.old id) ≡ None }
-        requires place { place ≡ place_of id.number self.old.calls }
-        requires quiet { deed.old ≡ quiet_deed }
-        ensures node { OnOk result (self.new ≡ (advanced self.old id (open_call self.old id)).node) }
-        ensures deed { OnOk result (deed.new ≡ (advanced self.old id (open_call self.old id)).deed) }
+    // The place of a call that may go on. There is room for the copy that it will put.
+    pub(crate) fn ready_place(&mut self, id: &CallId) -> Result<usize, Refusal>
+        requires { refusal_of Q.system self.old.state (change.Advance id.now) ≡ None }
+        ensures same { self.new.state ≡ self.old.state }
+        ensures found { IfOk result (IsFound Q.system self.new.state id.now) }
+        ensures room { IfOk result (λ place. HasRoomFor self.new.room (put_by self.new.state (query_in (slice_get self.new.state.calls place)))) }
         ensures refused { IfErr result (λ r. r ≡ Refusal.OutOfMemory) }
-        ensures err { OnErr result ((self.new ≡ self.old) × (deed.new ≡ deed.old)) }
     {
-        tell_answered(deed, id, self.calls.get(place))?;
-        self.calls.close(place);
-        Ok(())
+        let place = self.place_of(id);
+        self.room_at(place)?;
+        Ok(place)
     }
 
-    // A query at this place that asked for this is answered, and its propagation begins.
-    fn answer_query(
-        &mut self,
+    // Makes room for the copy that the call at a place will put, if it is a set in its query.
+    fn room_at(&mut self, place: usize) -> Result<(), Refusal>
+        ensures same { self.new.state ≡ self.old.state }
+        ensures room { OnOk result (HasRoomFor self.new.room (put_by self.new.state (query_in (slice_get self.new.state.calls place)))) }
+        ensures refused { IfErr result (λ r. r ≡ Refusal.OutOfMemory) }
+    {
+        match self.query_at(place) {
+            Some(Op::Set(_, _)) => self.registers.room_for_key(),
+            _ => Ok(()),
+        }
+    }
+
+    // What a met query that asked for this does is told in this deed, which told of nothing before. The answer is what its
+    // second half needs.
+    pub(crate) fn tell_query(
+        &self,
         id: CallId,
-        place: usize,
-        asked: Op,
+        asked: &Op,
         deed: &mut Deed<Q>,
-    ) -> Result<(), Refusal>
-        requires asked { query_in (open_call self.old id) ≡ Some asked }
-        requires place { place ≡ place_of id.number self.old.calls }
-        requires next { query_spent self.old (Some asked) ≡ false }
+    ) -> Result<Taken, Refusal>
+        requires tags { tags_spent self.now.state asked.now ≡ false }
         requires quiet { deed.old ≡ quiet_deed }
-        ensures node { OnOk result (self.new ≡ (advanced self.old id (open_call self.old id)).node) }
-        ensures deed { OnOk result (deed.new ≡ (advanced self.old id (open_call self.old id)).deed) }
+        ensures kept { IfOk result (λ t. t.kept ≡ taken self.now.state asked.now) }
+        ensures put { IfOk result (λ t. t.put ≡ put_by self.now.state (Some asked.now)) }
+        ensures deed { OnOk result (deed.new ≡ move_deed id asked.now (taken self.now.state asked.now)) }
         ensures refused { IfErr result (λ r. r ≡ Refusal.OutOfMemory) }
-        ensures err { OnErr result ((self.new ≡ self.old) × (deed.new ≡ deed.old)) }
+        ensures err { OnErr result (deed.new ≡ deed.old) }
     {
         match asked {
             Op::Get(key) => {
                 let held = clone_of(self.registers.copy(key.as_slice()))?;
-                self.propagate(place, held);
                 deed.effect = Effect::Moved;
-                Ok(())
+                Ok(Taken {
+                    kept: held,
+                    put: None,
+                })
             }
-            Op::Set(key, value) => self.set(id, place, key, value, deed),
+            Op::Set(key, value) => self.tell_set(id, key, value, deed),
         }
     }
 
-    // A set takes the next tag of its key, and its new copy is put and goes round. All that can fail comes first.
-    fn set(
-        &mut self,
+    // What a met propagation at this place does is told in this deed, which told of nothing before.
+    pub(crate) fn tell_answer(
+        &self,
         id: CallId,
         place: usize,
-        key: Bytes,
-        value: Bytes,
         deed: &mut Deed<Q>,
     ) -> Result<(), Refusal>
-        requires next { is_last self.old.number ≡ false }
-        requires tags { tags_spent self.old (asked.Set key value) ≡ false }
-        requires quiet { deed.old ≡ quiet_deed }
-        ensures node { OnOk result (self.new ≡ propagation_begun (record self.old { registers = map.insert self.old.registers key (new_copy self.old key value) }) place (Some (new_copy self.old key value))) }
-        ensures deed { OnOk result (deed.new ≡ move_deed id (asked.Set key value) (Some (new_copy self.old key value))) }
+        requires { deed.old ≡ quiet_deed }
+        ensures deed { OnOk result (deed.new ≡ answered_from id (slice_get self.now.state.calls place)) }
         ensures refused { IfErr result (λ r. r ≡ Refusal.OutOfMemory) }
-        ensures err { OnErr result ((self.new ≡ self.old) × (deed.new ≡ deed.old)) }
+        ensures err { OnErr result (deed.new ≡ deed.old) }
+    {
+        tell_answered(deed, id, self.calls.get(place))
+    }
+
+    // A set takes the next tag of its key, and its new copy will be put and go round.
+    fn tell_set(
+        &self,
+        id: CallId,
+        key: &Bytes,
+        value: &Bytes,
+        deed: &mut Deed<Q>,
+    ) -> Result<Taken, Refusal>
+        requires tags { tags_spent self.now.state (asked.Set key.now value.now) ≡ false }
+        requires quiet { deed.old ≡ quiet_deed }
+        ensures kept { IfOk result (λ t. t.kept ≡ Some (new_copy self.now.state key.now value.now)) }
+        ensures put { IfOk result (λ t. t.put ≡ Some (record { key = key.now; version = new_copy self.now.state key.now value.now })) }
+        ensures deed { OnOk result (deed.new ≡ move_deed id (asked.Set key.now value.now) (Some (new_copy self.now.state key.now value.now))) }
+        ensures refused { IfErr result (λ r. r ≡ Refusal.OutOfMemory) }
+        ensures err { OnErr result (deed.new ≡ deed.old) }
     {
         let tag = Tag {
             sequence: sequence_of(self.registers.copy(key.as_slice())) + 1,
             name: self.name,
         };
-        let kept = version(tag, &value)?;
-        let sent = version(tag, &value)?;
-        let copy = KeyedVersion {
-            key: key.clone()?,
-            version: version(tag, &value)?,
-        };
-        let own = key.clone()?;
-        let held = version(tag, &value)?;
-        self.hold(own, held)?;
-        self.propagate(place, Some(sent));
+        let sent = version(tag, value)?;
+        let put = keyed(tag, key, value)?;
+        let copy = keyed(tag, key, value)?;
+        let kept = version(tag, value)?;
+        let op = Op::Set(key.clone()?, value.clone()?);
         deed.effect = Effect::Moved;
         deed.mark = Some(Mark {
             id,
-            op: Op::Set(key, value),
+            op,
             kept: Some(kept),
         });
         deed.copy = Some(copy);
-        Ok(())
-    }
-
-    // Holds this copy of a key.
-    fn hold(&mut self, key: Bytes, version: Version) -> Result<(), Refusal>
-        ensures ok { OnOk result (self.new ≡ record self.old { registers = map.insert self.old.registers key version }) }
-        ensures refused { IfErr result (λ r. r ≡ Refusal.OutOfMemory) }
-        ensures err { OnErr result (self.new ≡ self.old) }
-    {
-        self.registers.put(key, version)?;
-        Ok(())
-    }
-
-    // The propagation of the call at a place begins.
-    pub(crate) fn propagate(&mut self, place: usize, kept: Option<Version>)
-        requires { is_last self.old.number ≡ false }
-        ensures { self.new ≡ propagation_begun self.old place kept }
-    {
-        self.number += 1;
-        self.calls
-            .propagate(place, kept, self.number, &self.map, self.name);
+        Ok(Taken {
+            kept: Some(sent),
+            put: Some(put),
+        })
     }
 }
 
@@ -218,6 +233,17 @@ fn version(tag: Tag, value: &Bytes) -> Result<Version, Refusal>
     Ok(Version {
         tag,
         value: Some(value.clone()?),
+    })
+}
+
+// A key's value under a tag.
+fn keyed(tag: Tag, key: &Bytes, value: &Bytes) -> Result<KeyedVersion, Refusal>
+    ensures made { IfOk result (λ c. c ≡ record { key = key.now; version = record { tag = tag; value = Some value.now } }) }
+    ensures refused { IfErr result (λ r. r ≡ Refusal.OutOfMemory) }
+{
+    Ok(KeyedVersion {
+        key: key.clone()?,
+        version: version(tag, value)?,
     })
 }
 

@@ -5,13 +5,18 @@ ghost use Rattle.rambo_names.specs.Refusals.{IsRefusal};
 ghost use Rattle.rambo_gossip.specs.Letters.{letter_with, kind_with, gossip_with};
 ghost use Rattle.rambo_gossip.specs.Outlines.{outlined, gossip_outlined};
 ghost use Rattle.rambo_node.specs.Changes.{refusal_of, made_by};
+ghost use Rattle.rambo_tag.specs.Copies.{joined};
+ghost use Rattle.rambo_gossip.specs.Short.{copies_in};
 ghost use Rattle.rambo_calls.specs.Hearing.{any_gap, number_after};
-ghost use Rattle.rambo_node.specs.Hearing.{collection_after, heard_gossip, heard_join, heard_letter};
+ghost use Rattle.rambo_calls.specs.Kept.{IsRoomy};
+ghost use Rattle.rambo_node.specs.Hearing.{collection_after, heard_gossip, heard_rest, heard_join, heard_letter};
 ghost use Rattle.rambo_node.specs.Letters.{letter_for};
+ghost use Rattle.rambo_node.specs.Prepared.{IsReadyGossip, IsReadyKind};
 ghost use Rattle.rambo_node.specs.Refusals.{is_last};
 ghost use Rattle.rambo_node.specs.declared.change.Change.TheVariants as change;
 
 use crate::node::Node;
+use crate::prepared::HearTurn;
 use rambo_bids::{hear_offer, hear_vote, offer_of};
 use rambo_config_map::ConfigMap;
 use rambo_gc::Collection;
@@ -26,9 +31,9 @@ impl<Q: Quorums, S: Replica> Node<Q, S> {
     /// it doesn't know, 22 where there is no room for the list of its copies.
     #[tactic(auto, unfolding(crate::specs::Changes::made_by))]
     pub fn letter_for(&self, to: Name) -> Result<Letter<Q>, Refusal>
-        ensures judged { OnOk result (refusal_of Q.system self.now (change.Send to) ≡ None) }
-        ensures letter { IfOk result (λ l. (made_by self.now (change.Send to)).letter ≡ Some l) }
-        ensures refused { IfErr result (IsRefusal (refusal_of Q.system self.now (change.Send to))) }
+        ensures judged { OnOk result (refusal_of Q.system self.now.state (change.Send to) ≡ None) }
+        ensures letter { IfOk result (λ l. (made_by self.now.state (change.Send to)).letter ≡ Some l) }
+        ensures refused { IfErr result (IsRefusal (refusal_of Q.system self.now.state (change.Send to))) }
     {
         self.may_send(to)?;
         let copies = self.registers.pack()?;
@@ -37,7 +42,7 @@ impl<Q: Quorums, S: Replica> Node<Q, S> {
 
     /// The letter for a name, without its copies. It takes no memory.
     pub fn outline_for(&self, to: Name) -> LetterOutline<'_, Q>
-        ensures { result ≡ letter_with (letter_for self.now to) map.empty }
+        ensures { result ≡ letter_with (letter_for self.now.state to) map.empty }
     {
         LetterOutline {
             sender: self.name,
@@ -57,11 +62,11 @@ impl<Q: Quorums, S: Replica> Node<Q, S> {
     /// none.
     #[tactic(auto, unfolding(crate::specs::Changes::made_by))]
     pub fn hear(&mut self, letter: &Letter<Q>) -> Result<(), Refusal>
-        ensures judged { OnOk result (refusal_of Q.system self.old (change.Deliver letter.now) ≡ None) }
-        ensures node { OnOk result (self.new ≡ (made_by self.old (change.Deliver letter.now)).node) }
-        ensures refused { IfErr result (IsRefusal (refusal_of Q.system self.old (change.Deliver letter.now))) }
-        ensures join { letter.now.kind ≡ Kind.Join → IfErr result (λ r. refusal_of Q.system self.old (change.Deliver letter.now) ≡ Some r) }
-        ensures err { OnErr result (self.new ≡ self.old) }
+        ensures judged { OnOk result (refusal_of Q.system self.old.state (change.Deliver letter.now) ≡ None) }
+        ensures node { OnOk result (self.new.state ≡ (made_by self.old.state (change.Deliver letter.now)).node) }
+        ensures refused { IfErr result (IsRefusal (refusal_of Q.system self.old.state (change.Deliver letter.now))) }
+        ensures join { letter.now.kind ≡ Kind.Join → IfErr result (λ r. refusal_of Q.system self.old.state (change.Deliver letter.now) ≡ Some r) }
+        ensures err { OnErr result (self.new.state ≡ self.old.state) }
     {
         self.may_hear(letter)?;
         self.do_hear(letter)
@@ -77,11 +82,11 @@ impl<Q: Quorums, S: Replica> Node<Q, S> {
         outline: &LetterOutline<'_, Q>,
         copies: &Pack,
     ) -> Result<(), Refusal>
-        requires { refusal_of Q.system self.old (change.Deliver outline.now) ≡ None }
-        ensures node { OnOk result (self.new ≡ (made_by self.old (change.Deliver (letter_with outline.now copies.now))).node) }
+        requires { refusal_of Q.system self.old.state (change.Deliver outline.now) ≡ None }
+        ensures node { OnOk result (self.new.state ≡ (made_by self.old.state (change.Deliver (letter_with outline.now copies.now))).node) }
         ensures refused { IfErr result (λ r. r ≡ Refusal.OutOfMemory) }
         ensures join { outline.now.kind ≡ Kind.Join → IsOk result }
-        ensures err { OnErr result (self.new ≡ self.old) }
+        ensures err { OnErr result (self.new.state ≡ self.old.state) }
     {
         match &outline.gossip {
             None => {
@@ -95,24 +100,26 @@ impl<Q: Quorums, S: Replica> Node<Q, S> {
 
 impl<Q: Quorums, S: Replica> Node<Q, S> {
     // Hears a letter that isn't refused.
+    #[tactic(auto, unfolding(crate::specs::Changes::made_by))]
     pub(crate) fn do_hear(&mut self, letter: &Letter<Q>) -> Result<(), Refusal>
-        ensures ok { OnOk result (refusal_of Q.system self.old (change.Deliver letter.now) ≡ None → self.new ≡ heard_letter self.old letter.now) }
+        requires { refusal_of Q.system self.old.state (change.Deliver letter.now) ≡ None }
+        ensures node { OnOk result (self.new.state ≡ heard_letter self.old.state letter.now) }
         ensures refused { IfErr result (λ r. r ≡ Refusal.OutOfMemory) }
         ensures join { letter.now.kind ≡ Kind.Join → IsOk result }
-        ensures err { OnErr result (self.new ≡ self.old) }
+        ensures err { OnErr result (self.new.state ≡ self.old.state) }
     {
         match &letter.kind {
             Kind::Join => {
                 self.meet(letter.sender);
                 Ok(())
             }
-            Kind::Gossip(gossip) => { self.merge(letter.sender, &gossip.outline(), &gossip.copies) }
+            Kind::Gossip(gossip) => self.merge(letter.sender, &gossip.outline(), &gossip.copies),
         }
     }
 
     // What the node tells a name besides copies, if it is active.
     fn gossip_outline(&self, to: Name) -> Option<GossipOutline<'_, Q>>
-        ensures { outlined result ≡ kind_with (letter_for self.now to).kind map.empty }
+        ensures { outlined result ≡ kind_with (letter_for self.now.state to).kind map.empty }
     {
         if !self.status.is_active() {
             return None;
@@ -127,10 +134,10 @@ impl<Q: Quorums, S: Replica> Node<Q, S> {
         })
     }
 
-    // The phase number after gossip with this heard number and map, if there is one.
+    // The phase number after gossip with this heard number and map, for which there is one.
     fn number_after(&self, heard: u64, map: &ConfigMap<Q>) -> u64
-        ensures { (any_gap heard map.now self.now.calls && is_last self.now.number) ≡ false
-            → result ≡ number_after self.now.number heard map.now self.now.calls }
+        requires { (any_gap heard map.now self.now.state.calls && is_last self.now.state.number) ≡ false }
+        ensures { result ≡ number_after self.now.state.number heard map.now self.now.state.calls }
     {
         self.calls.number_after(self.number, heard, map)
     }
@@ -138,39 +145,176 @@ impl<Q: Quorums, S: Replica> Node<Q, S> {
     // A joining node makes itself known.
     #[tactic(auto, unfolding(crate::specs::Hearing::heard_join))]
     fn meet(&mut self, from: Name)
-        ensures { self.new ≡ heard_join self.old from }
+        ensures { self.new.state ≡ heard_join self.old.state from }
     {
         self.known = self.known.with(from);
     }
 
-    // Merges gossip and copies, if there is a phase number for it.
+    // Merges gossip and copies, for which there is a phase number.
     fn merge(
         &mut self,
         from: Name,
         gossip: &GossipOutline<'_, Q>,
         copies: &Pack,
     ) -> Result<(), Refusal>
-        ensures ok { OnOk result ((any_gap gossip.now.heard gossip.now.map.now self.old.calls && is_last self.old.number) ≡ false
-            → self.new ≡ heard_gossip self.old from (gossip_with (gossip_outlined gossip.now) copies.now)) }
+        requires { (any_gap gossip.now.heard gossip.now.map.now self.old.state.calls && is_last self.old.state.number) ≡ false }
+        ensures ok { OnOk result (self.new.state ≡ heard_gossip self.old.state from (gossip_with (gossip_outlined gossip.now) copies.now)) }
         ensures refused { IfErr result (λ r. r ≡ Refusal.OutOfMemory) }
-        ensures err { OnErr result (self.new ≡ self.old) }
+        ensures err { OnErr result (self.new.state ≡ self.old.state) }
     {
-        let own = self.number_after(gossip.heard, gossip.map);
-        self.calls.make_room(gossip.map)?;
+        let number = self.number_after(gossip.heard, gossip.map);
+        self.room_for(gossip.map)?;
         self.registers.merge(copies)?;
+        self.settle(from, gossip, number);
+        Ok(())
+    }
 
-        // From here on nothing fails. What goes by the map as it was comes before the map.
+    // Makes room in the open calls to hear gossip with this map.
+    fn room_for(&mut self, map: &ConfigMap<Q>) -> Result<(), Refusal>
+        ensures same { self.new.state ≡ self.old.state }
+        ensures room { OnOk result (IsRoomy map.now self.new.room.calls.list) }
+        ensures refused { IfErr result (λ r. r ≡ Refusal.OutOfMemory) }
+    {
+        self.calls.make_room(map)
+    }
+
+    // Hears gossip, but for its copies, where there is room for its map, and this is the phase number after it. What goes by
+    // the map as it was comes before the map.
+    fn settle(&mut self, from: Name, gossip: &GossipOutline<'_, Q>, number: u64)
+        requires room { IsRoomy gossip.now.map.now self.old.room.calls.list }
+        requires number { number ≡ number_after self.old.state.number gossip.now.heard gossip.now.map.now self.old.state.calls }
+        ensures { self.new.state ≡ heard_rest self.old.state from (gossip_outlined gossip.now) }
+    {
         hear_reply(&mut self.collection, from, gossip.heard);
         hear_vote(&mut self.attempt, &self.map, from, gossip.map, gossip.vote);
         hear_offer(&mut self.vote, &self.map, gossip.map, &gossip.offer);
         self.map.merge(gossip.map);
-        self.calls
-            .hear(from, gossip.heard, gossip.map, own, &self.map, self.name);
+        self.calls.hear(from, gossip.heard, gossip.map, number, &self.map, self.name);
         self.status.wake();
         self.known = self.known.union(gossip.known);
         self.heard.raise(from, gossip.number);
-        self.number = own;
-        Ok(())
+        self.number = number;
+    }
+}
+
+// The first half of hearing a letter that isn't refused.
+impl<Q: Quorums, S: Replica> Node<Q, S> {
+    // Of a letter that is told whole.
+    pub(crate) fn ready_letter(&mut self, letter: &Letter<Q>) -> Result<HearTurn<Q>, Refusal>
+        requires { refusal_of Q.system self.old.state (change.Deliver letter.now) ≡ None }
+        ensures same { self.new.state ≡ self.old.state }
+        ensures letter { IfOk result (λ t. t.letter ≡ letter_with letter.now map.empty) }
+        ensures newer { IfOk result (λ t. joined self.old.state.registers t.newer ≡ joined self.old.state.registers (copies_in letter.now.kind)) }
+        ensures ready { IfOk result (λ t. IsReadyKind self.new t.letter.kind t.newer t.number) }
+        ensures refused { IfErr result (λ r. r ≡ Refusal.OutOfMemory) }
+        ensures join { letter.now.kind ≡ Kind.Join → IsOk result }
+    {
+        match &letter.kind {
+            Kind::Join => Ok(self.ready_join(letter.sender, letter.addressee)),
+            Kind::Gossip(gossip) => self.ready_gossip(
+                letter.sender,
+                letter.addressee,
+                &gossip.outline(),
+                &gossip.copies,
+            ),
+        }
+    }
+
+    // Of a letter that is told by its outline and its copies.
+    pub(crate) fn ready_outlined(
+        &mut self,
+        outline: &LetterOutline<'_, Q>,
+        copies: &Pack,
+    ) -> Result<HearTurn<Q>, Refusal>
+        requires { refusal_of Q.system self.old.state (change.Deliver outline.now) ≡ None }
+        ensures same { self.new.state ≡ self.old.state }
+        ensures letter { IfOk result (λ t. t.letter ≡ letter_with (letter_with outline.now copies.now) map.empty) }
+        ensures newer { IfOk result (λ t. joined self.old.state.registers t.newer ≡ joined self.old.state.registers (copies_in (letter_with outline.now copies.now).kind)) }
+        ensures ready { IfOk result (λ t. IsReadyKind self.new t.letter.kind t.newer t.number) }
+        ensures refused { IfErr result (λ r. r ≡ Refusal.OutOfMemory) }
+        ensures join { outline.now.kind ≡ Kind.Join → IsOk result }
+    {
+        match &outline.gossip {
+            None => Ok(self.ready_join(outline.sender, outline.addressee)),
+            Some(gossip) => { self.ready_gossip(outline.sender, outline.addressee, gossip, copies) }
+        }
+    }
+
+    // Of one of a joining node.
+    fn ready_join(&self, sender: Name, addressee: Name) -> HearTurn<Q>
+        ensures letter { result.letter ≡ record { sender = sender; addressee = addressee; kind = Kind.Join } }
+        ensures newer { result.newer ≡ map.empty }
+    {
+        HearTurn {
+            letter: Letter {
+                sender,
+                addressee,
+                kind: Kind::Join,
+            },
+            newer: Pack::empty(self.calls.alloc()),
+            number: self.number,
+        }
+    }
+
+    // Of gossip, for which there is a phase number.
+    fn ready_gossip(
+        &mut self,
+        sender: Name,
+        addressee: Name,
+        gossip: &GossipOutline<'_, Q>,
+        copies: &Pack,
+    ) -> Result<HearTurn<Q>, Refusal>
+        requires { (any_gap gossip.now.heard gossip.now.map.now self.old.state.calls && is_last self.old.state.number) ≡ false }
+        ensures same { self.new.state ≡ self.old.state }
+        ensures letter { IfOk result (λ t. t.letter ≡ record { sender = sender; addressee = addressee; kind = Kind.Gossip (gossip_outlined gossip.now) }) }
+        ensures newer { IfOk result (λ t. joined self.old.state.registers t.newer ≡ joined self.old.state.registers copies.now) }
+        ensures ready { IfOk result (λ t. IsReadyKind self.new t.letter.kind t.newer t.number) }
+        ensures refused { IfErr result (λ r. r ≡ Refusal.OutOfMemory) }
+    {
+        let number = self.number_after(gossip.heard, gossip.map);
+        self.room_for(gossip.map)?;
+        let newer = self.registers.newer(copies)?;
+        self.registers.room(&newer)?;
+        let none = Pack::empty(self.calls.alloc());
+        Ok(HearTurn {
+            letter: Letter {
+                sender,
+                addressee,
+                kind: Kind::Gossip(gossip.with_copies(none)),
+            },
+            newer,
+            number,
+        })
+    }
+}
+
+// The second half.
+impl<Q: Quorums, S: Replica> Node<Q, S> {
+    // A letter is heard that is ready.
+    pub(crate) fn finish_hear(&mut self, turn: HearTurn<Q>)
+        requires { IsReadyKind self.old turn.letter.kind turn.newer turn.number }
+        ensures { self.new.state ≡ heard_letter self.old.state (letter_with turn.letter turn.newer) }
+    {
+        let HearTurn {
+            letter,
+            newer,
+            number,
+        } = turn;
+        match &letter.kind {
+            Kind::Join => self.meet(letter.sender),
+            Kind::Gossip(gossip) => {
+                self.finish_gossip(letter.sender, &gossip.outline(), newer, number)
+            }
+        }
+    }
+
+    // Gossip is heard that is ready.
+    fn finish_gossip(&mut self, from: Name, gossip: &GossipOutline<'_, Q>, newer: Pack, number: u64)
+        requires { IsReadyGossip self.old (gossip_outlined gossip.now) newer number }
+        ensures { self.new.state ≡ heard_gossip self.old.state from (gossip_with (gossip_outlined gossip.now) newer) }
+    {
+        self.registers.merge_room(newer);
+        self.settle(from, gossip, number);
     }
 }
 

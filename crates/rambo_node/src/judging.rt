@@ -60,8 +60,8 @@ impl<Q: Quorums, S: Replica> Node<Q, S> {
     ///   is unknown and whose quorum isn't there, 15 where no attempt is open.
     /// - `Stop`: 3 where it is idle, 4 where it has stopped.
     pub fn judge(&self, change: &Change<Q>) -> Result<(), Refusal>
-        ensures ok { OnOk result (refusal_of Q.system self.now change.now ≡ None) }
-        ensures refused { IfErr result (λ r. refusal_of Q.system self.now change.now ≡ Some r) }
+        ensures ok { OnOk result (refusal_of Q.system self.now.state change.now ≡ None) }
+        ensures refused { IfErr result (λ r. refusal_of Q.system self.now.state change.now ≡ Some r) }
     {
         match change {
             Change::Join(contacts) => self.may_join(*contacts),
@@ -82,8 +82,8 @@ impl<Q: Quorums, S: Replica> Node<Q, S> {
     /// Why a letter is refused, if it is: 3 where the node is idle, 4 where it has stopped, 21 where a phase
     /// would begin anew and the phase number is the greatest one.
     pub fn may_hear(&self, letter: &Letter<Q>) -> Result<(), Refusal>
-        ensures ok { OnOk result (refusal_of Q.system self.now (change.Deliver letter.now) ≡ None) }
-        ensures refused { IfErr result (λ r. refusal_of Q.system self.now (change.Deliver letter.now) ≡ Some r) }
+        ensures ok { OnOk result (refusal_of Q.system self.now.state (change.Deliver letter.now) ≡ None) }
+        ensures refused { IfErr result (λ r. refusal_of Q.system self.now.state (change.Deliver letter.now) ≡ Some r) }
     {
         if self.status.is_idle() {
             return Err(Refusal::NotActive);
@@ -99,8 +99,8 @@ impl<Q: Quorums, S: Replica> Node<Q, S> {
 
     /// Why a letter is refused, if it is: what `may_hear` says, of its outline, since its copies don't matter.
     pub fn may_hear_outlined(&self, outline: &LetterOutline<'_, Q>) -> Result<(), Refusal>
-        ensures ok { OnOk result (refusal_of Q.system self.now (change.Deliver outline.now) ≡ None) }
-        ensures refused { IfErr result (λ r. refusal_of Q.system self.now (change.Deliver outline.now) ≡ Some r) }
+        ensures ok { OnOk result (refusal_of Q.system self.now.state (change.Deliver outline.now) ≡ None) }
+        ensures refused { IfErr result (λ r. refusal_of Q.system self.now.state (change.Deliver outline.now) ≡ Some r) }
     {
         if self.status.is_idle() {
             return Err(Refusal::NotActive);
@@ -118,7 +118,7 @@ impl<Q: Quorums, S: Replica> Node<Q, S> {
 impl<Q: Quorums, S: Replica> Node<Q, S> {
     // Whether a letter would restart a phase.
     fn restarts(&self, kind: &Kind<Q>) -> bool
-        ensures { result ≡ restarts self.now kind.now }
+        ensures { result ≡ restarts self.now.state kind.now }
     {
         match kind {
             Kind::Join => false,
@@ -128,7 +128,7 @@ impl<Q: Quorums, S: Replica> Node<Q, S> {
 
     // Whether gossip, where a letter is some, would restart a phase, and there is no number for it.
     fn is_out_of_numbers_for(&self, gossip: &Option<GossipOutline<'_, Q>>) -> bool
-        ensures { result ≡ (restarts self.now (outlined gossip.now) && is_last self.now.number) }
+        ensures { result ≡ (restarts self.now.state (outlined gossip.now) && is_last self.now.state.number) }
     {
         match gossip {
             None => false,
@@ -138,14 +138,14 @@ impl<Q: Quorums, S: Replica> Node<Q, S> {
 
     // Whether a letter would restart a phase, and there is no number for it.
     fn is_out_of_numbers(&self, kind: &Kind<Q>) -> bool
-        ensures { result ≡ (restarts self.now kind.now && is_last self.now.number) }
+        ensures { result ≡ (restarts self.now.state kind.now && is_last self.now.state.number) }
     {
         self.restarts(kind) && is_last(self.number)
     }
 
     // Whether a set can take no further tag.
     fn tags_are_spent(&self, op: &Op) -> bool
-        ensures { result ≡ tags_spent self.now op.now }
+        ensures { result ≡ tags_spent self.now.state op.now }
     {
         match op {
             Op::Get(_) => false,
@@ -158,8 +158,8 @@ impl<Q: Quorums, S: Replica> Node<Q, S> {
 
     // Whether the node may join with these contacts.
     pub(crate) fn may_join(&self, contacts: Members) -> Result<(), Refusal>
-        ensures ok { OnOk result (least (join_causes self.now contacts) ≡ None) }
-        ensures refused { IfErr result (λ r. least (join_causes self.now contacts) ≡ Some r) }
+        ensures ok { OnOk result (least (join_causes self.now.state contacts) ≡ None) }
+        ensures refused { IfErr result (λ r. least (join_causes self.now.state contacts) ≡ Some r) }
     {
         if !self.status.is_idle() {
             return Err(Refusal::NameUsed);
@@ -172,15 +172,15 @@ impl<Q: Quorums, S: Replica> Node<Q, S> {
 
     // Whether it has as many open calls as it may have.
     fn is_full(&self) -> bool
-        ensures { result ≡ nat_le 64 (length self.now.calls) }
+        ensures { result ≡ nat_le 64 (length self.now.state.calls) }
     {
         self.calls.len() >= CALL_LIMIT
     }
 
     /// Why a client may not ask this of the node, if it may not: what `judge` says of a call, where none is made yet.
     pub fn may_call(&self, op: &Op) -> Result<(), Refusal>
-        ensures ok { OnOk result (least (call_causes self.now op.now) ≡ None) }
-        ensures refused { IfErr result (λ r. least (call_causes self.now op.now) ≡ Some r) }
+        ensures ok { OnOk result (least (call_causes self.now.state op.now) ≡ None) }
+        ensures refused { IfErr result (λ r. least (call_causes self.now.state op.now) ≡ Some r) }
     {
         if self.status.is_early() {
             return Err(Refusal::NotActive);
@@ -209,8 +209,8 @@ impl<Q: Quorums, S: Replica> Node<Q, S> {
     /// Why the node may not send a letter to a name, if it may not: 3 where it is idle, 4 where it has stopped, 5 where
     /// the name is its own or one that it doesn't know.
     pub fn may_send(&self, to: Name) -> Result<(), Refusal>
-        ensures ok { OnOk result (least (send_causes self.now to) ≡ None) }
-        ensures refused { IfErr result (λ r. least (send_causes self.now to) ≡ Some r) }
+        ensures ok { OnOk result (least (send_causes self.now.state to) ≡ None) }
+        ensures refused { IfErr result (λ r. least (send_causes self.now.state to) ≡ Some r) }
     {
         if self.status.is_idle() {
             return Err(Refusal::NotActive);
@@ -226,7 +226,7 @@ impl<Q: Quorums, S: Replica> Node<Q, S> {
 
     // Whether an answered query that asked for this, if it is one, can't go on.
     fn query_is_spent(&self, asked: Option<&Op>) -> bool
-        ensures { result ≡ query_spent self.now (option_copied asked.entry) }
+        ensures { result ≡ query_spent self.now.state (option_copied asked.entry) }
     {
         match asked {
             Some(op) => is_last(self.number) || self.tags_are_spent(op),
@@ -238,8 +238,8 @@ impl<Q: Quorums, S: Replica> Node<Q, S> {
     /// stopped, 7 where there is no such open call, 8 where its phase isn't met, 21 where it is in its query and the
     /// phase number, or for a set the sequence number of the key's tag, is the greatest one.
     pub fn may_advance(&self, id: &CallId) -> Result<(), Refusal>
-        ensures ok { OnOk result (least (advance_causes Q.system self.now id.now) ≡ None) }
-        ensures refused { IfErr result (λ r. least (advance_causes Q.system self.now id.now) ≡ Some r) }
+        ensures ok { OnOk result (least (advance_causes Q.system self.now.state id.now) ≡ None) }
+        ensures refused { IfErr result (λ r. least (advance_causes Q.system self.now.state id.now) ≡ Some r) }
     {
         if self.status.is_early() {
             return Err(Refusal::NotActive);
@@ -262,8 +262,8 @@ impl<Q: Quorums, S: Replica> Node<Q, S> {
 
     // Whether the phase of the open call of an id may begin anew.
     pub(crate) fn may_restart(&self, id: &CallId) -> Result<(), Refusal>
-        ensures ok { OnOk result (least (again_causes self.now id.now) ≡ None) }
-        ensures refused { IfErr result (λ r. least (again_causes self.now id.now) ≡ Some r) }
+        ensures ok { OnOk result (least (again_causes self.now.state id.now) ≡ None) }
+        ensures refused { IfErr result (λ r. least (again_causes self.now.state id.now) ≡ Some r) }
     {
         if self.status.is_early() {
             return Err(Refusal::NotActive);
@@ -282,8 +282,8 @@ impl<Q: Quorums, S: Replica> Node<Q, S> {
 
     // Whether the node may stop.
     pub(crate) fn may_stop(&self) -> Result<(), Refusal>
-        ensures ok { OnOk result (least (stop_causes self.now) ≡ None) }
-        ensures refused { IfErr result (λ r. least (stop_causes self.now) ≡ Some r) }
+        ensures ok { OnOk result (least (stop_causes self.now.state) ≡ None) }
+        ensures refused { IfErr result (λ r. least (stop_causes self.now.state) ≡ Some r) }
     {
         if self.status.is_idle() {
             return Err(Refusal::NotActive);

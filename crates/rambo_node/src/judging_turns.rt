@@ -16,7 +16,7 @@ use rambo_tag::Replica;
 impl<Q: Quorums, S: Replica> Node<Q, S> {
     // What the advance of its collection would do, if one is open and it wouldn't be refused.
     pub(crate) fn collection_turn(&self) -> Option<GcMove>
-        ensures { result ≡ collection_turn Q.system self.now self.now.collection }
+        ensures { result ≡ collection_turn Q.system self.now.state self.now.state.collection }
     {
         match &self.collection {
             Some(collection) => collection.would_advance(&self.map),
@@ -26,8 +26,8 @@ impl<Q: Quorums, S: Replica> Node<Q, S> {
 
     // Whether the node may begin to collect its lowest place.
     pub(crate) fn may_collect(&self) -> Result<(), Refusal>
-        ensures ok { OnOk result (least (collect_causes self.now) ≡ None) }
-        ensures refused { IfErr result (λ r. least (collect_causes self.now) ≡ Some r) }
+        ensures ok { OnOk result (least (collect_causes self.now.state) ≡ None) }
+        ensures refused { IfErr result (λ r. least (collect_causes self.now.state) ≡ Some r) }
     {
         if self.status.is_early() {
             return Err(Refusal::NotActive);
@@ -49,22 +49,22 @@ impl<Q: Quorums, S: Replica> Node<Q, S> {
 
     // Whether a collection is open whose quorum isn't there.
     fn is_collection_waiting(&self) -> bool
-        ensures { result ≡ (not (is_none self.now.collection) && is_none (collection_turn Q.system self.now self.now.collection)) }
+        ensures { result ≡ (not (is_none self.now.state.collection) && is_none (collection_turn Q.system self.now.state self.now.state.collection)) }
     {
         is_open_without(&self.collection, self.collection_turn())
     }
 
     // Whether its collection can't go on for want of a number.
     fn is_turn_out_of_numbers(&self) -> bool
-        ensures { result ≡ (needs_number (collection_turn Q.system self.now self.now.collection) && is_last self.now.number) }
+        ensures { result ≡ (needs_number (collection_turn Q.system self.now.state self.now.state.collection) && is_last self.now.state.number) }
     {
         needs_number(self.collection_turn()) && is_last(self.number)
     }
 
     // Whether its collection may go on.
     pub(crate) fn may_advance_collect(&self) -> Result<(), Refusal>
-        ensures ok { OnOk result (least (advance_collect_causes Q.system self.now) ≡ None) }
-        ensures refused { IfErr result (λ r. least (advance_collect_causes Q.system self.now) ≡ Some r) }
+        ensures ok { OnOk result (least (advance_collect_causes Q.system self.now.state) ≡ None) }
+        ensures refused { IfErr result (λ r. least (advance_collect_causes Q.system self.now.state) ≡ Some r) }
     {
         if self.status.is_early() {
             return Err(Refusal::NotActive);
@@ -86,8 +86,8 @@ impl<Q: Quorums, S: Replica> Node<Q, S> {
 
     // Whether the node may begin to have a configuration chosen.
     pub(crate) fn may_recon(&self, wish: &Q) -> Result<(), Refusal>
-        ensures ok { OnOk result (least (recon_causes Q.system self.now wish.now) ≡ None) }
-        ensures refused { IfErr result (λ r. least (recon_causes Q.system self.now wish.now) ≡ Some r) }
+        ensures ok { OnOk result (least (recon_causes Q.system self.now.state wish.now) ≡ None) }
+        ensures refused { IfErr result (λ r. least (recon_causes Q.system self.now.state wish.now) ≡ Some r) }
     {
         if self.status.is_early() {
             return Err(Refusal::NotActive);
@@ -100,8 +100,8 @@ impl<Q: Quorums, S: Replica> Node<Q, S> {
 
     // Whether nothing speaks against a wish but the node's status.
     fn may_wish(&self, wish: &Q) -> Result<(), Refusal>
-        ensures ok { OnOk result (least (wish_causes Q.system self.now.name self.now.known self.now.map self.now.vote self.now.attempt wish.now) ≡ None) }
-        ensures refused { IfErr result (λ r. least (wish_causes Q.system self.now.name self.now.known self.now.map self.now.vote self.now.attempt wish.now) ≡ Some r) }
+        ensures ok { OnOk result (least (wish_causes Q.system self.now.state.name self.now.state.known self.now.state.map self.now.state.vote self.now.state.attempt wish.now) ≡ None) }
+        ensures refused { IfErr result (λ r. least (wish_causes Q.system self.now.state.name self.now.state.known self.now.state.map self.now.state.vote self.now.state.attempt wish.now) ≡ Some r) }
     {
         may_wish(
             self.name,
@@ -115,15 +115,15 @@ impl<Q: Quorums, S: Replica> Node<Q, S> {
 
     // Whether an attempt is open for the first unknown place.
     fn is_bidding(&self) -> bool
-        ensures { result ≡ is_for (end_of self.now.map) self.now.attempt }
+        ensures { result ≡ is_for (end_of self.now.state.map) self.now.state.attempt }
     {
         is_bidding(&self.attempt, &self.map)
     }
 
     // Whether its attempt may begin again.
     pub(crate) fn may_rebid(&self) -> Result<(), Refusal>
-        ensures ok { OnOk result (least (rebid_causes self.now) ≡ None) }
-        ensures refused { IfErr result (λ r. least (rebid_causes self.now) ≡ Some r) }
+        ensures ok { OnOk result (least (rebid_causes self.now.state) ≡ None) }
+        ensures refused { IfErr result (λ r. least (rebid_causes self.now.state) ≡ Some r) }
     {
         if self.status.is_early() {
             return Err(Refusal::NotActive);
@@ -142,15 +142,15 @@ impl<Q: Quorums, S: Replica> Node<Q, S> {
 
     // Whether an attempt is open whose place isn't known yet and whose quorum isn't there.
     fn is_waiting(&self) -> bool
-        ensures { result ≡ attempt_waits Q.system self.now.map self.now.attempt }
+        ensures { result ≡ attempt_waits Q.system self.now.state.map self.now.state.attempt }
     {
         is_waiting(&self.attempt, &self.vote, &self.map)
     }
 
     // Whether its attempt may go on.
     pub(crate) fn may_advance_recon(&self) -> Result<(), Refusal>
-        ensures ok { OnOk result (least (advance_recon_causes Q.system self.now) ≡ None) }
-        ensures refused { IfErr result (λ r. least (advance_recon_causes Q.system self.now) ≡ Some r) }
+        ensures ok { OnOk result (least (advance_recon_causes Q.system self.now.state) ≡ None) }
+        ensures refused { IfErr result (λ r. least (advance_recon_causes Q.system self.now.state) ≡ Some r) }
     {
         if self.status.is_early() {
             return Err(Refusal::NotActive);

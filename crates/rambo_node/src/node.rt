@@ -63,9 +63,9 @@ impl<Q: Quorums, S: Replica> Model for Node<Q, S> {
     ghost use Rattle.std.specs.Coded.{codes};
     ghost use Rattle.rambo_names.specs.Names.{names_code};
     ghost use Rattle.rambo_tag.specs.Copies.{copies_code};
-    ghost use Rattle.rambo_node.specs.Nodes.{NodeState};
+    ghost use Rattle.rambo_node.specs.Nodes.{RoomyNode};
 
-    ghost Value = { NodeState Q };
+    ghost Value = { RoomyNode Q };
 
     ghost coded = { Prim.hlevel (codes, names_code, copies_code, Q.code) };
 
@@ -73,18 +73,21 @@ impl<Q: Quorums, S: Replica> Model for Node<Q, S> {
     ghost use Rattle.rambo_bids.specs.Fitting.{AttemptFits};
 
     ghost view = { λ n. record {
-      name = n.name;
-      status = n.status;
-      known = n.known;
-      registers = S.copies n.registers;
-      map = n.map;
-      number = n.number;
-      made = n.made;
-      heard = n.heard;
-      calls = calls_of n.calls;
-      collection = n.collection;
-      attempt = n.attempt;
-      vote = n.vote;
+      state = record {
+        name = n.name;
+        status = n.status;
+        known = n.known;
+        registers = S.copies n.registers;
+        map = n.map;
+        number = n.number;
+        made = n.made;
+        heard = n.heard;
+        calls = calls_of n.calls.list;
+        collection = n.collection;
+        attempt = n.attempt;
+        vote = n.vote;
+      };
+      room = record { keys = S.spare n.registers; calls = n.calls };
     } };
 
     ghost invariant = { λ n. AttemptFits n.map n.attempt };
@@ -98,7 +101,7 @@ impl<Q: Quorums, S: Replica> Node<Q, S> {
     #[tactic(auto, unfolding(crate::specs::Nodes::first_node))]
     pub fn new(alloc: Global, name: Name, founders: Q, registers: S) -> Node<Q, S>
         requires { S.copies registers ≡ map.empty }
-        ensures { result ≡ first_node Q.system founders name }
+        ensures { result.state ≡ first_node Q.system founders name }
     {
         let members = founders.members();
         Node {
@@ -119,35 +122,35 @@ impl<Q: Quorums, S: Replica> Node<Q, S> {
 
     /// The copy that it holds of a key, if there is one.
     pub fn copy(&self, key: &[u8]) -> Option<&Version>
-        ensures { option_copied result ≡ map.get self.now.registers key.now }
+        ensures { option_copied result ≡ map.get self.now.state.registers key.now }
     {
         self.registers.copy(key)
     }
 
     /// The configuration map.
     pub fn map(&self) -> &ConfigMap<Q>
-        ensures { result.now ≡ self.now.map }
+        ensures { result.now ≡ self.now.state.map }
     {
         &self.map
     }
 
     /// The name.
     pub fn name(&self) -> Name
-        ensures { result ≡ self.now.name }
+        ensures { result ≡ self.now.state.name }
     {
         self.name
     }
 
     /// The status.
     pub fn status(&self) -> Status
-        ensures { result ≡ self.now.status }
+        ensures { result ≡ self.now.state.status }
     {
         self.status
     }
 
     // The open call of an id, if there is one.
     pub(crate) fn find(&self, id: &CallId) -> Option<&OpenCall<Q>>
-        ensures { call_found (option_copied result) ≡ open_call self.now id.now }
+        ensures { call_found (option_copied result) ≡ open_call self.now.state id.now }
     {
         if id.name != self.name {
             return None;
@@ -157,37 +160,37 @@ impl<Q: Quorums, S: Replica> Node<Q, S> {
 
     /// What the open call of an id asks for, if there is one that is in its query.
     pub fn query(&self, id: &CallId) -> Option<&Op>
-        ensures { option_copied result ≡ query_in (open_call self.now id.now) }
+        ensures { option_copied result ≡ query_in (open_call self.now.state id.now) }
     {
         query_of(self.find(id))
     }
 
     // The place of the open call of an id, which there is.
     pub(crate) fn place_of(&self, id: &CallId) -> usize
-        requires { is_missing (open_call self.now id.now) ≡ false }
-        ensures place { result ≡ place_of id.now.number self.now.calls }
-        ensures found { slice_get self.now.calls result ≡ open_call self.now id.now }
+        requires { is_missing (open_call self.now.state id.now) ≡ false }
+        ensures place { result ≡ place_of id.now.number self.now.state.calls }
+        ensures found { slice_get self.now.state.calls result ≡ open_call self.now.state id.now }
     {
         self.calls.place_of(id.number)
     }
 
     // What the open call at a place asks for, if there is one that is in its query.
     pub(crate) fn query_at(&self, place: usize) -> Option<&Op>
-        ensures { option_copied result ≡ query_in (slice_get self.now.calls place) }
+        ensures { option_copied result ≡ query_in (slice_get self.now.state.calls place) }
     {
         query_of(self.calls.get(place))
     }
 
     /// How many calls are open.
     pub fn count_calls(&self) -> usize
-        ensures { result ≡ length self.now.calls }
+        ensures { result ≡ length self.now.state.calls }
     {
         self.calls.len()
     }
 
     /// The id of the open call at a place, the oldest first, if there is one.
     pub fn call_at(&self, place: usize) -> Option<CallId>
-        ensures { result ≡ id_of self.now.name (number_in (slice_get self.now.calls place)) }
+        ensures { result ≡ id_of self.now.state.name (number_in (slice_get self.now.state.calls place)) }
     {
         match self.calls.number_at(place) {
             Some(number) => Some(CallId {

@@ -24,8 +24,8 @@ impl<Q: Quorums, S: Replica> Node<Q, S> {
     // A collection that isn't refused begins.
     #[tactic(auto, unfolding(crate::specs::Reconfigurations::collection_opened))]
     pub(crate) fn do_collect(&mut self)
-        requires { refusal_of Q.system self.old change.Collect ≡ None }
-        ensures { self.new ≡ collection_opened self.old }
+        requires { refusal_of Q.system self.old.state change.Collect ≡ None }
+        ensures { self.new.state ≡ collection_opened self.old.state }
     {
         self.number += 1;
         self.collection = Some(collection_of(&self.map, self.number, self.name));
@@ -33,9 +33,9 @@ impl<Q: Quorums, S: Replica> Node<Q, S> {
 
     // A collection that isn't refused goes on.
     pub(crate) fn do_advance_collect(&mut self) -> Deed<Q>
-        requires { refusal_of Q.system self.old change.AdvanceCollect ≡ None }
-        ensures node { self.new ≡ (collection_advanced self.old self.old.collection).node }
-        ensures deed { result ≡ (collection_advanced self.old self.old.collection).deed }
+        requires { refusal_of Q.system self.old.state change.AdvanceCollect ≡ None }
+        ensures node { self.new.state ≡ (collection_advanced self.old.state self.old.state.collection).node }
+        ensures deed { result ≡ (collection_advanced self.old.state self.old.state.collection).deed }
     {
         match self.collection {
             Some(collection) => self.turn_collection(collection),
@@ -45,10 +45,10 @@ impl<Q: Quorums, S: Replica> Node<Q, S> {
 
     // What its collection does that isn't refused.
     fn turn_collection(&mut self, collection: Collection) -> Deed<Q>
-        requires held { self.old.collection ≡ Some collection }
-        requires judged { refusal_of Q.system self.old change.AdvanceCollect ≡ None }
-        ensures node { self.new ≡ (collection_advanced self.old (Some collection)).node }
-        ensures deed { result ≡ (collection_advanced self.old (Some collection)).deed }
+        requires held { self.old.state.collection ≡ Some collection }
+        requires judged { refusal_of Q.system self.old.state change.AdvanceCollect ≡ None }
+        ensures node { self.new.state ≡ (collection_advanced self.old.state (Some collection)).node }
+        ensures deed { result ≡ (collection_advanced self.old.state (Some collection)).deed }
     {
         match collection.would_advance(&self.map) {
             Some(GcMove::Propagating) => self.move_collection(collection),
@@ -60,9 +60,9 @@ impl<Q: Quorums, S: Replica> Node<Q, S> {
     // The first quorum of its collection is there: the second one is asked for, under a new number.
     #[tactic(auto, unfolding(crate::specs::Reconfigurations::collection_moved))]
     fn move_collection(&mut self, collection: Collection) -> Deed<Q>
-        requires met { move_of Q.system self.old.map collection ≡ Some GcMove.Propagating }
-        requires next { is_last self.old.number ≡ false }
-        ensures node { self.new ≡ collection_moved self.old collection }
+        requires met { move_of Q.system self.old.state.map collection ≡ Some GcMove.Propagating }
+        requires next { is_last self.old.state.number ≡ false }
+        ensures node { self.new.state ≡ collection_moved self.old.state collection }
         ensures deed { result ≡ told Effect.Moved }
     {
         self.number += 1;
@@ -73,9 +73,9 @@ impl<Q: Quorums, S: Replica> Node<Q, S> {
     // Its collection is done: the place is removed, unless it is so already.
     #[tactic(auto, unfolding(crate::specs::Reconfigurations::collection_ended))]
     fn end_collection(&mut self, collection: &Collection) -> Deed<Q>
-        requires { move_of Q.system self.old.map collection.now ≡ Some GcMove.Done }
-        ensures node { self.new ≡ collection_ended self.old collection.now }
-        ensures deed { result ≡ told (Effect.Collected self.old.name collection.now.place) }
+        requires { move_of Q.system self.old.state.map collection.now ≡ Some GcMove.Done }
+        ensures node { self.new.state ≡ collection_ended self.old.state collection.now }
+        ensures deed { result ≡ told (Effect.Collected self.old.state.name collection.now.place) }
     {
         let place = collection.place();
         remove(&mut self.map, place);
@@ -86,8 +86,8 @@ impl<Q: Quorums, S: Replica> Node<Q, S> {
     // An attempt that isn't refused begins.
     #[tactic(auto, unfolding(crate::specs::Reconfigurations::attempt_opened))]
     pub(crate) fn do_recon(&mut self, wish: Q)
-        requires { refusal_of Q.system self.old (change.Recon wish) ≡ None }
-        ensures { self.new ≡ attempt_opened self.old wish }
+        requires { refusal_of Q.system self.old.state (change.Recon wish) ≡ None }
+        ensures { self.new.state ≡ attempt_opened self.old.state wish }
     {
         let place = top_of(&self.map) + 1;
         self.attempt = Some(attempt_of(place, wish, &mut self.vote, self.name));
@@ -95,8 +95,8 @@ impl<Q: Quorums, S: Replica> Node<Q, S> {
 
     // An attempt that isn't refused begins again.
     pub(crate) fn do_rebid(&mut self)
-        requires { refusal_of Q.system self.old change.Rebid ≡ None }
-        ensures { self.new ≡ (rebid_made self.old self.old.attempt).node }
+        requires { refusal_of Q.system self.old.state change.Rebid ≡ None }
+        ensures { self.new.state ≡ (rebid_made self.old.state self.old.state.attempt).node }
     {
         match self.attempt {
             Some(attempt) => self.bid_again(attempt),
@@ -107,18 +107,18 @@ impl<Q: Quorums, S: Replica> Node<Q, S> {
     // Its attempt begins again with a fresh ballot.
     #[tactic(auto, unfolding(crate::specs::Reconfigurations::attempt_rebid))]
     fn bid_again(&mut self, attempt: Attempt<Q>)
-        requires held { self.old.attempt ≡ Some attempt }
-        requires next { is_spent self.old.vote ≡ false }
-        ensures { self.new ≡ attempt_rebid self.old attempt }
+        requires held { self.old.state.attempt ≡ Some attempt }
+        requires next { is_spent self.old.state.vote ≡ false }
+        ensures { self.new.state ≡ attempt_rebid self.old.state attempt }
     {
         self.attempt = Some(rebid(attempt, &mut self.vote));
     }
 
     // An attempt that isn't refused goes on.
     pub(crate) fn do_advance_recon(&mut self) -> Deed<Q>
-        requires { refusal_of Q.system self.old change.AdvanceRecon ≡ None }
-        ensures node { self.new ≡ (attempt_advanced self.old self.old.attempt).node }
-        ensures deed { result ≡ (attempt_advanced self.old self.old.attempt).deed }
+        requires { refusal_of Q.system self.old.state change.AdvanceRecon ≡ None }
+        ensures node { self.new.state ≡ (attempt_advanced self.old.state self.old.state.attempt).node }
+        ensures deed { result ≡ (attempt_advanced self.old.state self.old.state.attempt).deed }
     {
         match self.attempt {
             Some(attempt) => self.turn_attempt(attempt),
@@ -128,10 +128,10 @@ impl<Q: Quorums, S: Replica> Node<Q, S> {
 
     // What its attempt does that isn't refused.
     fn turn_attempt(&mut self, attempt: Attempt<Q>) -> Deed<Q>
-        requires held { self.old.attempt ≡ Some attempt }
-        requires judged { refusal_of Q.system self.old change.AdvanceRecon ≡ None }
-        ensures node { self.new ≡ (attempt_advanced self.old (Some attempt)).node }
-        ensures deed { result ≡ (attempt_advanced self.old (Some attempt)).deed }
+        requires held { self.old.state.attempt ≡ Some attempt }
+        requires judged { refusal_of Q.system self.old.state change.AdvanceRecon ≡ None }
+        ensures node { self.new.state ≡ (attempt_advanced self.old.state (Some attempt)).node }
+        ensures deed { result ≡ (attempt_advanced self.old.state (Some attempt)).deed }
     {
         if is_known(&self.map, attempt.place()) {
             return self.end_attempt(attempt.place());
@@ -142,8 +142,8 @@ impl<Q: Quorums, S: Replica> Node<Q, S> {
     // Its attempt for a place that has come to be known ends: what stands there is told.
     #[tactic(auto, unfolding(crate::specs::Reconfigurations::attempt_ended))]
     fn end_attempt(&mut self, place: u64) -> Deed<Q>
-        ensures node { self.new ≡ attempt_ended self.old }
-        ensures deed { result ≡ told (Effect.Decided self.old.name (record { place = place; config = active_at self.old.map place })) }
+        ensures node { self.new.state ≡ attempt_ended self.old.state }
+        ensures deed { result ≡ told (Effect.Decided self.old.state.name (record { place = place; config = active_at self.old.state.map place })) }
     {
         self.attempt = None;
         let config = active_at(&self.map, place);
@@ -152,11 +152,11 @@ impl<Q: Quorums, S: Replica> Node<Q, S> {
 
     // Its attempt, whose quorum is there, proposes, or its configuration is chosen and learnt.
     fn bid(&mut self, attempt: Attempt<Q>) -> Deed<Q>
-        requires held { self.old.attempt ≡ Some attempt }
-        requires unknown { end_of self.old.map ≤ attempt.place }
-        requires met { has_quorum Q.system (active_at self.old.map (top_of self.old.map)) attempt.repliers ≡ true }
-        ensures node { self.new ≡ (bid_made self.old attempt (bid_of attempt)).node }
-        ensures deed { result ≡ (bid_made self.old attempt (bid_of attempt)).deed }
+        requires held { self.old.state.attempt ≡ Some attempt }
+        requires unknown { end_of self.old.state.map ≤ attempt.place }
+        requires met { has_quorum Q.system (active_at self.old.state.map (top_of self.old.state.map)) attempt.repliers ≡ true }
+        ensures node { self.new.state ≡ (bid_made self.old.state attempt (bid_of attempt)).node }
+        ensures deed { result ≡ (bid_made self.old.state attempt (bid_of attempt)).deed }
     {
         let place = attempt.place();
         let mut next = attempt;

@@ -22,16 +22,16 @@ impl<Q: Quorums, S: Replica> Node<Q, S> {
     /// letter of an active node may need room.
     #[tactic(auto, unfolding(crate::specs::Changes::made_by))]
     pub fn take(&mut self, change: Change<Q>) -> Result<Deed<Q>, Refusal>
-        ensures judged { OnOk result (refusal_of Q.system self.old change ≡ None) }
-        ensures node { OnOk result (self.new ≡ (made_by self.old change).node) }
-        ensures deed { IfOk result (λ d. d ≡ (made_by self.old change).deed) }
-        ensures refused { IfErr result (IsRefusal (refusal_of Q.system self.old change)) }
-        ensures no_memory { needs_memory change ≡ false → IfErr result (λ r. refusal_of Q.system self.old change ≡ Some r) }
-        ensures err { OnErr result (self.new ≡ self.old) }
+        ensures judged { OnOk result (refusal_of Q.system self.old.state change ≡ None) }
+        ensures node { OnOk result (self.new.state ≡ (made_by self.old.state change).node) }
+        ensures deed { IfOk result (λ d. d ≡ (made_by self.old.state change).deed) }
+        ensures refused { IfErr result (IsRefusal (refusal_of Q.system self.old.state change)) }
+        ensures no_memory { needs_memory change ≡ false → IfErr result (λ r. refusal_of Q.system self.old.state change ≡ Some r) }
+        ensures err { OnErr result (self.new.state ≡ self.old.state) }
     {
         // (one way out: what a change holds is dropped on each)
-        match self.judge(&change) {
-            Ok(()) => self.act(&change),
+        match self.ready(&change) {
+            Ok(prepared) => Ok(self.carry_out(prepared)),
             Err(refusal) => Err(refusal),
         }
     }
@@ -44,12 +44,12 @@ impl<Q: Quorums, S: Replica> Node<Q, S> {
     #[inline(never)]
     #[tactic(auto, unfolding(crate::specs::Changes::made_by))]
     pub fn act(&mut self, change: &Change<Q>) -> Result<Deed<Q>, Refusal>
-        requires { refusal_of Q.system self.old change.now ≡ None }
-        ensures node { OnOk result (self.new ≡ (made_by self.old change.now).node) }
-        ensures deed { IfOk result (λ d. d ≡ (made_by self.old change.now).deed) }
+        requires { refusal_of Q.system self.old.state change.now ≡ None }
+        ensures node { OnOk result (self.new.state ≡ (made_by self.old.state change.now).node) }
+        ensures deed { IfOk result (λ d. d ≡ (made_by self.old.state change.now).deed) }
         ensures refused { IfErr result (λ r. r ≡ Refusal.OutOfMemory) }
         ensures no_memory { needs_memory change.now ≡ false → IsOk result }
-        ensures err { OnErr result (self.new ≡ self.old) }
+        ensures err { OnErr result (self.new.state ≡ self.old.state) }
     {
         match change {
             Change::Join(contacts) => {
@@ -97,10 +97,10 @@ impl<Q: Quorums, S: Replica> Node<Q, S> {
     /// Refused are 2 where it isn't idle, 18 where there is no contact.
     #[tactic(auto, unfolding(crate::specs::Changes::made_by))]
     pub fn join(&mut self, contacts: Members) -> Result<(), Refusal>
-        ensures judged { OnOk result (refusal_of Q.system self.old (change.Join contacts) ≡ None) }
-        ensures node { OnOk result (self.new ≡ (made_by self.old (change.Join contacts)).node) }
-        ensures refused { IfErr result (λ r. refusal_of Q.system self.old (change.Join contacts) ≡ Some r) }
-        ensures err { OnErr result (self.new ≡ self.old) }
+        ensures judged { OnOk result (refusal_of Q.system self.old.state (change.Join contacts) ≡ None) }
+        ensures node { OnOk result (self.new.state ≡ (made_by self.old.state (change.Join contacts)).node) }
+        ensures refused { IfErr result (λ r. refusal_of Q.system self.old.state (change.Join contacts) ≡ Some r) }
+        ensures err { OnErr result (self.new.state ≡ self.old.state) }
     {
         self.may_join(contacts)?;
         self.do_join(contacts);
@@ -113,11 +113,11 @@ impl<Q: Quorums, S: Replica> Node<Q, S> {
     /// 19 where the key has over 256 bytes, 20 where the value has over 4,096 bytes, 21 where its phase number
     /// or its last call number is the greatest one, 22 where there is no room for the call.
     pub fn call(&mut self, op: Op) -> Result<CallId, Refusal>
-        ensures judged { OnOk result (refusal_of Q.system self.old (change.Call op) ≡ None) }
-        ensures node { OnOk result (self.new ≡ (made_by self.old (change.Call op)).node) }
-        ensures id { IfOk result (λ id. id ≡ record { name = self.old.name; number = self.old.made + 1 }) }
-        ensures refused { IfErr result (IsRefusal (refusal_of Q.system self.old (change.Call op))) }
-        ensures err { OnErr result (self.new ≡ self.old) }
+        ensures judged { OnOk result (refusal_of Q.system self.old.state (change.Call op) ≡ None) }
+        ensures node { OnOk result (self.new.state ≡ (made_by self.old.state (change.Call op)).node) }
+        ensures id { IfOk result (λ id. id ≡ record { name = self.old.state.name; number = self.old.state.made + 1 }) }
+        ensures refused { IfErr result (IsRefusal (refusal_of Q.system self.old.state (change.Call op))) }
+        ensures err { OnErr result (self.new.state ≡ self.old.state) }
     {
         self.may_call(&op)?;
         let id = self.begin(op)?;
@@ -132,11 +132,11 @@ impl<Q: Quorums, S: Replica> Node<Q, S> {
     /// call, 8 where its phase isn't met, 21 where it is in its query and the phase number, or for a set the
     /// sequence number of the key's tag, is the greatest one, 22 where there is no room for the copy.
     pub fn advance(&mut self, id: CallId) -> Result<Option<Answer>, Refusal>
-        ensures judged { OnOk result (refusal_of Q.system self.old (change.Advance id) ≡ None) }
-        ensures node { OnOk result (self.new ≡ (made_by self.old (change.Advance id)).node) }
-        ensures answer { IfOk result (λ a. a ≡ answer_in (made_by self.old (change.Advance id)).deed.effect) }
-        ensures refused { IfErr result (IsRefusal (refusal_of Q.system self.old (change.Advance id))) }
-        ensures err { OnErr result (self.new ≡ self.old) }
+        ensures judged { OnOk result (refusal_of Q.system self.old.state (change.Advance id) ≡ None) }
+        ensures node { OnOk result (self.new.state ≡ (made_by self.old.state (change.Advance id)).node) }
+        ensures answer { IfOk result (λ a. a ≡ answer_in (made_by self.old.state (change.Advance id)).deed.effect) }
+        ensures refused { IfErr result (IsRefusal (refusal_of Q.system self.old.state (change.Advance id))) }
+        ensures err { OnErr result (self.new.state ≡ self.old.state) }
     {
         self.may_advance(&id)?;
         let mut deed = Deed::quiet();
@@ -150,10 +150,10 @@ impl<Q: Quorums, S: Replica> Node<Q, S> {
     /// Refused are 3 where the node is idle or joining, 4 where it has stopped, 7 where there is no such open
     /// call, 21 where the phase number is the greatest one.
     pub fn again(&mut self, id: CallId) -> Result<(), Refusal>
-        ensures judged { OnOk result (refusal_of Q.system self.old (change.Again id) ≡ None) }
-        ensures node { OnOk result (self.new ≡ (made_by self.old (change.Again id)).node) }
-        ensures refused { IfErr result (λ r. refusal_of Q.system self.old (change.Again id) ≡ Some r) }
-        ensures err { OnErr result (self.new ≡ self.old) }
+        ensures judged { OnOk result (refusal_of Q.system self.old.state (change.Again id) ≡ None) }
+        ensures node { OnOk result (self.new.state ≡ (made_by self.old.state (change.Again id)).node) }
+        ensures refused { IfErr result (λ r. refusal_of Q.system self.old.state (change.Again id) ≡ Some r) }
+        ensures err { OnErr result (self.new.state ≡ self.old.state) }
     {
         self.may_restart(&id)?;
         self.do_again(id);
@@ -167,10 +167,10 @@ impl<Q: Quorums, S: Replica> Node<Q, S> {
     /// 11 where a collection is open, 21 where the phase number is the greatest one.
     #[tactic(auto, unfolding(crate::specs::Changes::made_by))]
     pub fn collect(&mut self) -> Result<(), Refusal>
-        ensures judged { OnOk result (refusal_of Q.system self.old change.Collect ≡ None) }
-        ensures node { OnOk result (self.new ≡ (made_by self.old change.Collect).node) }
-        ensures refused { IfErr result (λ r. refusal_of Q.system self.old change.Collect ≡ Some r) }
-        ensures err { OnErr result (self.new ≡ self.old) }
+        ensures judged { OnOk result (refusal_of Q.system self.old.state change.Collect ≡ None) }
+        ensures node { OnOk result (self.new.state ≡ (made_by self.old.state change.Collect).node) }
+        ensures refused { IfErr result (λ r. refusal_of Q.system self.old.state change.Collect ≡ Some r) }
+        ensures err { OnErr result (self.new.state ≡ self.old.state) }
     {
         self.may_collect()?;
         self.do_collect();
@@ -187,11 +187,11 @@ impl<Q: Quorums, S: Replica> Node<Q, S> {
     /// removed and the phase number is the greatest one.
     #[tactic(auto, unfolding(crate::specs::Changes::made_by))]
     pub fn advance_collect(&mut self) -> Result<Option<u64>, Refusal>
-        ensures judged { OnOk result (refusal_of Q.system self.old change.AdvanceCollect ≡ None) }
-        ensures node { OnOk result (self.new ≡ (made_by self.old change.AdvanceCollect).node) }
-        ensures place { IfOk result (λ place. place ≡ collected_in (made_by self.old change.AdvanceCollect).deed.effect) }
-        ensures refused { IfErr result (λ r. refusal_of Q.system self.old change.AdvanceCollect ≡ Some r) }
-        ensures err { OnErr result (self.new ≡ self.old) }
+        ensures judged { OnOk result (refusal_of Q.system self.old.state change.AdvanceCollect ≡ None) }
+        ensures node { OnOk result (self.new.state ≡ (made_by self.old.state change.AdvanceCollect).node) }
+        ensures place { IfOk result (λ place. place ≡ collected_in (made_by self.old.state change.AdvanceCollect).deed.effect) }
+        ensures refused { IfErr result (λ r. refusal_of Q.system self.old.state change.AdvanceCollect ≡ Some r) }
+        ensures err { OnErr result (self.new.state ≡ self.old.state) }
     {
         self.may_advance_collect()?;
         let deed = self.do_advance_collect();
@@ -207,10 +207,10 @@ impl<Q: Quorums, S: Replica> Node<Q, S> {
     /// is the greatest number.
     #[tactic(auto, unfolding(crate::specs::Changes::made_by))]
     pub fn recon(&mut self, wish: Q) -> Result<(), Refusal>
-        ensures judged { OnOk result (refusal_of Q.system self.old (change.Recon wish) ≡ None) }
-        ensures node { OnOk result (self.new ≡ (made_by self.old (change.Recon wish)).node) }
-        ensures refused { IfErr result (λ r. refusal_of Q.system self.old (change.Recon wish) ≡ Some r) }
-        ensures err { OnErr result (self.new ≡ self.old) }
+        ensures judged { OnOk result (refusal_of Q.system self.old.state (change.Recon wish) ≡ None) }
+        ensures node { OnOk result (self.new.state ≡ (made_by self.old.state (change.Recon wish)).node) }
+        ensures refused { IfErr result (λ r. refusal_of Q.system self.old.state (change.Recon wish) ≡ Some r) }
+        ensures err { OnErr result (self.new.state ≡ self.old.state) }
     {
         self.may_recon(&wish)?;
         self.do_recon(wish);
@@ -224,10 +224,10 @@ impl<Q: Quorums, S: Replica> Node<Q, S> {
     /// first unknown place, 21 where the promised round is the greatest number.
     #[tactic(auto, unfolding(crate::specs::Changes::made_by))]
     pub fn rebid(&mut self) -> Result<(), Refusal>
-        ensures judged { OnOk result (refusal_of Q.system self.old change.Rebid ≡ None) }
-        ensures node { OnOk result (self.new ≡ (made_by self.old change.Rebid).node) }
-        ensures refused { IfErr result (λ r. refusal_of Q.system self.old change.Rebid ≡ Some r) }
-        ensures err { OnErr result (self.new ≡ self.old) }
+        ensures judged { OnOk result (refusal_of Q.system self.old.state change.Rebid ≡ None) }
+        ensures node { OnOk result (self.new.state ≡ (made_by self.old.state change.Rebid).node) }
+        ensures refused { IfErr result (λ r. refusal_of Q.system self.old.state change.Rebid ≡ Some r) }
+        ensures err { OnErr result (self.new.state ≡ self.old.state) }
     {
         self.may_rebid()?;
         self.do_rebid();
@@ -243,11 +243,11 @@ impl<Q: Quorums, S: Replica> Node<Q, S> {
     /// and its quorum isn't there, 15 where no attempt is open.
     #[tactic(auto, unfolding(crate::specs::Changes::made_by))]
     pub fn advance_recon(&mut self) -> Result<Option<Decided<Q>>, Refusal>
-        ensures judged { OnOk result (refusal_of Q.system self.old change.AdvanceRecon ≡ None) }
-        ensures node { OnOk result (self.new ≡ (made_by self.old change.AdvanceRecon).node) }
-        ensures decided { IfOk result (λ d. d ≡ decided_in (made_by self.old change.AdvanceRecon).deed.effect) }
-        ensures refused { IfErr result (λ r. refusal_of Q.system self.old change.AdvanceRecon ≡ Some r) }
-        ensures err { OnErr result (self.new ≡ self.old) }
+        ensures judged { OnOk result (refusal_of Q.system self.old.state change.AdvanceRecon ≡ None) }
+        ensures node { OnOk result (self.new.state ≡ (made_by self.old.state change.AdvanceRecon).node) }
+        ensures decided { IfOk result (λ d. d ≡ decided_in (made_by self.old.state change.AdvanceRecon).deed.effect) }
+        ensures refused { IfErr result (λ r. refusal_of Q.system self.old.state change.AdvanceRecon ≡ Some r) }
+        ensures err { OnErr result (self.new.state ≡ self.old.state) }
     {
         self.may_advance_recon()?;
         let deed = self.do_advance_recon();
@@ -259,10 +259,10 @@ impl<Q: Quorums, S: Replica> Node<Q, S> {
     /// Refused are 3 where it is idle, 4 where it has stopped.
     #[tactic(auto, unfolding(crate::specs::Changes::made_by))]
     pub fn stop(&mut self) -> Result<(), Refusal>
-        ensures judged { OnOk result (refusal_of Q.system self.old change.Stop ≡ None) }
-        ensures node { OnOk result (self.new ≡ (made_by self.old change.Stop).node) }
-        ensures refused { IfErr result (λ r. refusal_of Q.system self.old change.Stop ≡ Some r) }
-        ensures err { OnErr result (self.new ≡ self.old) }
+        ensures judged { OnOk result (refusal_of Q.system self.old.state change.Stop ≡ None) }
+        ensures node { OnOk result (self.new.state ≡ (made_by self.old.state change.Stop).node) }
+        ensures refused { IfErr result (λ r. refusal_of Q.system self.old.state change.Stop ≡ Some r) }
+        ensures err { OnErr result (self.new.state ≡ self.old.state) }
     {
         self.may_stop()?;
         self.do_stop();
@@ -273,8 +273,8 @@ impl<Q: Quorums, S: Replica> Node<Q, S> {
 impl<Q: Quorums, S: Replica> Node<Q, S> {
     // Begins to join.
     #[tactic(auto, unfolding(crate::specs::Operations::joined_by))]
-    fn do_join(&mut self, contacts: Members)
-        ensures { self.new ≡ joined_by self.old contacts }
+    pub(crate) fn do_join(&mut self, contacts: Members)
+        ensures { self.new.state ≡ joined_by self.old.state contacts }
     {
         self.status = Status::Joining;
         self.known = contacts.with(self.name);
@@ -282,8 +282,8 @@ impl<Q: Quorums, S: Replica> Node<Q, S> {
 
     // Stops.
     #[tactic(auto, unfolding(crate::specs::Operations::stopped))]
-    fn do_stop(&mut self)
-        ensures { self.new ≡ stopped self.old }
+    pub(crate) fn do_stop(&mut self)
+        ensures { self.new.state ≡ stopped self.old.state }
     {
         self.status = Status::Stopped;
     }

@@ -33,6 +33,13 @@ impl Pack {
         Pack { copies }
     }
 
+    /// No copies. Memory for them would come from this allocator.
+    pub fn empty(alloc: Global) -> Pack
+        ensures { result ≡ empty }
+    {
+        Pack::new(Vec::new(alloc))
+    }
+
     /// Copies of which each key's greatest is in the pack. A key may stand more than once.
     pub fn copies(&self) -> &[KeyedVersion]
         ensures { greatest_of result.now ≡ self.now }
@@ -71,7 +78,7 @@ impl NoCopies {
     /// No copies. Memory for them would come from this allocator.
     pub fn new(alloc: Global) -> NoCopies {
         NoCopies {
-            pack: Pack::new(Vec::new(alloc)),
+            pack: Pack::empty(alloc),
         }
     }
 

@@ -126,6 +126,11 @@ impl<H: BuildHasher + Clone + Drop> Replica for Registers<H> {
         }
     }
 
+    fn newer(&self, pack: &Pack) -> Result<Pack, Refusal> {
+        let newer = self.newer_copies(pack)?;
+        Ok(Pack::new(newer))
+    }
+
     fn room(&mut self, pack: &Pack) -> Result<(), Refusal> {
         let count = new_keys(&self.table, pack.copies());
         self.table.reserve(count)?;
@@ -134,6 +139,15 @@ impl<H: BuildHasher + Clone + Drop> Replica for Registers<H> {
 
     fn merge_room(&mut self, pack: Pack) {
         put_newer(&mut self.table, pack.into_copies());
+    }
+
+    fn room_for_key(&mut self) -> Result<(), Refusal> {
+        self.table.reserve(1)?;
+        Ok(())
+    }
+
+    fn put_room(&mut self, key: Bytes, version: Version) {
+        put_reserved(&mut self.table, key, version);
     }
 
     fn pack(&self) -> Result<Pack, Refusal> {

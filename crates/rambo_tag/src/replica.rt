@@ -1,5 +1,5 @@
 //! What a node needs of its copies.
-ghost use Rattle.std.specs.Prelude.{◌≡◌, ◌≤◌, ℕ, IsOk, IfOk, IfErr, OnOk, OnErr};
+ghost use Rattle.std.specs.Prelude.{◌≡◌, ◌<◌, ◌≤◌, ℕ, IsOk, IfOk, IfErr, OnOk, OnErr};
 ghost use Rattle.std.specs.FinMap as map;
 ghost use Rattle.std.specs.Option.{option_copied};
 ghost use Rattle.rambo_tag.specs.Copies.{Copies, joined, HasRoom};
@@ -46,6 +46,15 @@ pub trait Replica: Drop {
         ensures err { OnErr result (copies self.new ≡ copies self.old) }
         ensures refused { IfErr result (λ r. r ≡ Refusal.OutOfMemory) };
 
+    /// Those copies of a pack that are newer than what it holds.
+    ///
+    /// `OutOfMemory` where there is no room for the list of them. Where nothing is newer no memory is taken.
+    fn newer(&self, pack: &Pack) -> Result<Pack, Refusal>
+        ensures all { IfOk result (λ p. joined (copies self.now) p ≡ joined (copies self.now) pack.now) }
+        ensures none { joined (copies self.now) pack.now ≡ copies self.now → IfOk result (λ p. p ≡ map.empty) }
+        ensures idle { joined (copies self.now) pack.now ≡ copies self.now → IsOk result }
+        ensures refused { IfErr result (λ r. r ≡ Refusal.OutOfMemory) };
+
     /// Makes room for a pack, so that `merge_room` can take it. The copies stay, whatever the answer, and so does
     /// the room that there is.
     ///
@@ -61,6 +70,20 @@ pub trait Replica: Drop {
     fn merge_room(&mut self, pack: Pack)
         requires { HasRoom (spare self.old) (copies self.old) pack }
         ensures { copies self.new ≡ joined (copies self.old) pack };
+
+    /// Makes room for one key more. The copies stay, whatever the answer, and so does the room that there is.
+    ///
+    /// `OutOfMemory` where there is no room for it.
+    fn room_for_key(&mut self) -> Result<(), Refusal>
+        ensures same { copies self.new ≡ copies self.old }
+        ensures kept { spare self.old ≤ spare self.new }
+        ensures ok { OnOk result (0 < spare self.new) }
+        ensures refused { IfErr result (λ r. r ≡ Refusal.OutOfMemory) };
+
+    /// Puts a copy in the place of a key's, where there is room for one key more. It takes no memory and can't fail.
+    fn put_room(&mut self, key: Bytes, version: Version)
+        requires { 0 < spare self.old }
+        ensures { copies self.new ≡ map.insert (copies self.old) key version };
 
     /// All copies, to be sent. No key and no value is copied.
     ///

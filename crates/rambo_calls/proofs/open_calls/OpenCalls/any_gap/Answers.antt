@@ -9,4 +9,4 @@ any_gap-requires g c = (variant_fits _ _ _ _ (back_fits _ _ _ (up_fits _ _ _ c.r
 
 pub returns : goal.returns
 returns g c =
-    c.any_gap.ensures ∙ ap (λ cs. any_gap c.args.heard c.args.map.now (calls_of cs)) (c.as_slice.ensures.value ∙ c.self.view_is)
+    c.any_gap.ensures ∙ ap (λ cs. any_gap c.args.heard c.args.map.now (calls_of cs)) (c.as_slice.ensures.value ∙ ap (λ k. k.list) c.self.view_is)

@@ -15,7 +15,7 @@ make_room-requires g c = (variant_fits _ _ _ _ (back_fits _ _ _ (up_fits _ _ _ c
 pub returns-clause-same : goal.returns-clause-same
 returns-clause-same g c =
     ap calls_of (written c.make_room.new.calls c.self.inside.list.items c.self.inside.list.len (omega (arith, c.make_room.auto.calls, c.as_mut_slice.ensures.len)))
-    ∙ c.make_room.ensures.same ∙ ap calls_of (c.as_mut_slice.ensures.value ∙ c.self.view_is)
+    ∙ c.make_room.ensures.same ∙ ap calls_of (c.as_mut_slice.ensures.value ∙ ap (λ k. k.list) c.self.view_is)
 
 pub returns-clause-ok : goal.returns-clause-ok
 returns-clause-ok g c =
@@ -23,7 +23,7 @@ returns-clause-ok g c =
     subst (λ cs. OnOk c.make_room.result (IsRoomy c.args.map.now cs)) (sym whole) c.make_room.ensures.ok
 
 pub returns-clause-succeeds : goal.returns-clause-succeeds
-returns-clause-succeeds g c = λ room. c.make_room.ensures.succeeds (subst (IsRoomy c.args.map.now) (sym (c.as_mut_slice.ensures.value ∙ c.self.view_is)) room)
+returns-clause-succeeds g c = λ room. c.make_room.ensures.succeeds (subst (IsRoomy c.args.map.now) (sym (c.as_mut_slice.ensures.value ∙ ap (λ k. k.list) c.self.view_is)) room)
 
 pub returns-clause-refused : goal.returns-clause-refused
 returns-clause-refused g c = c.make_room.ensures.refused

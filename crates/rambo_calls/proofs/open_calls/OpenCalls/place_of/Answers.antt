@@ -8,4 +8,4 @@ pub place_of-requires : goal.place_of-requires
 place_of-requires g c = variant_fits _ _ _ _ (back_fits _ _ _ (up_fits _ _ _ c.requires-raw.1))
 
 pub returns : goal.returns
-returns g c = c.place_of.ensures ∙ ap (λ cs. place_of c.args.number (calls_of cs)) (c.as_slice.ensures.value ∙ c.self.view_is)
+returns g c = c.place_of.ensures ∙ ap (λ cs. place_of c.args.number (calls_of cs)) (c.as_slice.ensures.value ∙ ap (λ k. k.list) c.self.view_is)

@@ -10,60 +10,62 @@ use Rattle.rambo_node.proofs.Sizes.{deliver_fits}
 use Rattle.rambo_node.proofs.node.Node.act.Goals as goal
 
 pub do_hear-requires : goal.do_hear-requires
-do_hear-requires g c = (c.requires-raw.1.1.0, deliver_fits _ _ _ _ _ _ _ _ c.requires-raw.1.1.1.0)
+do_hear-requires g c = (
+  c.requires-raw.1.1.0,
+  (deliver_fits _ _ _ _ _ _ _ _ c.requires-raw.1.1.1.0, subst (λ ch. refusal_of g.Q.Quorums.system c.args.self.now.state ch ≡ None) c.in-Deliver.is c.requires),
+)
 
 pub do_call-requires : goal.do_call-requires
 do_call-requires g c = (
   c.requires-raw.1.1.0,
-  subst (λ ch. refusal_of g.Q.Quorums.system c.args.self.now ch ≡ None) (c.in-Call.is ∙ ap change.Call (sym c.in_ok-clone-in-Call.ensures.same)) c.requires,
+  subst (λ ch. refusal_of g.Q.Quorums.system c.args.self.now.state ch ≡ None) (c.in-Call.is ∙ ap change.Call (sym c.in_ok-clone-in-Call.ensures.same)) c.requires,
 )
 
 pub go_on-requires : goal.go_on-requires
-go_on-requires g c = (c.requires-raw.1.1.0, (subst (λ ch. refusal_of g.Q.Quorums.system c.args.self.now ch ≡ None) c.in-Advance.is c.requires, c.quiet-deed.ensures))
+go_on-requires g c = (c.requires-raw.1.1.0, (subst (λ ch. refusal_of g.Q.Quorums.system c.args.self.now.state ch ≡ None) c.in-Advance.is c.requires, c.quiet-deed.ensures))
 
 pub do_again-requires : goal.do_again-requires
-do_again-requires g c = (c.requires-raw.1.1.0, subst (λ ch. refusal_of g.Q.Quorums.system c.args.self.now ch ≡ None) c.in-Again.is c.requires)
+do_again-requires g c = (c.requires-raw.1.1.0, subst (λ ch. refusal_of g.Q.Quorums.system c.args.self.now.state ch ≡ None) c.in-Again.is c.requires)
 
 pub do_collect-requires : goal.do_collect-requires
-do_collect-requires g c = (c.requires-raw.1.1.0, subst (λ ch. refusal_of g.Q.Quorums.system c.args.self.now ch ≡ None) c.in-Collect.is c.requires)
+do_collect-requires g c = (c.requires-raw.1.1.0, subst (λ ch. refusal_of g.Q.Quorums.system c.args.self.now.state ch ≡ None) c.in-Collect.is c.requires)
 
 pub do_advance_collect-requires : goal.do_advance_collect-requires
-do_advance_collect-requires g c = (c.requires-raw.1.1.0, subst (λ ch. refusal_of g.Q.Quorums.system c.args.self.now ch ≡ None) c.in-AdvanceCollect.is c.requires)
+do_advance_collect-requires g c = (c.requires-raw.1.1.0, subst (λ ch. refusal_of g.Q.Quorums.system c.args.self.now.state ch ≡ None) c.in-AdvanceCollect.is c.requires)
 
 pub do_recon-requires : goal.do_recon-requires
-do_recon-requires g c = (c.requires-raw.1.1.0, subst (λ ch. refusal_of g.Q.Quorums.system c.args.self.now ch ≡ None) c.in-Recon.is c.requires)
+do_recon-requires g c = (c.requires-raw.1.1.0, subst (λ ch. refusal_of g.Q.Quorums.system c.args.self.now.state ch ≡ None) c.in-Recon.is c.requires)
 
 pub do_rebid-requires : goal.do_rebid-requires
-do_rebid-requires g c = (c.requires-raw.1.1.0, subst (λ ch. refusal_of g.Q.Quorums.system c.args.self.now ch ≡ None) c.in-Rebid.is c.requires)
+do_rebid-requires g c = (c.requires-raw.1.1.0, subst (λ ch. refusal_of g.Q.Quorums.system c.args.self.now.state ch ≡ None) c.in-Rebid.is c.requires)
 
 pub do_advance_recon-requires : goal.do_advance_recon-requires
-do_advance_recon-requires g c = (c.requires-raw.1.1.0, subst (λ ch. refusal_of g.Q.Quorums.system c.args.self.now ch ≡ None) c.in-AdvanceRecon.is c.requires)
+do_advance_recon-requires g c = (c.requires-raw.1.1.0, subst (λ ch. refusal_of g.Q.Quorums.system c.args.self.now.state ch ≡ None) c.in-AdvanceRecon.is c.requires)
 
 pub returns-in_ok-clone-in-Call-clause-deed : goal.returns-in_ok-clone-in-Call-clause-deed
 returns-in_ok-clone-in-Call-clause-deed g c =
-    let x = c.args.self.now in
+    let x = c.args.self.now.state in
     subst (λ ch. IfOk c.do_call.result (λ d. d ≡ (made_by x ch).deed)) (ap change.Call c.in_ok-clone-in-Call.ensures.same ∙ sym c.in-Call.is) c.do_call.ensures.deed
 
 pub returns-in_ok-do_hear-in-Deliver-clause-node : goal.returns-in_ok-do_hear-in-Deliver-clause-node
 unfolding made_by
 returns-in_ok-do_hear-in-Deliver-clause-node g c =
-    let x = c.args.self.now in
-    c.in_ok-do_hear-in-Deliver.ensures.ok (subst (λ ch. refusal_of g.Q.Quorums.system x ch ≡ None) c.in-Deliver.is c.requires)
-    ∙ sym (ap (λ ch. (made_by x ch).node) c.in-Deliver.is)
+    let x = c.args.self.now.state in
+    c.in_ok-do_hear-in-Deliver.ensures.node ∙ sym (ap (λ ch. (made_by x ch).node) c.in-Deliver.is)
 
 pub returns-in_ok-go_on-in-Advance-clause-deed : goal.returns-in_ok-go_on-in-Advance-clause-deed
-returns-in_ok-go_on-in-Advance-clause-deed g c = c.in_ok-go_on-in-Advance.ensures.deed ∙ sym (ap (λ ch. (made_by c.args.self.now ch).deed) c.in-Advance.is)
+returns-in_ok-go_on-in-Advance-clause-deed g c = c.in_ok-go_on-in-Advance.ensures.deed ∙ sym (ap (λ ch. (made_by c.args.self.now.state ch).deed) c.in-Advance.is)
 
 pub returns-in-Again-clause-deed : goal.returns-in-Again-clause-deed
 unfolding made_by
 returns-in-Again-clause-deed g c =
-    let x = c.args.self.now in
+    let x = c.args.self.now.state in
     c.quiet-in-Again.ensures ∙ quiet_again x (open_call x c.in-Again.id) ∙ sym (ap (λ ch. (made_by x ch).deed) c.in-Again.is)
 
 pub returns-in-Rebid-clause-deed : goal.returns-in-Rebid-clause-deed
 unfolding made_by
 returns-in-Rebid-clause-deed g c =
-    let x = c.args.self.now in
+    let x = c.args.self.now.state in
     c.quiet-in-Rebid.ensures ∙ quiet_rebid x x.attempt ∙ sym (ap (λ ch. (made_by x ch).deed) c.in-Rebid.is)
 
 pub returns-in_err-do_hear-in-Deliver-clause-no_memory : goal.returns-in_err-do_hear-in-Deliver-clause-no_memory

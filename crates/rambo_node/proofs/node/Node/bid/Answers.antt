@@ -13,7 +13,7 @@ use Rattle.rambo_node.proofs.node.Node.bid.Goals as goal
 
 pub go_on-requires : goal.go_on-requires
 go_on-requires g c =
-    (back_fits _ _ _ (up_fits _ _ _ c.requires-raw.1.1.0), ap (λ n. has_quorum g.Q.Quorums.system (active_at n.map (top_of n.map)) c.args.attempt.repliers) c.self.view_is ∙ c.requires.met)
+    (back_fits _ _ _ (up_fits _ _ _ c.requires-raw.1.1.0), ap (λ v. has_quorum g.Q.Quorums.system (active_at v.state.map (top_of v.state.map)) c.args.attempt.repliers) c.self.view_is ∙ c.requires.met)
 
 abbrev bidding : {Q : Type 0} → AttemptState Q → VoteState Q → NodeState Q → NodeState Q
 bidding a v x = record x { attempt = Some a; vote = v }
@@ -25,14 +25,14 @@ pub invariant_of-self : goal.invariant_of-self
 invariant_of-self g c =
     let m = c.self.inside.map in
     subst (λ a. AttemptFits m (Some a)) (sym c.go_on.ensures.attempt)
-    (fits_advanced m c.args.attempt _ (subst (AttemptFits m) (ap (λ n. n.attempt) c.self.view_is ∙ c.requires.held) c.self.invariant))
+    (fits_advanced m c.args.attempt _ (subst (AttemptFits m) (ap (λ v. v.state.attempt) c.self.view_is ∙ c.requires.held) c.self.invariant))
 
 pub learn-requires : goal.learn-requires
 learn-requires g c =
     let m = c.self.inside.map in
     let a = c.args.attempt in
-    let fits = subst (AttemptFits m) (ap (λ n. n.attempt) c.self.view_is ∙ c.requires.held) c.self.invariant in
-    let unknown : end_of m ≤ a.place = subst (λ n. end_of n.map ≤ a.place) (sym c.self.view_is) c.requires.unknown in
+    let fits = subst (AttemptFits m) (ap (λ v. v.state.attempt) c.self.view_is ∙ c.requires.held) c.self.invariant in
+    let unknown : end_of m ≤ a.place = subst (λ n. end_of n.map ≤ a.place) (sym (ap (λ v. v.state) c.self.view_is)) c.requires.unknown in
     let within : Fits w64 c.place-place.result = assumption in
     let same = c.place-place.ensures in
     (back_fits _ _ _ (up_fits _ _ _ c.requires-raw.1.1.0), (fits.1 unknown, omega (arith, unknown, within, same)))
@@ -41,18 +41,18 @@ pub returns-in-Propose-clause-node : goal.returns-in-Propose-clause-node
 unfolding attempt_moved
 returns-in-Propose-clause-node g c =
     let a = c.args.attempt in
-    let x = c.args.self.now in
-    ap (bidding c.go_on.new.attempt c.go_on.new.vote) c.self.view_is
-    ∙ ap (λ b. bidding b c.go_on.new.vote x) (c.go_on.ensures.attempt ∙ ap (λ n. advanced a n.vote) c.self.view_is)
-    ∙ ap (λ v. bidding (advanced a x.vote) v x) (c.go_on.ensures.vote ∙ ap (λ n. vote_advanced a n.vote) c.self.view_is)
+    let x = c.args.self.now.state in
+    ap (bidding c.go_on.new.attempt c.go_on.new.vote) (ap (λ v. v.state) c.self.view_is)
+    ∙ ap (λ b. bidding b c.go_on.new.vote x) (c.go_on.ensures.attempt ∙ ap (λ v. advanced a v.state.vote) c.self.view_is)
+    ∙ ap (λ v. bidding (advanced a x.vote) v x) (c.go_on.ensures.vote ∙ ap (λ v. vote_advanced a v.state.vote) c.self.view_is)
     ∙ sym (ap (λ b. (bid_made x a b).node) (sym c.go_on.ensures.bid ∙ c.in-Propose.is))
 
 pub returns-in-Chosen-clause-node : goal.returns-in-Chosen-clause-node
 unfolding config_learnt
 returns-in-Chosen-clause-node g c =
     let a = c.args.attempt in
-    let x = c.args.self.now in
-    ap (learning c.learn.new.map c.go_on.new.vote) c.self.view_is
-    ∙ ap (λ m. learning m c.go_on.new.vote x) (c.learn.ensures ∙ ap (λ n. learnt n.map c.in-Chosen.config) c.self.view_is)
-    ∙ ap (λ v. learning (learnt x.map c.in-Chosen.config) v x) (c.go_on.ensures.vote ∙ ap (λ n. vote_advanced a n.vote) c.self.view_is)
+    let x = c.args.self.now.state in
+    ap (learning c.learn.new.map c.go_on.new.vote) (ap (λ v. v.state) c.self.view_is)
+    ∙ ap (λ m. learning m c.go_on.new.vote x) (c.learn.ensures ∙ ap (λ v. learnt v.state.map c.in-Chosen.config) c.self.view_is)
+    ∙ ap (λ v. learning (learnt x.map c.in-Chosen.config) v x) (c.go_on.ensures.vote ∙ ap (λ v. vote_advanced a v.state.vote) c.self.view_is)
     ∙ sym (ap (λ b. (bid_made x a b).node) (sym c.go_on.ensures.bid ∙ c.in-Chosen.is))

@@ -11,19 +11,19 @@ abbrev bidding : {Q : Type 0} → AttemptState Q → VoteState Q → NodeState Q
 bidding a v x = record x { attempt = Some a; vote = v }
 
 pub rebid-requires : goal.rebid-requires
-rebid-requires g c = ap (λ n. is_spent n.vote) c.self.view_is ∙ c.requires.next
+rebid-requires g c = ap (λ v. is_spent v.state.vote) c.self.view_is ∙ c.requires.next
 
 pub invariant_of-self : goal.invariant_of-self
 invariant_of-self g c =
     let m = c.self.inside.map in
     subst (λ a. AttemptFits m (Some a)) (sym c.rebid.ensures.attempt)
-    (fits_rebid m c.args.attempt _ (subst (AttemptFits m) (ap (λ n. n.attempt) c.self.view_is ∙ c.requires.held) c.self.invariant))
+    (fits_rebid m c.args.attempt _ (subst (AttemptFits m) (ap (λ v. v.state.attempt) c.self.view_is ∙ c.requires.held) c.self.invariant))
 
 pub returns : goal.returns
 unfolding attempt_rebid
 returns g c =
     let a = c.args.attempt in
-    let x = c.args.self.now in
-    ap (bidding c.rebid.result c.rebid.new.vote) c.self.view_is
-    ∙ ap (λ b. bidding b c.rebid.new.vote x) (c.rebid.ensures.attempt ∙ ap (λ n. rebid a n.vote) c.self.view_is)
-    ∙ ap (λ v. bidding (rebid a x.vote) v x) (c.rebid.ensures.vote ∙ ap (λ n. vote_opened n.vote a.ballot.name) c.self.view_is)
+    let x = c.args.self.now.state in
+    ap (bidding c.rebid.result c.rebid.new.vote) (ap (λ v. v.state) c.self.view_is)
+    ∙ ap (λ b. bidding b c.rebid.new.vote x) (c.rebid.ensures.attempt ∙ ap (λ v. rebid a v.state.vote) c.self.view_is)
+    ∙ ap (λ v. bidding (rebid a x.vote) v x) (c.rebid.ensures.vote ∙ ap (λ v. vote_opened v.state.vote a.ballot.name) c.self.view_is)

@@ -7,4 +7,4 @@ pub len-requires : goal.len-requires
 len-requires g c = back_fits _ _ _ (next _ _ _ _ (up_fits _ _ _ c.requires-raw.1.1))
 
 pub returns : goal.returns
-returns g c = c.len.ensures ∙ sym (length-map _ _) ∙ ap (λ n. length n.calls) c.self.view_is
+returns g c = c.len.ensures ∙ sym (length-map _ _) ∙ ap (λ v. length v.state.calls) c.self.view_is

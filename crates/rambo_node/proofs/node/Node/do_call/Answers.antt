@@ -4,7 +4,7 @@ use Rattle.rambo_node.proofs.Judged.{call_next}
 use Rattle.rambo_node.proofs.node.Node.do_call.Goals as goal
 
 pub next_id-id-requires : goal.next_id-id-requires
-next_id-id-requires g c = (c.requires-raw.1.1.0, (call_next c.args.self.now c.args.op c.requires).1)
+next_id-id-requires g c = (c.requires-raw.1.1.0, (call_next c.args.self.now.state c.args.op c.requires).1)
 
 pub returns-clause-node : goal.returns-clause-node
 returns-clause-node g c = grind (arith, common_steps)
@@ -14,15 +14,3 @@ returns-clause-refused g c = assumption
 
 pub returns-clause-err : goal.returns-clause-err
 returns-clause-err g c = assumption
-
-pub returns-in_err-begin-clause-node : goal.returns-in_err-begin-clause-node
-returns-in_err-begin-clause-node g c = grind arith
-
-pub returns-in_err-begin-clause-deed : goal.returns-in_err-begin-clause-deed
-returns-in_err-begin-clause-deed g c = grind arith
-
-pub returns-in_err-begin-clause-refused : goal.returns-in_err-begin-clause-refused
-returns-in_err-begin-clause-refused g c = grind arith
-
-pub returns-in_err-begin-clause-err : goal.returns-in_err-begin-clause-err
-returns-in_err-begin-clause-err g c = grind arith

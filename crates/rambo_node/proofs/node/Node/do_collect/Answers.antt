@@ -12,13 +12,13 @@ numbered g x = record x { number = x.number + 1; collection = Some g }
 
 pub overflow_add-self : goal.overflow_add-self
 overflow_add-self g c =
-    next_small c.self.inside.number c.self.ranges.1.1.1.0.1 (ap (λ n. is_last n.number) c.self.view_is ∙ (collect_next c.args.self.now c.requires).1)
+    next_small c.self.inside.number c.self.ranges.1.1.1.0.1 (ap (λ v. is_last v.state.number) c.self.view_is ∙ (collect_next c.args.self.now.state c.requires).1)
 
 pub collection_of-requires : goal.collection_of-requires
-collection_of-requires g c = (back_fits _ _ _ (up_fits _ _ _ c.requires-raw.1.1.0), ap (λ n. nat_le (length n.map.configs) 1) c.self.view_is ∙ (collect_next c.args.self.now c.requires).0)
+collection_of-requires g c = (back_fits _ _ _ (up_fits _ _ _ c.requires-raw.1.1.0), ap (λ v. nat_le (length v.state.map.configs) 1) c.self.view_is ∙ (collect_next c.args.self.now.state c.requires).0)
 
 pub returns : goal.returns
 unfolding collection_opened
 returns g c =
-    ap (numbered c.collection_of.result) c.self.view_is
-    ∙ ap (λ o. numbered o c.args.self.now) (c.collection_of.ensures ∙ ap (λ n. opened n.map (n.number + 1) n.name) c.self.view_is)
+    ap (numbered c.collection_of.result) (ap (λ v. v.state) c.self.view_is)
+    ∙ ap (λ o. numbered o c.args.self.now.state) (c.collection_of.ensures ∙ ap (λ v. opened v.state.map (v.state.number + 1) v.state.name) c.self.view_is)

@@ -11,19 +11,19 @@ use Rattle.rambo_node.proofs.node.Node.do_recon.Goals as goal
 
 pub overflow_add-place : goal.overflow_add-place
 overflow_add-place g c =
-    let x = c.args.self.now in
+    let x = c.args.self.now.state in
     let own : c.top_of-place.result ≡ top_of c.self.inside.map = omega (arith, top_below c.self.inside.map, c.top_of-place.ensures.next) in
-    let top = own ∙ ap (λ n. top_of n.map) c.self.view_is in
+    let top = own ∙ ap (λ v. top_of v.state.map) c.self.view_is in
     has_next c.top_of-place.result (assumption) (ap is_last top ∙ (recon_next x g.Q.Quorums.system c.args.wish c.requires).2)
 
 pub attempt_of-requires : goal.attempt_of-requires
-attempt_of-requires g c = ap (λ n. is_spent n.vote) c.self.view_is ∙ (recon_next c.args.self.now g.Q.Quorums.system c.args.wish c.requires).1
+attempt_of-requires g c = ap (λ v. is_spent v.state.vote) c.self.view_is ∙ (recon_next c.args.self.now.state g.Q.Quorums.system c.args.wish c.requires).1
 
 pub invariant_of-self : goal.invariant_of-self
 invariant_of-self g c =
     let m = c.self.inside.map in
     subst (λ a. AttemptFits m (Some a)) (sym c.attempt_of.ensures.attempt)
-    (fits_opened m _ _ _ _ (sym c.top_of-place.ensures.next) (ap (λ n. nat_le 8 (length n.map.configs)) c.self.view_is ∙ (recon_next c.args.self.now g.Q.Quorums.system c.args.wish c.requires).0))
+    (fits_opened m _ _ _ _ (sym c.top_of-place.ensures.next) (ap (λ v. nat_le 8 (length v.state.map.configs)) c.self.view_is ∙ (recon_next c.args.self.now.state g.Q.Quorums.system c.args.wish c.requires).0))
 
 pub top_of-place-requires : goal.top_of-place-requires
 top_of-place-requires g c = back_fits _ _ _ (up_fits _ _ _ c.requires-raw.1.1.0)

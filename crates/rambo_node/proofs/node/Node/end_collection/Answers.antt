@@ -13,7 +13,7 @@ with_map m x = record x { map = m; collection = None }
 
 pub remove-requires : goal.remove-requires
 remove-requires g c =
-    let met = ap (λ n. move_of g.Q.Quorums.system n.map c.args.collection.now) c.self.view_is ∙ c.requires in
+    let met = ap (λ v. move_of g.Q.Quorums.system v.state.map c.args.collection.now) c.self.view_is ∙ c.requires in
     let p = c.place-place.result in
     let there : nat_lt p c.self.inside.map.floor ≡ false → nat_le (length c.self.inside.map.configs) 1 ≡ false = λ kept.
     has_next_place g.Q.Quorums.system c.self.inside.map c.args.collection.now met (sym (ap (λ q. nat_lt q c.self.inside.map.floor) c.place-place.ensures) ∙ kept) in
@@ -23,7 +23,7 @@ pub invariant_of-self : goal.invariant_of-self
 invariant_of-self g c =
     let m = c.self.inside.map in
     let p = c.place-place.result in
-    let met = ap (λ n. move_of g.Q.Quorums.system n.map c.args.collection.now) c.self.view_is ∙ c.requires in
+    let met = ap (λ v. move_of g.Q.Quorums.system v.state.map c.args.collection.now) c.self.view_is ∙ c.requires in
     let there : nat_lt p m.floor ≡ false → nat_le (length m.configs) 1 ≡ false = λ kept.
     has_next_place g.Q.Quorums.system m c.args.collection.now met (sym (ap (λ q. nat_lt q m.floor) c.place-place.ensures) ∙ kept) in
     subst (λ n. AttemptFits n c.self.inside.attempt) (sym c.remove.ensures) (fits_removed m c.self.inside.attempt (nat_lt p m.floor) c.self.invariant there)
@@ -32,5 +32,5 @@ pub returns-clause-node : goal.returns-clause-node
 unfolding collection_ended
 returns-clause-node g c =
     let ended = c.remove.ensures ∙ ap (λ p. if nat_lt p c.self.inside.map.floor then c.self.inside.map else without_lowest c.self.inside.map) c.place-place.ensures
-    ∙ ap (λ n. if nat_lt c.args.collection.now.place n.map.floor then n.map else without_lowest n.map) c.self.view_is in
-    ap (with_map c.remove.new.map) c.self.view_is ∙ ap (λ m. with_map m c.args.self.now) ended
+    ∙ ap (λ v. if nat_lt c.args.collection.now.place v.state.map.floor then v.state.map else without_lowest v.state.map) c.self.view_is in
+    ap (with_map c.remove.new.map) (ap (λ v. v.state) c.self.view_is) ∙ ap (λ m. with_map m c.args.self.now.state) ended

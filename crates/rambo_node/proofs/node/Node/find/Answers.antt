@@ -11,10 +11,10 @@ find-requires g c =
 
 pub returns-then-ne : goal.returns-then-ne
 returns-then-ne g c =
-    let other = sym (ap (λ x. not (nat_eq c.args.id.now.name x.name)) c.self.view_is) ∙ sym c.ne.ensures ∙ c.if-ne.true in
-    sym (other_call c.args.self.now c.args.id.now other)
+    let other = sym (ap (λ v. not (nat_eq c.args.id.now.name v.state.name)) c.self.view_is) ∙ sym c.ne.ensures ∙ c.if-ne.true in
+    sym (other_call c.args.self.now.state c.args.id.now other)
 
 pub returns : goal.returns
 returns g c =
-    let own = sym (ap (λ x. not (nat_eq c.args.id.now.name x.name)) c.self.view_is) ∙ sym c.ne.ensures ∙ c.if-ne.false in
-    c.find.ensures ∙ ap (λ x. find_call c.args.id.now.number x.calls) c.self.view_is ∙ sym (own_call c.args.self.now c.args.id.now own)
+    let own = sym (ap (λ v. not (nat_eq c.args.id.now.name v.state.name)) c.self.view_is) ∙ sym c.ne.ensures ∙ c.if-ne.false in
+    c.find.ensures ∙ ap (λ v. find_call c.args.id.now.number v.state.calls) c.self.view_is ∙ sym (own_call c.args.self.now.state c.args.id.now own)

@@ -12,13 +12,11 @@ use Rattle.rambo_node.proofs.node.Node.hear_outlined.Goals as goal
 pub returns-in-Some-clause-node : goal.returns-in-Some-clause-node
 unfolding made_by
 returns-in-Some-clause-node g c =
-    let x = c.args.self.now in
+    let x = c.args.self.now.state in
     let copies = c.args.copies.now in
     let j = c.outline.inside.sender in
-    let kind_is = sym (ap (λ l. l.kind) c.outline.view_is) ∙ ap outlined c.in-Some.is in
-    let gap = sym (ap (λ k. restarts x k && is_last x.number) kind_is) ∙ hear_next x c.args.outline.now.kind c.requires in
     on_ok_weaker c.merge.result
-    (λ e. e gap ∙ sym (ap (λ o. heard_kind x j (kind_with (outlined o) copies)) c.in-Some.is) ∙ ap (λ l. heard_letter x (letter_with l copies)) c.outline.view_is)
+    (λ e. e ∙ sym (ap (λ o. heard_kind x j (kind_with (outlined o) copies)) c.in-Some.is) ∙ ap (λ l. heard_letter x (letter_with l copies)) c.outline.view_is)
     c.merge.ensures.ok
 
 pub returns-in-None-clause-refused : goal.returns-in-None-clause-refused
@@ -43,4 +41,7 @@ pub meet-requires : goal.meet-requires
 meet-requires g c = assumption
 
 pub merge-requires : goal.merge-requires
-merge-requires g c = assumption
+merge-requires g c =
+    let x = c.args.self.now.state in
+    let kind_is = sym (ap (λ l. l.kind) c.outline.view_is) ∙ ap outlined c.in-Some.is in
+    (c.requires-raw.1.1.0, sym (ap (λ k. restarts x k && is_last x.number) kind_is) ∙ hear_next x c.args.outline.now.kind c.requires)

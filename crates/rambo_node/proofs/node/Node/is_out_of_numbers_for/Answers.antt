@@ -11,13 +11,13 @@ any_gap-requires g c = (back_fits _ _ _ (next _ _ _ _ (up_fits _ _ _ c.requires-
 
 pub returns-then-is_last : goal.returns-then-is_last
 returns-then-is_last g c =
-    let x = c.args.self.now in
+    let x = c.args.self.now.state in
     let gossip = c.in-Some.gossip in
-    let last : is_last x.number ≡ true = sym (ap (λ n. is_last n.number) c.self.view_is) ∙ sym c.is_last.ensures ∙ c.if-is_last.true in
-    gap_at_last _ _ _ last (c.any_gap.ensures ∙ ap (λ n. any_gap gossip.heard gossip.map.now n.calls) c.self.view_is ∙ ap (λ o. restarts x (outlined o)) (sym c.in-Some.is))
+    let last : is_last x.number ≡ true = sym (ap (λ v. is_last v.state.number) c.self.view_is) ∙ sym c.is_last.ensures ∙ c.if-is_last.true in
+    gap_at_last _ _ _ last (c.any_gap.ensures ∙ ap (λ v. any_gap gossip.heard gossip.map.now v.state.calls) c.self.view_is ∙ ap (λ o. restarts x (outlined o)) (sym c.in-Some.is))
 
 pub returns-else-is_last : goal.returns-else-is_last
 returns-else-is_last g c =
-    let x = c.args.self.now in
-    let last : c.is_last.result ≡ is_last x.number = c.is_last.ensures ∙ ap (λ n. is_last n.number) c.self.view_is in
+    let x = c.args.self.now.state in
+    let last : c.is_last.result ≡ is_last x.number = c.is_last.ensures ∙ ap (λ v. is_last v.state.number) c.self.view_is in
     no_last _ _ _ (sym last ∙ c.if-is_last.false) last

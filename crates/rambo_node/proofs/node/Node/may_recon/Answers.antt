@@ -8,17 +8,17 @@ use Rattle.rambo_node.proofs.node.Node.may_recon.Goals as goal
 
 pub returns-clause-ok : goal.returns-clause-ok
 returns-clause-ok g c =
-    let x = c.args.self.now in
-    let late = sym (c.is_early.ensures ∙ ap (λ n. is_early n.status) c.self.view_is) ∙ c.if-is_early.false in
-    let runs = sym (c.is_stopped.ensures ∙ ap (λ n. is_stopped n.status) c.self.view_is) ∙ c.if-is_stopped.false in
+    let x = c.args.self.now.state in
+    let late = sym (c.is_early.ensures ∙ ap (λ v. is_early v.state.status) c.self.view_is) ∙ c.if-is_early.false in
+    let runs = sym (c.is_stopped.ensures ∙ ap (λ v. is_stopped v.state.status) c.self.view_is) ∙ c.if-is_stopped.false in
     on_ok_weaker c.may_wish.result
     (λ e. least_behind _ _ NotActive Stopped (wish_causes g.Q.Quorums.system x.name x.known x.map x.vote x.attempt c.args.wish.now) late runs ∙ e) c.may_wish.ensures.ok
 
 pub returns-clause-refused : goal.returns-clause-refused
 returns-clause-refused g c =
-    let x = c.args.self.now in
-    let late = sym (c.is_early.ensures ∙ ap (λ n. is_early n.status) c.self.view_is) ∙ c.if-is_early.false in
-    let runs = sym (c.is_stopped.ensures ∙ ap (λ n. is_stopped n.status) c.self.view_is) ∙ c.if-is_stopped.false in
+    let x = c.args.self.now.state in
+    let late = sym (c.is_early.ensures ∙ ap (λ v. is_early v.state.status) c.self.view_is) ∙ c.if-is_early.false in
+    let runs = sym (c.is_stopped.ensures ∙ ap (λ v. is_stopped v.state.status) c.self.view_is) ∙ c.if-is_stopped.false in
     IfErr-weaker c.may_wish.result _ _
     (λ r e. least_behind _ _ NotActive Stopped (wish_causes g.Q.Quorums.system x.name x.known x.map x.vote x.attempt c.args.wish.now) late runs ∙ e) c.may_wish.ensures.refused
 

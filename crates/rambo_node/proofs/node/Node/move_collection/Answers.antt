@@ -6,7 +6,7 @@ use Rattle.rambo_gc.specs.Collections.{move_of}
 use Rattle.rambo_node.proofs.node.Node.move_collection.Goals as goal
 
 pub overflow_add-self : goal.overflow_add-self
-overflow_add-self g c = next_small c.self.inside.number c.self.ranges.1.1.1.0.1 (ap (λ n. is_last n.number) c.self.view_is ∙ c.requires.next)
+overflow_add-self g c = next_small c.self.inside.number c.self.ranges.1.1.1.0.1 (ap (λ v. is_last v.state.number) c.self.view_is ∙ c.requires.next)
 
 pub moved-requires : goal.moved-requires
-moved-requires g c = (back_fits _ _ _ (up_fits _ _ _ c.requires-raw.1.1.0), ap (λ x. move_of g.Q.Quorums.system x.map c.args.collection) c.self.view_is ∙ c.requires.met)
+moved-requires g c = (back_fits _ _ _ (up_fits _ _ _ c.requires-raw.1.1.0), ap (λ v. move_of g.Q.Quorums.system v.state.map c.args.collection) c.self.view_is ∙ c.requires.met)

@@ -8,9 +8,9 @@ pub place_of-requires : goal.place_of-requires
 place_of-requires g c = back_fits _ _ _ (next _ _ _ _ (up_fits _ _ _ c.requires-raw.1.1.0))
 
 pub returns-clause-place : goal.returns-clause-place
-returns-clause-place g c = c.place_of.ensures ∙ ap (λ x. place_of c.args.id.now.number x.calls) c.self.view_is
+returns-clause-place g c = c.place_of.ensures ∙ ap (λ v. place_of c.args.id.now.number v.state.calls) c.self.view_is
 
 pub returns-clause-found : goal.returns-clause-found
 returns-clause-found g c =
-    ap (slice_get c.args.self.now.calls) (c.place_of.ensures ∙ ap (λ x. place_of c.args.id.now.number x.calls) c.self.view_is)
-    ∙ sym (found_here c.args.self.now c.args.id.now c.requires)
+    ap (slice_get c.args.self.now.state.calls) (c.place_of.ensures ∙ ap (λ v. place_of c.args.id.now.number v.state.calls) c.self.view_is)
+    ∙ sym (found_here c.args.self.now.state c.args.id.now c.requires)

@@ -5,7 +5,7 @@ use Rattle.rambo_names.proofs.Sizes.{up_fits, back_fits, next}
 use Rattle.rambo_node.proofs.node.Node.propagate.Goals as goal
 
 pub overflow_add-self : goal.overflow_add-self
-overflow_add-self g c = next_small c.self.inside.number c.self.ranges.1.1.1.0.1 (ap (λ n. is_last n.number) c.self.view_is ∙ c.requires)
+overflow_add-self g c = next_small c.self.inside.number c.self.ranges.1.1.1.0.1 (ap (λ v. is_last v.state.number) c.self.view_is ∙ c.requires)
 
 pub propagate-requires : goal.propagate-requires
 propagate-requires g c = (back_fits _ _ _ (next _ _ _ _ (up_fits _ _ _ c.requires-raw.1.1.0)), back_fits _ _ _ (up_fits _ _ _ c.requires-raw.1.1.0))

@@ -12,4 +12,4 @@ pub query_of-requires : goal.query_of-requires
 query_of-requires g c = variant_fits _ _ _ _ (back_fits _ _ _ (up_fits _ _ _ (back_fits _ _ _ (next _ _ _ _ (up_fits _ _ _ c.requires-raw.1.1)))))
 
 pub returns : goal.returns
-returns g c = c.query_of.ensures ∙ ap query_in (c.get.ensures ∙ ap (λ x. slice_get x.calls c.args.place) c.self.view_is)
+returns g c = c.query_of.ensures ∙ ap query_in (c.get.ensures ∙ ap (λ v. slice_get v.state.calls c.args.place) c.self.view_is)

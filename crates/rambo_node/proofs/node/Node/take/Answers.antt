@@ -1,23 +1,22 @@
-use Rattle.std.proofs.Common.{sym, subst}
-use Rattle.std.proofs.lemmas.Result.{on_ok_weaker, IfErr-weaker}
-use Rattle.rambo_names.specs.Refusals.{IsRefusal}
-use Rattle.rambo_node.proofs.Memory.{IfErr-from_ok}
+use Rattle.std.proofs.Common.{ap, ◌∙◌}
+use Rattle.rambo_node.specs.Changes.{made_by}
+use Rattle.rambo_node.specs.Prepared.{change_of}
+use Rattle.rambo_node.proofs.Sizes.{prepared_fits}
 use Rattle.rambo_node.proofs.node.Node.take.Goals as goal
 
-pub judge-requires : goal.judge-requires
-judge-requires g c = (c.requires-raw.1.1.0, c.requires-raw.1.1.1)
+pub returns-in-Ok-clause-node : goal.returns-in-Ok-clause-node
+returns-in-Ok-clause-node g c =
+    let p = c.in-Ok.prepared in
+    c.carry_out.ensures.node ∙ ap (λ x. (made_by x (change_of p)).node) c.ready.ensures.same ∙ ap (λ m. m.node) c.in-Ok.ensures.change
 
-pub act-requires : goal.act-requires
-act-requires g c = (c.requires-raw.1.1.0, (c.requires-raw.1.1.1, c.in-Ok.ensures.ok))
+pub returns-in-Ok-clause-deed : goal.returns-in-Ok-clause-deed
+returns-in-Ok-clause-deed g c =
+    let p = c.in-Ok.prepared in
+    let effect = ap (λ x. (made_by x (change_of p)).deed.effect) c.ready.ensures.same ∙ ap (λ m. m.deed.effect) c.in-Ok.ensures.change in
+    c.carry_out.ensures.deed ∙ λ i. record { effect = effect i; event = c.in-Ok.ensures.event i; mark = c.in-Ok.ensures.mark i; copy = c.in-Ok.ensures.copy i }
 
-pub drop-requires : goal.drop-requires
-drop-requires g c = tt
+pub ready-requires : goal.ready-requires
+ready-requires g c = (c.requires-raw.1.1.0, (c.requires-raw.1.1.1, prepared_fits 0 g.row.Q g.Q.Quorums g.Q.PartialEq g.met.Q.Quorums.small))
 
-pub returns-in-Ok-clause-judged : goal.returns-in-Ok-clause-judged
-returns-in-Ok-clause-judged g c = on_ok_weaker c.act.result (λ _. c.in-Ok.ensures.ok) c.act.ensures.node
-
-pub returns-in-Ok-clause-refused : goal.returns-in-Ok-clause-refused
-returns-in-Ok-clause-refused g c = IfErr-weaker c.act.result _ _ (λ r e. subst (λ o. IsRefusal o r) (sym c.in-Ok.ensures.ok) e) c.act.ensures.refused
-
-pub returns-in-Ok-clause-no_memory : goal.returns-in-Ok-clause-no_memory
-returns-in-Ok-clause-no_memory g c = λ none. IfErr-from_ok c.act.result _ (c.act.ensures.no_memory none)
+pub carry_out-requires : goal.carry_out-requires
+carry_out-requires g c = (c.requires-raw.1.1.0, (prepared_fits 0 g.row.Q g.Q.Quorums g.Q.PartialEq g.met.Q.Quorums.small, c.in-Ok.ensures.prepared))

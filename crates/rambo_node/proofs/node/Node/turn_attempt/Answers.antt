@@ -7,10 +7,10 @@ use Rattle.rambo_node.proofs.node.Node.turn_attempt.Goals as goal
 
 pub bid-requires : goal.bid-requires
 bid-requires g c =
-    let x = c.args.self.now in
+    let x = c.args.self.now.state in
     let a = c.args.attempt in
     let unknown : nat_lt a.place (end_of x.map) ≡ false =
-    sym (c.is_known.ensures ∙ ap (λ p. nat_lt p (end_of c.self.inside.map)) c.place.ensures ∙ ap (λ n. nat_lt a.place (end_of n.map)) c.self.view_is) ∙ c.if-is_known.false in
+    sym (c.is_known.ensures ∙ ap (λ p. nat_lt p (end_of c.self.inside.map)) c.place.ensures ∙ ap (λ v. nat_lt a.place (end_of v.state.map)) c.self.view_is) ∙ c.if-is_known.false in
     (assumption, (c.requires.held, (ltb-false a.place (end_of x.map) unknown, bid_met x g.Q.Quorums.system a c.requires.judged c.requires.held unknown)))
 
 pub end_attempt-requires : goal.end_attempt-requires

@@ -9,47 +9,47 @@ use Rattle.rambo_node.proofs.node.Node.turn_collection.Goals as goal
 pub move_collection-requires : goal.move_collection-requires
 move_collection-requires g c =
     let s = g.Q.Quorums.system in
-    let met = sym (c.would_advance.ensures ∙ ap (λ n. move_of s n.map c.args.collection) c.self.view_is) ∙ c.in-Some-Propagating.is ∙ ap Some c.in-Some-Propagating.field-0-is in
-    (assumption, (met, turn_next c.args.self.now s c.args.collection c.requires.judged c.requires.held met))
+    let met = sym (c.would_advance.ensures ∙ ap (λ v. move_of s v.state.map c.args.collection) c.self.view_is) ∙ c.in-Some-Propagating.is ∙ ap Some c.in-Some-Propagating.field-0-is in
+    (assumption, (met, turn_next c.args.self.now.state s c.args.collection c.requires.judged c.requires.held met))
 
 pub end_collection-requires : goal.end_collection-requires
 end_collection-requires g c =
     let s = g.Q.Quorums.system in
-    let met = sym (c.would_advance.ensures ∙ ap (λ n. move_of s n.map c.args.collection) c.self.view_is) ∙ c.in-Some-Done.is ∙ ap Some c.in-Some-Done.field-0-is in
+    let met = sym (c.would_advance.ensures ∙ ap (λ v. move_of s v.state.map c.args.collection) c.self.view_is) ∙ c.in-Some-Done.is ∙ ap Some c.in-Some-Done.field-0-is in
     (assumption, met)
 
 pub unreachable-requires : goal.unreachable-requires
 unreachable-requires g c =
     let s = g.Q.Quorums.system in
-    absurd (turn_there c.args.self.now s c.args.collection c.requires.judged c.requires.held
-    (sym (c.would_advance.ensures ∙ ap (λ n. move_of s n.map c.args.collection) c.self.view_is) ∙ c.in-None.is))
+    absurd (turn_there c.args.self.now.state s c.args.collection c.requires.judged c.requires.held
+    (sym (c.would_advance.ensures ∙ ap (λ v. move_of s v.state.map c.args.collection) c.self.view_is) ∙ c.in-None.is))
 
 pub returns-in-Some-Propagating-clause-node : goal.returns-in-Some-Propagating-clause-node
 returns-in-Some-Propagating-clause-node g c =
-    let x = c.args.self.now in
+    let x = c.args.self.now.state in
     let s = g.Q.Quorums.system in
-    let met = sym (c.would_advance.ensures ∙ ap (λ n. move_of s n.map c.args.collection) c.self.view_is) ∙ c.in-Some-Propagating.is ∙ ap Some c.in-Some-Propagating.field-0-is in
+    let met = sym (c.would_advance.ensures ∙ ap (λ v. move_of s v.state.map c.args.collection) c.self.view_is) ∙ c.in-Some-Propagating.is ∙ ap Some c.in-Some-Propagating.field-0-is in
     c.move_collection.ensures.node ∙ sym (ap (λ v. (collection_turned x c.args.collection v).node) (same_move s x.map c.args.collection Propagating met))
 
 pub returns-in-Some-Propagating-clause-deed : goal.returns-in-Some-Propagating-clause-deed
 returns-in-Some-Propagating-clause-deed g c =
-    let x = c.args.self.now in
+    let x = c.args.self.now.state in
     let s = g.Q.Quorums.system in
-    let met = sym (c.would_advance.ensures ∙ ap (λ n. move_of s n.map c.args.collection) c.self.view_is) ∙ c.in-Some-Propagating.is ∙ ap Some c.in-Some-Propagating.field-0-is in
+    let met = sym (c.would_advance.ensures ∙ ap (λ v. move_of s v.state.map c.args.collection) c.self.view_is) ∙ c.in-Some-Propagating.is ∙ ap Some c.in-Some-Propagating.field-0-is in
     c.move_collection.ensures.deed ∙ sym (ap (λ v. (collection_turned x c.args.collection v).deed) (same_move s x.map c.args.collection Propagating met))
 
 pub returns-in-Some-Done-clause-node : goal.returns-in-Some-Done-clause-node
 returns-in-Some-Done-clause-node g c =
-    let x = c.args.self.now in
+    let x = c.args.self.now.state in
     let s = g.Q.Quorums.system in
-    let met = sym (c.would_advance.ensures ∙ ap (λ n. move_of s n.map c.args.collection) c.self.view_is) ∙ c.in-Some-Done.is ∙ ap Some c.in-Some-Done.field-0-is in
+    let met = sym (c.would_advance.ensures ∙ ap (λ v. move_of s v.state.map c.args.collection) c.self.view_is) ∙ c.in-Some-Done.is ∙ ap Some c.in-Some-Done.field-0-is in
     c.end_collection.ensures.node ∙ sym (ap (λ v. (collection_turned x c.args.collection v).node) (same_move s x.map c.args.collection Done met))
 
 pub returns-in-Some-Done-clause-deed : goal.returns-in-Some-Done-clause-deed
 returns-in-Some-Done-clause-deed g c =
-    let x = c.args.self.now in
+    let x = c.args.self.now.state in
     let s = g.Q.Quorums.system in
-    let met = sym (c.would_advance.ensures ∙ ap (λ n. move_of s n.map c.args.collection) c.self.view_is) ∙ c.in-Some-Done.is ∙ ap Some c.in-Some-Done.field-0-is in
+    let met = sym (c.would_advance.ensures ∙ ap (λ v. move_of s v.state.map c.args.collection) c.self.view_is) ∙ c.in-Some-Done.is ∙ ap Some c.in-Some-Done.field-0-is in
     c.end_collection.ensures.deed ∙ sym (ap (λ v. (collection_turned x c.args.collection v).deed) (same_move s x.map c.args.collection Done met))
 
 pub would_advance-requires : goal.would_advance-requires

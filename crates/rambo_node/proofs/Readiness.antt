@@ -1,0 +1,239 @@
+-- What is ready tells what the change will do
+use Rattle.std.proofs.Common.{◌≡◌, ℕ, ◌+◌, ◌<◌, Bool, true, false, nat_lt, Option, None, Some, slice_get, refl, sym, ap, ◌∙◌, subst}
+use Rattle.std.specs.Prelude.{if◌then◌else◌}
+use Rattle.std.specs.FinMap as map
+use Rattle.std.specs.List.{remove}
+use Rattle.rambo_names.specs.Quorums.{QuorumSystem}
+use Rattle.rambo_names.specs.Refusals.{least}
+use Rattle.rambo_tag.specs.Copies.{Copies, joined}
+use Rattle.rambo_history.specs.declared.event.CallId.{CallId}
+use Rattle.rambo_history.specs.declared.event.Event.TheVariants as event
+use Rattle.rambo_history.specs.declared.operation.Op.{Op}
+use Rattle.rambo_history.specs.declared.operation.Op.TheVariants as op
+use Rattle.rambo_config_map.specs.Maps.{end_of, active_at}
+use Rattle.rambo_gc.specs.declared.gc_move.GcMove.{GcMove}
+use Rattle.rambo_gc.specs.declared.gc_move.GcMove.TheVariants as move
+use Rattle.rambo_gc.specs.Collections.{CollectionState}
+use Rattle.rambo_gossip.specs.declared.letter.Gossip.{Gossip}
+use Rattle.rambo_gossip.specs.declared.letter.Kind.{Kind}
+use Rattle.rambo_gossip.specs.declared.letter.Kind.TheVariants as kind
+use Rattle.rambo_gossip.specs.declared.letter.Letter.{Letter}
+use Rattle.rambo_gossip.specs.Letters.{gossip_with, kind_with, letter_with}
+use Rattle.rambo_gossip.specs.Short.{copies_in}
+use Rattle.rambo_paxos.specs.declared.bid.Bid.{Bid}
+use Rattle.rambo_paxos.specs.declared.bid.Bid.TheVariants as bid
+use Rattle.rambo_paxos.specs.Attempts.{AttemptState, bid_of}
+use Rattle.rambo_calls.specs.Calls.{CallState, place_of, find_call, query_in, is_missing}
+use Rattle.rambo_node.specs.declared.change.Change.TheVariants as change
+use Rattle.rambo_node.specs.declared.deed.Deed.{Deed}
+use Rattle.rambo_node.specs.declared.prepared.Turn.TheVariants as turn
+use Rattle.rambo_node.specs.declared.prepared.Quick.{Quick}
+use Rattle.rambo_node.specs.declared.prepared.Quick.TheVariants as quick
+use Rattle.rambo_node.specs.declared.prepared.HearTurn.{HearTurn}
+use Rattle.rambo_node.specs.declared.prepared.Taken.{Taken}
+use Rattle.rambo_node.specs.Changes.{refusal_of, made_by, told, quiet, bid_made, decided, collection_turned, collection_advanced, attempt_advanced, rebid_made, begun_again}
+use Rattle.rambo_node.specs.Hearing.{heard_letter, heard_gossip, heard_rest}
+use Rattle.rambo_node.specs.Kept.{answered_from, move_deed, propagation_begun}
+use Rattle.rambo_node.specs.Nodes.{NodeState, RoomyNode, open_call}
+use Rattle.rambo_node.specs.Operations.{taken, with_copy}
+use Rattle.rambo_node.specs.Prepared.{quick_change, put_by, with_put, HasRoomFor, query_done, IsFound, IsReadyGossip, IsReadyKind, Prepares}
+use Rattle.rambo_node.specs.Reconfigurations.{collection_move, attempt_ended}
+use Rattle.rambo_node.specs.Refusals.{hear_causes, is_last, query_spent, tags_spent}
+use Rattle.rambo_node.proofs.Advances.{query_moves, call_closes}
+use Rattle.rambo_node.proofs.Judged.{advance_next, asked_next}
+use Rattle.rambo_node.proofs.Short.{own_copies}
+use Rattle.rambo_node.proofs.Telling.{heard_alike, kind_twice}
+
+-- the copy that is put is that of the set, if there is one
+put_is : {Q : Type 0} (x : NodeState Q) (o : Op) → with_put x.registers (put_by x (Some o)) ≡ with_copy x.registers o (taken x o)
+put_is x (op.Get key) = refl
+put_is x (op.Set key value) = refl
+
+-- a met query, with what was found for it
+module _ {Q : Type 0} (x : NodeState Q) (id : CallId) (o : Op) (asked : query_in (open_call x id) ≡ Some o) where
+  pub query_ends : (place : ℕ) (t : Taken) → place ≡ place_of id.number x.calls → t.kept ≡ taken x o → t.put ≡ put_by x (Some o)
+      → query_done x place t.kept t.put ≡ (made_by x (change.Advance id)).node
+  unfolding made_by
+  query_ends place t own kept put =
+      (λ i. query_done x (own i) (kept i) (put i))
+      ∙ ap (λ r. propagation_begun (record x { registers = r }) (place_of id.number x.calls) (taken x o)) (put_is x o)
+      ∙ (query_moves x id o asked).0
+
+  pub query_tells : move_deed id o (taken x o) ≡ (made_by x (change.Advance id)).deed
+  unfolding made_by
+  query_tells = (query_moves x id o asked).1
+
+-- a met propagation
+module _ {Q : Type 0} (x : NodeState Q) (id : CallId) (there : is_missing (open_call x id) ≡ false) (round : query_in (open_call x id) ≡ None) where
+  pub answer_ends : (place : ℕ) → place ≡ place_of id.number x.calls → record x { calls = remove x.calls place } ≡ (made_by x (change.Advance id)).node
+  unfolding made_by
+  answer_ends place own = ap (λ p. record x { calls = remove x.calls p }) own ∙ (call_closes x id there round).0
+
+  pub answer_tells : answered_from id (find_call id.number x.calls) ≡ (made_by x (change.Advance id)).deed
+  unfolding made_by
+  answer_tells = (call_closes x id there round).1
+
+-- a call that may go on, where it was found
+module _ {Q : Type 0} (s : QuorumSystem Q) (x : NodeState Q) (id : CallId) (place : ℕ) (f : IsFound s x id place) where
+  pub found_there : is_missing (open_call x id) ≡ false
+  found_there = (advance_next x s id f.accepted).0
+
+  pub found_asked : (asked : Option Op) → asked ≡ query_in (slice_get x.calls place) → query_in (open_call x id) ≡ asked
+  found_asked asked e = sym (e ∙ ap query_in f.at)
+
+  -- a query that goes on has a next number, and a set a next tag
+  pub found_next : (o : Op) → query_in (open_call x id) ≡ Some o → (is_last x.number ≡ false) × (tags_spent x o ≡ false)
+  found_next o asked = asked_next x o (sym (ap (query_spent x) asked) ∙ (advance_next x s id f.accepted).1)
+
+-- gossip whose copies were merged first
+pub gossip_ends : {Q : Type 0} (x : NodeState Q) (j : ℕ) (g : Gossip Q) (copies : Copies)
+    → heard_rest (record x { registers = joined x.registers copies }) j g ≡ heard_gossip x j (gossip_with g copies)
+unfolding heard_gossip
+gossip_ends x j g copies = refl
+
+-- what is ready of gossip is ready of its outline
+pub outline_ready : {Q : Type 0} (v : RoomyNode Q) (g o : Gossip Q) (newer : Copies) (number : ℕ) → o ≡ gossip_with g map.empty → IsReadyGossip v g newer number → IsReadyGossip v o newer number
+outline_ready v g o newer number e h = subst (λ p. IsReadyGossip v p newer number) (sym e) (record { counted = h.counted; keys = h.keys; phases = h.phases })
+
+-- and of a copy of it
+pub same_ready : {Q : Type 0} (v : RoomyNode Q) (g o : Gossip Q) (newer : Copies) (number : ℕ) → o ≡ g → IsReadyGossip v g newer number → IsReadyGossip v o newer number
+same_ready v g o newer number e h = subst (λ p. IsReadyGossip v p newer number) (sym e) h
+
+-- a letter with those of its copies that are newer comes to the same
+module _ {Q : Type 0} (x : NodeState Q) (l : Letter Q) (newer : Copies) (same : joined x.registers newer ≡ joined x.registers (copies_in l.kind)) where
+  short_is : letter_with (letter_with l map.empty) newer ≡ letter_with l newer
+  short_is = λ i. record l { kind = kind_twice l.kind map.empty newer i }
+
+  pub short_ends : made_by x (change.Deliver (letter_with (letter_with l map.empty) newer)) ≡ made_by x (change.Deliver l)
+  unfolding made_by
+  short_ends =
+      ap (λ (n : Letter Q). quiet (heard_letter x n)) short_is
+      ∙ ap quiet ((heard_alike x l newer (copies_in l.kind) same).0 ∙ ap (heard_letter x) (own_copies l))
+
+  pub short_judged : (s : QuorumSystem Q) → refusal_of s x (change.Deliver (letter_with (letter_with l map.empty) newer)) ≡ refusal_of s x (change.Deliver l)
+  short_judged s =
+      ap (λ (n : Letter Q). least (hear_causes x n.kind)) short_is
+      ∙ ap least ((heard_alike x l newer (copies_in l.kind) same).1 ∙ ap (λ (n : Letter Q). hear_causes x n.kind) (own_copies l))
+
+-- other copies are refused alike
+pub copies_judged : {Q : Type 0} (s : QuorumSystem Q) (x : NodeState Q) (l : Letter Q) (copies : Copies) → refusal_of s x (change.Deliver (letter_with l copies)) ≡ refusal_of s x (change.Deliver l)
+copies_judged s x l copies = ap least (causes_alike x l.kind copies)
+  where
+    causes_alike : {Q : Type 0} (x : NodeState Q) (k : Kind Q) (copies : Copies) → hear_causes x (kind_with k copies) ≡ hear_causes x k
+    causes_alike x kind.Join copies = refl
+    causes_alike x (kind.Gossip g) copies = refl
+
+-- of what needs no memory an effect is told, and nothing else
+abbrev TellsNothing : {Q : Type 0} → Deed Q → Type 0
+TellsNothing {Q} d = (None ≡ d.event) × (None ≡ d.mark) × (None ≡ d.copy)
+
+of_again : {Q : Type 0} (x : NodeState Q) (o : Option (CallState Q)) → TellsNothing (begun_again x o).deed
+of_again x None = (refl, refl, refl)
+of_again x (Some c) = (refl, refl, refl)
+
+of_rebid : {Q : Type 0} (x : NodeState Q) (o : Option (AttemptState Q)) → TellsNothing (rebid_made x o).deed
+of_rebid x None = (refl, refl, refl)
+of_rebid x (Some a) = (refl, refl, refl)
+
+of_turn : {Q : Type 0} (x : NodeState Q) (g : CollectionState) (m : GcMove) → TellsNothing (collection_turned x g m).deed
+of_turn x g move.Propagating = (refl, refl, refl)
+of_turn x g move.Done = (refl, refl, refl)
+
+of_collection : {Q : Type 0} (x : NodeState Q) (o : Option CollectionState) → TellsNothing (collection_advanced x o).deed
+of_collection x None = (refl, refl, refl)
+of_collection x (Some g) = of_turn x g (collection_move x.map g)
+
+of_bid : {Q : Type 0} (x : NodeState Q) (a : AttemptState Q) (b : Bid Q) → TellsNothing (bid_made x a b).deed
+of_bid x a bid.Propose = (refl, refl, refl)
+of_bid x a (bid.Chosen c) = (refl, refl, refl)
+
+of_known : {Q : Type 0} (x : NodeState Q) (a : AttemptState Q) (b : Bool)
+    → TellsNothing (if b then record { node = attempt_ended x; deed = told (decided x a (active_at x.map a.place)); letter = None } else bid_made x a (bid_of a)).deed
+of_known x a true = (refl, refl, refl)
+of_known x a false = of_bid x a (bid_of a)
+
+of_attempt : {Q : Type 0} (x : NodeState Q) (o : Option (AttemptState Q)) → TellsNothing (attempt_advanced x o).deed
+of_attempt x None = (refl, refl, refl)
+of_attempt x (Some a) = of_known x a (nat_lt a.place (end_of x.map))
+
+of_quick : {Q : Type 0} (x : NodeState Q) (q : Quick Q) → TellsNothing (made_by x (quick_change q)).deed
+unfolding made_by
+of_quick x (quick.Join contacts) = (refl, refl, refl)
+of_quick x (quick.Send to) = (refl, refl, refl)
+of_quick x (quick.Again id) = of_again x (open_call x id)
+of_quick x quick.Collect = (refl, refl, refl)
+of_quick x quick.AdvanceCollect = of_collection x x.collection
+of_quick x (quick.Recon wish) = (refl, refl, refl)
+of_quick x quick.Rebid = of_rebid x x.attempt
+of_quick x quick.AdvanceRecon = of_attempt x x.attempt
+of_quick x quick.Stop = (refl, refl, refl)
+
+-- what is prepared for a change of each kind
+module _ {Q : Type 0} (s : QuorumSystem Q) (v : RoomyNode Q) where
+  pub call_prepares : (o asked named : Op) (id : CallId) → refusal_of s v.state (change.Call o) ≡ None → asked ≡ o → named ≡ o
+      → id ≡ record { name = v.state.name; number = v.state.made + 1 } → 0 < v.room.calls.room
+      → Prepares s v (change.Call o) (record { event = Some (event.Call id named); mark = None; copy = None; turn = turn.Call asked })
+  unfolding made_by
+  call_prepares o asked named id ok same told own room = record {
+    prepared = record { accepted = ap (λ p. refusal_of s v.state (change.Call p)) same ∙ ok; ready = room };
+    same = ap (λ p. made_by v.state (change.Call p)) same;
+    event = λ i. Some (event.Call (own i) (told i));
+    mark = refl;
+    copy = refl;
+  }
+
+  pub query_prepares : (id : CallId) (o : Op) (place : ℕ) (t : Taken) (d : Deed Q) → refusal_of s v.state (change.Advance id) ≡ None
+      → query_in (open_call v.state id) ≡ Some o → place ≡ place_of id.number v.state.calls → t.kept ≡ taken v.state o → t.put ≡ put_by v.state (Some o)
+      → HasRoomFor v.room (put_by v.state (Some o)) → d ≡ move_deed id o (taken v.state o)
+      → Prepares s v (change.Advance id) (record { event = d.event; mark = d.mark; copy = d.copy; turn = turn.Query (record { id = id; place = place; taken = t }) })
+  query_prepares id o place t d ok asked own kept put room does =
+      let told = does ∙ query_tells v.state id o asked in
+      record {
+        prepared = record {
+          accepted = ok;
+          ready = (o, record { asked = asked; place = own; kept = kept; put = put; room = subst (HasRoomFor v.room) (sym put) room });
+        };
+        same = refl;
+        event = ap (λ e. e.event) told;
+        mark = ap (λ e. e.mark) told;
+        copy = ap (λ e. e.copy) told;
+      }
+
+  pub answer_prepares : (id : CallId) (place : ℕ) (d : Deed Q) → refusal_of s v.state (change.Advance id) ≡ None
+      → is_missing (open_call v.state id) ≡ false → query_in (open_call v.state id) ≡ None → place ≡ place_of id.number v.state.calls
+      → d ≡ answered_from id (find_call id.number v.state.calls)
+      → Prepares s v (change.Advance id) (record { event = d.event; mark = d.mark; copy = d.copy; turn = turn.Answer (record { id = id; place = place; effect = d.effect }) })
+  answer_prepares id place d ok there asked own does =
+      let told = does ∙ answer_tells v.state id there asked in
+      record {
+        prepared = record { accepted = ok; ready = record { told = asked; place = own; effect = ap (λ e. e.effect) told } };
+        same = refl;
+        event = ap (λ e. e.event) told;
+        mark = ap (λ e. e.mark) told;
+        copy = ap (λ e. e.copy) told;
+      }
+
+  pub hear_prepares : (l : Letter Q) (t : HearTurn Q) → refusal_of s v.state (change.Deliver l) ≡ None → t.letter ≡ letter_with l map.empty
+      → joined v.state.registers t.newer ≡ joined v.state.registers (copies_in l.kind) → IsReadyKind v t.letter.kind t.newer t.number
+      → Prepares s v (change.Deliver l) (record { event = None; mark = None; copy = None; turn = turn.Hear t })
+  unfolding made_by
+  hear_prepares l t ok is same ready =
+      let alike = ap (λ (n : Letter Q). change.Deliver (letter_with n t.newer)) is in
+      record {
+        prepared = record { accepted = ap (refusal_of s v.state) alike ∙ short_judged v.state l t.newer same s ∙ ok; ready = ready };
+        same = ap (made_by v.state) alike ∙ short_ends v.state l t.newer same;
+        event = refl;
+        mark = refl;
+        copy = refl;
+      }
+
+  pub quick_prepares : (q : Quick Q) → refusal_of s v.state (quick_change q) ≡ None → Prepares s v (quick_change q) (record { event = None; mark = None; copy = None; turn = turn.Quick q })
+  quick_prepares q ok =
+      let nothing = of_quick v.state q in
+      record {
+        prepared = record { accepted = ok; ready = _ };
+        same = refl;
+        event = nothing.0;
+        mark = nothing.1;
+        copy = nothing.2;
+      }

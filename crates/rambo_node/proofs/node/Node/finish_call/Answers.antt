@@ -1,0 +1,20 @@
+use Rattle.std.proofs.Common.{◌<◌, sym, ap, ◌∙◌, subst}
+use Rattle.rambo_node.specs.Refusals.{is_last}
+use Rattle.rambo_node.proofs.Judged.{next_small}
+use Rattle.rambo_names.proofs.Sizes.{up_fits, back_fits, next}
+use Rattle.rambo_node.proofs.node.Node.finish_call.Goals as goal
+
+pub next_id-id-requires : goal.next_id-id-requires
+next_id-id-requires g c = (c.requires-raw.1.1.0, c.requires.made)
+
+pub overflow_add-self-inside : goal.overflow_add-self-inside
+overflow_add-self-inside g c = next_small c.self.inside.number c.self.ranges.1.1.1.0.1 (ap (λ v. is_last v.state.number) c.self.view_is ∙ c.requires.next)
+
+pub overflow_add-self : goal.overflow_add-self
+overflow_add-self g c = next_small c.self.inside.number c.self.ranges.1.1.1.0.1 (ap (λ v. is_last v.state.number) c.self.view_is ∙ c.requires.next)
+
+pub open_reserved-requires : goal.open_reserved-requires
+open_reserved-requires g c = (
+  back_fits _ _ _ (next _ _ _ _ (up_fits _ _ _ c.requires-raw.1.1.0)),
+  (back_fits _ _ _ (up_fits _ _ _ c.requires-raw.1.1.0), subst (λ v. 0 < v.room.calls.room) (sym c.self.view_is) c.requires.room),
+)

@@ -1,0 +1,28 @@
+use Rattle.std.proofs.Common.{sym, ap, ◌∙◌, subst}
+use Rattle.rambo_tag.specs.Copies.{joined, HasRoom}
+use Rattle.rambo_calls.specs.Hearing.{number_after}
+use Rattle.rambo_calls.specs.Kept.{IsRoomy}
+use Rattle.rambo_gossip.specs.Outlines.{gossip_outlined}
+use Rattle.rambo_node.specs.Hearing.{heard_rest}
+use Rattle.rambo_node.proofs.Readiness.{gossip_ends}
+use Rattle.rambo_node.proofs.node.Node.finish_gossip.Goals as goal
+
+pub merge_room-requires : goal.merge_room-requires
+merge_room-requires g c = subst (λ n. HasRoom n.room.keys n.state.registers c.args.newer) (sym c.self.view_is) c.requires.keys
+
+pub settle-requires : goal.settle-requires
+settle-requires g c =
+    let gossip = c.args.gossip.now in (
+      c.requires-raw.1.1.0,
+      (
+        subst (λ n. IsRoomy gossip.map.now n.room.calls.list) (sym c.self.view_is) c.requires.phases,
+        c.requires.counted ∙ sym (ap (λ n. number_after n.state.number gossip.heard gossip.map.now n.state.calls) c.self.view_is),
+      ),
+    )
+
+pub returns : goal.returns
+returns g c =
+    let o = gossip_outlined c.args.gossip.now in
+    let v = ap (λ n. n.state) c.self.view_is in
+    let copies = c.merge_room.ensures ∙ ap (λ x. joined x.registers c.args.newer) v in
+    c.settle.ensures ∙ (λ i. heard_rest (record (v i) { registers = copies i }) c.args.from o) ∙ gossip_ends c.args.self.now.state c.args.from o c.args.newer

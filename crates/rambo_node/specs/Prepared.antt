@@ -1,0 +1,125 @@
+-- A change that is ready: there is room for what it makes new, and what its second half needs of it is found
+use Rattle.std.specs.Prelude.{◌≡◌, ℕ, ◌<◌, Option, None, Some, slice_get}
+use Rattle.std.specs.FinMap as map
+use Rattle.rambo_names.specs.Quorums.{QuorumSystem}
+use Rattle.rambo_tag.specs.declared.keyed_version.KeyedVersion.{KeyedVersion}
+use Rattle.rambo_tag.specs.declared.version.Version.{Version}
+use Rattle.rambo_tag.specs.Copies.{Copies, HasRoom}
+use Rattle.rambo_history.specs.declared.event.CallId.{CallId}
+use Rattle.rambo_history.specs.declared.operation.Op.{Op}
+use Rattle.rambo_calls.specs.Calls.{place_of, query_in}
+use Rattle.rambo_calls.specs.Kept.{IsRoomy}
+use Rattle.rambo_gossip.specs.declared.letter.Gossip.{Gossip}
+use Rattle.rambo_gossip.specs.declared.letter.Kind.{Kind}
+use Rattle.rambo_gossip.specs.declared.letter.Kind.TheVariants as kind
+use Rattle.rambo_gossip.specs.Letters.{letter_with}
+use Rattle.rambo_node.specs.declared.change.Change.{Change}
+use Rattle.rambo_node.specs.declared.change.Change.TheVariants as change
+use Rattle.rambo_node.specs.declared.prepared.Prepared.{Prepared}
+use Rattle.rambo_node.specs.declared.prepared.Turn.{Turn}
+use Rattle.rambo_node.specs.declared.prepared.Turn.TheVariants as turn
+use Rattle.rambo_node.specs.declared.prepared.Quick.{Quick}
+use Rattle.rambo_node.specs.declared.prepared.Quick.TheVariants as quick
+use Rattle.rambo_node.specs.declared.prepared.QueryTurn.{QueryTurn}
+use Rattle.rambo_node.specs.declared.prepared.AnswerTurn.{AnswerTurn}
+use Rattle.rambo_node.specs.Changes.{refusal_of, made_by, copy_put}
+use Rattle.rambo_node.specs.Hearing.{number_after}
+use Rattle.rambo_node.specs.Kept.{propagation_begun}
+use Rattle.rambo_node.specs.Nodes.{NodeState, Room, RoomyNode, open_call}
+use Rattle.rambo_node.specs.Operations.{taken}
+
+-- the change that a turn is: of a letter, with those of its copies that are newer
+abbrev pub quick_change : {Q : Type 0} → Quick Q → Change Q
+quick_change (quick.Join contacts) = change.Join contacts
+quick_change (quick.Send to) = change.Send to
+quick_change (quick.Again id) = change.Again id
+quick_change quick.Collect = change.Collect
+quick_change quick.AdvanceCollect = change.AdvanceCollect
+quick_change (quick.Recon wish) = change.Recon wish
+quick_change quick.Rebid = change.Rebid
+quick_change quick.AdvanceRecon = change.AdvanceRecon
+quick_change quick.Stop = change.Stop
+
+abbrev pub turn_change : {Q : Type 0} → Turn Q → Change Q
+turn_change (turn.Call o) = change.Call o
+turn_change (turn.Query t) = change.Advance t.id
+turn_change (turn.Answer t) = change.Advance t.id
+turn_change (turn.Hear t) = change.Deliver (letter_with t.letter t.newer)
+turn_change (turn.Quick q) = quick_change q
+
+abbrev pub change_of : {Q : Type 0} → Prepared Q → Change Q
+change_of p = turn_change p.turn
+
+-- the copy that the call puts whose query, if it is in it, is met
+abbrev pub put_by : {Q : Type 0} → NodeState Q → Option Op → Option KeyedVersion
+put_by x None = None
+put_by x (Some o) = copy_put o (taken x o)
+
+-- copies with one that is put, if there is one, and whether there is room for it
+abbrev pub with_put : Copies → Option KeyedVersion → Copies
+with_put r None = r
+with_put r (Some c) = map.insert r c.key c.version
+
+abbrev pub HasRoomFor : {Q : Type 0} → Room Q → Option KeyedVersion → Type 0
+HasRoomFor room None = Unit {0}
+HasRoomFor room (Some c) = 0 < room.keys
+
+-- a node once the call at a place has gone on from its query: a copy is put, and a copy goes round
+abbrev pub query_done : {Q : Type 0} → NodeState Q → ℕ → Option Version → Option KeyedVersion → NodeState Q
+query_done x place kept put = propagation_begun (record x { registers = with_put x.registers put }) place kept
+
+-- an open call that may go on stands at this place
+pub record IsFound {Q : Type 0} (s : QuorumSystem Q) (x : NodeState Q) (id : CallId) (place : ℕ) : Type 0 where
+  pub accepted : refusal_of s x (change.Advance id) ≡ None
+  pub own : place ≡ place_of id.number x.calls
+  pub at : slice_get x.calls place ≡ open_call x id
+
+-- a met query that asked for this may go on
+pub record IsReadyQuery {Q : Type 0} (v : RoomyNode Q) (o : Op) (t : QueryTurn) : Type 0 where
+  pub asked : query_in (open_call v.state t.id) ≡ Some o
+  pub place : t.place ≡ place_of t.id.number v.state.calls
+  pub kept : t.taken.kept ≡ taken v.state o
+  pub put : t.taken.put ≡ put_by v.state (Some o)
+  pub room : HasRoomFor v.room t.taken.put
+
+-- a met propagation may be answered
+pub record IsReadyAnswer {Q : Type 0} (v : RoomyNode Q) (t : AnswerTurn Q) : Type 0 where
+  pub told : query_in (open_call v.state t.id) ≡ None
+  pub place : t.place ≡ place_of t.id.number v.state.calls
+  pub effect : t.effect ≡ (made_by v.state (change.Advance t.id)).deed.effect
+
+-- gossip may be heard with these copies, after which the phase number is this
+pub record IsReadyGossip {Q : Type 0} (v : RoomyNode Q) (g : Gossip Q) (newer : Copies) (number : ℕ) : Type 0 where
+  pub counted : number ≡ number_after v.state g
+  pub keys : HasRoom v.room.keys v.state.registers newer
+  pub phases : IsRoomy g.map v.room.calls.list
+
+-- what a letter says may be heard: the wish to join needs no room
+abbrev pub IsReadyKind : {Q : Type 0} → RoomyNode Q → Kind Q → Copies → ℕ → Type 0
+IsReadyKind v kind.Join newer number = Unit {0}
+IsReadyKind v (kind.Gossip g) newer number = IsReadyGossip v g newer number
+
+-- there is room for a turn, and what it has is right
+abbrev pub IsReady : {Q : Type 0} → RoomyNode Q → Turn Q → Type 0
+IsReady v (turn.Call o) = 0 < v.room.calls.room
+IsReady v (turn.Query t) = (o : Op) × IsReadyQuery v o t
+IsReady v (turn.Answer t) = IsReadyAnswer v t
+IsReady v (turn.Hear t) = IsReadyKind v t.letter.kind t.newer t.number
+IsReady v (turn.Quick q) = Unit {0}
+
+-- and its change isn't refused
+pub record IsReadyTurn {Q : Type 0} (s : QuorumSystem Q) (v : RoomyNode Q) (t : Turn Q) : Type 0 where
+  pub accepted : refusal_of s v.state (turn_change t) ≡ None
+  pub ready : IsReady v t
+
+-- a change is prepared, whatever became of what will be told of it
+abbrev pub IsPrepared : {Q : Type 0} → QuorumSystem Q → RoomyNode Q → Prepared Q → Type 0
+IsPrepared s v p = IsReadyTurn s v p.turn
+
+-- it comes to this change, and what that will do besides changing the node is told
+pub record Prepares {Q : Type 0} (s : QuorumSystem Q) (v : RoomyNode Q) (c : Change Q) (p : Prepared Q) : Type 0 where
+  pub prepared : IsPrepared s v p
+  pub same : made_by v.state (change_of p) ≡ made_by v.state c
+  pub event : p.event ≡ (made_by v.state c).deed.event
+  pub mark : p.mark ≡ (made_by v.state c).deed.mark
+  pub copy : p.copy ≡ (made_by v.state c).deed.copy

@@ -1,0 +1,142 @@
+//! Changes that are ready: all that may fail is done, and nothing of the node has changed yet.
+ghost use Rattle.std.specs.Prelude.{◌≡◌, None};
+
+use crate::deed::Deed;
+use crate::effect::Effect;
+use rambo_gossip::Letter;
+use rambo_history::{CallId, Event, Op};
+use rambo_names::{Members, Name, Quorums};
+use rambo_sequence::Mark;
+use rambo_tag::{KeyedVersion, Pack, Version};
+
+/// A change that a node may make, for which there is room, and what it will do.
+///
+/// Who owns it takes the event, the mark and the copy to where they belong, and then finishes it.
+#[derive(Drop)]
+pub struct Prepared<Q: Quorums> {
+    /// The call or the answer that will stand in the history.
+    pub event: Option<Event>,
+    /// A set that will take its tag, or a get that will be answered.
+    pub mark: Option<Mark>,
+    /// The copy that a set will put into the node's registers.
+    pub copy: Option<KeyedVersion>,
+    pub(crate) turn: Turn<Q>,
+}
+
+// What its second half needs of a change.
+#[derive(Drop)]
+pub(crate) enum Turn<Q: Quorums> {
+    // A call begins that asks for this.
+    Call(Op),
+    // A call goes on from its query.
+    Query(QueryTurn),
+    // A call is answered.
+    Answer(AnswerTurn<Q>),
+    // A letter is heard.
+    Hear(HearTurn<Q>),
+    // Any other change.
+    Quick(Quick<Q>),
+}
+
+// A change that needs no memory.
+#[derive(Drop)]
+pub(crate) enum Quick<Q> {
+    Join(Members),
+    Send(Name),
+    Again(CallId),
+    Collect,
+    AdvanceCollect,
+    Recon(Q),
+    Rebid,
+    AdvanceRecon,
+    Stop,
+}
+
+// A call whose query is met.
+#[derive(Drop)]
+pub(crate) struct QueryTurn {
+    pub(crate) id: CallId,
+    // Where it stands among the open calls.
+    pub(crate) place: usize,
+    pub(crate) taken: Taken,
+}
+
+// What a met query takes to its propagation.
+#[derive(Drop)]
+pub(crate) struct Taken {
+    // The copy that will go round.
+    pub(crate) kept: Option<Version>,
+    // The copy that a set will put.
+    pub(crate) put: Option<KeyedVersion>,
+}
+
+// A call whose propagation is met.
+#[derive(Drop)]
+pub(crate) struct AnswerTurn<Q> {
+    pub(crate) id: CallId,
+    // Where it stands among the open calls.
+    pub(crate) place: usize,
+    // What will be told: the answer.
+    pub(crate) effect: Effect<Q>,
+}
+
+// A letter that may be heard.
+#[derive(Drop)]
+pub(crate) struct HearTurn<Q: Quorums> {
+    // It without its copies.
+    pub(crate) letter: Letter<Q>,
+    // Those of its copies that are newer than what the node holds.
+    pub(crate) newer: Pack,
+    // The phase number after it.
+    pub(crate) number: u64,
+}
+
+impl<Q: Quorums> Prepared<Q> {
+    // A change that does nothing besides changing its node, but that an effect is told of it.
+    pub(crate) fn quiet(turn: Turn<Q>) -> Prepared<Q>
+        ensures { result ≡ record { event = None; mark = None; copy = None; turn = turn } }
+    {
+        Prepared {
+            event: None,
+            mark: None,
+            copy: None,
+            turn,
+        }
+    }
+
+    // The advance of a met query that does this.
+    pub(crate) fn moved(deed: Deed<Q>, turn: QueryTurn) -> Prepared<Q>
+        ensures { result ≡ record { event = deed.event; mark = deed.mark; copy = deed.copy; turn = Turn.Query turn } }
+    {
+        let Deed {
+            effect: _effect,
+            event,
+            mark,
+            copy,
+        } = deed;
+        Prepared {
+            event,
+            mark,
+            copy,
+            turn: Turn::Query(turn),
+        }
+    }
+
+    // The advance of a met propagation that does this.
+    pub(crate) fn answered(deed: Deed<Q>, id: CallId, place: usize) -> Prepared<Q>
+        ensures { result ≡ record { event = deed.event; mark = deed.mark; copy = deed.copy; turn = Turn.Answer (record { id = id; place = place; effect = deed.effect }) } }
+    {
+        let Deed {
+            effect,
+            event,
+            mark,
+            copy,
+        } = deed;
+        Prepared {
+            event,
+            mark,
+            copy,
+            turn: Turn::Answer(AnswerTurn { id, place, effect }),
+        }
+    }
+}

@@ -1,0 +1,262 @@
+//! A change in two halves: the first may fail, and the second changes the node.
+ghost use Rattle.std.specs.Prelude.{◌≡◌, None, Some, false, IsOk, OnOk, IfOk, IfErr};
+ghost use Rattle.rambo_names.specs.Refusals.{IsRefusal};
+ghost use Rattle.rambo_gossip.specs.Letters.{letter_with};
+ghost use Rattle.rambo_node.specs.Changes.{refusal_of, made_by};
+ghost use Rattle.rambo_node.specs.Memory.{needs_memory};
+ghost use Rattle.rambo_node.specs.Prepared.{IsPrepared, IsReadyTurn, Prepares, change_of, turn_change, quick_change};
+ghost use Rattle.rambo_node.specs.declared.change.Change.TheVariants as change;
+
+use crate::change::Change;
+use crate::deed::Deed;
+use crate::effect::Effect;
+use crate::node::Node;
+use crate::prepared::{AnswerTurn, Prepared, QueryTurn, Quick, Turn};
+use rambo_gossip::{Kind, Letter, LetterOutline};
+use rambo_history::{CallId, Event, Op};
+use rambo_names::{Quorums, Refusal};
+use rambo_tag::{Pack, Replica};
+
+impl<Q: Quorums, S: Replica> Node<Q, S> {
+    /// The first half of a change: it is judged, room is made for all that is new, and what it will do is found. Nothing of
+    /// what the node is changes, whatever the answer.
+    ///
+    /// Refused are those of `judge`, and 22 where there is no room for what is new, which only a call, its advance and a
+    /// letter of an active node may need.
+    pub fn ready(&mut self, change: &Change<Q>) -> Result<Prepared<Q>, Refusal>
+        ensures judged { OnOk result (refusal_of Q.system self.old.state change.now ≡ None) }
+        ensures same { self.new.state ≡ self.old.state }
+        ensures prepared { IfOk result (IsPrepared Q.system self.new) }
+        ensures change { IfOk result (λ p. made_by self.old.state (change_of p) ≡ made_by self.old.state change.now) }
+        ensures event { IfOk result (λ p. p.event ≡ (made_by self.old.state change.now).deed.event) }
+        ensures mark { IfOk result (λ p. p.mark ≡ (made_by self.old.state change.now).deed.mark) }
+        ensures copy { IfOk result (λ p. p.copy ≡ (made_by self.old.state change.now).deed.copy) }
+        ensures refused { IfErr result (IsRefusal (refusal_of Q.system self.old.state change.now)) }
+        ensures no_memory { needs_memory change.now ≡ false → IfErr result (λ r. refusal_of Q.system self.old.state change.now ≡ Some r) }
+    {
+        self.judge(change)?;
+        self.prepare(change)
+    }
+
+    /// The first half of a change that isn't refused: what `ready` does where `judge` finds no cause.
+    ///
+    /// `OutOfMemory` where there is no room for what is new, which only a call, its advance and a letter of an active node
+    /// may need.
+    pub fn prepare(&mut self, change: &Change<Q>) -> Result<Prepared<Q>, Refusal>
+        requires { refusal_of Q.system self.old.state change.now ≡ None }
+        ensures same { self.new.state ≡ self.old.state }
+        ensures prepares { IfOk result (Prepares Q.system self.new change.now) }
+        ensures refused { IfErr result (λ r. r ≡ Refusal.OutOfMemory) }
+        ensures no_memory { needs_memory change.now ≡ false → IsOk result }
+    {
+        match change {
+            Change::Join(contacts) => Ok(self.prepare_quick(Quick::Join(*contacts))),
+            Change::Call(op) => self.prepare_call(op),
+            Change::Send(to) => Ok(self.prepare_quick(Quick::Send(*to))),
+            Change::Deliver(letter) => self.prepare_letter(letter),
+            Change::Advance(id) => self.prepare_advance(*id),
+            Change::Again(id) => Ok(self.prepare_quick(Quick::Again(*id))),
+            Change::Collect => Ok(self.prepare_quick(Quick::Collect)),
+            Change::AdvanceCollect => Ok(self.prepare_quick(Quick::AdvanceCollect)),
+            Change::Recon(wish) => Ok(self.prepare_quick(Quick::Recon(*wish))),
+            Change::Rebid => Ok(self.prepare_quick(Quick::Rebid)),
+            Change::AdvanceRecon => Ok(self.prepare_quick(Quick::AdvanceRecon)),
+            Change::Stop => Ok(self.prepare_quick(Quick::Stop)),
+        }
+    }
+
+    /// The first half of the delivery of a letter that isn't refused, which is told by its outline and its copies.
+    ///
+    /// `OutOfMemory` where there is no room for what is new. The wish of a node to join needs none.
+    pub fn prepare_outlined(
+        &mut self,
+        outline: &LetterOutline<'_, Q>,
+        copies: &Pack,
+    ) -> Result<Prepared<Q>, Refusal>
+        requires { refusal_of Q.system self.old.state (change.Deliver outline.now) ≡ None }
+        ensures same { self.new.state ≡ self.old.state }
+        ensures prepares { IfOk result (Prepares Q.system self.new (change.Deliver (letter_with outline.now copies.now))) }
+        ensures refused { IfErr result (λ r. r ≡ Refusal.OutOfMemory) }
+        ensures join { outline.now.kind ≡ Kind.Join → IsOk result }
+    {
+        let turn = self.ready_outlined(outline, copies)?;
+        Ok(Prepared::quiet(Turn::Hear(turn)))
+    }
+
+    /// The second half of a change that is ready: the node changes. What is told of it is answered.
+    ///
+    /// It takes no memory and can't fail.
+    pub fn finish(&mut self, prepared: Prepared<Q>) -> Effect<Q>
+        requires { IsPrepared Q.system self.old prepared }
+        ensures node { self.new.state ≡ (made_by self.old.state (change_of prepared)).node }
+        ensures effect { result ≡ (made_by self.old.state (change_of prepared)).deed.effect }
+    {
+        let Prepared {
+            event: _event,
+            mark: _mark,
+            copy: _copy,
+            turn,
+        } = prepared;
+        self.finish_turn(turn)
+    }
+
+    // The second half of a change that is ready, and all that it did.
+    pub(crate) fn carry_out(&mut self, prepared: Prepared<Q>) -> Deed<Q>
+        requires { IsPrepared Q.system self.old prepared }
+        ensures node { self.new.state ≡ (made_by self.old.state (change_of prepared)).node }
+        ensures deed { result ≡ record { effect = (made_by self.old.state (change_of prepared)).deed.effect; event = prepared.event; mark = prepared.mark; copy = prepared.copy } }
+    {
+        let Prepared {
+            event,
+            mark,
+            copy,
+            turn,
+        } = prepared;
+        let effect = self.finish_turn(turn);
+        Deed {
+            effect,
+            event,
+            mark,
+            copy,
+        }
+    }
+}
+
+// The first half of a change that isn't refused.
+impl<Q: Quorums, S: Replica> Node<Q, S> {
+    // Of one that needs no memory.
+    fn prepare_quick(&self, quick: Quick<Q>) -> Prepared<Q>
+        requires { refusal_of Q.system self.now.state (quick_change quick) ≡ None }
+        ensures { Prepares Q.system self.now (quick_change quick) result }
+    {
+        Prepared::quiet(Turn::Quick(quick))
+    }
+
+    // Of a call.
+    fn prepare_call(&mut self, op: &Op) -> Result<Prepared<Q>, Refusal>
+        requires { refusal_of Q.system self.old.state (change.Call op.now) ≡ None }
+        ensures same { self.new.state ≡ self.old.state }
+        ensures prepares { IfOk result (Prepares Q.system self.new (change.Call op.now)) }
+        ensures refused { IfErr result (λ r. r ≡ Refusal.OutOfMemory) }
+    {
+        let asked = op.clone()?;
+        let told = op.clone()?;
+        self.room_for_call()?;
+        let event = Event::Call(self.next_id(), told);
+        Ok(Prepared {
+            event: Some(event),
+            mark: None,
+            copy: None,
+            turn: Turn::Call(asked),
+        })
+    }
+
+    // Of a letter.
+    fn prepare_letter(&mut self, letter: &Letter<Q>) -> Result<Prepared<Q>, Refusal>
+        requires { refusal_of Q.system self.old.state (change.Deliver letter.now) ≡ None }
+        ensures same { self.new.state ≡ self.old.state }
+        ensures prepares { IfOk result (Prepares Q.system self.new (change.Deliver letter.now)) }
+        ensures refused { IfErr result (λ r. r ≡ Refusal.OutOfMemory) }
+        ensures no_memory { needs_memory (change.Deliver letter.now) ≡ false → IsOk result }
+    {
+        let turn = self.ready_letter(letter)?;
+        Ok(Prepared::quiet(Turn::Hear(turn)))
+    }
+
+    // Of the advance of a call: what `go_on` does first.
+    fn prepare_advance(&mut self, id: CallId) -> Result<Prepared<Q>, Refusal>
+        requires { refusal_of Q.system self.old.state (change.Advance id) ≡ None }
+        ensures same { self.new.state ≡ self.old.state }
+        ensures prepares { IfOk result (Prepares Q.system self.new (change.Advance id)) }
+        ensures refused { IfErr result (λ r. r ≡ Refusal.OutOfMemory) }
+    {
+        let mut deed = Deed::quiet();
+        let place = self.ready_place(&id)?;
+        match self.query_at(place) {
+            Some(asked) => {
+                let taken = self.tell_query(id, asked, &mut deed)?;
+                Ok(Prepared::moved(deed, QueryTurn { id, place, taken }))
+            }
+            None => {
+                self.tell_answer(id, place, &mut deed)?;
+                Ok(Prepared::answered(deed, id, place))
+            }
+        }
+    }
+}
+
+// The second half of a change that is ready.
+impl<Q: Quorums, S: Replica> Node<Q, S> {
+    // Of any change.
+    #[tactic(auto, unfolding(crate::specs::Changes::made_by))]
+    fn finish_turn(&mut self, turn: Turn<Q>) -> Effect<Q>
+        requires { IsReadyTurn Q.system self.old turn }
+        ensures node { self.new.state ≡ (made_by self.old.state (turn_change turn)).node }
+        ensures effect { result ≡ (made_by self.old.state (turn_change turn)).deed.effect }
+    {
+        match turn {
+            Turn::Call(op) => Effect::Called(self.finish_call(op)),
+            Turn::Query(query) => {
+                let QueryTurn {
+                    id: _,
+                    place,
+                    taken,
+                } = query;
+                self.finish_query(place, taken);
+                Effect::Moved
+            }
+            Turn::Answer(answer) => {
+                let AnswerTurn {
+                    id: _,
+                    place,
+                    effect,
+                } = answer;
+                self.finish_answer(place);
+                effect
+            }
+            Turn::Hear(letter) => {
+                self.finish_hear(letter);
+                Effect::Done
+            }
+            Turn::Quick(quick) => self.finish_quick(quick),
+        }
+    }
+
+    // Of one that needs no memory.
+    #[tactic(auto, unfolding(crate::specs::Changes::made_by))]
+    fn finish_quick(&mut self, quick: Quick<Q>) -> Effect<Q>
+        requires { refusal_of Q.system self.old.state (quick_change quick) ≡ None }
+        ensures node { self.new.state ≡ (made_by self.old.state (quick_change quick)).node }
+        ensures effect { result ≡ (made_by self.old.state (quick_change quick)).deed.effect }
+    {
+        match quick {
+            Quick::Join(contacts) => {
+                self.do_join(contacts);
+                Effect::Done
+            }
+            Quick::Send(_) => Effect::Done,
+            Quick::Again(id) => {
+                self.do_again(id);
+                Effect::Done
+            }
+            Quick::Collect => {
+                self.do_collect();
+                Effect::Done
+            }
+            Quick::AdvanceCollect => self.do_advance_collect().effect,
+            Quick::Recon(wish) => {
+                self.do_recon(wish);
+                Effect::Done
+            }
+            Quick::Rebid => {
+                self.do_rebid();
+                Effect::Done
+            }
+            Quick::AdvanceRecon => self.do_advance_recon().effect,
+            Quick::Stop => {
+                self.do_stop();
+                Effect::Done
+            }
+        }
+    }
+}
