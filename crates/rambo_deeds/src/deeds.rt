@@ -130,8 +130,8 @@ fn may_deliver<Q: Quorums, S: Replica>(
     letters: &[SharedLetter<Q>],
     number: u64,
 ) -> Result<(), Refusal>
-    ensures ok { OnOk result (judged Q.system node.now (meant_in letters.now (Step.Deliver number)) ≡ None) }
-    ensures refused { IfErr result (λ r. judged Q.system node.now (meant_in letters.now (Step.Deliver number)) ≡ Some r) }
+    ensures ok { OnOk result (judged Q.system node.now.state (meant_in letters.now (Step.Deliver number)) ≡ None) }
+    ensures refused { IfErr result (λ r. judged Q.system node.now.state (meant_in letters.now (Step.Deliver number)) ≡ Some r) }
 {
     match letter_of(letters, number) {
         Some(letter) => may_hear(node, letter),
@@ -145,11 +145,11 @@ fn go_on<Q: Quorums, S: Replica>(
     letters: &[SharedLetter<Q>],
     change: &Change<Q>,
 ) -> Result<Done<Q>, Refusal>
-    requires accepted { refusal_of Q.system node.old change.now ≡ None }
+    requires accepted { refusal_of Q.system node.old.state change.now ≡ None }
     requires quiet { sends change.now ≡ false }
-    ensures node { OnOk result (node.new ≡ (made_by node.old change.now).node) }
-    ensures done { IfOk result (λ d. d ≡ done letters.now (made_by node.old change.now)) }
-    ensures err { OnErr result (node.new ≡ node.old) }
+    ensures node { OnOk result (node.new.state ≡ (made_by node.old.state change.now).node) }
+    ensures done { IfOk result (λ d. d ≡ done letters.now (made_by node.old.state change.now)) }
+    ensures err { OnErr result (node.new.state ≡ node.old.state) }
     ensures refused { IfErr result (λ r. r ≡ Refusal.OutOfMemory) }
 {
     let deed = node.act(change)?;
@@ -176,9 +176,9 @@ fn send<Q: Quorums, S: Replica>(
     letters: &[SharedLetter<Q>],
     to: Name,
 ) -> Result<Done<Q>, Refusal>
-    requires accepted { refusal_of Q.system node.now (Change.Send to) ≡ None }
+    requires accepted { refusal_of Q.system node.now.state (Change.Send to) ≡ None }
     requires few { length letters.now < 2 ^ 63 }
-    ensures done { IfOk result (λ d. d ≡ done letters.now (made_by node.now (Change.Send to))) }
+    ensures done { IfOk result (λ d. d ≡ done letters.now (made_by node.now.state (Change.Send to))) }
     ensures refused { IfErr result (λ r. r ≡ Refusal.OutOfMemory) }
 {
     let letter = node.letter_for(to)?;
@@ -197,10 +197,10 @@ fn deliver<Q: Quorums, S: Replica>(
     letters: &[SharedLetter<Q>],
     number: u64,
 ) -> Result<Done<Q>, Refusal>
-    requires { judged Q.system node.old (meant_in letters.now (Step.Deliver number)) ≡ None }
-    ensures node { OnOk result ((m : Meant _) → meant_in letters.now (Step.Deliver number) ≡ Some m → node.new ≡ (made_by node.old m.change).node) }
-    ensures done { IfOk result (λ d. (m : Meant _) → meant_in letters.now (Step.Deliver number) ≡ Some m → d ≡ done letters.now (made_by node.old m.change)) }
-    ensures err { OnErr result (node.new ≡ node.old) }
+    requires { judged Q.system node.old.state (meant_in letters.now (Step.Deliver number)) ≡ None }
+    ensures node { OnOk result ((m : Meant _) → meant_in letters.now (Step.Deliver number) ≡ Some m → node.new.state ≡ (made_by node.old.state m.change).node) }
+    ensures done { IfOk result (λ d. (m : Meant _) → meant_in letters.now (Step.Deliver number) ≡ Some m → d ≡ done letters.now (made_by node.old.state m.change)) }
+    ensures err { OnErr result (node.new.state ≡ node.old.state) }
     ensures refused { IfErr result (λ r. r ≡ Refusal.OutOfMemory) }
 {
     let letter = match letter_of(letters, number) {

@@ -151,8 +151,8 @@ pub fn may_hear<Q: Quorums, S: Replica>(
     node: &Node<Q, S>,
     letter: &SharedLetter<Q>,
 ) -> Result<(), Refusal>
-    ensures ok { OnOk result (refusal_of Q.system node.now (change.Deliver letter.now) ≡ None) }
-    ensures refused { IfErr result (λ r. refusal_of Q.system node.now (change.Deliver letter.now) ≡ Some r) }
+    ensures ok { OnOk result (refusal_of Q.system node.now.state (change.Deliver letter.now) ≡ None) }
+    ensures refused { IfErr result (λ r. refusal_of Q.system node.now.state (change.Deliver letter.now) ≡ Some r) }
 {
     node.may_hear_outlined(&letter.outline())
 }
@@ -163,9 +163,9 @@ pub(crate) fn hear<Q: Quorums, S: Replica>(
     node: &mut Node<Q, S>,
     letter: &SharedLetter<Q>,
 ) -> Result<(), Refusal>
-    requires { refusal_of Q.system node.old (change.Deliver letter.now) ≡ None }
-    ensures node { OnOk result (node.new ≡ (made_by node.old (change.Deliver letter.now)).node) }
-    ensures err { OnErr result (node.new ≡ node.old) }
+    requires { refusal_of Q.system node.old.state (change.Deliver letter.now) ≡ None }
+    ensures node { OnOk result (node.new.state ≡ (made_by node.old.state (change.Deliver letter.now)).node) }
+    ensures err { OnErr result (node.new.state ≡ node.old.state) }
     ensures refused { IfErr result (λ r. r ≡ Refusal.OutOfMemory) }
 {
     let outline = letter.outline();

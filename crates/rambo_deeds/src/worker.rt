@@ -41,13 +41,13 @@ impl<Q: Quorums, S: Replica> Model for Worker<Q, S> {
 
     ghost coded = { Prim.hlevel (codes, names_code, copies_code, Q.code) };
 
-    ghost view = { λ w. w.node };
+    ghost view = { λ w. w.node.state };
 }
 
 impl<Q: Quorums, S: Replica> Worker<Q, S> {
     /// A node, which takes steps from now on.
     pub fn new(node: Node<Q, S>) -> Worker<Q, S>
-        ensures { result ≡ node }
+        ensures { result ≡ node.state }
     {
         Worker {
             told: None,
@@ -58,7 +58,7 @@ impl<Q: Quorums, S: Replica> Worker<Q, S> {
 
     /// Its node.
     pub fn node(&self) -> &Node<Q, S>
-        ensures { result.now ≡ self.now }
+        ensures { result.now.state ≡ self.now }
     {
         &self.node
     }

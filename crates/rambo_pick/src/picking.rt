@@ -13,7 +13,7 @@ use rambo_tag::Replica;
 
 // Why a node doesn't hear a letter, if it doesn't.
 fn unheard<Q: Quorums, S: Replica>(node: &Node<Q, S>, letter: &SharedLetter<Q>) -> Option<Refusal>
-    ensures { result ≡ refusal_of Q.system node.now (change.Deliver letter.now) }
+    ensures { result ≡ refusal_of Q.system node.now.state (change.Deliver letter.now) }
 {
     match may_hear(node, letter) {
         Ok(()) => None,
@@ -23,7 +23,7 @@ fn unheard<Q: Quorums, S: Replica>(node: &Node<Q, S>, letter: &SharedLetter<Q>) 
 
 // Why a call of a node doesn't go on, if it doesn't.
 fn unmoved<Q: Quorums, S: Replica>(node: &Node<Q, S>, id: &CallId) -> Option<Refusal>
-    ensures { result ≡ refusal_of Q.system node.now (change.Advance id.now) }
+    ensures { result ≡ refusal_of Q.system node.now.state (change.Advance id.now) }
 {
     match node.may_advance(id) {
         Ok(()) => None,
@@ -33,7 +33,7 @@ fn unmoved<Q: Quorums, S: Replica>(node: &Node<Q, S>, id: &CallId) -> Option<Ref
 
 // Why a node refuses a change, if it does.
 fn refused<Q: Quorums, S: Replica>(node: &Node<Q, S>, change: &Change<Q>) -> Option<Refusal>
-    ensures { result ≡ refusal_of Q.system node.now change.now }
+    ensures { result ≡ refusal_of Q.system node.now.state change.now }
 {
     match node.judge(change) {
         Ok(()) => None,
@@ -43,7 +43,7 @@ fn refused<Q: Quorums, S: Replica>(node: &Node<Q, S>, change: &Change<Q>) -> Opt
 
 // The first letter that the node hears.
 fn heard_first<Q: Quorums, S: Replica>(node: &Node<Q, S>, tray: &[Mail<Q>]) -> Option<u64>
-    ensures { option_map Step.Deliver result ≡ first_of Q.system node.now (map delivery tray.now) }
+    ensures { option_map Step.Deliver result ≡ first_of Q.system node.now.state (map delivery tray.now) }
 {
     let mut rest = tray;
     while let Some((mail, others)) = rest.split_first() {
@@ -57,7 +57,7 @@ fn heard_first<Q: Quorums, S: Replica>(node: &Node<Q, S>, tray: &[Mail<Q>]) -> O
 
 // The first open call that goes on.
 fn moved_first<Q: Quorums, S: Replica>(node: &Node<Q, S>) -> Option<CallId>
-    ensures { option_map Step.Advance result ≡ first_of Q.system node.now (map (advance node.now.name) node.now.calls) }
+    ensures { option_map Step.Advance result ≡ first_of Q.system node.now.state (map (advance node.now.state.name) node.now.state.calls) }
 {
     for place in 0..node.count_calls() {
         let Some(id) = node.call_at(place) else {

@@ -59,7 +59,7 @@ sent_before ss (suc i) s found = let same : suc i - 1 ≡ i = omega arith in ap 
 
 -- a node that was moved, as it is kept
 pub moved_state : {Q : Type 0} (ks new : List (KeptNode Q)) (n : ℕ) (f : NodeState Q → NodeState Q) (x : NodeState Q) (y : KeptNode Q)
-    → states_of new ≡ moved ks n f → state_at ks n ≡ Some x → kept_at new n ≡ Some y → y.state ≡ f x
+    → states_of new ≡ moved ks n f → state_at ks n ≡ Some x → kept_at new n ≡ Some y → y.node.state ≡ f x
 moved_state ks new zero f x y e there found = absurd (false≢true (ap is_some there))
 moved_state ks new (suc i) f x y e there found =
     let place : suc i - 1 ≡ i = omega arith in
@@ -67,7 +67,7 @@ moved_state ks new (suc i) f x y e there found =
     let below = slice_get_within (states_of ks) i x there in
     let here : slice_get (states_of new) i ≡ Some (f x) = ap (λ l. slice_get l i) set
     ∙ slice_get_read (slice_set (states_of ks) i (f x)) (length (states_of ks)) i (f x) (sym (length-set (states_of ks) i (f x))) below (sym (get_or-set_same (states_of ks) i (f x) (f x) below)) in
-    some_is y.state (f x) (sym (slice_get-map state_of new i ∙ ap (option_map state_of) (ap (slice_get new) (sym place) ∙ found)) ∙ here)
+    some_is y.node.state (f x) (sym (slice_get-map state_of new i ∙ ap (option_map state_of) (ap (slice_get new) (sym place) ∙ found)) ∙ here)
 
 -- a delivery is the hearing of a letter
 delivered : {Q : Type 0} (x : NodeState Q) (l : Letter Q) → (made_by x (change.Deliver l)).node ≡ heard_letter x l
@@ -90,7 +90,7 @@ heard_turn w l x = refl
 module _ {Q : Type 0} (ks new : List (KeptNode Q)) (ss : List (SentState Q)) (counts : List ℕ) (kept : IsKept ks ss counts) (grow : AllGrow ks new)
     (s : SentState Q) (sent : IsSent ks s) (x : KeptNode Q) (pack : Copies) (to : IsName s.letter.addressee) (from : IsName s.letter.sender)
     (there : kept_at ks s.letter.addressee ≡ Some x)
-    (packed : joined x.state.registers pack ≡ joined x.state.registers (greatest_of (drop (merged_at counts s.letter.addressee s.letter.sender) (take (max (merged_at counts s.letter.addressee s.letter.sender) s.told) (log_at ks s.letter.sender))))) where
+    (packed : joined x.node.state.registers pack ≡ joined x.node.state.registers (greatest_of (drop (merged_at counts s.letter.addressee s.letter.sender) (take (max (merged_at counts s.letter.addressee s.letter.sender) s.told) (log_at ks s.letter.sender))))) where
   abbrev m : ℕ
   m = merged_at counts s.letter.addressee s.letter.sender
 
@@ -101,18 +101,18 @@ module _ {Q : Type 0} (ks new : List (KeptNode Q)) (ss : List (SentState Q)) (co
   has = kept.merged s.letter.addressee s.letter.sender x to from there
 
   -- the copies that are new do what all of them do
-  pub alike : joined x.state.registers pack ≡ joined x.state.registers (greatest_of (take s.told log))
-  alike = packed ∙ merge_told x.state.registers m s.told log has.holds
+  pub alike : joined x.node.state.registers pack ≡ joined x.node.state.registers (greatest_of (take s.told log))
+  alike = packed ∙ merge_told x.node.state.registers m s.told log has.holds
 
-  holds_after : (y : KeptNode Q) → y.state ≡ heard_letter x.state (letter_with s.letter pack) → joined y.state.registers (greatest_of (take (max m s.told) log)) ≡ y.state.registers
+  holds_after : (y : KeptNode Q) → y.node.state ≡ heard_letter x.node.state (letter_with s.letter pack) → joined y.node.state.registers (greatest_of (take (max m s.told) log)) ≡ y.node.state.registers
   holds_after y e =
-      elim (heard_registers x.state s.letter.sender s.letter.kind pack) [
+      elim (heard_registers x.node.state s.letter.sender s.letter.kind pack) [
         | inl h ↦ let same = ap (λ z. z.registers) e ∙ h.1 in
             ap (λ r. joined r (greatest_of (take (max m s.told) log))) same
-            ∙ ap (λ n. joined x.state.registers (greatest_of (take n log))) (ap (max m) (sent.join h.0) ∙ max-eq_left (omega arith))
+            ∙ ap (λ n. joined x.node.state.registers (greatest_of (take n log))) (ap (max m) (sent.join h.0) ∙ max-eq_left (omega arith))
             ∙ has.holds ∙ sym same
         | inr h ↦ let same = ap (λ z. z.registers) e ∙ h ∙ alike in
-            ap (λ r. joined r (greatest_of (take (max m s.told) log))) same ∙ merged_told x.state.registers m s.told log has.holds ∙ sym same
+            ap (λ r. joined r (greatest_of (take (max m s.told) log))) same ∙ merged_told x.node.state.registers m s.told log has.holds ∙ sym same
       ]
 
   told_after : (max m s.told ≤ length (log_at new s.letter.sender)) × (take (max m s.told) (log_at new s.letter.sender) ≡ take (max m s.told) log)
@@ -124,17 +124,17 @@ module _ {Q : Type 0} (ks new : List (KeptNode Q)) (ss : List (SentState Q)) (co
   below : (s.letter.addressee - 1) * 64 + (s.letter.sender - 1) < length counts
   below = subst (λ n. (s.letter.addressee - 1) * 64 + (s.letter.sender - 1) < n) (sym kept.counts) (place_below s.letter.addressee s.letter.sender to from)
 
-  merged_here : (y : KeptNode Q) → y.state ≡ heard_letter x.state (letter_with s.letter pack) → HasMerged new raised s.letter.addressee s.letter.sender y
+  merged_here : (y : KeptNode Q) → y.node.state ≡ heard_letter x.node.state (letter_with s.letter pack) → HasMerged new raised s.letter.addressee s.letter.sender y
   merged_here y e =
       let count = raised_same counts s.letter.addressee s.letter.sender s.told below in
       record {
         within = subst (λ n. n ≤ length (log_at new s.letter.sender)) (sym count) told_after.0;
-        holds = ap (λ n. joined y.state.registers (greatest_of (take n (log_at new s.letter.sender)))) count
-            ∙ ap (λ l. joined y.state.registers (greatest_of l)) told_after.1 ∙ holds_after y e;
+        holds = ap (λ n. joined y.node.state.registers (greatest_of (take n (log_at new s.letter.sender)))) count
+            ∙ ap (λ l. joined y.node.state.registers (greatest_of l)) told_after.1 ∙ holds_after y e;
       }
 
   -- and then they count as merged
-  pub kept_raised : IsKept new ss counts → ((y : KeptNode Q) → kept_at new s.letter.addressee ≡ Some y → y.state ≡ heard_letter x.state (letter_with s.letter pack)) → IsKept new ss raised
+  pub kept_raised : IsKept new ss counts → ((y : KeptNode Q) → kept_at new s.letter.addressee ≡ Some y → y.node.state ≡ heard_letter x.node.state (letter_with s.letter pack)) → IsKept new ss raised
   kept_raised after heard = record {
     nodes = after.nodes;
     counts = length-set counts _ _ ∙ after.counts;
@@ -150,22 +150,22 @@ module _ {Q : Type 0} (ks new : List (KeptNode Q)) (ss : List (SentState Q)) (co
               let count = raised_other counts s.letter.addressee s.letter.sender s.told t f other in
               record {
                 within = subst (λ n. n ≤ length (log_at new f)) (sym count) has.within;
-                holds = ap (λ n. joined y.state.registers (greatest_of (take n (log_at new f)))) count ∙ has.holds;
+                holds = ap (λ n. joined y.node.state.registers (greatest_of (take n (log_at new f)))) count ∙ has.holds;
               }
         ];
   }
 
-  pub deliver_world : (h : List Event) (ms : List Mark) (number : ℕ) → sent_at ss number ≡ Some s → state_at ks s.letter.addressee ≡ Some x.state
+  pub deliver_world : (h : List Event) (ms : List Mark) (number : ℕ) → sent_at ss number ≡ Some s → state_at ks s.letter.addressee ≡ Some x.node.state
       → states_of new ≡ moved ks s.letter.addressee (λ y. heard_letter y (letter_with s.letter pack)) → whole_letters new ss ≡ whole_letters ks ss
       → turn (world_of ks ss h ms) (step.Deliver number) ≡ record { world = world_of new ss h ms; effect = effect.Done }
   deliver_world h ms number found state e letters =
       let w = world_of ks ss h ms in
       let whole = whole_letter ks s in
-      let same : heard_letter x.state whole ≡ heard_letter x.state (letter_with s.letter pack) =
-      sym (heard_alike x.state s.letter.sender s.letter.kind pack (greatest_of (take s.told log)) alike) in
-      let node : slice_set (states_of ks) (s.letter.addressee - 1) (heard_letter x.state whole) ≡ states_of new =
+      let same : heard_letter x.node.state whole ≡ heard_letter x.node.state (letter_with s.letter pack) =
+      sym (heard_alike x.node.state s.letter.sender s.letter.kind pack (greatest_of (take s.told log)) alike) in
+      let node : slice_set (states_of ks) (s.letter.addressee - 1) (heard_letter x.node.state whole) ≡ states_of new =
       ap (slice_set (states_of ks) (s.letter.addressee - 1)) same ∙ sym (e ∙ ap (λ o. moved_in s.letter.addressee o (λ y. heard_letter y (letter_with s.letter pack)) (states_of ks)) state) in
       step_turn w (step.Deliver number) s.letter.addressee (change.Deliver whole) (ap delivery (sent_letter ks ss h ms number s found))
       ∙ ap (λ o. turn_at w s.letter.addressee o (change.Deliver whole)) state
-      ∙ heard_turn w whole x.state
+      ∙ heard_turn w whole x.node.state
       ∙ λ i. record { world = record { nodes = node i; letters = sym letters i; history = h; marks = ms }; effect = effect.Done }

@@ -3,13 +3,12 @@ use Rattle.std.proofs.Common.{◌<◌, ◌≤◌, ◌^◌, arith}
 use denote.Param.{layout, copied}
 use denote.RattleType.{RattleType}
 use prog.Memory.{size}
-use Rattle.rambo_names.specs.Room.{fits, wide, room_of}
+use Rattle.rambo_names.specs.Room.{fits, room_of}
 use Rattle.rambo_names.specs.declared.quorums.Quorums
 use Rattle.std.specs.declared.cmp.PartialEq
 use Rattle.rambo_tag.specs.declared.replica.Replica
 use Rattle.rambo_world.specs.contracts.running.Running.{the_row}
 use Rattle.rambo_tag.specs.contracts.registers.Registers
-use Rattle.rambo_tag.specs.contracts.registers.RegistersReplica.TheImpl as TheReplica
 use Rattle.std.specs.contracts.hash.BuildHasherDefault
 use Rattle.std.specs.contracts.hash.FoldHasher
 use Rattle.std.below.core.specs.contracts.clone.Clone+copy.TheImpl as TheCopy

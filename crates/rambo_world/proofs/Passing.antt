@@ -60,7 +60,7 @@ neither_refused None p e = (refl, e)
 neither_refused (Some r) p e = absurd (false≢true (ap is_some (sym e)))
 
 module _ {Q : Type 0} (s : QuorumSystem Q) (ks : List (KeptNode Q)) (h : List Event) (ms : List Mark) (from to : ℕ) (k : KeptNode Q)
-    (found : kept_at ks from ≡ Some k) (there : state_at ks from ≡ Some k.state) (name : k.state.name ≡ from) (recorded : IsRecorded k)
+    (found : kept_at ks from ≡ Some k) (there : state_at ks from ≡ Some k.node.state) (name : k.node.state.name ≡ from) (recorded : IsRecorded k)
     (sent : refusal s (world_of ks [] h ms) (step.Send from to) ≡ None) where
   -- it is sent
   pub sent_alone : after s (world_of ks [] h ms) (step.Send from to) ≡ world_of ks (outline k to ∷ []) h ms
@@ -93,7 +93,7 @@ module _ {Q : Type 0} (s : QuorumSystem Q) (ks new : List (KeptNode Q)) (counts 
   abbrev letter : SentState Q
   letter = record (outline k to) { letter = record (outline k to).letter { sender = from } }
 
-  named : k.state.name ≡ from
+  named : k.node.state.name ≡ from
   named = name_of ks from k (kept.names (from - 1) k found) named_from.0
 
   same : outline k to ≡ letter
@@ -102,7 +102,7 @@ module _ {Q : Type 0} (s : QuorumSystem Q) (ks new : List (KeptNode Q)) (counts 
   sent : IsSent ks letter
   sent = subst (IsSent ks) same (outline_sent ks k from to found named)
 
-  own : (y : KeptNode Q) × (kept_at ks to ≡ Some y) × (state_at ks to ≡ Some y.state)
+  own : (y : KeptNode Q) × (kept_at ks to ≡ Some y) × (state_at ks to ≡ Some y.node.state)
   own =
       let x = there s (state_at ks to) (change.Deliver (outline k to).letter) accepted in
       let y = kept_there ks to x.0 x.1 in
@@ -111,11 +111,11 @@ module _ {Q : Type 0} (s : QuorumSystem Q) (ks new : List (KeptNode Q)) (counts 
   abbrev pack : Copies
   pack = brought_from ks to from before (max before (outline k to).told)
 
-  packed : joined own.0.state.registers pack ≡ joined own.0.state.registers (greatest_of (drop (merged_at counts to from) (take (max (merged_at counts to from) (outline k to).told) (log_at ks from))))
+  packed : joined own.0.node.state.registers pack ≡ joined own.0.node.state.registers (greatest_of (drop (merged_at counts to from) (take (max (merged_at counts to from) (outline k to).told) (log_at ks from))))
   packed =
-      let mine : own.0.state.registers ≡ greatest_of (log_at ks to) = kept.recorded (to - 1) own.0 own.1 ∙ ap greatest_of (sym (ap log_in own.1)) in
+      let mine : own.0.node.state.registers ≡ greatest_of (log_at ks to) = kept.recorded (to - 1) own.0 own.1 ∙ ap greatest_of (sym (ap log_in own.1)) in
       ap (λ r. joined r pack) mine ∙ enough ∙ ap (λ r. joined r (greatest_of (part (log_at ks from) before (max before (outline k to).told)))) (sym mine)
-      ∙ ap (λ n. joined own.0.state.registers (greatest_of (drop n (take (max n (outline k to).told) (log_at ks from))))) count
+      ∙ ap (λ n. joined own.0.node.state.registers (greatest_of (drop n (take (max n (outline k to).told) (log_at ks from))))) count
 
   heard : states_of new ≡ moved ks to (λ y. heard_letter y (letter_with letter.letter pack))
   heard = nodes ∙ delivered_moved ks to (letter_with (outline k to).letter pack) (letter_with letter.letter pack) (ap (λ l. letter_with l.letter pack) same)
@@ -123,7 +123,7 @@ module _ {Q : Type 0} (s : QuorumSystem Q) (ks new : List (KeptNode Q)) (counts 
   pub kept_passed : IsKept new [] (merged_raised counts to from (outline k to).told)
   kept_passed =
       kept_raised ks new [] counts kept grow letter sent own.0 pack named_to named_from own.1 packed (kept_stays ks new grow [] counts kept)
-      (λ y there. moved_state ks new to (λ x. heard_letter x (letter_with letter.letter pack)) own.0.state y heard own.2 there)
+      (λ y there. moved_state ks new to (λ x. heard_letter x (letter_with letter.letter pack)) own.0.node.state y heard own.2 there)
 
   pub is_passed : IsDelivered ks new (outline k to ∷ []) 1
   is_passed = λ h ms.

@@ -8,7 +8,7 @@ use Rattle.rambo_sequence.specs.StoreOrders.{IsOrder}
 use Rattle.rambo_sequence.proofs.Outcomes.{sequence_in-sequences_of}
 use Rattle.rambo_run.specs.declared.step.Step.{Step}
 use Rattle.rambo_run.specs.Worlds.{WorldState, first_world}
-use Rattle.rambo_run.specs.Runs.{OutcomeState, after, outcome_at, results_from, run, run_from}
+use Rattle.rambo_run.specs.Runs.{OutcomeState, after, outcome_at, results_from, run_from}
 use Rattle.rambo_run.proofs.EveryRun.{agrees, is_atomic}
 use Rattle.rambo_run.proofs.StoreOrder.{has_one_order}
 use Rattle.rambo_run.specs.Claims.{HasOneOrder}

@@ -27,7 +27,7 @@ use Rattle.rambo_world.proofs.Turns.{step_turn}
 use Rattle.rambo_world.specs.Deliveries.{world_of}
 
 -- the name of a node
-pub name_of : {Q : Type 0} (ks : List (KeptNode Q)) (n : ℕ) (k : KeptNode Q) → k.state.name ≡ n - 1 + 1 → 1 ≤ n → k.state.name ≡ n
+pub name_of : {Q : Type 0} (ks : List (KeptNode Q)) (n : ℕ) (k : KeptNode Q) → k.node.state.name ≡ n - 1 + 1 → 1 ≤ n → k.node.state.name ≡ n
 name_of ks n k e named = let same : n - 1 + 1 ≡ n = omega (arith, named) in e ∙ same
 
 -- a letter as it is kept, by whether its sender gossips
@@ -36,15 +36,15 @@ whole_kind : {Q : Type 0} (active : Bool) (k : KeptNode Q) (g : Gossip Q) → g.
 whole_kind true k g e = λ i. kind.Gossip (record g { copies = (ap greatest_of (take_all (length k.log) k.log (omega arith)) ∙ sym e) i })
 whole_kind false k g e = refl
 
-pub whole_outline : {Q : Type 0} (ks : List (KeptNode Q)) (k : KeptNode Q) (n to : ℕ) → kept_at ks n ≡ Some k → k.state.name ≡ n → IsRecorded k → whole_letter ks (outline k to) ≡ letter_for k.state to
+pub whole_outline : {Q : Type 0} (ks : List (KeptNode Q)) (k : KeptNode Q) (n to : ℕ) → kept_at ks n ≡ Some k → k.node.state.name ≡ n → IsRecorded k → whole_letter ks (outline k to) ≡ letter_for k.node.state to
 whole_outline ks k n to found name recorded =
-    let log : log_at ks k.state.name ≡ k.log = ap (log_at ks) name ∙ ap log_in found in
+    let log : log_at ks k.node.state.name ≡ k.log = ap (log_at ks) name ∙ ap log_in found in
     λ i. record {
-      sender = k.state.name;
+      sender = k.node.state.name;
       addressee = to;
-      kind = ((λ j. kind_with (kind_with (if is_active k.state.status then kind.Gossip (gossip_for k.state to) else kind.Join) copies.empty)
-          (greatest_of (take (if is_active k.state.status then length k.log else 0) (log j))))
-          ∙ whole_kind (is_active k.state.status) k (gossip_for k.state to) recorded) i;
+      kind = ((λ j. kind_with (kind_with (if is_active k.node.state.status then kind.Gossip (gossip_for k.node.state to) else kind.Join) copies.empty)
+          (greatest_of (take (if is_active k.node.state.status then length k.log else 0) (log j))))
+          ∙ whole_kind (is_active k.node.state.status) k (gossip_for k.node.state to) recorded) i;
     }
 
 abbrev is_join : {Q : Type 0} → Kind Q → Bool
@@ -59,12 +59,12 @@ told_within : (active : Bool) (n : ℕ) → (if active then n else 0) ≤ n
 told_within true n = omega arith
 told_within false n = omega arith
 
-pub outline_sent : {Q : Type 0} (ks : List (KeptNode Q)) (k : KeptNode Q) (n to : ℕ) → kept_at ks n ≡ Some k → k.state.name ≡ n → IsSent ks (outline k to)
+pub outline_sent : {Q : Type 0} (ks : List (KeptNode Q)) (k : KeptNode Q) (n to : ℕ) → kept_at ks n ≡ Some k → k.node.state.name ≡ n → IsSent ks (outline k to)
 outline_sent ks k n to found name =
-    let log : log_at ks k.state.name ≡ k.log = ap (log_at ks) name ∙ ap log_in found in
+    let log : log_at ks k.node.state.name ≡ k.log = ap (log_at ks) name ∙ ap log_in found in
     record {
-      within = subst (λ cs. (if is_active k.state.status then length k.log else 0) ≤ length cs) (sym log) (told_within (is_active k.state.status) (length k.log));
-      join = told_of (is_active k.state.status) (length k.log) (gossip_for k.state to);
+      within = subst (λ cs. (if is_active k.node.state.status then length k.log else 0) ≤ length cs) (sym log) (told_within (is_active k.node.state.status) (length k.log));
+      join = told_of (is_active k.node.state.status) (length k.log) (gossip_for k.node.state to);
     }
 
 pub kept_sent : {Q : Type 0} (ks : List (KeptNode Q)) (ss : List (SentState Q)) (s : SentState Q) (ms : List ℕ) → IsKept ks ss ms → IsSent ks s → IsKept ks (ss ++ s ∷ []) ms
@@ -93,11 +93,11 @@ stays ks (suc i) x e =
     ∙ ap (slice_set (states_of ks) i) (sym (get_or_from_slice_get (states_of ks) i x x e)) ∙ set-get_or (states_of ks) i x
 
 pub send_world : {Q : Type 0} (ks : List (KeptNode Q)) (ss after : List (SentState Q)) (h : List Event) (ms : List Mark) (n to count : ℕ) (k : KeptNode Q) (s : SentState Q)
-    → kept_at ks n ≡ Some k → state_at ks n ≡ Some k.state → k.state.name ≡ n → IsRecorded k → s ≡ outline k to → after ≡ ss ++ s ∷ [] → count ≡ length after
+    → kept_at ks n ≡ Some k → state_at ks n ≡ Some k.node.state → k.node.state.name ≡ n → IsRecorded k → s ≡ outline k to → after ≡ ss ++ s ∷ [] → count ≡ length after
     → turn (world_of ks ss h ms) (step.Send n to) ≡ record { world = world_of ks after h ms; effect = effect.Sent count }
 send_world ks ss after h ms n to count k s found there name recorded same pushed counted =
-    let letters : whole_letters ks ss ++ letter_for k.state to ∷ [] ≡ whole_letters ks after =
+    let letters : whole_letters ks ss ++ letter_for k.node.state to ∷ [] ≡ whole_letters ks after =
     sym (ap (whole_letters ks) pushed ∙ map-append (whole_letter ks) ss (s ∷ []) ∙ ap (λ l. whole_letters ks ss ++ l ∷ []) (ap (whole_letter ks) same ∙ whole_outline ks k n to found name recorded)) in
     let number : length (whole_letters ks ss) + 1 ≡ count = ap (λ m. m + 1) (length-map ss (whole_letter ks)) ∙ sym (counted ∙ ap length pushed ∙ length-append ss (s ∷ [])) in
-    step_turn (world_of ks ss h ms) (step.Send n to) n (change.Send to) refl ∙ ap (λ o. turn_at (world_of ks ss h ms) n o (change.Send to)) there ∙ sent_turn ks ss h ms n to k.state (stays ks n k.state there)
+    step_turn (world_of ks ss h ms) (step.Send n to) n (change.Send to) refl ∙ ap (λ o. turn_at (world_of ks ss h ms) n o (change.Send to)) there ∙ sent_turn ks ss h ms n to k.node.state (stays ks n k.node.state there)
     ∙ λ i. record { world = record { nodes = states_of ks; letters = letters i; history = h; marks = ms }; effect = effect.Sent (number i) }

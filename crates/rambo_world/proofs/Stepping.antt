@@ -17,12 +17,12 @@ use Rattle.rambo_letters.proofs.Lists.{some_is}
 use Rattle.rambo_world.proofs.Growth.{Extends-refl}
 
 -- a node gains copies alone, so it keeps what it has merged
-pub keeps_merged : {Q : Type 0} (x y : KeptNode Q) (c : Copies) → IsRecorded x → Grows x y → joined x.state.registers c ≡ x.state.registers → joined y.state.registers c ≡ y.state.registers
+pub keeps_merged : {Q : Type 0} (x y : KeptNode Q) (c : Copies) → IsRecorded x → Grows x y → joined x.node.state.registers c ≡ x.node.state.registers → joined y.node.state.registers c ≡ y.node.state.registers
 keeps_merged x y c recorded grows holds =
     let more = grows.extends.0 in
-    let gain : y.state.registers ≡ joined x.state.registers (greatest_of more) =
+    let gain : y.node.state.registers ≡ joined x.node.state.registers (greatest_of more) =
     grows.recorded recorded ∙ ap greatest_of grows.extends.1 ∙ greatest_of-append x.log more ∙ ap (λ r. joined r (greatest_of more)) (sym recorded) in
-    ap (λ r. joined r c) gain ∙ joined-absorbed x.state.registers c (greatest_of more) holds ∙ sym gain
+    ap (λ r. joined r c) gain ∙ joined-absorbed x.node.state.registers c (greatest_of more) holds ∙ sym gain
 
 module _ {Q : Type 0} (old new : List (KeptNode Q)) (grow : AllGrow old new) where
   -- the node of a place, after and before
@@ -71,7 +71,7 @@ module _ {Q : Type 0} (old new : List (KeptNode Q)) (grow : AllGrow old new) whe
       let told = told_stays from (merged_at ms to from) merged.within in
       record {
         within = told.0;
-        holds = ap (λ cs. joined y.state.registers (greatest_of cs)) told.1 ∙ keeps_merged x y (greatest_of (take (merged_at ms to from) (log_at old from))) recorded grows merged.holds;
+        holds = ap (λ cs. joined y.node.state.registers (greatest_of cs)) told.1 ∙ keeps_merged x y (greatest_of (take (merged_at ms to from) (log_at old from))) recorded grows merged.holds;
       }
 
   pub kept_stays : (ss : List (SentState Q)) (ms : List ℕ) → IsKept old ss ms → IsKept new ss ms

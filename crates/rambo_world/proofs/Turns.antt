@@ -31,11 +31,11 @@ err_alone (Err f) None n e = e
 err_alone (Err f) (Some g) n e = absurd (true≢false (ap is_some n))
 
 -- a node that is there is kept
-kept_some : {Q : Type 0} (o : Option (KeptNode Q)) (x : NodeState Q) → option_map state_of o ≡ Some x → (k : KeptNode Q) × (o ≡ Some k) × (k.state ≡ x)
+kept_some : {Q : Type 0} (o : Option (KeptNode Q)) (x : NodeState Q) → option_map state_of o ≡ Some x → (k : KeptNode Q) × (o ≡ Some k) × (k.node.state ≡ x)
 kept_some None x e = absurd (false≢true (ap is_some e))
-kept_some (Some k) x e = (k, refl, some_is k.state x e)
+kept_some (Some k) x e = (k, refl, some_is k.node.state x e)
 
-pub kept_there : {Q : Type 0} (ks : List (KeptNode Q)) (n : ℕ) (x : NodeState Q) → state_at ks n ≡ Some x → (k : KeptNode Q) × (kept_at ks n ≡ Some k) × (k.state ≡ x)
+pub kept_there : {Q : Type 0} (ks : List (KeptNode Q)) (n : ℕ) (x : NodeState Q) → state_at ks n ≡ Some x → (k : KeptNode Q) × (kept_at ks n ≡ Some k) × (k.node.state ≡ x)
 kept_there ks zero x e = absurd (false≢true (ap is_some e))
 kept_there ks (suc i) x e = kept_some (kept_at ks (suc i)) x (sym (state_at-kept ks (suc i) (omega arith)) ∙ e)
 

@@ -4,7 +4,6 @@ use Rattle.std.specs.Prelude.{◌≡◌, ℕ, ◌+◌, ◌-◌, ◌≤◌, if◌
 use Rattle.std.specs.FinMap as copies
 use Rattle.std.specs.Option.{IsSomeAnd}
 use Rattle.rambo_names.specs.Names.{IsName}
-use Rattle.rambo_names.specs.Quorums.{QuorumSystem}
 use Rattle.rambo_tag.specs.declared.keyed_version.KeyedVersion.{KeyedVersion}
 use Rattle.rambo_tag.specs.Copies.{Copies, joined}
 use Rattle.rambo_tag.specs.Logs.{greatest_of}
@@ -16,29 +15,47 @@ use Rattle.rambo_gossip.specs.declared.letter.Letter.{Letter}
 use Rattle.rambo_gossip.specs.declared.letter.Kind.TheVariants as kind
 use Rattle.rambo_gossip.specs.Letters.{letter_with}
 use Rattle.rambo_node.specs.Letters.{letter_for}
-use Rattle.rambo_node.specs.Nodes.{NodeState, first_node}
+use Rattle.rambo_node.specs.Nodes.{NodeState, RoomyNode}
 use Rattle.rambo_run.specs.Worlds.{node_at}
 
 -- a node as it is kept, with the log of the copies that its registers took on, the oldest first
 pub record KeptNode (Q : Type 0) : Type 0 where
-  pub state : NodeState Q
+  pub node : RoomyNode Q
   pub log : List KeyedVersion
 
 -- nodes with their logs; one that has none has the empty one
-abbrev pub kept_of : {Q : Type 0} → List (NodeState Q) → List (List KeyedVersion) → List (KeptNode Q)
+abbrev pub kept_of : {Q : Type 0} → List (RoomyNode Q) → List (List KeyedVersion) → List (KeptNode Q)
 kept_of [] ls = []
-kept_of (x ∷ xs) [] = record { state = x; log = [] } ∷ kept_of xs []
-kept_of (x ∷ xs) (l ∷ ls) = record { state = x; log = l } ∷ kept_of xs ls
+kept_of (x ∷ xs) [] = record { node = x; log = [] } ∷ kept_of xs []
+kept_of (x ∷ xs) (l ∷ ls) = record { node = x; log = l } ∷ kept_of xs ls
 
 -- new is old with more at its end
 abbrev pub Extends : List KeyedVersion → List KeyedVersion → Type 0
 Extends old new = (more : List KeyedVersion) × (new ≡ old ++ more)
 
 abbrev pub state_of : {Q : Type 0} → KeptNode Q → NodeState Q
-state_of k = k.state
+state_of k = k.node.state
 
 abbrev pub states_of : {Q : Type 0} → List (KeptNode Q) → List (NodeState Q)
 states_of ks = map state_of ks
+
+abbrev pub log_of : {Q : Type 0} → KeptNode Q → List KeyedVersion
+log_of k = k.log
+
+abbrev pub logs_of : {Q : Type 0} → List (KeptNode Q) → List (List KeyedVersion)
+logs_of ks = map log_of ks
+
+-- nodes without their room
+abbrev pub node_state : {Q : Type 0} → RoomyNode Q → NodeState Q
+node_state x = x.state
+
+abbrev pub node_states : {Q : Type 0} → List (RoomyNode Q) → List (NodeState Q)
+node_states xs = map node_state xs
+
+-- all nodes are as before, but for their room
+pub record SameBarRoom {Q : Type 0} (old new : List (KeptNode Q)) : Type 0 where
+  pub states : states_of new ≡ states_of old
+  pub logs : logs_of new ≡ logs_of old
 
 abbrev pub kept_at : {Q : Type 0} → List (KeptNode Q) → ℕ → Option (KeptNode Q)
 kept_at ks name = slice_get ks (name - 1)
@@ -64,12 +81,7 @@ whole_letters ks ss = map (whole_letter ks) ss
 
 -- the letter of a node as it is kept
 abbrev pub outline : {Q : Type 0} → KeptNode Q → ℕ → SentState Q
-outline k to = record { letter = letter_with (letter_for k.state to) copies.empty; told = if is_active k.state.status then length k.log else 0 }
-
--- nodes of these names before any step
-unfoldable pub fresh_nodes : {Q : Type 0} → QuorumSystem Q → Q → List ℕ → List (KeptNode Q)
-fresh_nodes s founders [] = []
-fresh_nodes s founders (n ∷ ns) = record { state = first_node s founders n; log = [] } ∷ fresh_nodes s founders ns
+outline k to = record { letter = letter_with (letter_for k.node.state to) copies.empty; told = if is_active k.node.state.status then length k.log else 0 }
 
 -- the states with that of one name put in another way
 abbrev pub moved_in : {Q : Type 0} → ℕ → Option (NodeState Q) → (NodeState Q → NodeState Q) → List (NodeState Q) → List (NodeState Q)
@@ -84,11 +96,11 @@ moved ks name f = moved_in name (state_at ks name) f (states_of ks)
 
 -- the copies of a node are the greatest of its log
 abbrev pub IsRecorded : {Q : Type 0} → KeptNode Q → Type 0
-IsRecorded k = k.state.registers ≡ greatest_of k.log
+IsRecorded k = k.node.state.registers ≡ greatest_of k.log
 
 -- a node after a step: it keeps its name, and its log grows at its end, so that its copies stay recorded
 pub record Grows {Q : Type 0} (old new : KeptNode Q) : Type 0 where
-  pub name : new.state.name ≡ old.state.name
+  pub name : new.node.state.name ≡ old.node.state.name
   pub extends : Extends old.log new.log
   pub recorded : IsRecorded old → IsRecorded new
 
@@ -105,14 +117,14 @@ pub record IsSent {Q : Type 0} (ks : List (KeptNode Q)) (s : SentState Q) : Type
 -- a node has merged what it is told to have merged
 pub record HasMerged {Q : Type 0} (ks : List (KeptNode Q)) (counts : List ℕ) (to from : ℕ) (k : KeptNode Q) : Type 0 where
   pub within : merged_at counts to from ≤ length (log_at ks from)
-  pub holds : joined k.state.registers (greatest_of (take (merged_at counts to from) (log_at ks from))) ≡ k.state.registers
+  pub holds : joined k.node.state.registers (greatest_of (take (merged_at counts to from) (log_at ks from))) ≡ k.node.state.registers
 
 -- what holds of the nodes, the letters and the counts of every world: the nodes are those of the names 1 to 64, their
 -- copies are recorded, letters tell of what was logged, and what counts as merged was merged
 pub record IsKept {Q : Type 0} (ks : List (KeptNode Q)) (ss : List (SentState Q)) (ms : List ℕ) : Type 0 where
   pub nodes : length ks ≡ 64
   pub counts : length ms ≡ 4096
-  pub names : (place : ℕ) (k : KeptNode Q) → slice_get ks place ≡ Some k → k.state.name ≡ place + 1
+  pub names : (place : ℕ) (k : KeptNode Q) → slice_get ks place ≡ Some k → k.node.state.name ≡ place + 1
   pub recorded : (place : ℕ) (k : KeptNode Q) → slice_get ks place ≡ Some k → IsRecorded k
   pub sent : (place : ℕ) (s : SentState Q) → slice_get ss place ≡ Some s → IsSent ks s
   pub merged : (to from : ℕ) (k : KeptNode Q) → IsName to → IsName from → kept_at ks to ≡ Some k → HasMerged ks ms to from k

@@ -5,7 +5,7 @@ ghost use Rattle.rambo_node.specs.declared.effect.Effect.TheVariants as effect;
 ghost use Rattle.rambo_run.specs.Worlds.{letter_at};
 ghost use Rattle.rambo_run.specs.Steps.{causes_of, delivery, refusal, turn};
 ghost use Rattle.rambo_run.specs.declared.step.Step.TheVariants as step;
-ghost use Rattle.rambo_world.specs.Kept.{IsKept};
+ghost use Rattle.rambo_world.specs.Kept.{IsKept, SameBarRoom};
 ghost use Rattle.rambo_world.specs.Deliveries.{MayHear, IsDelivered};
 ghost use Rattle.rambo_world.specs.Direct.{pass_refusal, passed, MayPass, IsPassed};
 
@@ -90,7 +90,7 @@ fn pass<Q: Quorums, S: Replica>(
     requires kept { IsKept nodes.old [] merged.old }
     ensures kept { IsKept nodes.new [] merged.new }
     ensures ok { OnOk result (IsPassed nodes.old nodes.new from to) }
-    ensures err { OnErr result (nodes.new ≡ nodes.old) }
+    ensures err { OnErr result (SameBarRoom nodes.old nodes.new) }
     ensures refused { IfErr result (λ r. r ≡ Refusal.OutOfMemory) }
 {
     let heard = nodes.pass(from, to, merged.of(to, from))?;
@@ -109,7 +109,7 @@ fn hear<Q: Quorums, S: Replica>(
     requires kept { IsKept nodes.old letters.now merged.old }
     ensures kept { IsKept nodes.new letters.now merged.new }
     ensures ok { OnOk result (IsDelivered nodes.old nodes.new letters.now number) }
-    ensures err { OnErr result (nodes.new ≡ nodes.old) }
+    ensures err { OnErr result (SameBarRoom nodes.old nodes.new) }
     ensures refused { IfErr result (λ r. r ≡ Refusal.OutOfMemory) }
 {
     let sent = match letters.get(number) {

@@ -1,5 +1,5 @@
 //! The nodes of a world, and the logs of their copies.
-ghost use Rattle.std.specs.Prelude.{◌≡◌, ◌≢◌, ◌+◌, ◌-◌, ◌<◌, ◌≤◌, max, List, ℕ, None, Some, length, true, slice_get, slice_set, OnOk, OnErr, IfOk, IfErr};
+ghost use Rattle.std.specs.Prelude.{◌≡◌, ◌≢◌, ◌+◌, ◌-◌, ◌<◌, ◌≤◌, max, List, [], ℕ, None, Some, length, replicate, true, slice_get, slice_set, OnOk, OnErr, IfOk, IfErr};
 ghost use Rattle.rambo_names.specs.Names.{IsName, rising};
 ghost use Rattle.rambo_names.specs.Refusals.{least};
 ghost use Rattle.rambo_tag.specs.declared.keyed_version.KeyedVersion.{KeyedVersion};
@@ -14,7 +14,7 @@ ghost use Rattle.rambo_node.specs.Nodes.{NodeState, first_node, open_call};
 ghost use Rattle.rambo_run.specs.Runs.{maps_of};
 ghost use Rattle.rambo_run.specs.Steps.{causes_at};
 ghost use Rattle.rambo_run.specs.Worlds.{first_nodes};
-ghost use Rattle.rambo_world.specs.Kept.{KeptNode, states_of, state_at, kept_at, log_at, moved, outline, AllGrow, fresh_nodes, brought};
+ghost use Rattle.rambo_world.specs.Kept.{KeptNode, states_of, logs_of, node_states, state_at, kept_at, log_at, moved, outline, AllGrow, SameBarRoom, brought};
 ghost use Rattle.rambo_world.specs.Logging.{listed, keeps_copies};
 ghost use Rattle.rambo_world.specs.Direct.{outlined_for, brought_from};
 
@@ -70,7 +70,8 @@ impl<Q: Quorums, S: Replica> Model for Nodes<Q, S> {
 impl<Q: Quorums, S: Replica> Nodes<Q, S> {
     // The nodes of the names 1 to 64 before any step. The copies of each are made by `fresh` of a replica.
     pub(crate) fn new(alloc: Global, founders: Q, replica: &S) -> Result<Self, Refusal>
-        ensures first { IfOk result (λ n. n ≡ fresh_nodes Q.system founders (rising 64 1)) }
+        ensures states { IfOk result (λ n. states_of n ≡ first_nodes Q.system founders (rising 64 1)) }
+        ensures logs { IfOk result (λ n. logs_of n ≡ replicate 64 []) }
         ensures refused { IfErr result (λ r. r ≡ Refusal.OutOfMemory) }
     {
         let logs = Logs::new(alloc)?;
@@ -86,7 +87,7 @@ impl<Q: Quorums, S: Replica> Nodes<Q, S> {
 
     // The node of a name.
     pub(crate) fn node(&self, name: Name) -> &Node<Q, S>
-        ensures { state_at self.now name ≡ Some result.now }
+        ensures { state_at self.now name ≡ Some result.now.state }
     {
         &self.list[place_of(name)]
     }
@@ -106,7 +107,7 @@ impl<Q: Quorums, S: Replica> Nodes<Q, S> {
         ensures nodes { OnOk result (states_of self.new ≡ moved self.old name (λ x. (made_by x change.now).node)) }
         ensures deed { IfOk result (λ d. (x : NodeState Q) → state_at self.old name ≡ Some x → d ≡ (made_by x change.now).deed) }
         ensures refused { IfErr result (λ r. r ≡ Refusal.OutOfMemory) }
-        ensures err { OnErr result (self.new ≡ self.old) }
+        ensures err { OnErr result (SameBarRoom self.old self.new) }
         ensures grow { AllGrow self.old self.new }
     {
         let deed = self.list[place_of(name)].act(change)?;
@@ -119,7 +120,7 @@ impl<Q: Quorums, S: Replica> Nodes<Q, S> {
         ensures nodes { OnOk result (states_of self.new ≡ moved self.old name (λ x. (made_by x (Change.Call op)).node)) }
         ensures id { IfOk result (λ id. (x : NodeState Q) → state_at self.old name ≡ Some x → id ≡ record { name = x.name; number = x.made + 1 }) }
         ensures refused { IfErr result (λ r. r ≡ Refusal.OutOfMemory) }
-        ensures err { OnErr result (self.new ≡ self.old) }
+        ensures err { OnErr result (SameBarRoom self.old self.new) }
         ensures grow { AllGrow self.old self.new }
     {
         let id = self.list[place_of(name)].begin(op)?;
@@ -134,7 +135,7 @@ impl<Q: Quorums, S: Replica> Nodes<Q, S> {
         ensures nodes { OnOk result (states_of self.new ≡ moved self.old id.name (λ x. (made_by x (Change.Advance id)).node)) }
         ensures deed { OnOk result ((x : NodeState Q) → state_at self.old id.name ≡ Some x → deed.new ≡ record (made_by x (Change.Advance id)).deed { copy = None }) }
         ensures refused { IfErr result (λ r. r ≡ Refusal.OutOfMemory) }
-        ensures err { OnErr result ((self.new ≡ self.old) × (deed.new ≡ deed.old)) }
+        ensures err { OnErr result (SameBarRoom self.old self.new × (deed.new ≡ deed.old)) }
         ensures grow { AllGrow self.old self.new }
     {
         make_room(&self.list[place_of(id.name)], &id, &mut self.logs)?;
@@ -155,7 +156,7 @@ impl<Q: Quorums, S: Replica> Nodes<Q, S> {
         ensures nodes { OnOk result (states_of self.new ≡ moved self.old letter.now.addressee (λ x. (made_by x (Change.Deliver (letter_with letter.now (brought self.old letter.now start end)))).node)) }
         ensures enough { joined (greatest_of (log_at self.old letter.now.addressee)) (brought self.old letter.now start end) ≡ joined (greatest_of (log_at self.old letter.now.addressee)) (greatest_of (part (log_at self.old letter.now.sender) start end)) }
         ensures refused { IfErr result (λ r. r ≡ Refusal.OutOfMemory) }
-        ensures err { OnErr result (self.new ≡ self.old) }
+        ensures err { OnErr result (SameBarRoom self.old self.new) }
         ensures grow { AllGrow self.old self.new }
     {
         let (to, from) = (letter.addressee, letter.sender);
@@ -179,7 +180,7 @@ impl<Q: Quorums, S: Replica> Nodes<Q, S> {
         ensures enough { OnOk result ((k : KeptNode Q) → kept_at self.old from ≡ Some k
             → joined (greatest_of (log_at self.old to)) (brought_from self.old to from start (max start (outline k to).told)) ≡ joined (greatest_of (log_at self.old to)) (greatest_of (part (log_at self.old from) start (max start (outline k to).told)))) }
         ensures refused { IfErr result (λ r. r ≡ Refusal.OutOfMemory) }
-        ensures err { OnErr result (self.new ≡ self.old) }
+        ensures err { OnErr result (SameBarRoom self.old self.new) }
         ensures grow { AllGrow self.old self.new }
     {
         let told = self.outline(from, to).told;
@@ -220,12 +221,12 @@ fn hear_of<Q: Quorums, S: Replica>(
 ) -> Result<(), Refusal>
     requires count { length nodes.old ≡ 64 }
     requires apart { from ≢ to }
-    requires accepted { (x y : NodeState Q) → slice_get nodes.old (from - 1) ≡ Some x → slice_get nodes.old (to - 1) ≡ Some y
+    requires accepted { (x y : NodeState Q) → slice_get (node_states nodes.old) (from - 1) ≡ Some x → slice_get (node_states nodes.old) (to - 1) ≡ Some y
         → refusal_of Q.system y (Change.Deliver (outlined_for x to)) ≡ None }
-    ensures ok { (x y : NodeState Q) → slice_get nodes.old (from - 1) ≡ Some x → slice_get nodes.old (to - 1) ≡ Some y
-        → OnOk result (nodes.new ≡ slice_set nodes.old (to - 1) (made_by y (Change.Deliver (letter_with (outlined_for x to) copies.now))).node) }
+    ensures ok { (x y : NodeState Q) → slice_get (node_states nodes.old) (from - 1) ≡ Some x → slice_get (node_states nodes.old) (to - 1) ≡ Some y
+        → OnOk result (node_states nodes.new ≡ slice_set (node_states nodes.old) (to - 1) (made_by y (Change.Deliver (letter_with (outlined_for x to) copies.now))).node) }
     ensures refused { IfErr result (λ r. r ≡ Refusal.OutOfMemory) }
-    ensures err { OnErr result (nodes.new ≡ nodes.old) }
+    ensures err { OnErr result (node_states nodes.new ≡ node_states nodes.old) }
 {
     let (sender, addressee) = (place_of(from), place_of(to));
     if sender < addressee {
@@ -244,10 +245,10 @@ fn hear<Q: Quorums, S: Replica>(
     to: Name,
     copies: &Pack,
 ) -> Result<(), Refusal>
-    requires { refusal_of Q.system node.old (Change.Deliver (outlined_for sender.now to)) ≡ None }
-    ensures node { OnOk result (node.new ≡ (made_by node.old (Change.Deliver (letter_with (outlined_for sender.now to) copies.now))).node) }
+    requires { refusal_of Q.system node.old.state (Change.Deliver (outlined_for sender.now.state to)) ≡ None }
+    ensures node { OnOk result (node.new.state ≡ (made_by node.old.state (Change.Deliver (letter_with (outlined_for sender.now.state to) copies.now))).node) }
     ensures refused { IfErr result (λ r. r ≡ Refusal.OutOfMemory) }
-    ensures err { OnErr result (node.new ≡ node.old) }
+    ensures err { OnErr result (node.new.state ≡ node.old.state) }
 {
     node.hear_outlined(&sender.outline_for(to), copies)
 }
@@ -260,7 +261,7 @@ fn first_node<Q: Quorums, S: Replica>(
     replica: &S,
 ) -> Result<Node<Q, S>, Refusal>
     requires { IsName number }
-    ensures first { IfOk result (λ x. x ≡ first_node Q.system founders number) }
+    ensures first { IfOk result (λ x. x.state ≡ first_node Q.system founders number) }
     ensures refused { IfErr result (λ r. r ≡ Refusal.OutOfMemory) }
 {
     let name = Name::new(number)?;
@@ -273,7 +274,7 @@ fn first_nodes<Q: Quorums, S: Replica>(
     founders: Q,
     replica: &S,
 ) -> Result<Vec<Node<Q, S>>, Refusal>
-    ensures first { IfOk result (λ xs. xs.items ≡ first_nodes Q.system founders (rising 64 1)) }
+    ensures first { IfOk result (λ xs. node_states xs.items ≡ first_nodes Q.system founders (rising 64 1)) }
     ensures refused { IfErr result (λ r. r ≡ Refusal.OutOfMemory) }
 {
     let mut list = Vec::new(alloc);
@@ -290,7 +291,7 @@ fn make_room<Q: Quorums, S: Replica>(
     logs: &mut Logs,
 ) -> Result<(), Refusal>
     ensures same { logs.new.logs ≡ logs.old.logs }
-    ensures room { OnOk result ((key value : List ℕ) → query_in (open_call node.now id.now) ≡ Some (asked.Set key value) → logs.new.room ≡ Some (record { name = id.now.name; key = key })) }
+    ensures room { OnOk result ((key value : List ℕ) → query_in (open_call node.now.state id.now) ≡ Some (asked.Set key value) → logs.new.room ≡ Some (record { name = id.now.name; key = key })) }
     ensures refused { IfErr result (λ r. r ≡ Refusal.OutOfMemory) }
 {
     match node.query(id) {
@@ -323,7 +324,7 @@ fn maps_of<Q: Quorums, S: Replica>(
     alloc: Global,
     nodes: &[Node<Q, S>],
 ) -> Result<Vec<NodeMap<Q>>, Refusal>
-    ensures maps { IfOk result (λ maps. maps.items ≡ maps_of nodes.now) }
+    ensures maps { IfOk result (λ maps. maps.items ≡ maps_of (node_states nodes.now)) }
     ensures refused { IfErr result (λ r. r ≡ Refusal.OutOfMemory) }
 {
     let mut maps = Vec::new(alloc);

@@ -1,8 +1,8 @@
-use Rattle.std.proofs.Common.{◌≡◌, Some, IfErr, ap, ◌∙◌, subst}
+use Rattle.std.proofs.Common.{◌≡◌, Some, IfErr, subst}
 use Rattle.rambo_run.specs.Steps.{delivery}
 use Rattle.rambo_deeds.specs.Deeds.{judged}
 use Rattle.rambo_deeds.proofs.deeds.may_deliver.Goals as goal
 
 pub returns-in-Some-clause-refused : goal.returns-in-Some-clause-refused
 returns-in-Some-clause-refused g c =
-    subst (λ o. IfErr c.may_hear.result (λ r. judged g.Q.Quorums.system c.args.node.now (delivery o) ≡ Some r)) c.in-Some.ensures c.may_hear.ensures.refused
+    subst (λ o. IfErr c.may_hear.result (λ r. judged g.Q.Quorums.system c.args.node.now.state (delivery o) ≡ Some r)) c.in-Some.ensures c.may_hear.ensures.refused

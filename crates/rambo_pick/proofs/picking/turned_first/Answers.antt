@@ -1,10 +1,4 @@
-use Rattle.std.proofs.Common.{sym, ap, ◌∙◌, is_some, [], ◌∷◌, List}
 use Rattle.rambo_names.proofs.Sizes.{up_fits, back_fits, next, variant_fits}
-use Rattle.rambo_node.specs.declared.change.Change.TheVariants as change
-use Rattle.rambo_run.specs.declared.step.Step.TheVariants as step
-use Rattle.rambo_node.specs.Changes.{refusal_of}
-use Rattle.rambo_pick.specs.Picking.{Candidate}
-use Rattle.rambo_pick.proofs.Picks.{taken, passed}
 use Rattle.rambo_pick.proofs.picking.turned_first.Goals as goal
 
 pub refused-requires : goal.refused-requires

@@ -43,19 +43,19 @@ returns-clause-kept g c =
     let upto = c.max.ensures ∙ ap (λ m. max m sent.told) count in
     let pack = brought ks l c.of-before.result c.max.result in
     let m = merged_at counts l.addressee l.sender in
-    let state : state_at ks l.addressee ≡ Some k.0.state = x.1 ∙ ap Some (sym k.2) in
-    let own : k.0.state.registers ≡ greatest_of (log_at ks l.addressee) = kept.recorded (l.addressee - 1) k.0 k.1 ∙ ap greatest_of (sym (ap log_in k.1)) in
+    let state : state_at ks l.addressee ≡ Some k.0.node.state = x.1 ∙ ap Some (sym k.2) in
+    let own : k.0.node.state.registers ≡ greatest_of (log_at ks l.addressee) = kept.recorded (l.addressee - 1) k.0 k.1 ∙ ap greatest_of (sym (ap log_in k.1)) in
     let enough : joined (greatest_of (log_at ks l.addressee)) pack ≡ joined (greatest_of (log_at ks l.addressee)) (greatest_of (part (log_at ks l.sender) c.of-before.result c.max.result)) =
     subst (λ l. joined (greatest_of (log_at ks l.addressee)) (brought ks l c.of-before.result c.max.result) ≡ joined (greatest_of (log_at ks l.addressee)) (greatest_of (part (log_at ks l.sender) c.of-before.result c.max.result))) (sym same) c.hear.ensures.enough in
-    let packed : joined k.0.state.registers pack ≡ joined k.0.state.registers (greatest_of (drop m (take (max m sent.told) (log_at ks l.sender)))) =
+    let packed : joined k.0.node.state.registers pack ≡ joined k.0.node.state.registers (greatest_of (drop m (take (max m sent.told) (log_at ks l.sender)))) =
     ap (λ r. joined r pack) own ∙ enough ∙ ap (λ r. joined r (greatest_of (part (log_at ks l.sender) c.of-before.result c.max.result))) (sym own)
-    ∙ (λ i. joined k.0.state.registers (greatest_of (drop (count i) (take (upto i) (log_at ks l.sender))))) in
+    ∙ (λ i. joined k.0.node.state.registers (greatest_of (drop (count i) (take (upto i) (log_at ks l.sender))))) in
     let heard : states_of c.hear.new.self ≡ moved ks l.addressee (λ y. heard_letter y (letter_with l pack)) =
     c.in_ok-hear.ensures.nodes ∙ ap (λ l. moved ks l.addressee (λ y. (made_by y (change.Deliver (letter_with l (brought ks l c.of-before.result c.max.result)))).node)) (sym same) ∙ delivered_moved ks l.addressee (letter_with l pack) (letter_with l pack) refl in
     subst (IsKept c.hear.new.self ss) (sym c.raise.ensures)
     (kept_raised ks c.hear.new.self ss counts kept c.hear.ensures.grow sent sent_is k.0 pack c.of-before.ensures.to c.of-before.ensures.from k.1 packed
     (kept_stays ks c.hear.new.self c.hear.ensures.grow ss counts kept)
-    (λ y there. moved_state ks c.hear.new.self l.addressee (λ x. heard_letter x (letter_with l pack)) k.0.state y heard state there))
+    (λ y there. moved_state ks c.hear.new.self l.addressee (λ x. heard_letter x (letter_with l pack)) k.0.node.state y heard state there))
 
 pub returns-clause-ok : goal.returns-clause-ok
 returns-clause-ok g c h ms =
@@ -76,13 +76,13 @@ returns-clause-ok g c h ms =
     let upto = c.max.ensures ∙ ap (λ m. max m sent.told) count in
     let pack = brought ks l c.of-before.result c.max.result in
     let m = merged_at counts l.addressee l.sender in
-    let state : state_at ks l.addressee ≡ Some k.0.state = x.1 ∙ ap Some (sym k.2) in
-    let own : k.0.state.registers ≡ greatest_of (log_at ks l.addressee) = kept.recorded (l.addressee - 1) k.0 k.1 ∙ ap greatest_of (sym (ap log_in k.1)) in
+    let state : state_at ks l.addressee ≡ Some k.0.node.state = x.1 ∙ ap Some (sym k.2) in
+    let own : k.0.node.state.registers ≡ greatest_of (log_at ks l.addressee) = kept.recorded (l.addressee - 1) k.0 k.1 ∙ ap greatest_of (sym (ap log_in k.1)) in
     let enough : joined (greatest_of (log_at ks l.addressee)) pack ≡ joined (greatest_of (log_at ks l.addressee)) (greatest_of (part (log_at ks l.sender) c.of-before.result c.max.result)) =
     subst (λ l. joined (greatest_of (log_at ks l.addressee)) (brought ks l c.of-before.result c.max.result) ≡ joined (greatest_of (log_at ks l.addressee)) (greatest_of (part (log_at ks l.sender) c.of-before.result c.max.result))) (sym same) c.hear.ensures.enough in
-    let packed : joined k.0.state.registers pack ≡ joined k.0.state.registers (greatest_of (drop m (take (max m sent.told) (log_at ks l.sender)))) =
+    let packed : joined k.0.node.state.registers pack ≡ joined k.0.node.state.registers (greatest_of (drop m (take (max m sent.told) (log_at ks l.sender)))) =
     ap (λ r. joined r pack) own ∙ enough ∙ ap (λ r. joined r (greatest_of (part (log_at ks l.sender) c.of-before.result c.max.result))) (sym own)
-    ∙ (λ i. joined k.0.state.registers (greatest_of (drop (count i) (take (upto i) (log_at ks l.sender))))) in
+    ∙ (λ i. joined k.0.node.state.registers (greatest_of (drop (count i) (take (upto i) (log_at ks l.sender))))) in
     let heard : states_of c.hear.new.self ≡ moved ks l.addressee (λ y. heard_letter y (letter_with l pack)) =
     c.in_ok-hear.ensures.nodes ∙ ap (λ l. moved ks l.addressee (λ y. (made_by y (change.Deliver (letter_with l (brought ks l c.of-before.result c.max.result)))).node)) (sym same) ∙ delivered_moved ks l.addressee (letter_with l pack) (letter_with l pack) refl in
     deliver_world ks c.hear.new.self ss counts kept c.hear.ensures.grow sent sent_is k.0 pack c.of-before.ensures.to c.of-before.ensures.from k.1 packed
@@ -90,3 +90,6 @@ returns-clause-ok g c h ms =
 
 pub get-requires : goal.get-requires
 get-requires g c = assumption
+
+pub returns-in_err-hear-clause-kept : goal.returns-in_err-hear-clause-kept
+returns-in_err-hear-clause-kept g c = kept_stays c.args.nodes.now c.hear.new.self c.hear.ensures.grow c.args.letters.now c.args.merged.now c.requires.kept

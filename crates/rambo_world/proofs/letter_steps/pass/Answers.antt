@@ -3,6 +3,7 @@ use Rattle.rambo_logs.specs.Merged.{merged_raised}
 use Rattle.rambo_world.specs.Kept.{outline, IsKept}
 use Rattle.rambo_world.proofs.Meeting.{item}
 use Rattle.rambo_world.proofs.Passing.{kept_passed, is_passed}
+use Rattle.rambo_world.proofs.Stepping.{kept_stays}
 use Rattle.rambo_world.proofs.letter_steps.pass.Goals as goal
 
 pub pass-requires : goal.pass-requires
@@ -23,3 +24,6 @@ pub returns-clause-ok : goal.returns-clause-ok
 returns-clause-ok g c = λ k found.
     is_passed g.Q.Quorums.system c.args.nodes.now c.pass.new.self c.args.merged.now c.requires.kept c.pass.ensures.grow c.args.from c.args.to c.of.result c.of.ensures.to c.of.ensures.from c.of.ensures.count
     k found (c.requires.accepted k found (outline k c.args.to) refl) (c.in_ok-heard.ensures.enough k found) (c.in_ok-heard.ensures.nodes k found)
+
+pub returns-in_err-heard-clause-kept : goal.returns-in_err-heard-clause-kept
+returns-in_err-heard-clause-kept g c = kept_stays c.args.nodes.now c.pass.new.self c.pass.ensures.grow [] c.args.merged.now c.requires.kept

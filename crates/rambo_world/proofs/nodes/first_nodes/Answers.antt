@@ -2,15 +2,16 @@ use Rattle.std.proofs.Common.{◌≡◌, ◌∙◌, ap, arith, refl}
 use Rattle.rambo_names.proofs.Errors.{err_kept, err_if_ok}
 use Rattle.rambo_names.specs.Names.{rising}
 use Rattle.rambo_run.specs.Worlds.{first_nodes}
+use Rattle.rambo_world.specs.Kept.{node_states}
 use Rattle.rambo_world.proofs.Starting.{first_none, first_next}
 use Rattle.rambo_world.proofs.nodes.first_nodes.Goals as goal
 
 pub loop-place-init : goal.loop-place-init
-loop-place-init g c = c.new-list.ensures.items ∙ first_none g.Q.Quorums.system c.args.founders
+loop-place-init g c = ap node_states c.new-list.ensures.items ∙ first_none g.Q.Quorums.system c.args.founders
 
 pub loop-place-preserved : goal.loop-place-preserved
 loop-place-preserved g c =
-    c.in_ok-push.ensures.items
+    ap node_states c.in_ok-push.ensures.items
     ∙ first_next g.Q.Quorums.system c.args.founders c.loop-place.place c.loop-place.list.items c.in_ok-first_node.field-0 c.loop-place.invariant c.in_ok-first_node.ensures.first
 
 pub returns-clause-first : goal.returns-clause-first

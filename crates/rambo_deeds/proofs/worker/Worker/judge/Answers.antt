@@ -24,19 +24,19 @@ judge-requires g c = (back_fits _ _ _ (next _ _ _ _ (up_fits _ _ _ c.requires-ra
 
 pub returns-in-Call-clause-refused : goal.returns-in-Call-clause-refused
 returns-in-Call-clause-refused g c =
-    refused g.Q.Quorums.system c.self.inside.node c.args.self.now c.self.view_is c.args.letters.now c.args.step.now (change.Call c.in-Call.op) c.may_call.result (c.in-Call.field-0, ap (meant_in c.args.letters.now) c.in-Call.is) c.may_call.ensures.refused
+    refused g.Q.Quorums.system c.self.inside.node.state c.args.self.now c.self.view_is c.args.letters.now c.args.step.now (change.Call c.in-Call.op) c.may_call.result (c.in-Call.field-0, ap (meant_in c.args.letters.now) c.in-Call.is) c.may_call.ensures.refused
 
 pub returns-in-Send-clause-refused : goal.returns-in-Send-clause-refused
 returns-in-Send-clause-refused g c =
-    refused g.Q.Quorums.system c.self.inside.node c.args.self.now c.self.view_is c.args.letters.now c.args.step.now (change.Send c.in-Send.to) c.may_send.result (c.in-Send.field-0, ap (meant_in c.args.letters.now) c.in-Send.is) c.may_send.ensures.refused
+    refused g.Q.Quorums.system c.self.inside.node.state c.args.self.now c.self.view_is c.args.letters.now c.args.step.now (change.Send c.in-Send.to) c.may_send.result (c.in-Send.field-0, ap (meant_in c.args.letters.now) c.in-Send.is) c.may_send.ensures.refused
 
 pub returns-in-Advance-clause-refused : goal.returns-in-Advance-clause-refused
 returns-in-Advance-clause-refused g c =
-    refused g.Q.Quorums.system c.self.inside.node c.args.self.now c.self.view_is c.args.letters.now c.args.step.now (change.Advance c.in-Advance.id) c.may_advance.result (c.in-Advance.id.name, ap (meant_in c.args.letters.now) c.in-Advance.is) c.may_advance.ensures.refused
+    refused g.Q.Quorums.system c.self.inside.node.state c.args.self.now c.self.view_is c.args.letters.now c.args.step.now (change.Advance c.in-Advance.id) c.may_advance.result (c.in-Advance.id.name, ap (meant_in c.args.letters.now) c.in-Advance.is) c.may_advance.ensures.refused
 
 pub returns-in-Deliver-clause-refused : goal.returns-in-Deliver-clause-refused
 returns-in-Deliver-clause-refused g c =
-    refused_as g.Q.Quorums.system c.self.inside.node c.args.self.now c.self.view_is c.args.letters.now c.args.step.now _ c.in-Deliver.is c.may_deliver.result c.may_deliver.ensures.refused
+    refused_as g.Q.Quorums.system c.self.inside.node.state c.args.self.now c.self.view_is c.args.letters.now c.args.step.now _ c.in-Deliver.is c.may_deliver.result c.may_deliver.ensures.refused
 
 -- a step of each other kind means the change that is made of it
 means : (g : Over) (c : goal.Joined-change g) → Means c.args.letters.now c.args.step.now c.match-step.change
@@ -55,8 +55,8 @@ means g c =
 
 pub returns-clause-ok : goal.returns-clause-ok
 returns-clause-ok g c =
-    cleared g.Q.Quorums.system c.self.inside.node c.args.self.now c.self.view_is c.args.letters.now c.args.step.now c.match-step.change c.judge.result (means g c) c.judge.ensures.ok
+    cleared g.Q.Quorums.system c.self.inside.node.state c.args.self.now c.self.view_is c.args.letters.now c.args.step.now c.match-step.change c.judge.result (means g c) c.judge.ensures.ok
 
 pub returns-clause-refused : goal.returns-clause-refused
 returns-clause-refused g c =
-    refused g.Q.Quorums.system c.self.inside.node c.args.self.now c.self.view_is c.args.letters.now c.args.step.now c.match-step.change c.judge.result (means g c) c.judge.ensures.refused
+    refused g.Q.Quorums.system c.self.inside.node.state c.args.self.now c.self.view_is c.args.letters.now c.args.step.now c.match-step.change c.judge.result (means g c) c.judge.ensures.refused

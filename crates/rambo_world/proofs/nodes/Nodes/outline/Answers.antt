@@ -16,8 +16,8 @@ returns-clause-sent g c k found =
     let log = slice_index_or ls (c.args.from - 1) [] in
     let below : c.place_of.result < length xs = subst (λ n. c.place_of.result < n) (sym c.self.invariant.0) c.place_of.ensures.within in
     let here = subst (λ now. kept_at now c.args.from ≡ Some (with_log x log)) c.self.view_is (log_here xs ls c.place_of.result c.args.from x x c.place_of.ensures.place c.place_of.ensures.named.0 below c.index-node.ensures) in
-    let active : c.is_active.result ≡ is_active x.status = c.is_active.ensures ∙ ap is_active c.status.ensures in
-    let told : c.if-is_active.told ≡ (if is_active x.status then length log else 0) =
+    let active : c.is_active.result ≡ is_active x.state.status = c.is_active.ensures ∙ ap is_active c.status.ensures in
+    let told : c.if-is_active.told ≡ (if is_active x.state.status then length log else 0) =
     elim c.if-is_active.branch [
       | then-is_active w ↦ w.told-is ∙ w.len-told.ensures.count ∙ ap (λ t. if t then length log else 0) (sym w.if-is_active.true ∙ active)
       | else-is_active w ↦ w.told-is ∙ ap (λ t. if t then length log else 0) (sym w.if-is_active.false ∙ active)

@@ -1,4 +1,4 @@
-use Rattle.std.proofs.Common.{◌≡◌, ℕ, ◌-◌, ◌++◌, max, length, take, drop, List, [], Some, slice_get, slice_set, sym, ap, ◌∙◌, subst, append-nil}
+use Rattle.std.proofs.Common.{◌≡◌, ℕ, ◌-◌, ◌++◌, max, length, take, drop, List, [], Some, slice_get, slice_set, refl, sym, ap, ◌∙◌, subst, append-nil}
 use Rattle.std.specs.Prelude.{slice_index_or}
 use Rattle.std.proofs.lemmas.List.{length-set, set-get_or}
 use Rattle.rambo_tag.proofs.Logged.{greatest_of-nil}
@@ -13,10 +13,11 @@ use Rattle.rambo_node.specs.Nodes.{NodeState}
 use Rattle.rambo_names.proofs.Errors.{on_err}
 use Rattle.rambo_names.proofs.Sizes.{up_fits, back_fits}
 use Rattle.rambo_world.specs.Direct.{outlined_for}
-use Rattle.rambo_world.specs.Kept.{KeptNode, kept_of, kept_at, outline}
+use Rattle.rambo_world.specs.Kept.{KeptNode, kept_of, node_states, kept_at, outline, SameBarRoom}
 use Rattle.rambo_world.proofs.Cutting.{written_over}
 use Rattle.rambo_world.proofs.Meeting.{judged, nothing_new, part_empty, enough_now, met_nodes, met_grow}
-use Rattle.rambo_world.proofs.Zipping.{all_same}
+use Rattle.rambo_world.proofs.Growth.{same_grow}
+use Rattle.rambo_world.proofs.Zipping.{list_same}
 use Rattle.rambo_world.proofs.nodes.Nodes.pass.Goals as goal
 
 pub hear_of-requires : goal.hear_of-requires
@@ -30,7 +31,7 @@ hear_of-requires g c =
         (
           c.requires.apart,
           λ x y at_x at_y. judged g.Q.Quorums.system xs ls c.args.self.now c.self.view_is c.self.invariant.0 c.self.invariant.1 c.args.from c.args.to c.outline.ensures.named c.requires.accepted x y
-              (ap (λ l. slice_get l (c.args.from - 1)) (sym same) ∙ at_x) (ap (λ l. slice_get l (c.args.to - 1)) (sym same) ∙ at_y),
+              (ap (λ l. slice_get (node_states l) (c.args.from - 1)) (sym same) ∙ at_x) (ap (λ l. slice_get (node_states l) (c.args.to - 1)) (sym same) ∙ at_y),
         ),
       ),
     )
@@ -51,7 +52,9 @@ returns-in_err-hear_of-clause-err g c =
     let ys = c.hear_of.new.nodes in
     let same = c.as_mut_slice.ensures.value in
     let back : take c.self.inside.list.len (ys ++ drop (length ys) xs) ≡ ys = written_over xs ys c.self.inside.list.len c.self.inside.list.ok.0 (c.hear_of.auto.nodes ∙ ap length same) in
-    on_err c.from_residual.result (ap (λ l. kept_of l ls) (back ∙ c.in_err-hear_of.ensures.err ∙ same) ∙ c.self.view_is)
+    on_err c.from_residual.result
+    (subst (λ now. SameBarRoom now (kept_of (take c.self.inside.list.len (ys ++ drop (length ys) xs)) ls)) c.self.view_is
+    (list_same xs (take c.self.inside.list.len (ys ++ drop (length ys) xs)) ls ls (c.self.invariant.0 ∙ sym c.self.invariant.1) (ap node_states back ∙ c.in_err-hear_of.ensures.err ∙ ap node_states same) refl))
 
 pub returns-in_err-hear_of-clause-grow : goal.returns-in_err-hear_of-clause-grow
 returns-in_err-hear_of-clause-grow g c =
@@ -60,7 +63,9 @@ returns-in_err-hear_of-clause-grow g c =
     let ys = c.hear_of.new.nodes in
     let same = c.as_mut_slice.ensures.value in
     let back : take c.self.inside.list.len (ys ++ drop (length ys) xs) ≡ ys = written_over xs ys c.self.inside.list.len c.self.inside.list.ok.0 (c.hear_of.auto.nodes ∙ ap length same) in
-    all_same c.args.self.now _ (ap (λ l. kept_of l ls) (back ∙ c.in_err-hear_of.ensures.err ∙ same) ∙ c.self.view_is)
+    same_grow c.args.self.now (kept_of (take c.self.inside.list.len (ys ++ drop (length ys) xs)) ls)
+    (subst (λ now. SameBarRoom now (kept_of (take c.self.inside.list.len (ys ++ drop (length ys) xs)) ls)) c.self.view_is
+    (list_same xs (take c.self.inside.list.len (ys ++ drop (length ys) xs)) ls ls (c.self.invariant.0 ∙ sym c.self.invariant.1) (ap node_states back ∙ c.in_err-hear_of.ensures.err ∙ ap node_states same) refl))
 
 pub invariant_of-self-then-told-start : goal.invariant_of-self-then-told-start
 invariant_of-self-then-told-start g c =
@@ -89,11 +94,11 @@ returns-then-told-start-clause-nodes g c =
     let tells : (k : KeptNode _) → kept_at c.args.self.now c.args.from ≡ Some k → told ≡ (outline k c.args.to).told = λ k found. ap (λ o. o.told) (c.told.view_is ∙ c.outline.ensures.sent k found) in
     let pack = c.pack.ensures ∙ sym greatest_of-nil ∙ ap greatest_of (sym none) in
     let put : ls ≡ slice_set ls (c.args.to - 1) (own ++ more) = sym (ap (slice_set ls (c.args.to - 1)) (ap (λ l. own ++ l) none ∙ append-nil own) ∙ set-get_or ls (c.args.to - 1) []) in
-    let heard : (x y : NodeState _) → slice_get xs (c.args.from - 1) ≡ Some x → slice_get xs (c.args.to - 1) ≡ Some y
-    → take c.self.inside.list.len (ys ++ drop (length ys) xs) ≡ slice_set xs (c.args.to - 1) (made_by y (change.Deliver (letter_with (outlined_for x c.args.to) (greatest_of more)))).node
-    = λ x y at_x at_y. back
-    ∙ c.in_ok-hear_of.ensures.ok x y (ap (λ l. slice_get l (c.args.from - 1)) same ∙ at_x) (ap (λ l. slice_get l (c.args.to - 1)) same ∙ at_y)
-    ∙ (λ i. slice_set (same i) (c.args.to - 1) (made_by y (change.Deliver (letter_with (outlined_for x c.args.to) (pack i)))).node) in
+    let heard : (x y : NodeState _) → slice_get (node_states xs) (c.args.from - 1) ≡ Some x → slice_get (node_states xs) (c.args.to - 1) ≡ Some y
+    → node_states (take c.self.inside.list.len (ys ++ drop (length ys) xs)) ≡ slice_set (node_states xs) (c.args.to - 1) (made_by y (change.Deliver (letter_with (outlined_for x c.args.to) (greatest_of more)))).node
+    = λ x y at_x at_y. ap node_states back
+    ∙ c.in_ok-hear_of.ensures.ok x y (ap (λ l. slice_get (node_states l) (c.args.from - 1)) same ∙ at_x) (ap (λ l. slice_get (node_states l) (c.args.to - 1)) same ∙ at_y)
+    ∙ (λ i. slice_set (node_states (same i)) (c.args.to - 1) (made_by y (change.Deliver (letter_with (outlined_for x c.args.to) (pack i)))).node) in
     met_nodes g.Q.Quorums.system xs ls c.args.self.now c.self.view_is c.self.invariant.0 c.self.invariant.1 c.args.from c.args.to c.outline.ensures.named c.requires.accepted c.args.start told tells (take c.self.inside.list.len (ys ++ drop (length ys) xs)) ls heard put
 
 pub returns-then-told-start-clause-grow : goal.returns-then-told-start-clause-grow
@@ -111,11 +116,11 @@ returns-then-told-start-clause-grow g c =
     let tells : (k : KeptNode _) → kept_at c.args.self.now c.args.from ≡ Some k → told ≡ (outline k c.args.to).told = λ k found. ap (λ o. o.told) (c.told.view_is ∙ c.outline.ensures.sent k found) in
     let pack = c.pack.ensures ∙ sym greatest_of-nil ∙ ap greatest_of (sym none) in
     let put : ls ≡ slice_set ls (c.args.to - 1) (own ++ more) = sym (ap (slice_set ls (c.args.to - 1)) (ap (λ l. own ++ l) none ∙ append-nil own) ∙ set-get_or ls (c.args.to - 1) []) in
-    let heard : (x y : NodeState _) → slice_get xs (c.args.from - 1) ≡ Some x → slice_get xs (c.args.to - 1) ≡ Some y
-    → take c.self.inside.list.len (ys ++ drop (length ys) xs) ≡ slice_set xs (c.args.to - 1) (made_by y (change.Deliver (letter_with (outlined_for x c.args.to) (greatest_of more)))).node
-    = λ x y at_x at_y. back
-    ∙ c.in_ok-hear_of.ensures.ok x y (ap (λ l. slice_get l (c.args.from - 1)) same ∙ at_x) (ap (λ l. slice_get l (c.args.to - 1)) same ∙ at_y)
-    ∙ (λ i. slice_set (same i) (c.args.to - 1) (made_by y (change.Deliver (letter_with (outlined_for x c.args.to) (pack i)))).node) in
+    let heard : (x y : NodeState _) → slice_get (node_states xs) (c.args.from - 1) ≡ Some x → slice_get (node_states xs) (c.args.to - 1) ≡ Some y
+    → node_states (take c.self.inside.list.len (ys ++ drop (length ys) xs)) ≡ slice_set (node_states xs) (c.args.to - 1) (made_by y (change.Deliver (letter_with (outlined_for x c.args.to) (greatest_of more)))).node
+    = λ x y at_x at_y. ap node_states back
+    ∙ c.in_ok-hear_of.ensures.ok x y (ap (λ l. slice_get (node_states l) (c.args.from - 1)) same ∙ at_x) (ap (λ l. slice_get (node_states l) (c.args.to - 1)) same ∙ at_y)
+    ∙ (λ i. slice_set (node_states (same i)) (c.args.to - 1) (made_by y (change.Deliver (letter_with (outlined_for x c.args.to) (pack i)))).node) in
     met_grow g.Q.Quorums.system xs ls c.args.self.now c.self.view_is c.self.invariant.0 c.self.invariant.1 c.args.from c.args.to c.outline.ensures.named c.requires.accepted c.args.start told tells (take c.self.inside.list.len (ys ++ drop (length ys) xs)) ls heard put
 
 pub returns-then-told-start-clause-enough : goal.returns-then-told-start-clause-enough
@@ -131,9 +136,21 @@ returns-then-told-start-clause-enough g c =
     enough_now g.Q.Quorums.system xs ls c.args.self.now c.self.view_is c.self.invariant.0 c.self.invariant.1 c.args.from c.args.to c.outline.ensures.named c.requires.accepted c.args.start told tells
     (ap (λ l. joined (greatest_of own) (greatest_of l)) (none ∙ sym (part_empty theirs c.args.start told c.if-told-start.true)))
 
+pub returns-in_err-bring-clause-err : goal.returns-in_err-bring-clause-err
+returns-in_err-bring-clause-err g c =
+    let xs = c.self.inside.list.items in
+    let ls = c.self.inside.logs.logs in
+    on_err c.from_residual-in_err-bring.result
+    (subst (λ now. SameBarRoom now (kept_of xs c.bring.new.self.logs)) c.self.view_is
+    (list_same xs xs ls c.bring.new.self.logs (c.self.invariant.0 ∙ sym c.self.invariant.1) refl (ap (λ s. s.logs) c.in_err-bring.ensures.err)))
+
 pub returns-in_err-bring-clause-grow : goal.returns-in_err-bring-clause-grow
 returns-in_err-bring-clause-grow g c =
-    all_same c.args.self.now (kept_of c.self.inside.list.items c.bring.new.self.logs) (ap (λ s. kept_of c.self.inside.list.items s.logs) c.in_err-bring.ensures.err ∙ c.self.view_is)
+    let xs = c.self.inside.list.items in
+    let ls = c.self.inside.logs.logs in
+    same_grow c.args.self.now (kept_of xs c.bring.new.self.logs)
+    (subst (λ now. SameBarRoom now (kept_of xs c.bring.new.self.logs)) c.self.view_is
+    (list_same xs xs ls c.bring.new.self.logs (c.self.invariant.0 ∙ sym c.self.invariant.1) refl (ap (λ s. s.logs) c.in_err-bring.ensures.err)))
 
 pub hear_of-requires-2 : goal.hear_of-requires-2
 hear_of-requires-2 g c =
@@ -146,7 +163,7 @@ hear_of-requires-2 g c =
         (
           c.requires.apart,
           λ x y at_x at_y. judged g.Q.Quorums.system xs ls c.args.self.now c.self.view_is c.self.invariant.0 c.self.invariant.1 c.args.from c.args.to c.outline.ensures.named c.requires.accepted x y
-              (ap (λ l. slice_get l (c.args.from - 1)) (sym same) ∙ at_x) (ap (λ l. slice_get l (c.args.to - 1)) (sym same) ∙ at_y),
+              (ap (λ l. slice_get (node_states l) (c.args.from - 1)) (sym same) ∙ at_x) (ap (λ l. slice_get (node_states l) (c.args.to - 1)) (sym same) ∙ at_y),
         ),
       ),
     )
@@ -167,7 +184,9 @@ returns-in_err-hear_of-2-clause-err g c =
     let ys = c.hear_of-2.new.nodes in
     let same = c.as_mut_slice-2.ensures.value in
     let back : take c.self.inside.list.len (ys ++ drop (length ys) xs) ≡ ys = written_over xs ys c.self.inside.list.len c.self.inside.list.ok.0 (c.hear_of-2.auto.nodes ∙ ap length same) in
-    on_err c.from_residual-in_err-hear_of-2.result ((λ i. kept_of ((back ∙ c.in_err-hear_of-2.ensures.err ∙ same) i) (ap (λ s. s.logs) c.in_ok-bring.ensures.ok i)) ∙ c.self.view_is)
+    on_err c.from_residual-in_err-hear_of-2.result
+    (subst (λ now. SameBarRoom now (kept_of (take c.self.inside.list.len (ys ++ drop (length ys) xs)) c.bring.new.self.logs)) c.self.view_is
+    (list_same xs (take c.self.inside.list.len (ys ++ drop (length ys) xs)) ls c.bring.new.self.logs (c.self.invariant.0 ∙ sym c.self.invariant.1) (ap node_states back ∙ c.in_err-hear_of-2.ensures.err ∙ ap node_states same) (ap (λ s. s.logs) c.in_ok-bring.ensures.ok)))
 
 pub returns-in_err-hear_of-2-clause-grow : goal.returns-in_err-hear_of-2-clause-grow
 returns-in_err-hear_of-2-clause-grow g c =
@@ -176,7 +195,9 @@ returns-in_err-hear_of-2-clause-grow g c =
     let ys = c.hear_of-2.new.nodes in
     let same = c.as_mut_slice-2.ensures.value in
     let back : take c.self.inside.list.len (ys ++ drop (length ys) xs) ≡ ys = written_over xs ys c.self.inside.list.len c.self.inside.list.ok.0 (c.hear_of-2.auto.nodes ∙ ap length same) in
-    all_same c.args.self.now _ ((λ i. kept_of ((back ∙ c.in_err-hear_of-2.ensures.err ∙ same) i) (ap (λ s. s.logs) c.in_ok-bring.ensures.ok i)) ∙ c.self.view_is)
+    same_grow c.args.self.now (kept_of (take c.self.inside.list.len (ys ++ drop (length ys) xs)) c.bring.new.self.logs)
+    (subst (λ now. SameBarRoom now (kept_of (take c.self.inside.list.len (ys ++ drop (length ys) xs)) c.bring.new.self.logs)) c.self.view_is
+    (list_same xs (take c.self.inside.list.len (ys ++ drop (length ys) xs)) ls c.bring.new.self.logs (c.self.invariant.0 ∙ sym c.self.invariant.1) (ap node_states back ∙ c.in_err-hear_of-2.ensures.err ∙ ap node_states same) (ap (λ s. s.logs) c.in_ok-bring.ensures.ok)))
 
 pub returns-clause-told : goal.returns-clause-told
 returns-clause-told g c = λ k found. ap (λ o. o.told) (c.told.view_is ∙ c.outline.ensures.sent k found)
@@ -213,11 +234,11 @@ returns-clause-nodes g c =
     ∙ ap (λ end. slice_set ls (c.args.to - 1) (own ++ lacks end)) c.max.ensures in
     let tells : (k : KeptNode _) → kept_at c.args.self.now c.args.from ≡ Some k → told ≡ (outline k c.args.to).told = λ k found. ap (λ o. o.told) (c.told.view_is ∙ c.outline.ensures.sent k found) in
     let pack = c.brought.ensures (record { to = c.args.to; copies = lacks c.max.result }) (ap (λ s. s.brought) c.in_ok-bring.ensures.ok) ∙ ap (λ end. greatest_of (lacks end)) c.max.ensures in
-    let heard : (x y : NodeState _) → slice_get xs (c.args.from - 1) ≡ Some x → slice_get xs (c.args.to - 1) ≡ Some y
-    → take c.self.inside.list.len (ys ++ drop (length ys) xs) ≡ slice_set xs (c.args.to - 1) (made_by y (change.Deliver (letter_with (outlined_for x c.args.to) (greatest_of (lacks (max c.args.start told)))))).node
-    = λ x y at_x at_y. back
-    ∙ c.in_ok-hear_of-2.ensures.ok x y (ap (λ l. slice_get l (c.args.from - 1)) same ∙ at_x) (ap (λ l. slice_get l (c.args.to - 1)) same ∙ at_y)
-    ∙ (λ i. slice_set (same i) (c.args.to - 1) (made_by y (change.Deliver (letter_with (outlined_for x c.args.to) (pack i)))).node) in
+    let heard : (x y : NodeState _) → slice_get (node_states xs) (c.args.from - 1) ≡ Some x → slice_get (node_states xs) (c.args.to - 1) ≡ Some y
+    → node_states (take c.self.inside.list.len (ys ++ drop (length ys) xs)) ≡ slice_set (node_states xs) (c.args.to - 1) (made_by y (change.Deliver (letter_with (outlined_for x c.args.to) (greatest_of (lacks (max c.args.start told)))))).node
+    = λ x y at_x at_y. ap node_states back
+    ∙ c.in_ok-hear_of-2.ensures.ok x y (ap (λ l. slice_get (node_states l) (c.args.from - 1)) same ∙ at_x) (ap (λ l. slice_get (node_states l) (c.args.to - 1)) same ∙ at_y)
+    ∙ (λ i. slice_set (node_states (same i)) (c.args.to - 1) (made_by y (change.Deliver (letter_with (outlined_for x c.args.to) (pack i)))).node) in
     met_nodes g.Q.Quorums.system xs ls c.args.self.now c.self.view_is c.self.invariant.0 c.self.invariant.1 c.args.from c.args.to c.outline.ensures.named c.requires.accepted c.args.start told tells (take c.self.inside.list.len (ys ++ drop (length ys) xs)) c.take_on.new.self.logs heard put
 
 pub returns-clause-grow : goal.returns-clause-grow
@@ -236,11 +257,11 @@ returns-clause-grow g c =
     ∙ ap (λ end. slice_set ls (c.args.to - 1) (own ++ lacks end)) c.max.ensures in
     let tells : (k : KeptNode _) → kept_at c.args.self.now c.args.from ≡ Some k → told ≡ (outline k c.args.to).told = λ k found. ap (λ o. o.told) (c.told.view_is ∙ c.outline.ensures.sent k found) in
     let pack = c.brought.ensures (record { to = c.args.to; copies = lacks c.max.result }) (ap (λ s. s.brought) c.in_ok-bring.ensures.ok) ∙ ap (λ end. greatest_of (lacks end)) c.max.ensures in
-    let heard : (x y : NodeState _) → slice_get xs (c.args.from - 1) ≡ Some x → slice_get xs (c.args.to - 1) ≡ Some y
-    → take c.self.inside.list.len (ys ++ drop (length ys) xs) ≡ slice_set xs (c.args.to - 1) (made_by y (change.Deliver (letter_with (outlined_for x c.args.to) (greatest_of (lacks (max c.args.start told)))))).node
-    = λ x y at_x at_y. back
-    ∙ c.in_ok-hear_of-2.ensures.ok x y (ap (λ l. slice_get l (c.args.from - 1)) same ∙ at_x) (ap (λ l. slice_get l (c.args.to - 1)) same ∙ at_y)
-    ∙ (λ i. slice_set (same i) (c.args.to - 1) (made_by y (change.Deliver (letter_with (outlined_for x c.args.to) (pack i)))).node) in
+    let heard : (x y : NodeState _) → slice_get (node_states xs) (c.args.from - 1) ≡ Some x → slice_get (node_states xs) (c.args.to - 1) ≡ Some y
+    → node_states (take c.self.inside.list.len (ys ++ drop (length ys) xs)) ≡ slice_set (node_states xs) (c.args.to - 1) (made_by y (change.Deliver (letter_with (outlined_for x c.args.to) (greatest_of (lacks (max c.args.start told)))))).node
+    = λ x y at_x at_y. ap node_states back
+    ∙ c.in_ok-hear_of-2.ensures.ok x y (ap (λ l. slice_get (node_states l) (c.args.from - 1)) same ∙ at_x) (ap (λ l. slice_get (node_states l) (c.args.to - 1)) same ∙ at_y)
+    ∙ (λ i. slice_set (node_states (same i)) (c.args.to - 1) (made_by y (change.Deliver (letter_with (outlined_for x c.args.to) (pack i)))).node) in
     met_grow g.Q.Quorums.system xs ls c.args.self.now c.self.view_is c.self.invariant.0 c.self.invariant.1 c.args.from c.args.to c.outline.ensures.named c.requires.accepted c.args.start told tells (take c.self.inside.list.len (ys ++ drop (length ys) xs)) c.take_on.new.self.logs heard put
 
 pub returns-clause-enough : goal.returns-clause-enough

@@ -30,20 +30,20 @@ returns-in-Err-clause-told g c =
     let s = g.Q.Quorums.system in
     let st = step.Call c.args.name c.args.op in
     refused_told s c.args.self.now.state st c.in-Err.refusal (subst (λ (v : RunningOf _). refusal s v.state st ≡ Some c.in-Err.refusal) c.self.view_is
-    (subst (λ w. refusal s w st ≡ Some c.in-Err.refusal) (ap (λ i. i.state) c.self-inside.view_is) (sym (judged_at s (world_of c.self-inside.inside.0.1.0.nodes c.self-inside.inside.0.1.0.letters c.self-inside.inside.0.1.0.history.events c.self-inside.inside.0.1.0.marks.items) st c.args.name (change.Call c.args.op) c.node.result.now refl c.node.ensures) ∙ c.in-Err.ensures.refused)))
+    (subst (λ w. refusal s w st ≡ Some c.in-Err.refusal) (ap (λ i. i.state) c.self-inside.view_is) (sym (judged_at s (world_of c.self-inside.inside.0.1.0.nodes c.self-inside.inside.0.1.0.letters c.self-inside.inside.0.1.0.history.events c.self-inside.inside.0.1.0.marks.items) st c.args.name (change.Call c.args.op) c.node.result.now.state refl c.node.ensures) ∙ c.in-Err.ensures.refused)))
 
 pub returns-in-Err-clause-after : goal.returns-in-Err-clause-after
 returns-in-Err-clause-after g c =
     let s = g.Q.Quorums.system in
     let st = step.Call c.args.name c.args.op in
     stands s c.args.self.now st c.in-Err.refusal (subst (λ (v : RunningOf _). refusal s v.state st ≡ Some c.in-Err.refusal) c.self.view_is
-    (subst (λ w. refusal s w st ≡ Some c.in-Err.refusal) (ap (λ i. i.state) c.self-inside.view_is) (sym (judged_at s (world_of c.self-inside.inside.0.1.0.nodes c.self-inside.inside.0.1.0.letters c.self-inside.inside.0.1.0.history.events c.self-inside.inside.0.1.0.marks.items) st c.args.name (change.Call c.args.op) c.node.result.now refl c.node.ensures) ∙ c.in-Err.ensures.refused)))
+    (subst (λ w. refusal s w st ≡ Some c.in-Err.refusal) (ap (λ i. i.state) c.self-inside.view_is) (sym (judged_at s (world_of c.self-inside.inside.0.1.0.nodes c.self-inside.inside.0.1.0.letters c.self-inside.inside.0.1.0.history.events c.self-inside.inside.0.1.0.marks.items) st c.args.name (change.Call c.args.op) c.node.result.now.state refl c.node.ensures) ∙ c.in-Err.ensures.refused)))
 
 pub call-requires : goal.call-requires
 call-requires g c =
     let s = g.Q.Quorums.system in
     let st = step.Call c.args.name c.args.op in
-    (back_fits _ _ _ (up_fits _ _ _ c.requires-raw.1.1), (sym (step_refusal c.self.inside.state st c.args.name (change.Call c.args.op) refl s) ∙ (subst (λ w. refusal s w st ≡ None) (ap (λ i. i.state) c.self-inside.view_is) (sym (judged_at s (world_of c.self-inside.inside.0.1.0.nodes c.self-inside.inside.0.1.0.letters c.self-inside.inside.0.1.0.history.events c.self-inside.inside.0.1.0.marks.items) st c.args.name (change.Call c.args.op) c.node.result.now refl c.node.ensures) ∙ c.in_default.ensures.ok)), step_fits c.self.inside.state st c.args.name (change.Call c.args.op) refl s (reached_fits s c.self.inside.founders c.self.inside.state c.self.invariant) (subst (λ w. refusal s w st ≡ None) (ap (λ i. i.state) c.self-inside.view_is) (sym (judged_at s (world_of c.self-inside.inside.0.1.0.nodes c.self-inside.inside.0.1.0.letters c.self-inside.inside.0.1.0.history.events c.self-inside.inside.0.1.0.marks.items) st c.args.name (change.Call c.args.op) c.node.result.now refl c.node.ensures) ∙ c.in_default.ensures.ok))))
+    (back_fits _ _ _ (up_fits _ _ _ c.requires-raw.1.1), (sym (step_refusal c.self.inside.state st c.args.name (change.Call c.args.op) refl s) ∙ (subst (λ w. refusal s w st ≡ None) (ap (λ i. i.state) c.self-inside.view_is) (sym (judged_at s (world_of c.self-inside.inside.0.1.0.nodes c.self-inside.inside.0.1.0.letters c.self-inside.inside.0.1.0.history.events c.self-inside.inside.0.1.0.marks.items) st c.args.name (change.Call c.args.op) c.node.result.now.state refl c.node.ensures) ∙ c.in_default.ensures.ok)), step_fits c.self.inside.state st c.args.name (change.Call c.args.op) refl s (reached_fits s c.self.inside.founders c.self.inside.state c.self.invariant) (subst (λ w. refusal s w st ≡ None) (ap (λ i. i.state) c.self-inside.view_is) (sym (judged_at s (world_of c.self-inside.inside.0.1.0.nodes c.self-inside.inside.0.1.0.letters c.self-inside.inside.0.1.0.history.events c.self-inside.inside.0.1.0.marks.items) st c.args.name (change.Call c.args.op) c.node.result.now.state refl c.node.ensures) ∙ c.in_default.ensures.ok))))
 
 pub invariant_of-self : goal.invariant_of-self
 invariant_of-self g c = subst (IsReached g.Q.Quorums.system c.self.inside.founders) (sym c.in_err-id.ensures.err) c.self.invariant
@@ -52,25 +52,25 @@ pub returns-in_err-id-clause-accepted : goal.returns-in_err-id-clause-accepted
 returns-in_err-id-clause-accepted g c =
     let s = g.Q.Quorums.system in
     let st = step.Call c.args.name c.args.op in
-    on_err c.from_residual.result (subst (λ (v : RunningOf _). refusal s v.state st ≡ None) c.self.view_is (subst (λ w. refusal s w st ≡ None) (ap (λ i. i.state) c.self-inside.view_is) (sym (judged_at s (world_of c.self-inside.inside.0.1.0.nodes c.self-inside.inside.0.1.0.letters c.self-inside.inside.0.1.0.history.events c.self-inside.inside.0.1.0.marks.items) st c.args.name (change.Call c.args.op) c.node.result.now refl c.node.ensures) ∙ c.in_default.ensures.ok)))
+    on_err c.from_residual.result (subst (λ (v : RunningOf _). refusal s v.state st ≡ None) c.self.view_is (subst (λ w. refusal s w st ≡ None) (ap (λ i. i.state) c.self-inside.view_is) (sym (judged_at s (world_of c.self-inside.inside.0.1.0.nodes c.self-inside.inside.0.1.0.letters c.self-inside.inside.0.1.0.history.events c.self-inside.inside.0.1.0.marks.items) st c.args.name (change.Call c.args.op) c.node.result.now.state refl c.node.ensures) ∙ c.in_default.ensures.ok)))
 
 pub invariant_of-self-2 : goal.invariant_of-self-2
 invariant_of-self-2 g c =
     let s = g.Q.Quorums.system in
     let st = step.Call c.args.name c.args.op in
     reached_next s c.self.inside.founders c.self.inside.state c.call.new.self st c.self.invariant
-    (taken_after s c.self.inside.state st c.call.new.self (effect.Called c.in_ok-id.id) (subst (λ w. refusal s w st ≡ None) (ap (λ i. i.state) c.self-inside.view_is) (sym (judged_at s (world_of c.self-inside.inside.0.1.0.nodes c.self-inside.inside.0.1.0.letters c.self-inside.inside.0.1.0.history.events c.self-inside.inside.0.1.0.marks.items) st c.args.name (change.Call c.args.op) c.node.result.now refl c.node.ensures) ∙ c.in_default.ensures.ok)) (step_turn c.self.inside.state st c.args.name (change.Call c.args.op) refl ∙ c.in_ok-id.ensures.ok))
+    (taken_after s c.self.inside.state st c.call.new.self (effect.Called c.in_ok-id.id) (subst (λ w. refusal s w st ≡ None) (ap (λ i. i.state) c.self-inside.view_is) (sym (judged_at s (world_of c.self-inside.inside.0.1.0.nodes c.self-inside.inside.0.1.0.letters c.self-inside.inside.0.1.0.history.events c.self-inside.inside.0.1.0.marks.items) st c.args.name (change.Call c.args.op) c.node.result.now.state refl c.node.ensures) ∙ c.in_default.ensures.ok)) (step_turn c.self.inside.state st c.args.name (change.Call c.args.op) refl ∙ c.in_ok-id.ensures.ok))
 
 pub returns-clause-told : goal.returns-clause-told
 returns-clause-told g c =
     let s = g.Q.Quorums.system in
     let st = step.Call c.args.name c.args.op in
     subst (λ (v : RunningOf _). Ok (effect.Called c.in_ok-id.id) ≡ result_of (refusal s v.state st) v.state st) c.self.view_is
-    (taken_told s c.self.inside.state st c.call.new.self (effect.Called c.in_ok-id.id) (subst (λ w. refusal s w st ≡ None) (ap (λ i. i.state) c.self-inside.view_is) (sym (judged_at s (world_of c.self-inside.inside.0.1.0.nodes c.self-inside.inside.0.1.0.letters c.self-inside.inside.0.1.0.history.events c.self-inside.inside.0.1.0.marks.items) st c.args.name (change.Call c.args.op) c.node.result.now refl c.node.ensures) ∙ c.in_default.ensures.ok)) (step_turn c.self.inside.state st c.args.name (change.Call c.args.op) refl ∙ c.in_ok-id.ensures.ok))
+    (taken_told s c.self.inside.state st c.call.new.self (effect.Called c.in_ok-id.id) (subst (λ w. refusal s w st ≡ None) (ap (λ i. i.state) c.self-inside.view_is) (sym (judged_at s (world_of c.self-inside.inside.0.1.0.nodes c.self-inside.inside.0.1.0.letters c.self-inside.inside.0.1.0.history.events c.self-inside.inside.0.1.0.marks.items) st c.args.name (change.Call c.args.op) c.node.result.now.state refl c.node.ensures) ∙ c.in_default.ensures.ok)) (step_turn c.self.inside.state st c.args.name (change.Call c.args.op) refl ∙ c.in_ok-id.ensures.ok))
 
 pub returns-clause-after : goal.returns-clause-after
 returns-clause-after g c =
     let s = g.Q.Quorums.system in
     let st = step.Call c.args.name c.args.op in
     moves_on s c.self.inside.founders c.self.inside.state c.call.new.self c.args.self.now st c.self.view_is
-    (taken_after s c.self.inside.state st c.call.new.self (effect.Called c.in_ok-id.id) (subst (λ w. refusal s w st ≡ None) (ap (λ i. i.state) c.self-inside.view_is) (sym (judged_at s (world_of c.self-inside.inside.0.1.0.nodes c.self-inside.inside.0.1.0.letters c.self-inside.inside.0.1.0.history.events c.self-inside.inside.0.1.0.marks.items) st c.args.name (change.Call c.args.op) c.node.result.now refl c.node.ensures) ∙ c.in_default.ensures.ok)) (step_turn c.self.inside.state st c.args.name (change.Call c.args.op) refl ∙ c.in_ok-id.ensures.ok))
+    (taken_after s c.self.inside.state st c.call.new.self (effect.Called c.in_ok-id.id) (subst (λ w. refusal s w st ≡ None) (ap (λ i. i.state) c.self-inside.view_is) (sym (judged_at s (world_of c.self-inside.inside.0.1.0.nodes c.self-inside.inside.0.1.0.letters c.self-inside.inside.0.1.0.history.events c.self-inside.inside.0.1.0.marks.items) st c.args.name (change.Call c.args.op) c.node.result.now.state refl c.node.ensures) ∙ c.in_default.ensures.ok)) (step_turn c.self.inside.state st c.args.name (change.Call c.args.op) refl ∙ c.in_ok-id.ensures.ok))

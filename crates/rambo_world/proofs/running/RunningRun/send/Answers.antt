@@ -30,20 +30,20 @@ returns-in-Err-clause-told g c =
     let s = g.Q.Quorums.system in
     let st = step.Send c.args.from c.args.to in
     refused_told s c.args.self.now.state st c.in-Err.refusal (subst (λ (v : RunningOf _). refusal s v.state st ≡ Some c.in-Err.refusal) c.self.view_is
-    (subst (λ w. refusal s w st ≡ Some c.in-Err.refusal) (ap (λ i. i.state) c.self-inside.view_is) (sym (judged_at s (world_of c.self-inside.inside.0.1.0.nodes c.self-inside.inside.0.1.0.letters c.self-inside.inside.0.1.0.history.events c.self-inside.inside.0.1.0.marks.items) st c.args.from (change.Send c.args.to) c.node.result.now refl c.node.ensures) ∙ c.in-Err.ensures.refused)))
+    (subst (λ w. refusal s w st ≡ Some c.in-Err.refusal) (ap (λ i. i.state) c.self-inside.view_is) (sym (judged_at s (world_of c.self-inside.inside.0.1.0.nodes c.self-inside.inside.0.1.0.letters c.self-inside.inside.0.1.0.history.events c.self-inside.inside.0.1.0.marks.items) st c.args.from (change.Send c.args.to) c.node.result.now.state refl c.node.ensures) ∙ c.in-Err.ensures.refused)))
 
 pub returns-in-Err-clause-after : goal.returns-in-Err-clause-after
 returns-in-Err-clause-after g c =
     let s = g.Q.Quorums.system in
     let st = step.Send c.args.from c.args.to in
     stands s c.args.self.now st c.in-Err.refusal (subst (λ (v : RunningOf _). refusal s v.state st ≡ Some c.in-Err.refusal) c.self.view_is
-    (subst (λ w. refusal s w st ≡ Some c.in-Err.refusal) (ap (λ i. i.state) c.self-inside.view_is) (sym (judged_at s (world_of c.self-inside.inside.0.1.0.nodes c.self-inside.inside.0.1.0.letters c.self-inside.inside.0.1.0.history.events c.self-inside.inside.0.1.0.marks.items) st c.args.from (change.Send c.args.to) c.node.result.now refl c.node.ensures) ∙ c.in-Err.ensures.refused)))
+    (subst (λ w. refusal s w st ≡ Some c.in-Err.refusal) (ap (λ i. i.state) c.self-inside.view_is) (sym (judged_at s (world_of c.self-inside.inside.0.1.0.nodes c.self-inside.inside.0.1.0.letters c.self-inside.inside.0.1.0.history.events c.self-inside.inside.0.1.0.marks.items) st c.args.from (change.Send c.args.to) c.node.result.now.state refl c.node.ensures) ∙ c.in-Err.ensures.refused)))
 
 pub send-requires : goal.send-requires
 send-requires g c =
     let s = g.Q.Quorums.system in
     let st = step.Send c.args.from c.args.to in
-    (back_fits _ _ _ (up_fits _ _ _ c.requires-raw.1.1), subst (λ w. refusal s w st ≡ None) (ap (λ i. i.state) c.self-inside.view_is) (sym (judged_at s (world_of c.self-inside.inside.0.1.0.nodes c.self-inside.inside.0.1.0.letters c.self-inside.inside.0.1.0.history.events c.self-inside.inside.0.1.0.marks.items) st c.args.from (change.Send c.args.to) c.node.result.now refl c.node.ensures) ∙ c.in_default.ensures.ok))
+    (back_fits _ _ _ (up_fits _ _ _ c.requires-raw.1.1), subst (λ w. refusal s w st ≡ None) (ap (λ i. i.state) c.self-inside.view_is) (sym (judged_at s (world_of c.self-inside.inside.0.1.0.nodes c.self-inside.inside.0.1.0.letters c.self-inside.inside.0.1.0.history.events c.self-inside.inside.0.1.0.marks.items) st c.args.from (change.Send c.args.to) c.node.result.now.state refl c.node.ensures) ∙ c.in_default.ensures.ok))
 
 pub invariant_of-self : goal.invariant_of-self
 invariant_of-self g c = subst (IsReached g.Q.Quorums.system c.self.inside.founders) (sym c.in_err-number.ensures.err) c.self.invariant
@@ -52,25 +52,25 @@ pub returns-in_err-number-clause-accepted : goal.returns-in_err-number-clause-ac
 returns-in_err-number-clause-accepted g c =
     let s = g.Q.Quorums.system in
     let st = step.Send c.args.from c.args.to in
-    on_err c.from_residual.result (subst (λ (v : RunningOf _). refusal s v.state st ≡ None) c.self.view_is (subst (λ w. refusal s w st ≡ None) (ap (λ i. i.state) c.self-inside.view_is) (sym (judged_at s (world_of c.self-inside.inside.0.1.0.nodes c.self-inside.inside.0.1.0.letters c.self-inside.inside.0.1.0.history.events c.self-inside.inside.0.1.0.marks.items) st c.args.from (change.Send c.args.to) c.node.result.now refl c.node.ensures) ∙ c.in_default.ensures.ok)))
+    on_err c.from_residual.result (subst (λ (v : RunningOf _). refusal s v.state st ≡ None) c.self.view_is (subst (λ w. refusal s w st ≡ None) (ap (λ i. i.state) c.self-inside.view_is) (sym (judged_at s (world_of c.self-inside.inside.0.1.0.nodes c.self-inside.inside.0.1.0.letters c.self-inside.inside.0.1.0.history.events c.self-inside.inside.0.1.0.marks.items) st c.args.from (change.Send c.args.to) c.node.result.now.state refl c.node.ensures) ∙ c.in_default.ensures.ok)))
 
 pub invariant_of-self-2 : goal.invariant_of-self-2
 invariant_of-self-2 g c =
     let s = g.Q.Quorums.system in
     let st = step.Send c.args.from c.args.to in
     reached_next s c.self.inside.founders c.self.inside.state c.send.new.self st c.self.invariant
-    (taken_after s c.self.inside.state st c.send.new.self (effect.Sent c.in_ok-number.number) (subst (λ w. refusal s w st ≡ None) (ap (λ i. i.state) c.self-inside.view_is) (sym (judged_at s (world_of c.self-inside.inside.0.1.0.nodes c.self-inside.inside.0.1.0.letters c.self-inside.inside.0.1.0.history.events c.self-inside.inside.0.1.0.marks.items) st c.args.from (change.Send c.args.to) c.node.result.now refl c.node.ensures) ∙ c.in_default.ensures.ok)) c.in_ok-number.ensures.ok)
+    (taken_after s c.self.inside.state st c.send.new.self (effect.Sent c.in_ok-number.number) (subst (λ w. refusal s w st ≡ None) (ap (λ i. i.state) c.self-inside.view_is) (sym (judged_at s (world_of c.self-inside.inside.0.1.0.nodes c.self-inside.inside.0.1.0.letters c.self-inside.inside.0.1.0.history.events c.self-inside.inside.0.1.0.marks.items) st c.args.from (change.Send c.args.to) c.node.result.now.state refl c.node.ensures) ∙ c.in_default.ensures.ok)) c.in_ok-number.ensures.ok)
 
 pub returns-clause-told : goal.returns-clause-told
 returns-clause-told g c =
     let s = g.Q.Quorums.system in
     let st = step.Send c.args.from c.args.to in
     subst (λ (v : RunningOf _). Ok (effect.Sent c.in_ok-number.number) ≡ result_of (refusal s v.state st) v.state st) c.self.view_is
-    (taken_told s c.self.inside.state st c.send.new.self (effect.Sent c.in_ok-number.number) (subst (λ w. refusal s w st ≡ None) (ap (λ i. i.state) c.self-inside.view_is) (sym (judged_at s (world_of c.self-inside.inside.0.1.0.nodes c.self-inside.inside.0.1.0.letters c.self-inside.inside.0.1.0.history.events c.self-inside.inside.0.1.0.marks.items) st c.args.from (change.Send c.args.to) c.node.result.now refl c.node.ensures) ∙ c.in_default.ensures.ok)) c.in_ok-number.ensures.ok)
+    (taken_told s c.self.inside.state st c.send.new.self (effect.Sent c.in_ok-number.number) (subst (λ w. refusal s w st ≡ None) (ap (λ i. i.state) c.self-inside.view_is) (sym (judged_at s (world_of c.self-inside.inside.0.1.0.nodes c.self-inside.inside.0.1.0.letters c.self-inside.inside.0.1.0.history.events c.self-inside.inside.0.1.0.marks.items) st c.args.from (change.Send c.args.to) c.node.result.now.state refl c.node.ensures) ∙ c.in_default.ensures.ok)) c.in_ok-number.ensures.ok)
 
 pub returns-clause-after : goal.returns-clause-after
 returns-clause-after g c =
     let s = g.Q.Quorums.system in
     let st = step.Send c.args.from c.args.to in
     moves_on s c.self.inside.founders c.self.inside.state c.send.new.self c.args.self.now st c.self.view_is
-    (taken_after s c.self.inside.state st c.send.new.self (effect.Sent c.in_ok-number.number) (subst (λ w. refusal s w st ≡ None) (ap (λ i. i.state) c.self-inside.view_is) (sym (judged_at s (world_of c.self-inside.inside.0.1.0.nodes c.self-inside.inside.0.1.0.letters c.self-inside.inside.0.1.0.history.events c.self-inside.inside.0.1.0.marks.items) st c.args.from (change.Send c.args.to) c.node.result.now refl c.node.ensures) ∙ c.in_default.ensures.ok)) c.in_ok-number.ensures.ok)
+    (taken_after s c.self.inside.state st c.send.new.self (effect.Sent c.in_ok-number.number) (subst (λ w. refusal s w st ≡ None) (ap (λ i. i.state) c.self-inside.view_is) (sym (judged_at s (world_of c.self-inside.inside.0.1.0.nodes c.self-inside.inside.0.1.0.letters c.self-inside.inside.0.1.0.history.events c.self-inside.inside.0.1.0.marks.items) st c.args.from (change.Send c.args.to) c.node.result.now.state refl c.node.ensures) ∙ c.in_default.ensures.ok)) c.in_ok-number.ensures.ok)

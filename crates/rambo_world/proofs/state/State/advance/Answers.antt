@@ -1,17 +1,16 @@
-use Rattle.std.proofs.Common.{◌≡◌, ◌∙◌, None, refl, sym, ap, subst, arith}
+use Rattle.std.proofs.Common.{◌≡◌, ◌∙◌, None, refl, sym, ap, subst}
 use Rattle.rambo_names.specs.Refusals.{least}
 use Rattle.rambo_history.specs.Faults.{fault_of}
 use Rattle.rambo_node.specs.declared.change.Change.TheVariants as change
 use Rattle.rambo_run.specs.Steps.{causes_at, turn_at, with_event, with_mark}
 use Rattle.rambo_run.specs.Worlds.{node_at}
-use Rattle.rambo_world.specs.Deliveries.{world_of}
 use Rattle.rambo_world.specs.Kept.{state_at}
 use Rattle.rambo_world.specs.Worlds.{EventFits}
 use Rattle.rambo_names.proofs.Errors.{on_err}
 use Rattle.rambo_names.proofs.Sizes.{up_fits, back_fits, next}
 use Rattle.rambo_world.proofs.Stepping.{kept_stays, letters_stay}
 use Rattle.rambo_world.proofs.Turns.{there}
-use Rattle.rambo_world.proofs.Changing.{changed_world}
+use Rattle.rambo_world.proofs.Changing.{changed_world, same_world}
 use Rattle.rambo_world.proofs.state.State.advance.Goals as goal
 
 pub go_on-requires : goal.go_on-requires
@@ -30,6 +29,9 @@ note-requires-clause-fits g c =
     let x = there s (state_at ks n) ch accepted in
     let fits = subst (λ w. EventFits w n ch) (sym c.self.view_is) c.requires.fits in
     λ e found. ap (λ h. fault_of h e) c.in_ok-reserve.ensures.events ∙ fits x.0 e x.1 (sym (ap (λ d. d.event) (c.in_ok-go_on.ensures.deed x.0 x.1)) ∙ found)
+
+pub invariant_of-self-in_err-go_on : goal.invariant_of-self-in_err-go_on
+invariant_of-self-in_err-go_on g c = kept_stays c.self.inside.nodes c.go_on.new.self c.go_on.ensures.grow c.self.inside.letters c.self.inside.merged c.self.invariant
 
 pub invariant_of-self-2 : goal.invariant_of-self-2
 invariant_of-self-2 g c = kept_stays c.self.inside.nodes c.go_on.new.self c.go_on.ensures.grow c.self.inside.letters c.self.inside.merged c.self.invariant
@@ -54,4 +56,5 @@ reserve-requires g c = tt
 pub returns-in_err-go_on-clause-err : goal.returns-in_err-go_on-clause-err
 returns-in_err-go_on-clause-err g c =
     on_err c.from_residual-in_err-go_on.result
-    ((λ i. world_of (c.in_err-go_on.ensures.err.0 i) c.self.inside.letters (c.in_ok-reserve.ensures.events i) (c.in_ok-reserve-2.ensures.items i)) ∙ c.self.view_is)
+    (same_world c.self.inside.nodes c.go_on.new.self c.self.inside.letters c.self.inside.history.events _ c.self.inside.marks.items _ c.in_err-go_on.ensures.err.0 c.self.invariant.sent c.in_ok-reserve.ensures.events c.in_ok-reserve-2.ensures.items
+    ∙ c.self.view_is)

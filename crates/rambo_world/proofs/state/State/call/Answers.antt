@@ -11,10 +11,11 @@ use Rattle.rambo_run.specs.Worlds.{node_at}
 use Rattle.rambo_world.specs.Deliveries.{world_of}
 use Rattle.rambo_world.specs.Kept.{state_at}
 use Rattle.rambo_world.specs.Worlds.{EventFits}
+use Rattle.rambo_names.proofs.Errors.{err_kept, on_err}
 use Rattle.rambo_names.proofs.Sizes.{up_fits, back_fits, next}
 use Rattle.rambo_world.proofs.Stepping.{kept_stays, letters_stay}
 use Rattle.rambo_world.proofs.Turns.{there}
-use Rattle.rambo_world.proofs.Changing.{changed_world}
+use Rattle.rambo_world.proofs.Changing.{changed_world, same_world}
 use Rattle.rambo_world.proofs.state.State.call.Goals as goal
 
 pub begin-requires : goal.begin-requires
@@ -78,7 +79,14 @@ pub returns-in_err-asked-clause-refused : goal.returns-in_err-asked-clause-refus
 returns-in_err-asked-clause-refused g c = grind arith
 
 pub invariant_of-self-in_err-id : goal.invariant_of-self-in_err-id
-invariant_of-self-in_err-id g c = grind arith
+invariant_of-self-in_err-id g c = kept_stays c.self.inside.nodes c.begin.new.self c.begin.ensures.grow c.self.inside.letters c.self.inside.merged c.self.invariant
+
+pub returns-in_err-id-clause-err : goal.returns-in_err-id-clause-err
+returns-in_err-id-clause-err g c =
+    on_err c.from_residual-in_err-id.result
+    (same_world c.self.inside.nodes c.begin.new.self c.self.inside.letters c.self.inside.history.events _ c.self.inside.marks.items _ c.in_err-id.ensures.err c.self.invariant.sent
+    (ap (λ h. h.events) c.prepare.ensures ∙ c.in_ok-reserve.ensures.events) refl
+    ∙ c.self.view_is)
 
 pub returns-in_err-id-clause-refused : goal.returns-in_err-id-clause-refused
-returns-in_err-id-clause-refused g c = grind arith
+returns-in_err-id-clause-refused g c = err_kept c.from_residual-in_err-id.result _ _ c.from_residual-in_err-id.ensures.1 c.in_err-id.ensures.refused

@@ -1,4 +1,4 @@
-use Rattle.std.proofs.Common.{◌≡◌, ◌∙◌, None, sym, ap, subst, arith}
+use Rattle.std.proofs.Common.{◌≡◌, ◌∙◌, None, sym, ap, subst}
 use Rattle.rambo_names.specs.Refusals.{least}
 use Rattle.rambo_history.specs.Faults.{fault_of}
 use Rattle.rambo_run.specs.Steps.{causes_at, turn_at, with_event, with_mark}
@@ -10,7 +10,7 @@ use Rattle.rambo_names.proofs.Sizes.{up_fits, back_fits, next}
 use Rattle.rambo_world.proofs.Stepping.{kept_stays, letters_stay}
 use Rattle.rambo_world.proofs.Turns.{there}
 use Rattle.rambo_world.specs.Deliveries.{world_of}
-use Rattle.rambo_world.proofs.Changing.{changed_world}
+use Rattle.rambo_world.proofs.Changing.{changed_world, same_world}
 use Rattle.rambo_world.proofs.state.State.change.Goals as goal
 
 pub act-requires : goal.act-requires
@@ -29,6 +29,9 @@ note-requires-clause-fits g c =
     let x = there s (state_at ks n) c.args.change.now accepted in
     let fits = subst (λ w. EventFits w n c.args.change.now) (sym c.self.view_is) c.requires.fits in
     λ e found. ap (λ h. fault_of h e) c.in_ok-reserve.ensures.events ∙ fits x.0 e x.1 (sym (ap (λ d. d.event) (c.in_ok-deed.ensures.deed x.0 x.1)) ∙ found)
+
+pub invariant_of-self-in_err-deed : goal.invariant_of-self-in_err-deed
+invariant_of-self-in_err-deed g c = kept_stays c.self.inside.nodes c.act.new.self c.act.ensures.grow c.self.inside.letters c.self.inside.merged c.self.invariant
 
 pub invariant_of-self-2 : goal.invariant_of-self-2
 invariant_of-self-2 g c = kept_stays c.self.inside.nodes c.act.new.self c.act.ensures.grow c.self.inside.letters c.self.inside.merged c.self.invariant
@@ -53,4 +56,5 @@ reserve-requires g c = tt
 pub returns-in_err-deed-clause-err : goal.returns-in_err-deed-clause-err
 returns-in_err-deed-clause-err g c =
     on_err c.from_residual-in_err-deed.result
-    ((λ i. world_of (c.in_err-deed.ensures.err i) c.self.inside.letters (c.in_ok-reserve.ensures.events i) (c.in_ok-reserve-2.ensures.items i)) ∙ c.self.view_is)
+    (same_world c.self.inside.nodes c.act.new.self c.self.inside.letters c.self.inside.history.events _ c.self.inside.marks.items _ c.in_err-deed.ensures.err c.self.invariant.sent c.in_ok-reserve.ensures.events c.in_ok-reserve-2.ensures.items
+    ∙ c.self.view_is)

@@ -1,9 +1,11 @@
-use Rattle.std.proofs.Common.{◌≡◌, ◌∙◌, None, sym, ap, subst}
+use Rattle.std.proofs.Common.{◌≡◌, ◌∙◌, None, refl, sym, ap, subst}
 use Rattle.rambo_names.specs.Refusals.{least}
 use Rattle.rambo_run.specs.declared.step.Step.TheVariants as step
 use Rattle.rambo_run.specs.Steps.{refusal, turn}
 use Rattle.rambo_world.specs.Deliveries.{world_of}
 use Rattle.rambo_names.proofs.Sizes.{up_fits, back_fits, next}
+use Rattle.rambo_names.proofs.Errors.{on_err}
+use Rattle.rambo_world.proofs.Changing.{same_world}
 use Rattle.rambo_world.proofs.Turns.{deliver_refusal}
 use Rattle.rambo_world.proofs.Deliveries.{sent_causes}
 use Rattle.rambo_world.proofs.state.State.deliver.Goals as goal
@@ -30,3 +32,9 @@ hear-requires g c =
 pub returns-clause-ok : goal.returns-clause-ok
 returns-clause-ok g c =
     ap (λ w. turn w (step.Deliver c.args.number)) (sym c.self.view_is) ∙ c.in_ok-hear.ensures.ok c.self.inside.history.events c.self.inside.marks.items
+
+pub returns-in_err-hear-clause-err : goal.returns-in_err-hear-clause-err
+returns-in_err-hear-clause-err g c =
+    on_err c.from_residual.result
+    (same_world c.self.inside.nodes c.hear.new.nodes c.self.inside.letters c.self.inside.history.events _ c.self.inside.marks.items _ c.in_err-hear.ensures.err c.self.invariant.sent refl refl
+    ∙ c.self.view_is)

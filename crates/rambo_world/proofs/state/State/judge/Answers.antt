@@ -44,7 +44,7 @@ returns-in-Call-clause-ok g c =
     let w = world_of c.self.inside.nodes c.self.inside.letters c.self.inside.history.events c.self.inside.marks.items in
     subst (λ st. OnOk c.may_call.result (refusal s c.args.self.now st ≡ None)) (sym c.in-Call.is)
     (subst (λ w. OnOk c.may_call.result (refusal s w (step.Call c.in-Call.name c.in-Call.op) ≡ None)) c.self.view_is
-    (subst (λ o. OnOk c.may_call.result (o ≡ None)) (judged_at s w (step.Call c.in-Call.name c.in-Call.op) c.in-Call.name (change.Call c.in-Call.op) c.node.result.now refl c.node.ensures) c.may_call.ensures.ok))
+    (subst (λ o. OnOk c.may_call.result (o ≡ None)) (judged_at s w (step.Call c.in-Call.name c.in-Call.op) c.in-Call.name (change.Call c.in-Call.op) c.node.result.now.state refl c.node.ensures) c.may_call.ensures.ok))
 
 pub returns-in-Call-clause-refused : goal.returns-in-Call-clause-refused
 returns-in-Call-clause-refused g c =
@@ -52,7 +52,7 @@ returns-in-Call-clause-refused g c =
     let w = world_of c.self.inside.nodes c.self.inside.letters c.self.inside.history.events c.self.inside.marks.items in
     subst (λ st. IfErr c.may_call.result (λ r. refusal s c.args.self.now st ≡ Some r)) (sym c.in-Call.is)
     (subst (λ w. IfErr c.may_call.result (λ r. refusal s w (step.Call c.in-Call.name c.in-Call.op) ≡ Some r)) c.self.view_is
-    (subst (λ o. IfErr c.may_call.result (λ r. o ≡ Some r)) (judged_at s w (step.Call c.in-Call.name c.in-Call.op) c.in-Call.name (change.Call c.in-Call.op) c.node.result.now refl c.node.ensures) c.may_call.ensures.refused))
+    (subst (λ o. IfErr c.may_call.result (λ r. o ≡ Some r)) (judged_at s w (step.Call c.in-Call.name c.in-Call.op) c.in-Call.name (change.Call c.in-Call.op) c.node.result.now.state refl c.node.ensures) c.may_call.ensures.refused))
 
 pub returns-in-Send-clause-ok : goal.returns-in-Send-clause-ok
 returns-in-Send-clause-ok g c =
@@ -60,7 +60,7 @@ returns-in-Send-clause-ok g c =
     let w = world_of c.self.inside.nodes c.self.inside.letters c.self.inside.history.events c.self.inside.marks.items in
     subst (λ st. OnOk c.may_send.result (refusal s c.args.self.now st ≡ None)) (sym c.in-Send.is)
     (subst (λ w. OnOk c.may_send.result (refusal s w (step.Send c.in-Send.from c.in-Send.to) ≡ None)) c.self.view_is
-    (subst (λ o. OnOk c.may_send.result (o ≡ None)) (judged_at s w (step.Send c.in-Send.from c.in-Send.to) c.in-Send.from (change.Send c.in-Send.to) c.node-in-Send.result.now refl c.node-in-Send.ensures) c.may_send.ensures.ok))
+    (subst (λ o. OnOk c.may_send.result (o ≡ None)) (judged_at s w (step.Send c.in-Send.from c.in-Send.to) c.in-Send.from (change.Send c.in-Send.to) c.node-in-Send.result.now.state refl c.node-in-Send.ensures) c.may_send.ensures.ok))
 
 pub returns-in-Send-clause-refused : goal.returns-in-Send-clause-refused
 returns-in-Send-clause-refused g c =
@@ -68,7 +68,7 @@ returns-in-Send-clause-refused g c =
     let w = world_of c.self.inside.nodes c.self.inside.letters c.self.inside.history.events c.self.inside.marks.items in
     subst (λ st. IfErr c.may_send.result (λ r. refusal s c.args.self.now st ≡ Some r)) (sym c.in-Send.is)
     (subst (λ w. IfErr c.may_send.result (λ r. refusal s w (step.Send c.in-Send.from c.in-Send.to) ≡ Some r)) c.self.view_is
-    (subst (λ o. IfErr c.may_send.result (λ r. o ≡ Some r)) (judged_at s w (step.Send c.in-Send.from c.in-Send.to) c.in-Send.from (change.Send c.in-Send.to) c.node-in-Send.result.now refl c.node-in-Send.ensures) c.may_send.ensures.refused))
+    (subst (λ o. IfErr c.may_send.result (λ r. o ≡ Some r)) (judged_at s w (step.Send c.in-Send.from c.in-Send.to) c.in-Send.from (change.Send c.in-Send.to) c.node-in-Send.result.now.state refl c.node-in-Send.ensures) c.may_send.ensures.refused))
 
 pub returns-in-Advance-clause-ok : goal.returns-in-Advance-clause-ok
 returns-in-Advance-clause-ok g c =
@@ -76,7 +76,7 @@ returns-in-Advance-clause-ok g c =
     let w = world_of c.self.inside.nodes c.self.inside.letters c.self.inside.history.events c.self.inside.marks.items in
     subst (λ st. OnOk c.may_advance.result (refusal s c.args.self.now st ≡ None)) (sym c.in-Advance.is)
     (subst (λ w. OnOk c.may_advance.result (refusal s w (step.Advance c.in-Advance.id) ≡ None)) c.self.view_is
-    (subst (λ o. OnOk c.may_advance.result (o ≡ None)) (judged_at s w (step.Advance c.in-Advance.id) c.in-Advance.id.name (change.Advance c.in-Advance.id) c.node-in-Advance.result.now refl c.node-in-Advance.ensures) c.may_advance.ensures.ok))
+    (subst (λ o. OnOk c.may_advance.result (o ≡ None)) (judged_at s w (step.Advance c.in-Advance.id) c.in-Advance.id.name (change.Advance c.in-Advance.id) c.node-in-Advance.result.now.state refl c.node-in-Advance.ensures) c.may_advance.ensures.ok))
 
 pub returns-in-Advance-clause-refused : goal.returns-in-Advance-clause-refused
 returns-in-Advance-clause-refused g c =
@@ -84,7 +84,7 @@ returns-in-Advance-clause-refused g c =
     let w = world_of c.self.inside.nodes c.self.inside.letters c.self.inside.history.events c.self.inside.marks.items in
     subst (λ st. IfErr c.may_advance.result (λ r. refusal s c.args.self.now st ≡ Some r)) (sym c.in-Advance.is)
     (subst (λ w. IfErr c.may_advance.result (λ r. refusal s w (step.Advance c.in-Advance.id) ≡ Some r)) c.self.view_is
-    (subst (λ o. IfErr c.may_advance.result (λ r. o ≡ Some r)) (judged_at s w (step.Advance c.in-Advance.id) c.in-Advance.id.name (change.Advance c.in-Advance.id) c.node-in-Advance.result.now refl c.node-in-Advance.ensures) c.may_advance.ensures.refused))
+    (subst (λ o. IfErr c.may_advance.result (λ r. o ≡ Some r)) (judged_at s w (step.Advance c.in-Advance.id) c.in-Advance.id.name (change.Advance c.in-Advance.id) c.node-in-Advance.result.now.state refl c.node-in-Advance.ensures) c.may_advance.ensures.refused))
 
 pub returns-in-Deliver-clause-ok : goal.returns-in-Deliver-clause-ok
 returns-in-Deliver-clause-ok g c =
@@ -118,7 +118,7 @@ unfolding of_pair
 returns-clause-ok g c =
     let s = g.Q.Quorums.system in
     let w = world_of c.self.inside.nodes c.self.inside.letters c.self.inside.history.events c.self.inside.marks.items in
-    let is = judged_at s w c.args.step.now c.match-step.name.0 c.match-step.name.1 c.node-2.result.now (means g c w) c.node-2.ensures in
+    let is = judged_at s w c.args.step.now c.match-step.name.0 c.match-step.name.1 c.node-2.result.now.state (means g c w) c.node-2.ensures in
     subst (λ w. OnOk c.judge.result (refusal s w c.args.step.now ≡ None)) c.self.view_is (subst (λ o. OnOk c.judge.result (o ≡ None)) is c.judge.ensures.ok)
 
 pub returns-clause-refused : goal.returns-clause-refused
@@ -126,5 +126,5 @@ unfolding of_pair
 returns-clause-refused g c =
     let s = g.Q.Quorums.system in
     let w = world_of c.self.inside.nodes c.self.inside.letters c.self.inside.history.events c.self.inside.marks.items in
-    let is = judged_at s w c.args.step.now c.match-step.name.0 c.match-step.name.1 c.node-2.result.now (means g c w) c.node-2.ensures in
+    let is = judged_at s w c.args.step.now c.match-step.name.0 c.match-step.name.1 c.node-2.result.now.state (means g c w) c.node-2.ensures in
     subst (λ w. IfErr c.judge.result (λ r. refusal s w c.args.step.now ≡ Some r)) c.self.view_is (subst (λ o. IfErr c.judge.result (λ r. o ≡ Some r)) is c.judge.ensures.refused)

@@ -11,4 +11,4 @@ pub map-requires : goal.map-requires
 map-requires g c = (((back_fits _ _ _ (up_fits _ _ _ (back_fits _ _ _ (next _ _ _ _ (next _ _ _ _ (next _ _ _ _ (next _ _ _ _ (next _ _ _ _ (up_fits _ _ _ c.requires-raw.1.1.0)))))))))), c.requires-raw.1.1.1)
 
 pub returns : goal.returns
-returns g c x found = c.map.ensures ∙ ap (λ y. y.map) (some_is c.node.result.now x (sym c.node.ensures ∙ subst (λ w. node_at w c.args.name ≡ Some x) (sym c.self.view_is) found))
+returns g c x found = c.map.ensures ∙ ap (λ y. y.map) (some_is c.node.result.now.state x (sym c.node.ensures ∙ subst (λ w. node_at w c.args.name ≡ Some x) (sym c.self.view_is) found))

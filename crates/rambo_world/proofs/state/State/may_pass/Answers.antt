@@ -41,7 +41,7 @@ returns-in_err-may_send-clause-refused g c =
     let ms = c.self.inside.marks.items in
     let none = none_kept (whole_letter ks) c.self.inside.letters (ap (λ (w : WorldState _). w.letters) c.self.view_is ∙ c.requires) in
     let is : world_of ks [] h ms ≡ c.args.self.now = (λ i. world_of ks (sym none i) h ms) ∙ c.self.view_is in
-    let sending : refusal s (world_of ks [] h ms) (step.Send c.args.from c.args.to) ≡ least (send_causes c.node-sender.result.now c.args.to) =
+    let sending : refusal s (world_of ks [] h ms) (step.Send c.args.from c.args.to) ≡ least (send_causes c.node-sender.result.now.state c.args.to) =
     step_refusal (world_of ks [] h ms) (step.Send c.args.from c.args.to) c.args.from (change.Send c.args.to) refl s ∙ ap (λ o. least (causes_at s o (change.Send c.args.to))) c.node-sender.ensures in
     let coming = refusal s (after s (world_of ks [] h ms) (step.Send c.args.from c.args.to)) (step.Deliver 1) in
     let p = err_from_is_err_and c.from_residual.result c.from_residual.ensures.1 in
@@ -55,18 +55,18 @@ returns-clause-ok g c =
     let ms = c.self.inside.marks.items in
     let none = none_kept (whole_letter ks) c.self.inside.letters (ap (λ (w : WorldState _). w.letters) c.self.view_is ∙ c.requires) in
     let is : world_of ks [] h ms ≡ c.args.self.now = (λ i. world_of ks (sym none i) h ms) ∙ c.self.view_is in
-    let sending : refusal s (world_of ks [] h ms) (step.Send c.args.from c.args.to) ≡ least (send_causes c.node-sender.result.now c.args.to) =
+    let sending : refusal s (world_of ks [] h ms) (step.Send c.args.from c.args.to) ≡ least (send_causes c.node-sender.result.now.state c.args.to) =
     step_refusal (world_of ks [] h ms) (step.Send c.args.from c.args.to) c.args.from (change.Send c.args.to) refl s ∙ ap (λ o. least (causes_at s o (change.Send c.args.to))) c.node-sender.ensures in
     let coming = refusal s (after s (world_of ks [] h ms) (step.Send c.args.from c.args.to)) (step.Deliver 1) in
     let sent : refusal s (world_of ks [] h ms) (step.Send c.args.from c.args.to) ≡ None = sending ∙ c.in_ok-may_send.ensures.ok in
-    let own = kept_there ks c.args.from c.node-sender.result.now c.node-sender.ensures in
-    let named : 1 ≤ c.args.from = named_there ks c.args.from c.node-sender.result.now c.node-sender.ensures in
+    let own = kept_there ks c.args.from c.node-sender.result.now.state c.node-sender.ensures in
+    let named : 1 ≤ c.args.from = named_there ks c.args.from c.node-sender.result.now.state c.node-sender.ensures in
     let name = name_of ks c.args.from own.0 (c.self.invariant.names (c.args.from - 1) own.0 own.1) named in
-    let judged : pass_refusal s c.args.self.now c.args.from c.args.to ≡ refusal_of s c.node.result.now (change.Deliver c.outline_for.result) =
+    let judged : pass_refusal s c.args.self.now c.args.from c.args.to ≡ refusal_of s c.node.result.now.state (change.Deliver c.outline_for.result) =
     ap (λ w. pass_refusal s w c.args.from c.args.to) (sym is) ∙ ap (λ o. first_of o coming) sent
     ∙ judged_alone s ks h ms c.args.from c.args.to own.0 own.1 (c.node-sender.ensures ∙ ap Some (sym own.2)) name (c.self.invariant.recorded (c.args.from - 1) own.0 own.1) sent
     ∙ (λ i. least (causes_at s (c.node.ensures i) (change.Deliver (outlined_for (own.2 i) c.args.to))))
-    ∙ ap (λ l. refusal_of s c.node.result.now (change.Deliver l)) (sym c.outline_for.ensures) in
+    ∙ ap (λ l. refusal_of s c.node.result.now.state (change.Deliver l)) (sym c.outline_for.ensures) in
     subst (λ o. OnOk c.may_hear_outlined.result (o ≡ None)) (sym judged) c.may_hear_outlined.ensures.ok
 
 pub returns-clause-refused : goal.returns-clause-refused
@@ -77,16 +77,16 @@ returns-clause-refused g c =
     let ms = c.self.inside.marks.items in
     let none = none_kept (whole_letter ks) c.self.inside.letters (ap (λ (w : WorldState _). w.letters) c.self.view_is ∙ c.requires) in
     let is : world_of ks [] h ms ≡ c.args.self.now = (λ i. world_of ks (sym none i) h ms) ∙ c.self.view_is in
-    let sending : refusal s (world_of ks [] h ms) (step.Send c.args.from c.args.to) ≡ least (send_causes c.node-sender.result.now c.args.to) =
+    let sending : refusal s (world_of ks [] h ms) (step.Send c.args.from c.args.to) ≡ least (send_causes c.node-sender.result.now.state c.args.to) =
     step_refusal (world_of ks [] h ms) (step.Send c.args.from c.args.to) c.args.from (change.Send c.args.to) refl s ∙ ap (λ o. least (causes_at s o (change.Send c.args.to))) c.node-sender.ensures in
     let coming = refusal s (after s (world_of ks [] h ms) (step.Send c.args.from c.args.to)) (step.Deliver 1) in
     let sent : refusal s (world_of ks [] h ms) (step.Send c.args.from c.args.to) ≡ None = sending ∙ c.in_ok-may_send.ensures.ok in
-    let own = kept_there ks c.args.from c.node-sender.result.now c.node-sender.ensures in
-    let named : 1 ≤ c.args.from = named_there ks c.args.from c.node-sender.result.now c.node-sender.ensures in
+    let own = kept_there ks c.args.from c.node-sender.result.now.state c.node-sender.ensures in
+    let named : 1 ≤ c.args.from = named_there ks c.args.from c.node-sender.result.now.state c.node-sender.ensures in
     let name = name_of ks c.args.from own.0 (c.self.invariant.names (c.args.from - 1) own.0 own.1) named in
-    let judged : pass_refusal s c.args.self.now c.args.from c.args.to ≡ refusal_of s c.node.result.now (change.Deliver c.outline_for.result) =
+    let judged : pass_refusal s c.args.self.now c.args.from c.args.to ≡ refusal_of s c.node.result.now.state (change.Deliver c.outline_for.result) =
     ap (λ w. pass_refusal s w c.args.from c.args.to) (sym is) ∙ ap (λ o. first_of o coming) sent
     ∙ judged_alone s ks h ms c.args.from c.args.to own.0 own.1 (c.node-sender.ensures ∙ ap Some (sym own.2)) name (c.self.invariant.recorded (c.args.from - 1) own.0 own.1) sent
     ∙ (λ i. least (causes_at s (c.node.ensures i) (change.Deliver (outlined_for (own.2 i) c.args.to))))
-    ∙ ap (λ l. refusal_of s c.node.result.now (change.Deliver l)) (sym c.outline_for.ensures) in
+    ∙ ap (λ l. refusal_of s c.node.result.now.state (change.Deliver l)) (sym c.outline_for.ensures) in
     subst (λ o. IfErr c.may_hear_outlined.result (λ r. o ≡ Some r)) (sym judged) c.may_hear_outlined.ensures.refused

@@ -4,11 +4,11 @@ use Rattle.rambo_world.proofs.state.State.new.Goals as goal
 
 pub invariant_of-result : goal.invariant_of-result
 invariant_of-result g c =
-    first_fits g.Q.Quorums.system c.args.founders c.in_ok-nodes.nodes c.new-3.result c.in_ok-nodes.ensures.first c.new-3.ensures c.in_ok-merged.merged c.in_ok-merged.ensures.none
+    first_fits g.Q.Quorums.system c.args.founders c.in_ok-nodes.nodes c.in_ok-nodes.ensures.states c.in_ok-nodes.ensures.logs c.new-3.result c.new-3.ensures c.in_ok-merged.merged c.in_ok-merged.ensures.none
 
 pub returns-clause-first : goal.returns-clause-first
 returns-clause-first g c =
-    first_is g.Q.Quorums.system c.args.founders c.in_ok-nodes.nodes c.new-3.result c.in_ok-nodes.ensures.first c.new-3.ensures c.new-4.result.events c.new-5.result.items c.new-4.ensures c.new-5.ensures.items
+    first_is g.Q.Quorums.system c.args.founders c.in_ok-nodes.nodes c.in_ok-nodes.ensures.states c.in_ok-nodes.ensures.logs c.new-3.result c.new-3.ensures c.new-4.result.events c.new-5.result.items c.new-4.ensures c.new-5.ensures.items
 
 pub new-requires-2 : goal.new-requires-2
 new-requires-2 g c = back_fits _ _ _ (next _ _ _ _ (next _ _ _ _ (next _ _ _ _ (next _ _ _ _ (next _ _ _ _ (up_fits _ _ _ c.requires-raw.1.1))))))

@@ -11,6 +11,7 @@ use Rattle.rambo_names.proofs.Sizes.{up_fits, back_fits, next}
 use Rattle.rambo_world.specs.Deliveries.{world_of}
 use Rattle.rambo_world.specs.Direct.{pass_refusal, passed}
 use Rattle.rambo_world.specs.Kept.{state_at, whole_letter, outline, IsKept}
+use Rattle.rambo_world.proofs.Changing.{same_world}
 use Rattle.rambo_world.proofs.Meeting.{named_there}
 use Rattle.rambo_world.proofs.Passing.{sends_away, neither_refused, judged_alone, passed_alone, none_kept}
 use Rattle.rambo_world.proofs.Sendings.{name_of}
@@ -31,7 +32,7 @@ pass-requires g c =
     let own = kept_there ks c.args.from x.0 x.1 in
     let named : 1 ≤ c.args.from = named_there ks c.args.from x.0 x.1 in
     let name = name_of ks c.args.from own.0 (c.self.invariant.names (c.args.from - 1) own.0 own.1) named in
-    let away = sends_away own.0.state c.args.from c.args.to name
+    let away = sends_away own.0.node.state c.args.from c.args.to name
     (ap (λ o. least (causes_at s o (change.Send c.args.to))) (ap Some own.2 ∙ sym x.1) ∙ sym (step_refusal (world_of ks [] h ms) (step.Send c.args.from c.args.to) c.args.from (change.Send c.args.to) refl s) ∙ both.0) in (
       back_fits _ _ _ (next _ _ _ _ (next _ _ _ _ (next _ _ _ _ (next _ _ _ _ (next _ _ _ _ (up_fits _ _ _ c.requires-raw.1.1.0)))))),
       (
@@ -81,4 +82,5 @@ returns-clause-err g c =
     let ms = c.self.inside.marks.items in
     let none = none_kept (whole_letter ks) c.self.inside.letters (ap (λ (w : WorldState _). w.letters) c.self.view_is ∙ c.requires.none) in
     let is : world_of ks [] h ms ≡ c.args.self.now = (λ i. world_of ks (sym none i) h ms) ∙ c.self.view_is in
-    on_err_weaker c.pass.result (λ e. (λ i. world_of (e i) (none i) h ms) ∙ is) c.pass.ensures.err
+    let kept = subst (λ ss. IsKept ks ss c.self.inside.merged) none c.self.invariant in
+    on_err_weaker c.pass.result (λ e. (λ i. world_of c.pass.new.nodes (none i) h ms) ∙ same_world ks c.pass.new.nodes [] h h ms ms e kept.sent refl refl ∙ is) c.pass.ensures.err
