@@ -1,30 +1,34 @@
 -- A step that is committed keeps what the book and the keeper are
-use Rattle.std.proofs.Common.{◌≡◌, ℕ, ◌<◌, ◌≤◌, List, [], ◌∷◌, ◌++◌, length, Option, None, Some, refl, sym, ap, ◌∙◌, subst, inl, inr, arith}
+use Rattle.std.proofs.Common.{◌≡◌, ℕ, ◌<◌, ◌≤◌, List, [], ◌∷◌, ◌++◌, length, Option, None, Some, Result, Ok, Err, OnErr, refl, sym, ap, ◌∙◌, subst, inl, arith}
 use Rattle.std.proofs.lemmas.List.{length-append}
 use mathlib.Core.List.{IsPrefix}
 use Rattle.rambo_names.specs.declared.refusal.Refusal.{Refusal}
-use Rattle.rambo_names.specs.declared.refusal.Refusal.TheVariants.{HistoryFull, OutOfMemory}
+use Rattle.rambo_names.specs.declared.refusal.Refusal.TheVariants.{HistoryFull}
 use Rattle.rambo_names.specs.Quorums.{QuorumSystem}
 use Rattle.rambo_history.specs.declared.event.Event.{Event}
 use Rattle.rambo_gossip.specs.declared.letter.Letter.{Letter}
+use Rattle.rambo_node.specs.declared.effect.Effect.{Effect}
 use Rattle.rambo_node.specs.Changes.{made_by}
-use Rattle.rambo_node.specs.Nodes.{NodeState}
+use Rattle.rambo_node.specs.Nodes.{NodeState, Room, RoomyNode}
 use Rattle.rambo_run.specs.declared.step.Step.{Step}
 use Rattle.rambo_run.specs.declared.step.Step.TheVariants as step
-use Rattle.rambo_run.specs.Steps.{Meant, refusal, with_letter, with_event, with_mark}
+use Rattle.rambo_run.specs.Steps.{Meant, meant, effect_in, refusal, with_letter, with_event, with_mark}
 use Rattle.rambo_run.specs.Runs.{run}
 use Rattle.rambo_roll.specs.Rolls.{Idle}
 use Rattle.rambo_sequence.specs.declared.mark.Mark.{Mark}
-use Rattle.rambo_deeds.specs.declared.deeds.Done.{Done}
+use Rattle.rambo_deeds.specs.declared.half.Half.{Half}
 use Rattle.rambo_deeds.specs.declared.mail.Mail.{Mail}
 use Rattle.rambo_run.specs.Legal.{IsLegal}
 use Rattle.rambo_run.specs.Actors.{actor}
 use Rattle.rambo_run.specs.Steps.{meant_in}
-use Rattle.rambo_deeds.specs.Deeds.{judged, done}
+use Rattle.rambo_deeds.specs.Deeds.{Done, IsReadyStep, done, event_of, judged, letter_in, letter_of, mark_of, meant_by, outline_of}
 use Rattle.rambo_book.specs.Kept.{BookView, KeeperView, AreSent, IsKeeper, IsBook, IsServedBy, Told, lightened, state}
+use Rattle.rambo_book.specs.declared.readied.Ready.{Ready}
+use Rattle.rambo_book.specs.Readying.{IsReadyIn}
 use Rattle.rambo_run.proofs.GoingOn.{prefix_trans}
-use Rattle.rambo_book.proofs.Standing.{light_sent, light_count}
-use Rattle.rambo_book.proofs.Judging.{Judged, judged_by, begun, Finished, finished, kept_on}
+use Rattle.rambo_book.proofs.Standing.{Alike, outlines_alike, light_sent, light_count}
+use Rattle.rambo_book.proofs.Judging.{Judged, judged_by, still, begun, Finished, finished, kept_on}
+use Rattle.rambo_book.proofs.Readying.{ready_alike}
 
 -- the condition of a commit, of what the book and the keeper are made of
 pub served_inside : {Q : Type 0} (s : QuorumSystem Q) (b v : BookView Q) (k u : KeeperView Q) (st : Step Q) → b ≡ v → k ≡ u → IsServedBy (state s v) st u.name → IsServedBy (state s b) st k.name
@@ -33,6 +37,20 @@ served_inside s b v k u st book keeper h = subst (λ b. IsServedBy (state s b) s
 -- which refusal is told, of the book as it is seen
 pub told_outside : {Q : Type 0} (s : QuorumSystem Q) (b v : BookView Q) (st : Step Q) (r : Refusal) → b ≡ v → Told (refusal s (state s b) st) (length b.steps) b.capacity r → Told (refusal s (state s v) st) (length v.steps) v.capacity r
 told_outside s b v st r book h = subst (λ (b : BookView _). Told (refusal s (state s b) st) (length b.steps) b.capacity r) book h
+
+-- the condition of a step that is ready
+pub ready_inside : {Q : Type 0} (s : QuorumSystem Q) (b v : BookView Q) (k u : KeeperView Q) (r : Ready Q) → b ≡ v → k ≡ u → IsReadyIn s (state s v) u r → IsReadyIn s (state s b) k r
+ready_inside s b v k u r book keeper h = subst (λ b. IsReadyIn s (state s b) k r) (sym book) (subst (λ k. IsReadyIn s (state s v) k r) (sym keeper) h)
+
+-- a book and a keeper that are as they were before the first half
+pub same_before : {Q A : Type 0} {E : Type 0} (r : Result A E) (b mid old : BookView Q) (k kept first : KeeperView Q) → mid ≡ old → kept ≡ record first { room = kept.room } → OnErr r ((b ≡ mid) × (k ≡ kept))
+    → OnErr r ((b ≡ old) × (k ≡ record first { room = k.room }))
+same_before (Ok a) b mid old k kept first eb ek h = tt
+same_before (Err e) b mid old k kept first eb ek h = (h.0 ∙ eb, h.1 ∙ ek ∙ (λ i. record first { room = sym (ap (λ (k : KeeperView _). k.room) h.1) i }))
+
+-- a keeper that is as it was
+pub with_room : {Q : Type 0} (k u : KeeperView Q) → u ≡ k → u ≡ record k { room = u.room }
+with_room k u e = e ∙ (λ i. record k { room = sym (ap (λ (k : KeeperView _). k.room) e) i })
 
 -- the lists of a book are the same ones
 pub book_same : {Q : Type 0} {s : QuorumSystem Q} {agreed : Option Q} {most : ℕ} {rolled : List (Step Q)} {f : Q} {steps : List (Step Q)} {letters : List (Letter Q)} {history : List Event} {marks : List Mark} {capacity : ℕ}
@@ -56,26 +74,54 @@ module _ {Q : Type 0} {s : QuorumSystem Q} {agreed : Option Q} {most : ℕ} {rol
   judged_here : Judged s f steps st name node letters
   judged_here = judged_by s agreed most rolled f steps letters history marks capacity holds name node tray seen b k idle st served
 
-  pub verdict : (ls : List (Letter Q)) → ls ≡ letters → refusal s (run s f steps) st ≡ judged s node (meant_in ls st)
-  verdict ls e = judged_here.verdict ∙ ap (λ ls. judged s node (meant_in ls st)) (sym e)
+  pub verdict : (o : Option (Letter Q)) (ls : List (Letter Q)) → ls ≡ letters → meant_by o st ≡ meant_in ls st → refusal s (run s f steps) st ≡ judged s node (meant_by o st)
+  verdict o ls e named = judged_here.verdict ∙ ap (λ ls. judged s node (meant_in ls st)) (sym e) ∙ ap (judged s node) (sym named)
 
-  pub told_refused : (ls : List (Letter Q)) (r : Refusal) → ls ≡ letters → judged s node (meant_in ls st) ≡ Some r → Told (refusal s (run s f steps) st) (length steps) capacity r
-  told_refused ls r e h = subst (λ o. Told o (length steps) capacity r) (sym (verdict ls e ∙ h)) refl
+  pub told_refused : (o : Option (Letter Q)) (ls : List (Letter Q)) (r : Refusal) → ls ≡ letters → meant_by o st ≡ meant_in ls st → judged s node (meant_by o st) ≡ Some r → Told (refusal s (run s f steps) st) (length steps) capacity r
+  told_refused o ls r e named h = subst (λ o. Told o (length steps) capacity r) (sym (verdict o ls e named ∙ h)) refl
 
-  pub told_full : (ls : List (Letter Q)) → ls ≡ letters → judged s node (meant_in ls st) ≡ None → capacity ≤ length steps → Told (refusal s (run s f steps) st) (length steps) capacity HistoryFull
-  told_full ls e h full = subst (λ o. Told o (length steps) capacity HistoryFull) (sym (verdict ls e ∙ h)) (inl (refl, omega (arith, full, b.fits)))
+  pub told_full : (o : Option (Letter Q)) (ls : List (Letter Q)) → ls ≡ letters → meant_by o st ≡ meant_in ls st → judged s node (meant_by o st) ≡ None → capacity ≤ length steps → Told (refusal s (run s f steps) st) (length steps) capacity HistoryFull
+  told_full o ls e named h full = subst (λ o. Told o (length steps) capacity HistoryFull) (sym (verdict o ls e named ∙ h)) (inl (refl, omega (arith, full, b.fits)))
 
-  pub told_memory : (ls : List (Letter Q)) → ls ≡ letters → judged s node (meant_in ls st) ≡ None → length steps < capacity → Told (refusal s (run s f steps) st) (length steps) capacity OutOfMemory
-  told_memory ls e h less = subst (λ o. Told o (length steps) capacity OutOfMemory) (sym (verdict ls e ∙ h)) (inr (refl, less))
+  -- where it isn't refused, what is ready by the letter of the book is ready
+  pub ready_here : (o : Option (Letter Q)) (half : Half Q) (v : RoomyNode Q) (held : List (Mail Q)) (looked : List (Step Q)) → v.state ≡ node → o ≡ letter_in letters st → meant_by o st ≡ meant_in letters st
+      → refusal s (run s f steps) st ≡ None → ((m : Meant Q) → meant_by o st ≡ Some m → IsReadyStep s v (outline_of o) m.change half)
+      → IsReadyIn s (run s f steps) (record { name = name; node = v.state; room = v.room; tray = held; seen = looked }) (record { step = st; half = half })
+  ready_here o half v held looked same letter named none ready =
+      let w = run s f steps in
+      let x = v.state in
+      let j = judged_here in
+      let alike : Alike s x (meant_in letters st) (meant w st) = subst (λ x. Alike s x (meant_in letters st) (meant w st)) (sym same) j.same in
+      let outline = ap outline_of letter ∙ outlines_alike w letters st b.sent in
+      let ok : judged s x (meant_in letters st) ≡ None = ap (λ x. judged s x (meant_in letters st)) same ∙ sym j.verdict ∙ none in
+      ready_alike s w st (record { name = name; node = x; room = v.room; tray = held; seen = looked }) (meant_in letters st) (outline_of o) half alike outline served none ok (λ m is. ready m (named ∙ is))
 
-  pub finished_here : (ls ms : List (Letter Q)) (new : NodeState Q) (d : Done Q) → ls ≡ letters → ms ≡ letters → judged s node (meant_in ls st) ≡ None
-      → ((m : Meant Q) → meant_in ms st ≡ Some m → new ≡ (made_by node m.change).node)
-      → ((m : Meant Q) → meant_in ms st ≡ Some m → d ≡ done ms (made_by node m.change))
-      → Finished s f steps st name letters history marks new d
-  finished_here ls ms new d e l none after did =
-      finished s f steps st name node letters history marks new d judged_here served (ap (λ ls. judged s node (meant_in ls st)) (sym e) ∙ none) b.legal b.sent b.told b.marked
-      (λ m is. after m (ap (λ ls. meant_in ls st) l ∙ is))
-      (λ m is. did m (ap (λ ls. meant_in ls st) l ∙ is) ∙ ap (λ ls. done ls (made_by node m.change)) l)
+module _ {Q : Type 0} {s : QuorumSystem Q} {agreed : Option Q} {most : ℕ} {rolled : List (Step Q)} {f : Q} {steps : List (Step Q)} {letters : List (Letter Q)} {history : List Event} {marks : List Mark} {capacity : ℕ}
+    {holds name : ℕ} {node : NodeState Q} {tray : List (Mail Q)} {seen : List (Step Q)}
+    (b : IsBook s agreed most rolled f steps letters history marks capacity) (k : IsKeeper s agreed holds name node tray seen) (idle : Idle actor holds seen rolled)
+    (st : Step Q) where
+  module _ (room : Room Q) (held : List (Mail Q)) (looked : List (Step Q)) (half : Half Q)
+      (ready : IsReadyIn s (run s f steps) (record { name = name; node = node; room = room; tray = held; seen = looked }) (record { step = st; half = half })) (ls : List (Letter Q)) (same : ls ≡ letters) where
+    -- a step whose first half is made, which the letters of the book tell
+    pub half_here : IsReadyStep s (record { state = node; room = room }) (outline_of (letter_in ls st)) ready.change half
+    half_here =
+        subst (λ o. IsReadyStep s (record { state = node; room = room }) o ready.change half)
+        (sym (outlines_alike (run s f steps) letters st b.sent) ∙ sym (ap (λ ls. outline_of (letter_in ls st)) same)) ready.ready
+
+    -- and then the second
+    pub finished_here : (new : NodeState Q) (effect : Effect Q) → new ≡ (made_by node ready.change).node → effect ≡ effect_in ls (made_by node ready.change).deed.effect (made_by node ready.change).letter
+        → Finished s f steps st name letters history marks new (record { effect = effect; event = event_of half; mark = mark_of half; letter = letter_of half })
+    finished_here new effect after did =
+        let made = made_by node ready.change in
+        let d : Done Q = record { effect = effect; event = event_of half; mark = mark_of half; letter = letter_of half } in
+        let told : d ≡ done letters made = λ i. record {
+          effect = (did ∙ ap (λ ls. effect_in ls made.deed.effect made.letter) same) i;
+          event = ready.ready.event i;
+          mark = ready.ready.mark i;
+          letter = ready.ready.letter i;
+        } in
+        finished s f steps st name node letters history marks new d (still s agreed most rolled f steps letters history marks capacity holds name node tray seen b k idle) ready.change
+        ready.means ready.accepted b.legal b.sent b.told b.marked after told
 
   module _ {new : NodeState Q} {d : Done Q} (h : Finished s f steps st name letters history marks new d) where
     pub book_after : (rolled' steps' : List (Step Q)) (letters' : List (Letter Q)) (history' : List Event) (marks' : List Mark) → length steps < capacity

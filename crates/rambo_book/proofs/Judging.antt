@@ -12,8 +12,9 @@ use Rattle.rambo_gossip.specs.declared.letter.Kind.TheVariants as kind
 use Rattle.rambo_gossip.specs.Short.{copies_in}
 use Rattle.rambo_tag.specs.Copies.{joined}
 use Rattle.rambo_tag.proofs.Joins.{joined-empty, joined-again}
+use Rattle.rambo_node.specs.declared.change.Change.{Change}
 use Rattle.rambo_node.specs.declared.change.Change.TheVariants as change
-use Rattle.rambo_node.specs.Changes.{Made, made_by}
+use Rattle.rambo_node.specs.Changes.{made_by}
 use Rattle.rambo_node.specs.Hearing.{heard_kind, heard_join, heard_gossip}
 use Rattle.rambo_node.specs.Nodes.{NodeState}
 use Rattle.rambo_run.specs.declared.step.Step.{Step}
@@ -30,14 +31,13 @@ use Rattle.rambo_run.proofs.Legal.{legal-more, events_fit_run}
 use Rattle.rambo_run.proofs.Actors.{acts, addressees}
 use Rattle.rambo_roll.specs.Rolls.{Idle}
 use Rattle.rambo_sequence.specs.declared.mark.Mark.{Mark}
-use Rattle.rambo_deeds.specs.declared.deeds.Done.{Done}
 use Rattle.rambo_deeds.specs.declared.mail.Mail.{Mail}
-use Rattle.rambo_deeds.specs.Deeds.{judged, done}
+use Rattle.rambo_deeds.specs.Deeds.{Done, judged, done}
 use Rattle.rambo_book.specs.Kept.{AreSent, IsKeeper, IsBook, IsServedBy}
 use Rattle.rambo_book.proofs.Idle.{idle_node}
 use Rattle.rambo_book.proofs.Standing.{Alike, alike, sent_more, done_counts, mail_longer, letter-left, IsHeard}
 
-judge_of : {Q : Type 0} (s : QuorumSystem Q) (w : WorldState Q) (x : NodeState Q) (name : ℕ) (o : Option (Meant Q)) → node_at w name ≡ Some x → ((m : Meant Q) → o ≡ Some m → m.name ≡ name)
+pub judge_of : {Q : Type 0} (s : QuorumSystem Q) (w : WorldState Q) (x : NodeState Q) (name : ℕ) (o : Option (Meant Q)) → node_at w name ≡ Some x → ((m : Meant Q) → o ≡ Some m → m.name ≡ name)
     → least (causes_of s w o) ≡ judged s x o
 judge_of s w x name None here served = refl
 judge_of s w x name (Some m) here served = ap (λ o. least (causes_at s o m.change)) (ap (node_at w) (served m refl) ∙ here)
@@ -78,7 +78,7 @@ module _ {Q : Type 0} (s : QuorumSystem Q) (agreed : Option Q) (most : ℕ) (rol
   pub begun : IsPrefix seen steps
   begun = (idle.0, idle.1 ∙ b.all)
 
-some_meant : {Q : Type 0} (s : QuorumSystem Q) (x : NodeState Q) (o : Option (Meant Q)) → judged s x o ≡ None → (m : Meant Q) × (o ≡ Some m)
+pub some_meant : {Q : Type 0} (s : QuorumSystem Q) (x : NodeState Q) (o : Option (Meant Q)) → judged s x o ≡ None → (m : Meant Q) × (o ≡ Some m)
 some_meant s x None e = absurd (true≢false (ap is_some e))
 some_meant s x (Some m) e = (m, refl)
 
@@ -106,7 +106,7 @@ unfolding heard_join heard_gossip
 heard_joined x j kind.Join = sym (joined-empty x.registers)
 heard_joined x j (kind.Gossip g) = refl
 
-made_joined : {Q : Type 0} (x : NodeState Q) (l : Letter Q) → (made_by x (change.Deliver l)).node.registers ≡ joined x.registers (copies_in l.kind)
+pub made_joined : {Q : Type 0} (x : NodeState Q) (l : Letter Q) → (made_by x (change.Deliver l)).node.registers ≡ joined x.registers (copies_in l.kind)
 unfolding made_by
 made_joined x l = heard_joined x l.sender l.kind
 
@@ -120,29 +120,22 @@ unfolding turn
 turn_is w st m x means there = ap (turn_of w) means ∙ ap (λ o. turn_at w m.name o m.change) there
 
 module _ {Q : Type 0} (s : QuorumSystem Q) (f : Q) (steps : List (Step Q)) (st : Step Q) (name : ℕ) (node : NodeState Q) (letters : List (Letter Q)) (history : List Event) (marks : List Mark) (new : NodeState Q) (d : Done Q) where
-  pub finished : Judged s f steps st name node letters → IsServedBy (run s f steps) st name → judged s node (meant_in letters st) ≡ None → IsLegal s f steps
+  pub finished : node_at (run s f steps) name ≡ Some node → (c : Change Q) → meant (run s f steps) st ≡ Some (record { name = name; change = c }) → refusal s (run s f steps) st ≡ None → IsLegal s f steps
       → AreSent (run s f steps) letters → history ≡ (run s f steps).history → marks ≡ (run s f steps).marks
-      → ((m : Meant Q) → meant_in letters st ≡ Some m → new ≡ (made_by node m.change).node)
-      → ((m : Meant Q) → meant_in letters st ≡ Some m → d ≡ done letters (made_by node m.change))
+      → new ≡ (made_by node c).node → d ≡ done letters (made_by node c)
       → Finished s f steps st name letters history marks new d
-  finished j served none legal sent told marked after did =
+  finished here c means accepted legal sent told marked after did =
       let w = run s f steps in
-      let accepted : refusal s w st ≡ None = j.verdict ∙ none in
-      let kept = some_meant s node (meant_in letters st) none in
-      let found = some_meant s node (meant w st) (sym j.same.judges ∙ none) in
-      let m = found.0 in
-      let means : meant w st ≡ Some m = found.1 in
-      let own : m.name ≡ name = served m means in
-      let made = made_by node m.change in
-      let makes : made_by node kept.0.change ≡ made = j.same.makes kept.0 m kept.1 means in
-      let t : turn w st ≡ turn_by w m.name made = turn_is w st m node means (ap (node_at w) own ∙ j.here) in
-      let e : d ≡ done w.letters made = did kept.0 kept.1 ∙ ap (done letters) makes ∙ done_counts letters w.letters made sent.0 in
+      let m : Meant Q = record { name = name; change = c } in
+      let made = made_by node c in
+      let t : turn w st ≡ turn_by w name made = turn_is w st m node means here in
+      let e : d ≡ done w.letters made = did ∙ done_counts letters w.letters made sent.0 in
       let more : run s f (steps ++ st ∷ []) ≡ (turn w st).world = run-more s f steps st accepted in
-      let nodes : (turn w st).world.nodes ≡ slice_set w.nodes (name - 1) made.node = ap (λ (t : Turn _). t.world.nodes) t ∙ ap (λ n. slice_set w.nodes (n - 1) made.node) own in
+      let nodes : (turn w st).world.nodes ≡ slice_set w.nodes (name - 1) made.node = ap (λ (t : Turn _). t.world.nodes) t in
       let list : (run s f (steps ++ st ∷ [])).letters ≡ with_letter w.letters d.letter =
       ap (λ (w : WorldState _). w.letters) more ∙ ap (λ (t : Turn _). t.world.letters) t ∙ sym (ap (λ (d : Done _). with_letter w.letters d.letter) e) in
       let there_after : node_at (run s f (steps ++ st ∷ [])) name ≡ Some new =
-      ap (λ w. node_at w name) more ∙ own_put w (turn w st).world name node made.node j.here nodes ∙ ap Some (sym (after kept.0 kept.1 ∙ ap (λ (m : Made _). m.node) makes)) in
+      ap (λ w. node_at w name) more ∙ own_put w (turn w st).world name node made.node here nodes ∙ ap Some (sym after) in
       record {
         accepted = accepted;
         legal = legal-more s f steps st legal accepted;
@@ -154,13 +147,13 @@ module _ {Q : Type 0} (s : QuorumSystem Q) (f : Q) (steps : List (Step Q)) (st :
             ap (λ h. fault_of h v) told ∙ events_fit_run s f steps st v accepted grown;
         effect = ap (λ (d : Done _). d.effect) e ∙ sym (ap (λ (t : Turn _). t.effect) t);
         node = there_after;
-        acts = acts steps w st m (addressees s f steps legal) means ∙ own;
+        acts = acts steps w st m (addressees s f steps legal) means;
         heard = λ n whole is there.
             let it = delivered_letter (letter_at w.letters n) m (ap (meant w) (sym is) ∙ means) in
             let same : it.0 ≡ whole = some_inj it.0 whole (sym (letter-left s f steps (steps ++ st ∷ []) (st ∷ [], refl) n it.0 it.1) ∙ there) in
-            let to : whole.addressee ≡ name = ap (λ (l : Letter _). l.addressee) (sym same) ∙ ap (λ (m : Meant _). m.name) it.2 ∙ own in
+            let to : whole.addressee ≡ name = ap (λ (l : Letter _). l.addressee) (sym same) ∙ ap (λ (m : Meant _). m.name) it.2 in
             let after_it : new ≡ (made_by node (change.Deliver whole)).node =
-            after kept.0 kept.1 ∙ ap (λ (m : Made _). m.node) makes ∙ ap (λ (m : Meant _). (made_by node m.change).node) (sym it.2) ∙ ap (λ l. (made_by node (change.Deliver l)).node) same in
+            after ∙ ap (λ (m : Meant _). (made_by node m.change).node) (sym it.2) ∙ ap (λ l. (made_by node (change.Deliver l)).node) same in
             let held : held_by (run s f (steps ++ st ∷ [])) whole.addressee ≡ new.registers = ap (held_by (run s f (steps ++ st ∷ []))) to ∙ ap copies_of there_after in
             subst (λ r. joined r (copies_in whole.kind) ≡ r) (sym held) (holds_heard node new whole after_it);
       }

@@ -1,9 +1,11 @@
 pub mod Idle
 pub mod Standing
 pub mod Judging
+pub mod Readying
 pub mod Commits
 pub mod Refused
 pub mod Firsts
+pub mod Halves
 pub mod Trays
 pub mod Taking
 pub mod Clearing

@@ -15,6 +15,7 @@ use Rattle.rambo_gossip.specs.declared.letter.Kind.{Kind}
 use Rattle.rambo_gossip.specs.declared.letter.Kind.TheVariants as kind
 use Rattle.rambo_gossip.specs.Letters.{kind_with, letter_with}
 use Rattle.rambo_gossip.specs.Short.{copies_in, IsShort}
+use Rattle.rambo_node.specs.declared.change.Change.{Change}
 use Rattle.rambo_node.specs.declared.change.Change.TheVariants as change
 use Rattle.rambo_node.specs.declared.effect.Effect.{Effect}
 use Rattle.rambo_node.specs.Changes.{Made, made_by, refusal_of}
@@ -29,17 +30,27 @@ use Rattle.rambo_run.proofs.Lists.{none-some, some_inj, get_more}
 use Rattle.rambo_run.proofs.Growing.{copies_are_kept}
 use Rattle.rambo_run.proofs.Legal.{get-left, run-grows}
 use Rattle.rambo_deeds.specs.declared.mail.Mail.{Mail}
-use Rattle.rambo_deeds.specs.Deeds.{judged, done, name_in}
+use Rattle.rambo_deeds.specs.Deeds.{judged, done, letter_in, name_in, outline_of}
+use Rattle.rambo_deeds.proofs.Outlines.{letter_twice}
 use Rattle.rambo_sequence.proofs.Members.{set_here, set_there}
 use Rattle.rambo_book.specs.Kept.{StandsFor, AreSent, IsMailOf, IsServedBy, lightened_at, lightened}
 
--- two changes that a step may mean come to the same for a node
+-- a change delivers a letter, and another one that for which the letter stands at a node
+pub record IsShortDelivery {Q : Type 0} (x : NodeState Q) (c d : Change Q) : Type 0 where
+  pub letter : Letter Q
+  pub whole : Letter Q
+  pub delivers : c ≡ change.Deliver letter
+  pub delivered : d ≡ change.Deliver whole
+  pub short : IsShort letter whole x.registers
+
+-- two changes that a step may mean come to the same for a node: they are one, or the first delivers what stands for the
+-- letter of the second
 pub record Alike {Q : Type 0} (s : QuorumSystem Q) (x : NodeState Q) (o p : Option (Meant Q)) : Type 0 where
   pub judges : judged s x o ≡ judged s x p
-  pub makes : (m k : Meant Q) → o ≡ Some m → p ≡ Some k → made_by x m.change ≡ made_by x k.change
+  pub changes : (m k : Meant Q) → o ≡ Some m → p ≡ Some k → (m.change ≡ k.change) ⊎ IsShortDelivery x m.change k.change
 
-itself : {Q : Type 0} (s : QuorumSystem Q) (x : NodeState Q) (o : Option (Meant Q)) → Alike s x o o
-itself s x o = record { judges = refl; makes = λ m k e f. ap (λ (m : Meant _). made_by x m.change) (some_inj m k (sym e ∙ f)) }
+pub itself : {Q : Type 0} (s : QuorumSystem Q) (x : NodeState Q) (o : Option (Meant Q)) → Alike s x o o
+itself s x o = record { judges = refl; changes = λ m k e f. inl (ap (λ (m : Meant _). m.change) (some_inj m k (sym e ∙ f))) }
 
 -- lists of one length have items at the same places
 pub paired : {A B : Type 0} (xs : List A) (ys : List B) → length xs ≡ length ys → (i : ℕ)
@@ -64,6 +75,10 @@ letters_paired w letters sent (suc i) = elim (paired letters w.letters sent.0 i)
 pub goes_alike : {Q : Type 0} (l whole : Letter Q) (held : Copies) → IsShort l whole held → l.addressee ≡ whole.addressee
 goes_alike l whole held short = ap (λ (l : Letter _). l.addressee) short.rest
 
+-- and tells the same besides copies
+pub outline_alike : {Q : Type 0} (l whole : Letter Q) (held : Copies) → IsShort l whole held → letter_with l map.empty ≡ letter_with whole map.empty
+outline_alike l whole held short = sym (letter_twice l (copies_in whole.kind) map.empty) ∙ ap (λ l. letter_with l map.empty) short.rest
+
 -- and comes from there
 pub comes_alike : {Q : Type 0} (l whole : Letter Q) (held : Copies) → IsShort l whole held → l.sender ≡ whole.sender
 comes_alike l whole held short = ap (λ (l : Letter _). l.sender) short.rest
@@ -72,16 +87,23 @@ module _ {Q : Type 0} (s : QuorumSystem Q) (x : NodeState Q) where
   pub verdict_alike : (l whole : Letter Q) → IsShort l whole x.registers → refusal_of s x (change.Deliver l) ≡ refusal_of s x (change.Deliver whole)
   verdict_alike l whole short = ap least (heard_as_whole x l whole short).1
 
-  unfolding_made : (l whole : Letter Q) → IsShort l whole x.registers → made_by x (change.Deliver l) ≡ made_by x (change.Deliver whole)
+  pub made_alike : (l whole : Letter Q) → IsShort l whole x.registers → made_by x (change.Deliver l) ≡ made_by x (change.Deliver whole)
   unfolding made_by
-  unfolding_made l whole short = ap Rattle.rambo_node.specs.Changes.quiet (heard_as_whole x l whole short).0
+  made_alike l whole short = ap Rattle.rambo_node.specs.Changes.quiet (heard_as_whole x l whole short).0
 
-  coming : (l whole : Letter Q) → IsShort l whole x.registers
+  pub coming : (l whole : Letter Q) → IsShort l whole x.registers
       → Alike s x (Some (record { name = l.addressee; change = change.Deliver l })) (Some (record { name = whole.addressee; change = change.Deliver whole }))
   coming l whole short = record {
     judges = verdict_alike l whole short;
-    makes = λ m k e f.
-        sym (ap (λ (m : Meant _). made_by x m.change) (some_inj _ m e)) ∙ unfolding_made l whole short ∙ ap (λ (m : Meant _). made_by x m.change) (some_inj _ k f);
+    changes = λ m k e f.
+        inr
+        (record {
+          letter = l;
+          whole = whole;
+          delivers = sym (ap (λ (m : Meant _). m.change) (some_inj _ m e));
+          delivered = sym (ap (λ (m : Meant _). m.change) (some_inj _ k f));
+          short = short;
+        });
   }
 
 -- of a letter to the node of this name
@@ -112,6 +134,27 @@ alike s w letters name x (step.Recon n wish) sent here served = itself s x _
 alike s w letters name x (step.Rebid n) sent here served = itself s x _
 alike s w letters name x (step.AdvanceRecon n) sent here served = itself s x _
 alike s w letters name x (step.Stop n) sent here served = itself s x _
+
+-- the letter of the book that a step lets come tells what the one that was sent does, besides copies
+outline_at : {Q : Type 0} (w : WorldState Q) (letters : List (Letter Q)) (n : ℕ) → AreSent w letters → outline_of (letter_at letters n) ≡ outline_of (letter_at w.letters n)
+outline_at w letters n sent = elim (letters_paired w letters sent n) [
+  | inl e ↦ ap outline_of (e.0 ∙ sym e.1)
+  | inr p ↦ ap outline_of p.2 ∙ ap Some (outline_alike p.0 p.1 _ p.4) ∙ sym (ap outline_of p.3)
+]
+
+pub outlines_alike : {Q : Type 0} (w : WorldState Q) (letters : List (Letter Q)) (st : Step Q) → AreSent w letters → outline_of (letter_in letters st) ≡ outline_of (letter_in w.letters st)
+outlines_alike w letters (step.Deliver n) sent = outline_at w letters n sent
+outlines_alike w letters (step.Join n contacts) sent = refl
+outlines_alike w letters (step.Call n o) sent = refl
+outlines_alike w letters (step.Send n to) sent = refl
+outlines_alike w letters (step.Advance id) sent = refl
+outlines_alike w letters (step.Again id) sent = refl
+outlines_alike w letters (step.Collect n) sent = refl
+outlines_alike w letters (step.AdvanceCollect n) sent = refl
+outlines_alike w letters (step.Recon n wish) sent = refl
+outlines_alike w letters (step.Rebid n) sent = refl
+outlines_alike w letters (step.AdvanceRecon n) sent = refl
+outlines_alike w letters (step.Stop n) sent = refl
 
 -- whose step it is
 names_alike : {Q : Type 0} (w : WorldState Q) (letters : List (Letter Q)) (n : ℕ) → AreSent w letters → name_in (delivery (letter_at letters n)) ≡ name_in (delivery (letter_at w.letters n))
@@ -199,10 +242,6 @@ abbrev pub IsHeard : {Q : Type 0} → WorldState Q → Letter Q → Type 0
 IsHeard w whole = joined (held_by w whole.addressee) (copies_in whole.kind) ≡ held_by w whole.addressee
 
 -- so it needs none
-kind_again : {Q : Type 0} (k : Kind Q) (c d : Copies) → kind_with (kind_with k c) d ≡ kind_with k d
-kind_again kind.Join c d = refl
-kind_again (kind.Gossip g) c d = refl
-
 none_in : {Q : Type 0} (k : Kind Q) (key : List ℕ) → map.get (copies_in (kind_with k map.empty)) key ≡ None
 none_in kind.Join key = map.get-empty key_cmp key
 none_in (kind.Gossip g) key = map.get-empty key_cmp key
@@ -211,7 +250,7 @@ stands_light : {Q : Type 0} (w : WorldState Q) (l whole : Letter Q) → StandsFo
 stands_light w l whole short heard =
     let held = held_by w whole.addressee in
     record {
-      rest = (λ i. record l { kind = kind_again l.kind map.empty (copies_in whole.kind) i }) ∙ short.rest;
+      rest = letter_twice l map.empty (copies_in whole.kind) ∙ short.rest;
       part = λ key v e. absurd (none-some v (sym (none_in l.kind key) ∙ e));
       held_anyway = λ key v e f.
           let above : is_below (map.get held key) (map.get (copies_in whole.kind) key) ≡ false =

@@ -8,7 +8,7 @@ use Rattle.rambo_history.specs.declared.event.Event.{Event}
 use Rattle.rambo_gossip.specs.declared.letter.Letter.{Letter}
 use Rattle.rambo_gossip.specs.Letters.{letter_with}
 use Rattle.rambo_gossip.specs.Short.{IsShort}
-use Rattle.rambo_node.specs.Nodes.{NodeState}
+use Rattle.rambo_node.specs.Nodes.{NodeState, Room}
 use Rattle.rambo_run.specs.declared.step.Step.{Step}
 use Rattle.rambo_run.specs.Worlds.{WorldState, node_at, held_by, letter_at}
 use Rattle.rambo_run.specs.Steps.{Meant, meant}
@@ -17,9 +17,11 @@ use Rattle.rambo_deeds.specs.declared.mail.Mail.{Mail}
 use Rattle.rambo_run.specs.Legal.{IsLegal}
 use Rattle.rambo_sequence.specs.declared.mark.Mark.{Mark}
 
+-- room: what there is in the node
 pub record KeeperView (Q : Type 0) : Type 0 where
   pub name : ℕ
   pub node : NodeState Q
+  pub room : Room Q
   pub tray : List (Mail Q)
   pub seen : List (Step Q)
 

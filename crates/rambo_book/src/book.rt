@@ -1,8 +1,8 @@
 //! The list of all steps, with the letters, the history and the marks that they gave.
-ghost use Rattle.std.specs.Prelude.{◌≡◌, ◌<◌, ◌≤◌, [], length, Some, true};
+ghost use Rattle.std.specs.Prelude.{◌≡◌, ◌<◌, ◌≤◌, [], length, None, Some, true};
 ghost use Rattle.std.specs.Option.{option_copied};
 ghost use Rattle.rambo_history.specs.Histories.{answer_in};
-ghost use Rattle.rambo_book.specs.Kept.{AreSent, IsServedBy, state};
+ghost use Rattle.rambo_book.specs.Kept.{AreSent, IsServedBy, Told, state};
 ghost use Rattle.rambo_roll.specs.Rolls.{Idle};
 ghost use Rattle.rambo_run.specs.Actors.{actor};
 ghost use Rattle.rambo_run.specs.Runs.{run};
@@ -14,7 +14,7 @@ use crate::terms::Terms;
 use rambo_deeds::{SharedLetter, named_by};
 use rambo_history::{Answer, CallId, Event, History};
 use rambo_mail::Mails;
-use rambo_names::{Name, Quorums};
+use rambo_names::{Name, Quorums, Refusal};
 use rambo_roll::Roll;
 use rambo_run::Step;
 use rambo_sequence::Mark;
@@ -135,5 +135,16 @@ impl<J: Terms<Q>, Q: Quorums> Book<J, Q> {
         ensures { option_copied result ≡ answer_in (state Q.system self.now).history id.now }
     {
         self.history.answer(id)
+    }
+
+    /// What is told where there is no room for a step: that the book is full where it is, else want of memory.
+    pub fn no_room(&self) -> Refusal
+        ensures { Told None (length self.now.steps) self.now.capacity result }
+    {
+        if self.steps.len() >= self.capacity {
+            Refusal::HistoryFull
+        } else {
+            Refusal::OutOfMemory
+        }
     }
 }

@@ -1,19 +1,21 @@
 //! A step goes into the book, and its node takes it.
 ghost use Rattle.std.specs.Prelude.{◌≡◌, ◌≢◌, ◌<◌, ℕ, ◌++◌, ◌∷◌, [], None, Some, length, option_to_list, OnOk, OnErr, IfOk, IfErr};
 ghost use Rattle.std.specs.Vec.{vec_len, vec_capacity};
-ghost use Rattle.rambo_history.specs.Faults.{fault_of};
 ghost use Rattle.rambo_run.specs.Actors.{sent_by};
 ghost use Rattle.rambo_run.specs.Runs.{run};
-ghost use Rattle.rambo_run.specs.Steps.{refusal, turn, with_letter, with_event, with_mark};
+ghost use Rattle.rambo_run.specs.Steps.{refusal, turn};
 ghost use Rattle.rambo_run.specs.Worlds.{node_at};
 ghost use Rattle.rambo_book.specs.Kept.{KeeperView, IsServedBy, Told, lightened, state};
+ghost use Rattle.rambo_book.specs.Readying.{IsReadyIn, IsReadyFor};
 ghost use Rattle.rambo_book.specs.Mailing.{waiting_after};
 
 use crate::book::Book;
+use crate::finishing::finish;
 use crate::keeper::Keeper;
+use crate::readied::Ready;
 use crate::terms::Terms;
-use rambo_deeds::{Done, SharedLetter, Worker, letter_of};
-use rambo_history::{Event, History};
+use rambo_deeds::{SharedLetter, Worker, letter_named, letter_of};
+use rambo_history::History;
 use rambo_mail::{Mails, Posting};
 use rambo_names::{Name, Quorums, Refusal};
 use rambo_node::Effect;
@@ -36,7 +38,8 @@ pub fn may_commit<J: Terms<Q>, Q: Quorums, S: Replica>(
     ensures memory { IfErr result (λ r. r ≢ Refusal.OutOfMemory) }
 {
     book.roll.agree(&mut keeper.holder);
-    if let Err(refusal) = keeper.worker.judge(book.letters.as_slice(), step) {
+    let letter = letter_named(book.letters.as_slice(), step);
+    if let Err(refusal) = keeper.worker.judge(letter, step) {
         return Err(refusal);
     }
     if book.steps.len() >= book.capacity {
@@ -62,10 +65,74 @@ pub fn commit<J: Terms<Q>, Q: Quorums, S: Replica>(
     ensures effect { IfOk result (λ e. e ≡ (turn (state Q.system book.old) step).effect) }
     ensures book { OnOk result (book.new ≡ record book.old { steps = book.old.steps ++ step ∷ []; waiting = book.new.waiting }) }
     ensures waiting { OnOk result (book.new.waiting ≡ waiting_after book.old (sent_by step) (length (state Q.system book.new).letters)) }
-    ensures keeper { OnOk result (keeper.new ≡ record keeper.old { node = keeper.new.node; seen = book.old.steps ++ step ∷ [] }) }
+    ensures keeper { OnOk result (keeper.new ≡ record keeper.old { node = keeper.new.node; room = keeper.new.room; seen = book.old.steps ++ step ∷ [] }) }
+    ensures node { OnOk result (node_at (state Q.system book.new) keeper.old.name ≡ Some keeper.new.node) }
+    ensures same { OnErr result ((book.new ≡ book.old) × (keeper.new ≡ record keeper.old { room = keeper.new.room })) }
+    ensures told { IfErr result (λ r. Told (refusal Q.system (state Q.system book.old) step) (length book.old.steps) book.old.capacity r) }
+{
+    may_commit(book, keeper, &step)?;
+    let ready = ready_by_book(book, keeper, step)?;
+    enter(book, keeper, ready)
+}
+
+/// The second half of a step: it goes into the book, and the keeper's node changes.
+///
+/// By its rules nothing is refused any more: 23 exactly where the book is full, else 22, where it has no room. Both are then
+/// as before.
+pub fn commit_ready<J: Terms<Q>, Q: Quorums, S: Replica>(
+    book: &mut Book<J, Q>,
+    keeper: &mut Keeper<J, Q, S>,
+    ready: Ready<Q>,
+) -> Result<Effect<Q>, Refusal>
+    requires { IsReadyFor Q.system J.founders keeper.old ready }
+    ensures legal { refusal Q.system (state Q.system book.old) ready.step ≡ None }
+    ensures effect { IfOk result (λ e. e ≡ (turn (state Q.system book.old) ready.step).effect) }
+    ensures book { OnOk result (book.new ≡ record book.old { steps = book.old.steps ++ ready.step ∷ []; waiting = book.new.waiting }) }
+    ensures waiting { OnOk result (book.new.waiting ≡ waiting_after book.old (sent_by ready.step) (length (state Q.system book.new).letters)) }
+    ensures keeper { OnOk result (keeper.new ≡ record keeper.old { node = keeper.new.node; room = keeper.new.room; seen = book.old.steps ++ ready.step ∷ [] }) }
     ensures node { OnOk result (node_at (state Q.system book.new) keeper.old.name ≡ Some keeper.new.node) }
     ensures same { OnErr result ((book.new ≡ book.old) × (keeper.new ≡ keeper.old)) }
-    ensures told { IfErr result (λ r. Told (refusal Q.system (state Q.system book.old) step) (length book.old.steps) book.old.capacity r) }
+    ensures told { IfErr result (λ r. Told None (length book.old.steps) book.old.capacity r) }
+{
+    book.facts();
+    book.agree(keeper);
+    enter(book, keeper, ready)
+}
+
+// The first half of a step of the keeper's node that isn't refused, with the letter from the book.
+fn ready_by_book<J: Terms<Q>, Q: Quorums, S: Replica>(
+    book: &mut Book<J, Q>,
+    keeper: &mut Keeper<J, Q, S>,
+    step: Step<Q>,
+) -> Result<Ready<Q>, Refusal>
+    requires served { IsServedBy (state Q.system book.old) step keeper.old.name }
+    requires legal { refusal Q.system (state Q.system book.old) step ≡ None }
+    ensures same { (book.new ≡ book.old) × (keeper.new ≡ record keeper.old { room = keeper.new.room }) }
+    ensures step { IfOk result (λ r. r.step ≡ step) }
+    ensures ready { IfOk result (IsReadyIn Q.system (state Q.system book.old) keeper.new) }
+    ensures refused { IfErr result (λ r. r ≡ Refusal.OutOfMemory) }
+{
+    book.roll.agree(&mut keeper.holder);
+    let alloc = *book.steps.allocator();
+    let letter = letter_named(book.letters.as_slice(), &step);
+    let half = keeper.worker.prepare(alloc, letter, &step)?;
+    Ok(Ready { step, half })
+}
+
+// A step whose first half is made goes into the book, and the node changes.
+fn enter<J: Terms<Q>, Q: Quorums, S: Replica>(
+    book: &mut Book<J, Q>,
+    keeper: &mut Keeper<J, Q, S>,
+    ready: Ready<Q>,
+) -> Result<Effect<Q>, Refusal>
+    requires { IsReadyIn Q.system (state Q.system book.old) keeper.old ready }
+    ensures effect { IfOk result (λ e. e ≡ (turn (state Q.system book.old) ready.step).effect) }
+    ensures book { OnOk result (book.new ≡ record book.old { steps = book.old.steps ++ ready.step ∷ []; waiting = book.new.waiting }) }
+    ensures waiting { OnOk result (book.new.waiting ≡ waiting_after book.old (sent_by ready.step) (length (state Q.system book.new).letters)) }
+    ensures keeper { OnOk result (keeper.new ≡ record keeper.old { node = keeper.new.node; room = keeper.new.room; seen = book.old.steps ++ ready.step ∷ [] }) }
+    ensures node { OnOk result (node_at (state Q.system book.new) keeper.old.name ≡ Some keeper.new.node) }
+    ensures same { OnErr result ((book.new ≡ book.old) × (keeper.new ≡ keeper.old)) }
+    ensures told { IfErr result (λ r. Told None (length book.old.steps) book.old.capacity r) }
 {
     let Book {
         roll,
@@ -77,11 +144,8 @@ pub fn commit<J: Terms<Q>, Q: Quorums, S: Replica>(
         mails,
         capacity,
     } = book;
-    let alloc = *steps.allocator();
+    let Ready { step, half } = ready;
     roll.agree(&mut keeper.holder);
-    if let Err(refusal) = keeper.worker.judge(letters.as_slice(), &step) {
-        return Err(refusal);
-    }
     if steps.len() >= *capacity {
         return Err(Refusal::HistoryFull);
     }
@@ -90,20 +154,9 @@ pub fn commit<J: Terms<Q>, Q: Quorums, S: Replica>(
     };
     let posting = posting_of(keeper.name, &keeper.worker, letters.as_slice(), &step);
     let came = delivered(&step);
-    let Ok(done) = keeper.worker.act(alloc, letters.as_slice(), &step) else {
-        return Err(Refusal::OutOfMemory);
-    };
+    let effect = finish(letters, history, marks, &mut keeper.worker, &step, half);
     roll.add(&mut keeper.holder, &step);
     steps.push_reserved(step);
-    let Done {
-        effect,
-        event,
-        mark,
-        letter,
-    } = done;
-    push_event(history, event);
-    push_mark(marks, mark);
-    push_letter(letters, letter);
     leave_out_copies(letters, came);
     mails.post(&posting, letters.len());
     Ok(effect)
@@ -131,37 +184,6 @@ fn make_room<Q: Quorums>(
     }
     history.reserve(1)?;
     Ok(())
-}
-
-// The event goes to the end of the history, if there is one: there is room for it, and it can stand there.
-fn push_event(history: &mut History, event: Option<Event>)
-    requires room { 0 < history.old.room }
-    requires fits { (e : Event) → event ≡ Some e → fault_of history.old.events e ≡ None }
-    ensures { history.new.events ≡ with_event history.old.events event }
-{
-    if let Some(event) = event {
-        history.push_reserved(event);
-    }
-}
-
-// So does the mark.
-fn push_mark(marks: &mut Vec<Mark>, mark: Option<Mark>)
-    requires { vec_len marks.old < vec_capacity marks.old }
-    ensures { marks.new.items ≡ with_mark marks.old.items mark }
-{
-    if let Some(mark) = mark {
-        marks.push_reserved(mark);
-    }
-}
-
-// And so does the letter.
-fn push_letter<Q: Quorums>(letters: &mut Vec<SharedLetter<Q>>, letter: Option<SharedLetter<Q>>)
-    requires { vec_len letters.old < vec_capacity letters.old }
-    ensures { letters.new.items ≡ with_letter letters.old.items letter }
-{
-    if let Some(letter) = letter {
-        letters.push_reserved(letter);
-    }
 }
 
 // The number of the letter that a step lets come, if it lets one come.

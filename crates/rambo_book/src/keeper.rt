@@ -60,9 +60,9 @@ impl<J: Terms<Q>, Q: Quorums, S: Replica> Model for Keeper<J, Q, S> {
 
     ghost coded = { Prim.hlevel (codes, names_code, copies_code, Q.code) };
 
-    ghost view = { λ k. record { name = k.name; node = k.worker; tray = k.tray.items; seen = k.holder.1 } };
+    ghost view = { λ k. record { name = k.name; node = k.worker.state; room = k.worker.room; tray = k.tray.items; seen = k.holder.1 } };
 
-    ghost invariant = { λ k. IsKeeper Q.system J.founders k.holder.0 k.name k.worker k.tray.items k.holder.1 };
+    ghost invariant = { λ k. IsKeeper Q.system J.founders k.holder.0 k.name k.worker.state k.tray.items k.holder.1 };
 }
 
 impl<J: Terms<Q>, Q: Quorums, S: Replica> Keeper<J, Q, S> {
@@ -106,7 +106,7 @@ impl<J: Terms<Q>, Q: Quorums, S: Replica> Keeper<J, Q, S> {
 
     /// Its node, as it takes steps.
     pub fn worker(&self) -> &Worker<Q, S>
-        ensures { result.now ≡ self.now.node }
+        ensures { result.now ≡ record { state = self.now.node; room = self.now.room } }
     {
         &self.worker
     }

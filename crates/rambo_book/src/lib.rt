@@ -2,6 +2,7 @@
 //!
 //! - `Book`: all steps, with the letters, the history and the marks that they gave; `Keeper`: a node and what it has seen.
 //! - `commit`: a step goes into the book, and its node takes it; `may_commit`: why not.
+//! - `ready` and `commit_ready`: the same in two halves, of which the first needs no book.
 //! - `see_all`, `take_mail`, `take_letter`: what a keeper takes from the book.
 //! - `Terms`: of which founders a post is, and how many steps it takes.
 #![tactic(auto)]
@@ -9,14 +10,19 @@
 mod book;
 mod closing;
 mod committing;
+mod finishing;
+mod first_half;
 mod forgetting;
 mod fronts;
 mod keeper;
 mod mail;
+mod readied;
 mod terms;
 
 pub use book::Book;
-pub use committing::{commit, may_commit};
+pub use committing::{commit, commit_ready, may_commit};
+pub use first_half::ready;
 pub use keeper::{Actor, Keeper};
 pub use mail::{see_all, take_letter, take_mail};
+pub use readied::Ready;
 pub use terms::Terms;

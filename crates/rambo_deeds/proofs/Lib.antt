@@ -1,4 +1,5 @@
 pub mod Fitting
+pub mod Halves
 pub mod Letters
 pub mod Means
 pub mod Outlines

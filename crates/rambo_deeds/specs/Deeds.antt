@@ -1,18 +1,114 @@
--- What a step does that a node takes, where these letters were sent
-use Rattle.std.specs.Prelude.{ℕ, Option, None, Some, List}
+-- What a step does that a node takes, where this is the letter that it lets come
+use Rattle.std.specs.Prelude.{◌≡◌, ℕ, Option, None, Some, List, []}
 use Rattle.rambo_names.specs.declared.refusal.Refusal.{Refusal}
 use Rattle.rambo_names.specs.declared.refusal.Refusal.TheVariants.{NoSuchLetter}
 use Rattle.rambo_names.specs.Quorums.{QuorumSystem}
+use Rattle.rambo_history.specs.declared.event.Event.{Event}
+use Rattle.std.specs.FinMap as copies
 use Rattle.rambo_gossip.specs.declared.letter.Letter.{Letter}
-use Rattle.rambo_node.specs.Changes.{Made, refusal_of}
-use Rattle.rambo_node.specs.Nodes.{NodeState}
-use Rattle.rambo_run.specs.Steps.{Meant, effect_in}
-use Rattle.rambo_deeds.specs.declared.deeds.Done.{Done}
+use Rattle.rambo_gossip.specs.Letters.{letter_with}
+use Rattle.rambo_node.specs.declared.change.Change.{Change}
+use Rattle.rambo_node.specs.declared.change.Change.TheVariants as change
+use Rattle.rambo_node.specs.declared.prepared.Hearing.{Hearing}
+use Rattle.rambo_node.specs.declared.effect.Effect.{Effect}
+use Rattle.rambo_node.specs.Changes.{Made, refusal_of, made_by}
+use Rattle.rambo_node.specs.Nodes.{NodeState, RoomyNode}
+use Rattle.rambo_node.specs.Prepared.{IsHearing, Prepares, quick_change}
+use Rattle.rambo_run.specs.declared.step.Step.{Step}
+use Rattle.rambo_run.specs.declared.step.Step.TheVariants as step
+use Rattle.rambo_run.specs.Worlds.{letter_at}
+use Rattle.rambo_run.specs.Steps.{Meant, meant_in, delivery, effect_in}
+use Rattle.rambo_sequence.specs.declared.mark.Mark.{Mark}
+use Rattle.rambo_deeds.specs.declared.half.Half.{Half}
+use Rattle.rambo_deeds.specs.declared.half.Half.TheVariants as half
+
+-- what a step means where this is the letter that it lets come, if it was sent
+abbrev pub meant_by : {Q : Type 0} → Option (Letter Q) → Step Q → Option (Meant Q)
+meant_by o (step.Deliver n) = delivery o
+meant_by o (step.Join n contacts) = meant_in [] (step.Join n contacts)
+meant_by o (step.Call n asked) = meant_in [] (step.Call n asked)
+meant_by o (step.Send n to) = meant_in [] (step.Send n to)
+meant_by o (step.Advance id) = meant_in [] (step.Advance id)
+meant_by o (step.Again id) = meant_in [] (step.Again id)
+meant_by o (step.Collect n) = meant_in [] (step.Collect n)
+meant_by o (step.AdvanceCollect n) = meant_in [] (step.AdvanceCollect n)
+meant_by o (step.Recon n wish) = meant_in [] (step.Recon n wish)
+meant_by o (step.Rebid n) = meant_in [] (step.Rebid n)
+meant_by o (step.AdvanceRecon n) = meant_in [] (step.AdvanceRecon n)
+meant_by o (step.Stop n) = meant_in [] (step.Stop n)
 
 -- why the node that is meant refuses it
 abbrev pub judged : {Q : Type 0} → QuorumSystem Q → NodeState Q → Option (Meant Q) → Option Refusal
 judged s x None = Some NoSuchLetter
 judged s x (Some m) = refusal_of s x m.change
+
+-- the letter that a step lets come, if it lets one come that was sent
+abbrev pub letter_in : {Q : Type 0} → List (Letter Q) → Step Q → Option (Letter Q)
+letter_in ls (step.Deliver number) = letter_at ls number
+letter_in ls (step.Join n contacts) = None
+letter_in ls (step.Call n o) = None
+letter_in ls (step.Send n to) = None
+letter_in ls (step.Advance id) = None
+letter_in ls (step.Again id) = None
+letter_in ls (step.Collect n) = None
+letter_in ls (step.AdvanceCollect n) = None
+letter_in ls (step.Recon n wish) = None
+letter_in ls (step.Rebid n) = None
+letter_in ls (step.AdvanceRecon n) = None
+letter_in ls (step.Stop n) = None
+
+-- a letter without its copies, if there is one
+abbrev pub outline_of : {Q : Type 0} → Option (Letter Q) → Option (Letter Q)
+outline_of None = None
+outline_of (Some l) = Some (letter_with l copies.empty)
+
+-- a letter comes to the node that is told by this outline, and may be heard so
+pub record IsReadyDelivery {Q : Type 0} (v : RoomyNode Q) (outline : Option (Letter Q)) (c : Change Q) (h : Hearing) : Type 0 where
+  pub letter : Letter Q
+  pub delivers : c ≡ change.Deliver letter
+  pub told : outline ≡ Some (letter_with letter copies.empty)
+  pub hearing : IsHearing v letter h
+
+-- the first half of a change is made, where a letter that comes is told by this outline
+abbrev pub IsHalf : {Q : Type 0} → QuorumSystem Q → RoomyNode Q → Option (Letter Q) → Change Q → Half Q → Type 0
+IsHalf {Q} s v outline c (half.Send l) = (to : ℕ) × (c ≡ change.Send to)
+IsHalf s v outline c (half.Hear h) = IsReadyDelivery v outline c h
+IsHalf s v outline c (half.Call p) = Prepares s v c p.value
+IsHalf s v outline c (half.Quick q) = c ≡ quick_change q
+
+-- what it tells: an event, a mark, a letter
+abbrev pub event_of : {Q : Type 0} → Half Q → Option Event
+event_of (half.Call p) = p.value.event
+event_of (half.Send l) = None
+event_of (half.Hear h) = None
+event_of (half.Quick q) = None
+
+abbrev pub mark_of : {Q : Type 0} → Half Q → Option Mark
+mark_of (half.Call p) = p.value.mark
+mark_of (half.Send l) = None
+mark_of (half.Hear h) = None
+mark_of (half.Quick q) = None
+
+abbrev pub letter_of : {Q : Type 0} → Half Q → Option (Letter Q)
+letter_of (half.Send l) = Some l
+letter_of (half.Call p) = None
+letter_of (half.Hear h) = None
+letter_of (half.Quick q) = None
+
+-- and what it tells is what the change does, which isn't refused
+pub record IsReadyStep {Q : Type 0} (s : QuorumSystem Q) (v : RoomyNode Q) (outline : Option (Letter Q)) (c : Change Q) (h : Half Q) : Type 0 where
+  pub accepted : refusal_of s v.state c ≡ None
+  pub half : IsHalf s v outline c h
+  pub event : event_of h ≡ (made_by v.state c).deed.event
+  pub mark : mark_of h ≡ (made_by v.state c).deed.mark
+  pub letter : letter_of h ≡ (made_by v.state c).letter
+
+-- what a step did
+pub record Done (Q : Type 0) : Type 0 where
+  pub effect : Effect Q
+  pub event : Option Event
+  pub mark : Option Mark
+  pub letter : Option (Letter Q)
 
 -- what goes to the letters, the history and the marks, and is told
 abbrev pub done : {Q : Type 0} → List (Letter Q) → Made Q → Done Q

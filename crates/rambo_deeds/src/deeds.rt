@@ -1,31 +1,26 @@
 //! What the node that a step means makes of it.
-ghost use Rattle.std.specs.Prelude.{◌≡◌, ◌<◌, ◌^◌, length, None, Some, false, OnOk, OnErr, IfOk, IfErr};
+ghost use Rattle.std.specs.Prelude.{◌≡◌, None, Some, OnOk, IfOk, IfErr};
 ghost use Rattle.std.specs.Option.{option_copied};
 ghost use Rattle.rambo_node.specs.Changes.{refusal_of, made_by};
-ghost use Rattle.rambo_run.specs.Steps.{Meant, meant_in, sends};
+ghost use Rattle.rambo_gossip.specs.Letters.{letter_with};
+ghost use Rattle.rambo_node.specs.Hearing.{heard_letter};
+ghost use Rattle.rambo_node.specs.Prepared.{IsPrepared, IsReadyKind, change_of, quick_change};
+ghost use Rattle.rambo_run.specs.Steps.{Meant, meant_in, delivery};
 ghost use Rattle.rambo_run.specs.Worlds.{letter_at};
-ghost use Rattle.rambo_deeds.specs.Deeds.{judged, done, name_in};
+ghost use Rattle.rambo_node.specs.declared.change.Change.TheVariants as change;
+ghost use Rattle.rambo_deeds.specs.Deeds.{judged, letter_in, meant_by, name_in, outline_of, IsReadyStep};
 
-use crate::letter::{SharedLetter, hear, may_hear};
+use crate::half::Half;
+use crate::letter::{SharedLetter, may_hear, ready_letter};
 use crate::worker::Worker;
-use rambo_history::Event;
+use rambo_history::{CallId, Op};
 use rambo_letters::Standing;
 use rambo_names::{Name, Quorums, Refusal};
-use rambo_node::{Change, Deed, Effect, Node};
+use rambo_node::{Effect, Hearing, Node, Prepared, Quick};
 use rambo_run::Step;
-use rambo_sequence::Mark;
 use rambo_tag::Replica;
 use std::alloc::Global;
 use std::sync::Arc;
-
-/// What a step did besides changing its node: what is told of it, and what goes to the history, the marks and the letters.
-#[derive(Drop)]
-pub struct Done<Q: Quorums> {
-    pub effect: Effect<Q>,
-    pub event: Option<Event>,
-    pub mark: Option<Mark>,
-    pub letter: Option<SharedLetter<Q>>,
-}
 
 /// The letter of a number, if it was sent.
 pub fn letter_of<Q: Quorums>(letters: &[SharedLetter<Q>], number: u64) -> Option<&SharedLetter<Q>>
@@ -67,151 +62,182 @@ fn addressee<Q: Quorums>(letters: &[SharedLetter<Q>], number: u64) -> Option<Nam
     }
 }
 
-impl<Q: Quorums, S: Replica> Worker<Q, S> {
-    /// Why the node refuses what the step means, if it does: by the least number. It takes no memory.
-    pub fn judge(&self, letters: &[SharedLetter<Q>], step: &Step<Q>) -> Result<(), Refusal>
-        ensures ok { OnOk result (judged Q.system self.now (meant_in letters.now step.now) ≡ None) }
-        ensures refused { IfErr result (λ r. judged Q.system self.now (meant_in letters.now step.now) ≡ Some r) }
-    {
-        let change = match step {
-            Step::Call(_, op) => return self.node.may_call(op),
-            Step::Send(_, to) => return self.node.may_send(*to),
-            Step::Advance(id) => return self.node.may_advance(id),
-            Step::Deliver(number) => return may_deliver(&self.node, letters, *number),
-            Step::Join(_, contacts) => Change::Join(*contacts),
-            Step::Again(id) => Change::Again(*id),
-            Step::Collect(_) => Change::Collect,
-            Step::AdvanceCollect(_) => Change::AdvanceCollect,
-            Step::Recon(_, wish) => Change::Recon(*wish),
-            Step::Rebid(_) => Change::Rebid,
-            Step::AdvanceRecon(_) => Change::AdvanceRecon,
-            Step::Stop(_) => Change::Stop,
-        };
-        self.node.judge(&change)
-    }
-
-    /// Does what the step means, which the node doesn't refuse.
-    ///
-    /// `OutOfMemory` where there is no room for it; the node is then as it was.
-    pub fn act(
-        &mut self,
-        alloc: Global,
-        letters: &[SharedLetter<Q>],
-        step: &Step<Q>,
-    ) -> Result<Done<Q>, Refusal>
-        requires accepted { judged Q.system self.old (meant_in letters.now step.now) ≡ None }
-        requires few { length letters.now < 2 ^ 63 }
-        ensures node { OnOk result ((m : Meant _) → meant_in letters.now step.now ≡ Some m → self.new ≡ (made_by self.old m.change).node) }
-        ensures done { IfOk result (λ d. (m : Meant _) → meant_in letters.now step.now ≡ Some m → d ≡ done letters.now (made_by self.old m.change)) }
-        ensures err { OnErr result (self.new ≡ self.old) }
-        ensures refused { IfErr result (λ r. r ≡ Refusal.OutOfMemory) }
-    {
-        let change = match step {
-            Step::Send(_, to) => return send(alloc, &self.node, &mut self.told, letters, *to),
-            Step::Deliver(number) => return deliver(alloc, &mut self.node, letters, *number),
-            Step::Call(_, op) => Change::Call(op.clone()?),
-            Step::Advance(id) => Change::Advance(*id),
-            Step::Join(_, contacts) => Change::Join(*contacts),
-            Step::Again(id) => Change::Again(*id),
-            Step::Collect(_) => Change::Collect,
-            Step::AdvanceCollect(_) => Change::AdvanceCollect,
-            Step::Recon(_, wish) => Change::Recon(*wish),
-            Step::Rebid(_) => Change::Rebid,
-            Step::AdvanceRecon(_) => Change::AdvanceRecon,
-            Step::Stop(_) => Change::Stop,
-        };
-        go_on(&mut self.node, letters, &change)
+/// The letter that a step lets come, if it lets one come that was sent.
+pub fn letter_named<'a, Q: Quorums>(
+    letters: &'a [SharedLetter<Q>],
+    step: &Step<Q>,
+) -> Option<&'a SharedLetter<Q>>
+    ensures letter { option_copied result ≡ letter_in letters.now step.now }
+    ensures meant { meant_by (option_copied result) step.now ≡ meant_in letters.now step.now }
+{
+    match step {
+        Step::Deliver(number) => letter_of(letters, *number),
+        _ => None,
     }
 }
 
-// Why the node doesn't hear the letter of a number, if it doesn't.
+impl<Q: Quorums, S: Replica> Worker<Q, S> {
+    /// Why the node refuses what the step means, if it does: by the least number. It takes no memory.
+    ///
+    /// The letter is the one that the step lets come, if it was sent.
+    pub fn judge(&self, letter: Option<&SharedLetter<Q>>, step: &Step<Q>) -> Result<(), Refusal>
+        ensures ok { OnOk result (judged Q.system self.now.state (meant_by (option_copied letter.entry) step.now) ≡ None) }
+        ensures refused { IfErr result (λ r. judged Q.system self.now.state (meant_by (option_copied letter.entry) step.now) ≡ Some r) }
+    {
+        let quick = match step {
+            Step::Call(_, op) => return self.node.may_call(op),
+            Step::Send(_, to) => return self.node.may_send(*to),
+            Step::Advance(id) => return self.node.may_advance(id),
+            Step::Deliver(_) => return may_deliver(&self.node, letter),
+            Step::Join(_, contacts) => Quick::Join(*contacts),
+            Step::Again(id) => Quick::Again(*id),
+            Step::Collect(_) => Quick::Collect,
+            Step::AdvanceCollect(_) => Quick::AdvanceCollect,
+            Step::Recon(_, wish) => Quick::Recon(*wish),
+            Step::Rebid(_) => Quick::Rebid,
+            Step::AdvanceRecon(_) => Quick::AdvanceRecon,
+            Step::Stop(_) => Quick::Stop,
+        };
+        self.node.judge_quick(&quick)
+    }
+
+    /// The first half of what the step means, which the node doesn't refuse: room is made for it, and what it will do is
+    /// found. The node stays, whatever the answer.
+    ///
+    /// `OutOfMemory` where there is no room for it.
+    pub fn prepare(
+        &mut self,
+        alloc: Global,
+        letter: Option<&SharedLetter<Q>>,
+        step: &Step<Q>,
+    ) -> Result<Half<Q>, Refusal>
+        requires { judged Q.system self.old.state (meant_by (option_copied letter) step.now) ≡ None }
+        ensures same { self.new.state ≡ self.old.state }
+        ensures ready { IfOk result (λ h. (m : Meant _) → meant_by (option_copied letter.entry) step.now ≡ Some m → IsReadyStep Q.system self.new (outline_of (option_copied letter.entry)) m.change h) }
+        ensures refused { IfErr result (λ r. r ≡ Refusal.OutOfMemory) }
+    {
+        let quick = match step {
+            Step::Send(_, to) => return prepare_send(alloc, &self.node, &mut self.told, *to),
+            Step::Deliver(_) => return prepare_delivery(alloc, &mut self.node, letter),
+            Step::Call(_, op) => return prepare_call(alloc, &mut self.node, op),
+            Step::Advance(id) => return prepare_advance(alloc, &mut self.node, id),
+            Step::Join(_, contacts) => Quick::Join(*contacts),
+            Step::Again(id) => Quick::Again(*id),
+            Step::Collect(_) => Quick::Collect,
+            Step::AdvanceCollect(_) => Quick::AdvanceCollect,
+            Step::Recon(_, wish) => Quick::Recon(*wish),
+            Step::Rebid(_) => Quick::Rebid,
+            Step::AdvanceRecon(_) => Quick::AdvanceRecon,
+            Step::Stop(_) => Quick::Stop,
+        };
+        Ok(Half::Quick(quick))
+    }
+
+    /// The second half of a call, or of its advance: the node changes. What is told of it.
+    ///
+    /// It takes no memory and can't fail.
+    pub fn finish(&mut self, prepared: Prepared<Q>) -> Effect<Q>
+        requires { IsPrepared Q.system self.old prepared }
+        ensures node { self.new.state ≡ (made_by self.old.state (change_of prepared)).node }
+        ensures effect { result ≡ (made_by self.old.state (change_of prepared)).deed.effect }
+    {
+        self.node.finish(prepared)
+    }
+
+    /// That of a delivery: the letter, or another that differs from it in copies alone, is heard.
+    ///
+    /// It takes no memory and can't fail.
+    pub fn finish_delivery(&mut self, letter: &SharedLetter<Q>, hearing: Hearing)
+        requires { IsReadyKind self.old letter.now.kind hearing.newer hearing.number }
+        ensures { self.new.state ≡ heard_letter self.old.state (letter_with letter.now hearing.newer) }
+    {
+        self.node.finish_outlined(&letter.outline(), hearing);
+    }
+
+    /// That of a change that needs no memory and isn't refused.
+    pub fn finish_quick(&mut self, quick: Quick<Q>) -> Effect<Q>
+        requires { refusal_of Q.system self.old.state (quick_change quick) ≡ None }
+        ensures node { self.new.state ≡ (made_by self.old.state (quick_change quick)).node }
+        ensures effect { result ≡ (made_by self.old.state (quick_change quick)).deed.effect }
+    {
+        self.node.finish_quick(quick)
+    }
+}
+
+// Why the node doesn't hear a letter, if it doesn't, or it wasn't sent.
 fn may_deliver<Q: Quorums, S: Replica>(
     node: &Node<Q, S>,
-    letters: &[SharedLetter<Q>],
-    number: u64,
+    letter: Option<&SharedLetter<Q>>,
 ) -> Result<(), Refusal>
-    ensures ok { OnOk result (judged Q.system node.now.state (meant_in letters.now (Step.Deliver number)) ≡ None) }
-    ensures refused { IfErr result (λ r. judged Q.system node.now.state (meant_in letters.now (Step.Deliver number)) ≡ Some r) }
+    ensures ok { OnOk result (judged Q.system node.now.state (delivery (option_copied letter.entry)) ≡ None) }
+    ensures refused { IfErr result (λ r. judged Q.system node.now.state (delivery (option_copied letter.entry)) ≡ Some r) }
 {
-    match letter_of(letters, number) {
+    match letter {
         Some(letter) => may_hear(node, letter),
         None => Err(Refusal::NoSuchLetter),
     }
 }
 
-// Takes a change that isn't refused, and sends no letter.
-fn go_on<Q: Quorums, S: Replica>(
+// The first half of a call that isn't refused.
+fn prepare_call<Q: Quorums, S: Replica>(
+    alloc: Global,
     node: &mut Node<Q, S>,
-    letters: &[SharedLetter<Q>],
-    change: &Change<Q>,
-) -> Result<Done<Q>, Refusal>
-    requires accepted { refusal_of Q.system node.old.state change.now ≡ None }
-    requires quiet { sends change.now ≡ false }
-    ensures node { OnOk result (node.new.state ≡ (made_by node.old.state change.now).node) }
-    ensures done { IfOk result (λ d. d ≡ done letters.now (made_by node.old.state change.now)) }
-    ensures err { OnErr result (node.new.state ≡ node.old.state) }
+    op: &Op,
+) -> Result<Half<Q>, Refusal>
+    requires { refusal_of Q.system node.old.state (change.Call op.now) ≡ None }
+    ensures same { node.new.state ≡ node.old.state }
+    ensures ready { IfOk result (IsReadyStep Q.system node.new None (change.Call op.now)) }
     ensures refused { IfErr result (λ r. r ≡ Refusal.OutOfMemory) }
 {
-    let deed = node.act(change)?;
-    let Deed {
-        effect,
-        event,
-        mark,
-        copy: _,
-    } = deed;
-    Ok(Done {
-        effect,
-        event,
-        mark,
-        letter: None,
-    })
+    let prepared = node.prepare_call(op)?;
+    Ok(Half::Call(Box::new(alloc, prepared)?))
 }
 
-// The node's letter, which isn't refused. It shares what it tells of configurations with the node's last one, if that told
-// the same.
-fn send<Q: Quorums, S: Replica>(
+// That of the advance of one.
+fn prepare_advance<Q: Quorums, S: Replica>(
+    alloc: Global,
+    node: &mut Node<Q, S>,
+    id: &CallId,
+) -> Result<Half<Q>, Refusal>
+    requires { refusal_of Q.system node.old.state (change.Advance id.now) ≡ None }
+    ensures same { node.new.state ≡ node.old.state }
+    ensures ready { IfOk result (IsReadyStep Q.system node.new None (change.Advance id.now)) }
+    ensures refused { IfErr result (λ r. r ≡ Refusal.OutOfMemory) }
+{
+    let prepared = node.prepare_advance(*id)?;
+    Ok(Half::Call(Box::new(alloc, prepared)?))
+}
+
+// That of the node's letter. It shares what it tells of configurations with the node's last one, if that told the same.
+fn prepare_send<Q: Quorums, S: Replica>(
     alloc: Global,
     node: &Node<Q, S>,
     told: &mut Option<Arc<Standing<Q>, Global>>,
-    letters: &[SharedLetter<Q>],
     to: Name,
-) -> Result<Done<Q>, Refusal>
-    requires accepted { refusal_of Q.system node.now.state (Change.Send to) ≡ None }
-    requires few { length letters.now < 2 ^ 63 }
-    ensures done { IfOk result (λ d. d ≡ done letters.now (made_by node.now.state (Change.Send to))) }
+) -> Result<Half<Q>, Refusal>
+    requires { refusal_of Q.system node.now.state (change.Send to) ≡ None }
+    ensures ready { IfOk result (IsReadyStep Q.system node.now None (change.Send to)) }
     ensures refused { IfErr result (λ r. r ≡ Refusal.OutOfMemory) }
 {
-    let letter = node.letter_for(to)?;
-    Ok(Done {
-        effect: Effect::Sent(letters.len() as u64 + 1),
-        event: None,
-        mark: None,
-        letter: Some(SharedLetter::new(alloc, letter, told)?),
-    })
+    let copies = node.pack()?;
+    let letter = SharedLetter::new(alloc, &node.outline_for(to), copies, told)?;
+    Ok(Half::Send(letter))
 }
 
-// Hears the letter of a number, which isn't refused.
-fn deliver<Q: Quorums, S: Replica>(
+// That of a delivery.
+fn prepare_delivery<Q: Quorums, S: Replica>(
     alloc: Global,
     node: &mut Node<Q, S>,
-    letters: &[SharedLetter<Q>],
-    number: u64,
-) -> Result<Done<Q>, Refusal>
-    requires { judged Q.system node.old.state (meant_in letters.now (Step.Deliver number)) ≡ None }
-    ensures node { OnOk result ((m : Meant _) → meant_in letters.now (Step.Deliver number) ≡ Some m → node.new.state ≡ (made_by node.old.state m.change).node) }
-    ensures done { IfOk result (λ d. (m : Meant _) → meant_in letters.now (Step.Deliver number) ≡ Some m → d ≡ done letters.now (made_by node.old.state m.change)) }
-    ensures err { OnErr result (node.new.state ≡ node.old.state) }
+    letter: Option<&SharedLetter<Q>>,
+) -> Result<Half<Q>, Refusal>
+    requires { judged Q.system node.old.state (delivery (option_copied letter)) ≡ None }
+    ensures same { node.new.state ≡ node.old.state }
+    ensures ready { IfOk result (λ h. (m : Meant _) → delivery (option_copied letter.entry) ≡ Some m → IsReadyStep Q.system node.new (outline_of (option_copied letter.entry)) m.change h) }
     ensures refused { IfErr result (λ r. r ≡ Refusal.OutOfMemory) }
 {
-    let letter = match letter_of(letters, number) {
-        Some(letter) => letter,
-        None => return Err(Refusal::OutOfMemory),
+    let Some(letter) = letter else {
+        return Err(Refusal::OutOfMemory);
     };
-    hear(alloc, node, letter)?;
-    Ok(Done {
-        effect: Effect::Done,
-        event: None,
-        mark: None,
-        letter: None,
-    })
+    let hearing = ready_letter(alloc, node, letter)?;
+    Ok(Half::Hear(hearing))
 }

@@ -6,7 +6,7 @@ ghost use Rattle.rambo_gossip.specs.Letters.{gossip_with};
 ghost use Rattle.rambo_gossip.specs.Outlines.{gossip_outlined};
 ghost use Rattle.rambo_letters.specs.Shared.{standing_of};
 
-use rambo_gossip::{Gossip, GossipOutline};
+use rambo_gossip::GossipOutline;
 use rambo_letters::Standing;
 use rambo_names::{Members, Quorums, Refusal};
 use rambo_tag::Pack;
@@ -54,33 +54,24 @@ impl<Q: Quorums> Model for SharedGossip<Q> {
 }
 
 impl<Q: Quorums> SharedGossip<Q> {
-    // This gossip, which has one owner. What it tells of configurations it shares with what was told last, if that is the
-    // same, and else tells last.
+    // The gossip of this outline with these copies, which has one owner. What it tells of configurations it shares with what
+    // was told last, if that is the same, and else tells last.
     //
     // `OutOfMemory` where there is no room for it.
     pub(crate) fn new(
         alloc: Global,
-        gossip: Gossip<Q>,
+        gossip: &GossipOutline<'_, Q>,
+        copies: Pack,
         told: &mut Option<Arc<Standing<Q>, Global>>,
     ) -> Result<SharedGossip<Q>, Refusal>
-        ensures same { IfOk result (λ g. g ≡ gossip) }
+        ensures same { IfOk result (λ g. g ≡ gossip_with (gossip_outlined gossip.now) copies) }
         ensures refused { IfErr result (λ r. r ≡ Refusal.OutOfMemory) }
     {
-        let standing = shared(alloc, told, &gossip.outline())?;
-        let Gossip {
-            known,
-            copies,
-            map: _map,
-            number,
-            heard,
-            vote: _vote,
-            offer: _offer,
-        } = gossip;
         Ok(SharedGossip {
-            known,
-            number,
-            heard,
-            standing,
+            known: gossip.known,
+            number: gossip.number,
+            heard: gossip.heard,
+            standing: shared(alloc, told, gossip)?,
             copies: Some(Arc::new(alloc, copies)?),
         })
     }

@@ -1,16 +1,17 @@
 //! Letters that several share.
-ghost use Rattle.std.specs.Prelude.{◌≡◌, None, Some, unwrap_or, option_copied, OnOk, OnErr, IfOk, IfErr};
+ghost use Rattle.std.specs.Prelude.{◌≡◌, None, Some, unwrap_or, option_copied, OnOk, IfOk, IfErr};
 ghost use Rattle.std.specs.FinMap as map;
 ghost use Rattle.rambo_gossip.specs.Letters.{letter_with};
 ghost use Rattle.rambo_gossip.specs.Short.{copies_in};
-ghost use Rattle.rambo_node.specs.Changes.{refusal_of, made_by};
+ghost use Rattle.rambo_node.specs.Changes.{refusal_of};
+ghost use Rattle.rambo_node.specs.Prepared.{IsHearing};
 ghost use Rattle.rambo_node.specs.declared.change.Change.TheVariants as change;
 
 use crate::gossip::SharedGossip;
-use rambo_gossip::{Kind, Letter, LetterOutline};
+use rambo_gossip::LetterOutline;
 use rambo_letters::Standing;
 use rambo_names::{Name, Quorums, Refusal};
-use rambo_node::Node;
+use rambo_node::{Hearing, Node};
 use rambo_tag::{NoCopies, Pack, Replica};
 use std::alloc::Global;
 use std::marker::Model;
@@ -51,30 +52,26 @@ impl<Q: Quorums> Model for SharedLetter<Q> {
 }
 
 impl<Q: Quorums> SharedLetter<Q> {
-    // This letter, which has one owner. What it tells of configurations it shares with the letter before, if that told the
-    // same.
+    // The letter of this outline with these copies, which has one owner. What it tells of configurations it shares with the
+    // letter before, if that told the same.
     //
     // `OutOfMemory` where there is no room for it.
     pub(crate) fn new(
         alloc: Global,
-        letter: Letter<Q>,
+        outline: &LetterOutline<'_, Q>,
+        copies: Pack,
         told: &mut Option<Arc<Standing<Q>, Global>>,
     ) -> Result<SharedLetter<Q>, Refusal>
-        ensures same { IfOk result (λ l. l ≡ letter) }
+        ensures same { IfOk result (λ l. l ≡ letter_with outline.now copies) }
         ensures refused { IfErr result (λ r. r ≡ Refusal.OutOfMemory) }
     {
-        let Letter {
-            sender,
-            addressee,
-            kind,
-        } = letter;
-        let gossip = match kind {
-            Kind::Join => None,
-            Kind::Gossip(gossip) => Some(SharedGossip::new(alloc, gossip, told)?),
+        let gossip = match &outline.gossip {
+            None => None,
+            Some(gossip) => Some(SharedGossip::new(alloc, gossip, copies, told)?),
         };
         Ok(SharedLetter {
-            sender,
-            addressee,
+            sender: outline.sender,
+            addressee: outline.addressee,
             gossip,
         })
     }
@@ -157,20 +154,20 @@ pub fn may_hear<Q: Quorums, S: Replica>(
     node.may_hear_outlined(&letter.outline())
 }
 
-// A node hears a letter, which isn't refused.
-pub(crate) fn hear<Q: Quorums, S: Replica>(
+// The first half of hearing a letter that isn't refused.
+pub(crate) fn ready_letter<Q: Quorums, S: Replica>(
     alloc: Global,
     node: &mut Node<Q, S>,
     letter: &SharedLetter<Q>,
-) -> Result<(), Refusal>
+) -> Result<Hearing, Refusal>
     requires { refusal_of Q.system node.old.state (change.Deliver letter.now) ≡ None }
-    ensures node { OnOk result (node.new.state ≡ (made_by node.old.state (change.Deliver letter.now)).node) }
-    ensures err { OnErr result (node.new.state ≡ node.old.state) }
+    ensures same { node.new.state ≡ node.old.state }
+    ensures hearing { IfOk result (IsHearing node.new letter.now) }
     ensures refused { IfErr result (λ r. r ≡ Refusal.OutOfMemory) }
 {
     let outline = letter.outline();
     match letter.copies() {
-        Some(copies) => node.hear_outlined(&outline, copies),
-        None => node.hear_outlined(&outline, NoCopies::new(alloc).pack()),
+        Some(copies) => node.ready_outlined(&outline, copies),
+        None => node.ready_outlined(&outline, NoCopies::new(alloc).pack()),
     }
 }

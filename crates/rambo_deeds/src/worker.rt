@@ -5,7 +5,7 @@ ghost use Rattle.rambo_joiner.specs.Statuses.{is_stopped};
 use rambo_config_map::ConfigMap;
 use rambo_letters::Standing;
 use rambo_names::{Members, Name, Quorums, Refusal};
-use rambo_node::{Change, Node};
+use rambo_node::{Node, Quick};
 use rambo_tag::Replica;
 use std::alloc::Global;
 use std::marker::Model;
@@ -16,8 +16,6 @@ pub struct Worker<Q: Quorums, S: Replica> {
     // What it told of configurations in its last letter, for the next ones that tell the same.
     pub(crate) told: Option<Arc<Standing<Q>, Global>>,
     pub(crate) node: Node<Q, S>,
-    // Never filled: it tells the prover that a change has a size.
-    spare: Option<Change<Q>>,
 }
 
 // By hand, so that those who drop it needn't follow all that is in it.
@@ -26,7 +24,6 @@ impl<Q: Quorums, S: Replica> Drop for Worker<Q, S> {
         let Worker {
             told: _told,
             node: _node,
-            spare: _spare,
         } = self;
     }
 }
@@ -35,37 +32,33 @@ impl<Q: Quorums, S: Replica> Model for Worker<Q, S> {
     ghost use Rattle.std.specs.Coded.{codes};
     ghost use Rattle.rambo_names.specs.Names.{names_code};
     ghost use Rattle.rambo_tag.specs.Copies.{copies_code};
-    ghost use Rattle.rambo_node.specs.Nodes.{NodeState};
+    ghost use Rattle.rambo_node.specs.Nodes.{RoomyNode};
 
-    ghost Value = { NodeState Q };
+    ghost Value = { RoomyNode Q };
 
     ghost coded = { Prim.hlevel (codes, names_code, copies_code, Q.code) };
 
-    ghost view = { λ w. w.node.state };
+    ghost view = { λ w. w.node };
 }
 
 impl<Q: Quorums, S: Replica> Worker<Q, S> {
     /// A node, which takes steps from now on.
     pub fn new(node: Node<Q, S>) -> Worker<Q, S>
-        ensures { result ≡ node.state }
+        ensures { result ≡ node }
     {
-        Worker {
-            told: None,
-            node,
-            spare: None,
-        }
+        Worker { told: None, node }
     }
 
     /// Its node.
     pub fn node(&self) -> &Node<Q, S>
-        ensures { result.now.state ≡ self.now }
+        ensures { result.now ≡ self.now }
     {
         &self.node
     }
 
     /// The map of its node.
     pub fn map(&self) -> ConfigMap<Q>
-        ensures { result ≡ self.now.map }
+        ensures { result ≡ self.now.state.map }
     {
         self.node.map().copy()
     }
@@ -85,7 +78,7 @@ impl<Q: Quorums, S: Replica> Worker<Q, S> {
 
     /// Whether its node has stopped.
     pub fn has_stopped(&self) -> bool
-        ensures { result ≡ is_stopped self.now.status }
+        ensures { result ≡ is_stopped self.now.state.status }
     {
         self.node.status().is_stopped()
     }
@@ -97,8 +90,8 @@ impl<Q: Quorums, S: Replica> Worker<Q, S> {
             return !status.is_idle();
         }
         self.node.count_calls() > 0
-            || goes_on(self.node.judge(&Change::AdvanceCollect))
-            || goes_on(self.node.judge(&Change::AdvanceRecon))
+            || goes_on(self.node.judge_quick(&Quick::AdvanceCollect))
+            || goes_on(self.node.judge_quick(&Quick::AdvanceRecon))
     }
 }
 

@@ -1,5 +1,5 @@
 -- What follows where no memory is needed
-use Rattle.std.proofs.Common.{◌≡◌, false, Result, Ok, Err, IsOk, IfErr, OnOk, refl, sym}
+use Rattle.std.proofs.Common.{◌≡◌, false, Result, Ok, Err, IsOk, IfOk, IfErr, OnOk, refl, sym}
 use Rattle.std.proofs.lemmas.Bool.{true≢false}
 use Rattle.rambo_gossip.specs.declared.letter.Kind.{Kind}
 use Rattle.rambo_gossip.specs.declared.letter.Kind.TheVariants as kind
@@ -19,3 +19,8 @@ join_from_no_gossip (kind.Gossip g) e = absurd (true≢false e)
 pub OnOk-always : {T E : Type 0} (r : Result T E) (P : Type 0) → P → OnOk r P
 OnOk-always (Ok x) P p = p
 OnOk-always (Err y) P p = tt
+
+-- two things that hold where it succeeds
+pub IfOk-both : {T E : Type 0} (r : Result T E) (P Q : T → Type 0) → IfOk r P → IfOk r Q → IfOk r (λ x. P x × Q x)
+IfOk-both (Ok x) P Q p q = (p, q)
+IfOk-both (Err y) P Q p q = tt

@@ -30,13 +30,14 @@ use Rattle.rambo_node.specs.declared.prepared.Turn.TheVariants as turn
 use Rattle.rambo_node.specs.declared.prepared.Quick.{Quick}
 use Rattle.rambo_node.specs.declared.prepared.Quick.TheVariants as quick
 use Rattle.rambo_node.specs.declared.prepared.HearTurn.{HearTurn}
+use Rattle.rambo_node.specs.declared.prepared.Hearing.{Hearing}
 use Rattle.rambo_node.specs.declared.prepared.Taken.{Taken}
 use Rattle.rambo_node.specs.Changes.{refusal_of, made_by, told, quiet, bid_made, decided, collection_turned, collection_advanced, attempt_advanced, rebid_made, begun_again}
 use Rattle.rambo_node.specs.Hearing.{heard_letter, heard_gossip, heard_rest}
 use Rattle.rambo_node.specs.Kept.{answered_from, move_deed, propagation_begun}
 use Rattle.rambo_node.specs.Nodes.{NodeState, RoomyNode, open_call}
 use Rattle.rambo_node.specs.Operations.{taken, with_copy}
-use Rattle.rambo_node.specs.Prepared.{quick_change, put_by, with_put, HasRoomFor, query_done, IsFound, IsReadyGossip, IsReadyKind, Prepares}
+use Rattle.rambo_node.specs.Prepared.{quick_change, put_by, with_put, HasRoomFor, query_done, IsFound, IsHearing, IsReadyGossip, IsReadyKind, Prepares, heard_by}
 use Rattle.rambo_node.specs.Reconfigurations.{collection_move, attempt_ended}
 use Rattle.rambo_node.specs.Refusals.{hear_causes, is_last, query_spent, tags_spent}
 use Rattle.rambo_node.proofs.Advances.{query_moves, call_closes}
@@ -95,9 +96,10 @@ gossip_ends x j g copies = refl
 pub outline_ready : {Q : Type 0} (v : RoomyNode Q) (g o : Gossip Q) (newer : Copies) (number : ℕ) → o ≡ gossip_with g map.empty → IsReadyGossip v g newer number → IsReadyGossip v o newer number
 outline_ready v g o newer number e h = subst (λ p. IsReadyGossip v p newer number) (sym e) (record { counted = h.counted; keys = h.keys; phases = h.phases })
 
--- and of a copy of it
-pub same_ready : {Q : Type 0} (v : RoomyNode Q) (g o : Gossip Q) (newer : Copies) (number : ℕ) → o ≡ g → IsReadyGossip v g newer number → IsReadyGossip v o newer number
-same_ready v g o newer number e h = subst (λ p. IsReadyGossip v p newer number) (sym e) h
+-- what a letter says is as ready with other copies
+pub ready_apart : {Q : Type 0} (v : RoomyNode Q) (k : Kind Q) (copies newer : Copies) (number : ℕ) → IsReadyKind v k newer number → IsReadyKind v (kind_with k copies) newer number
+ready_apart v kind.Join copies newer number h = tt
+ready_apart v (kind.Gossip g) copies newer number h = record { counted = h.counted; keys = h.keys; phases = h.phases }
 
 -- a letter with those of its copies that are newer comes to the same
 module _ {Q : Type 0} (x : NodeState Q) (l : Letter Q) (newer : Copies) (same : joined x.registers newer ≡ joined x.registers (copies_in l.kind)) where
@@ -114,6 +116,24 @@ module _ {Q : Type 0} (x : NodeState Q) (l : Letter Q) (newer : Copies) (same : 
   short_judged s =
       ap (λ (n : Letter Q). least (hear_causes x n.kind)) short_is
       ∙ ap least ((heard_alike x l newer (copies_in l.kind) same).1 ∙ ap (λ (n : Letter Q). hear_causes x n.kind) (own_copies l))
+
+-- and so it does where it is told by its outline
+pub hearing_ends : {Q : Type 0} (v : RoomyNode Q) (l o : Letter Q) (h : Hearing) → o ≡ letter_with l map.empty → IsHearing v l h → heard_letter v.state (letter_with o h.newer) ≡ heard_letter v.state l
+hearing_ends v l o h is e =
+    ap (λ (n : Letter _). heard_letter v.state (letter_with n h.newer)) is
+    ∙ ap (heard_letter v.state) (short_is v.state l h.newer e.newer)
+    ∙ (heard_alike v.state l h.newer (copies_in l.kind) e.newer).0 ∙ ap (heard_letter v.state) (own_copies l)
+
+pub hearing_ready : {Q : Type 0} (v : RoomyNode Q) (l o : Letter Q) (h : Hearing) → o ≡ letter_with l map.empty → IsHearing v l h → IsReadyKind v o.kind h.newer h.number
+hearing_ready v l o h is e = subst (λ (n : Letter _). IsReadyKind v n.kind h.newer h.number) (sym is) (ready_apart v l.kind map.empty h.newer h.number e.ready)
+
+-- what was found of gossip is right for a letter that has it
+pub gossip_hearing : {Q : Type 0} (v : RoomyNode Q) (x : NodeState Q) (l : Letter Q) (o : Gossip Q) (copies : Copies) (h : Hearing) → v.state ≡ x → l.kind ≡ kind.Gossip (gossip_with o copies)
+    → IsReadyGossip v o h.newer h.number → joined x.registers h.newer ≡ joined x.registers copies → IsHearing v l h
+gossip_hearing v x l o copies h same is ready newer = record {
+  ready = subst (λ k. IsReadyKind v k h.newer h.number) (sym is) (ready_apart v (kind.Gossip o) copies h.newer h.number ready);
+  newer = subst (λ y. joined y.registers h.newer ≡ joined y.registers (copies_in l.kind)) (sym same) (newer ∙ sym (ap (λ k. joined x.registers (copies_in k)) is));
+}
 
 -- other copies are refused alike
 pub copies_judged : {Q : Type 0} (s : QuorumSystem Q) (x : NodeState Q) (l : Letter Q) (copies : Copies) → refusal_of s x (change.Deliver (letter_with l copies)) ≡ refusal_of s x (change.Deliver l)
@@ -213,15 +233,18 @@ module _ {Q : Type 0} (s : QuorumSystem Q) (v : RoomyNode Q) where
         copy = ap (λ e. e.copy) told;
       }
 
-  pub hear_prepares : (l : Letter Q) (t : HearTurn Q) → refusal_of s v.state (change.Deliver l) ≡ None → t.letter ≡ letter_with l map.empty
-      → joined v.state.registers t.newer ≡ joined v.state.registers (copies_in l.kind) → IsReadyKind v t.letter.kind t.newer t.number
+  pub hear_prepares : (l : Letter Q) (t : HearTurn Q) → refusal_of s v.state (change.Deliver l) ≡ None → heard_by t ≡ letter_with l map.empty → IsHearing v l t.hearing
       → Prepares s v (change.Deliver l) (record { event = None; mark = None; copy = None; turn = turn.Hear t })
   unfolding made_by
-  hear_prepares l t ok is same ready =
-      let alike = ap (λ (n : Letter Q). change.Deliver (letter_with n t.newer)) is in
+  hear_prepares l t ok is h =
+      let newer = t.hearing.newer in
+      let alike = ap (λ (n : Letter Q). change.Deliver (letter_with n newer)) is in
       record {
-        prepared = record { accepted = ap (refusal_of s v.state) alike ∙ short_judged v.state l t.newer same s ∙ ok; ready = ready };
-        same = ap (made_by v.state) alike ∙ short_ends v.state l t.newer same;
+        prepared = record {
+          accepted = ap (refusal_of s v.state) alike ∙ short_judged v.state l newer h.newer s ∙ ok;
+          ready = subst (λ (n : Letter Q). IsReadyKind v n.kind newer t.hearing.number) (sym is) (ready_apart v l.kind map.empty newer t.hearing.number h.ready);
+        };
+        same = ap (made_by v.state) alike ∙ short_ends v.state l newer h.newer;
         event = refl;
         mark = refl;
         copy = refl;

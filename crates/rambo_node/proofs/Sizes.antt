@@ -9,7 +9,6 @@ use Rattle.rambo_names.specs.declared.quorums.Quorums
 use Rattle.std.specs.declared.cmp.PartialEq
 use Rattle.rambo_node.specs.contracts.prepared.Prepared.{the_row}
 use Rattle.rambo_node.specs.contracts.prepared.Turn as turn
-use Rattle.rambo_node.specs.contracts.prepared.HearTurn as hear
 use Rattle.rambo_gossip.specs.contracts.letter.Gossip as gossip
 
 -- the fields of the fourth variant, behind those of fixed sizes
@@ -22,9 +21,6 @@ prepared_fits i T qg pg h = fits (layout (the_row (copied i T) qg pg)) (omega (a
 
 pub turn_fits : (i : ℕ) (T : RattleType) (qg : Quorums.Ghosts T.Denot) (pg : PartialEq.Ghosts T.Denot) → room_of T ≤ 4096 → size (layout (turn.the_row (copied i T) qg pg)) < 2 ^ 63
 turn_fits i T qg pg h = fits (layout (turn.the_row (copied i T) qg pg)) (omega (arith, h))
-
-pub hear_fits : (i : ℕ) (T : RattleType) (qg : Quorums.Ghosts T.Denot) (pg : PartialEq.Ghosts T.Denot) → room_of T ≤ 4096 → size (layout (hear.the_row (copied i T) qg pg)) < 2 ^ 63
-hear_fits i T qg pg h = fits (layout (hear.the_row (copied i T) qg pg)) (omega (arith, h))
 
 pub gossip_fits : (i : ℕ) (T : RattleType) (qg : Quorums.Ghosts T.Denot) (pg : PartialEq.Ghosts T.Denot) → room_of T ≤ 4096 → size (layout (gossip.the_row (copied i T) qg pg)) < 2 ^ 63
 gossip_fits i T qg pg h = fits (layout (gossip.the_row (copied i T) qg pg)) (omega (arith, h))

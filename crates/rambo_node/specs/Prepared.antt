@@ -1,18 +1,20 @@
 -- A change that is ready: there is room for what it makes new, and what its second half needs of it is found
-use Rattle.std.specs.Prelude.{◌≡◌, ℕ, ◌<◌, Option, None, Some, slice_get}
+use Rattle.std.specs.Prelude.{◌≡◌, ℕ, ◌<◌, Box, Option, None, Some, slice_get}
 use Rattle.std.specs.FinMap as map
 use Rattle.rambo_names.specs.Quorums.{QuorumSystem}
 use Rattle.rambo_tag.specs.declared.keyed_version.KeyedVersion.{KeyedVersion}
 use Rattle.rambo_tag.specs.declared.version.Version.{Version}
-use Rattle.rambo_tag.specs.Copies.{Copies, HasRoom}
+use Rattle.rambo_tag.specs.Copies.{Copies, HasRoom, joined}
 use Rattle.rambo_history.specs.declared.event.CallId.{CallId}
 use Rattle.rambo_history.specs.declared.operation.Op.{Op}
 use Rattle.rambo_calls.specs.Calls.{place_of, query_in}
 use Rattle.rambo_calls.specs.Kept.{IsRoomy}
 use Rattle.rambo_gossip.specs.declared.letter.Gossip.{Gossip}
+use Rattle.rambo_gossip.specs.declared.letter.Letter.{Letter}
 use Rattle.rambo_gossip.specs.declared.letter.Kind.{Kind}
 use Rattle.rambo_gossip.specs.declared.letter.Kind.TheVariants as kind
 use Rattle.rambo_gossip.specs.Letters.{letter_with}
+use Rattle.rambo_gossip.specs.Short.{copies_in}
 use Rattle.rambo_node.specs.declared.change.Change.{Change}
 use Rattle.rambo_node.specs.declared.change.Change.TheVariants as change
 use Rattle.rambo_node.specs.declared.prepared.Prepared.{Prepared}
@@ -20,6 +22,8 @@ use Rattle.rambo_node.specs.declared.prepared.Turn.{Turn}
 use Rattle.rambo_node.specs.declared.prepared.Turn.TheVariants as turn
 use Rattle.rambo_node.specs.declared.prepared.Quick.{Quick}
 use Rattle.rambo_node.specs.declared.prepared.Quick.TheVariants as quick
+use Rattle.rambo_node.specs.declared.prepared.HearTurn.{HearTurn}
+use Rattle.rambo_node.specs.declared.prepared.Hearing.{Hearing}
 use Rattle.rambo_node.specs.declared.prepared.QueryTurn.{QueryTurn}
 use Rattle.rambo_node.specs.declared.prepared.AnswerTurn.{AnswerTurn}
 use Rattle.rambo_node.specs.Changes.{refusal_of, made_by, copy_put}
@@ -40,11 +44,19 @@ quick_change quick.Rebid = change.Rebid
 quick_change quick.AdvanceRecon = change.AdvanceRecon
 quick_change quick.Stop = change.Stop
 
+-- a letter that may be heard, without its copies
+abbrev pub kind_of : {Q Z : Type 0} → Option (Box (Gossip Q) Z) → Kind Q
+kind_of None = kind.Join
+kind_of (Some b) = kind.Gossip b.value
+
+abbrev pub heard_by : {Q : Type 0} → HearTurn Q → Letter Q
+heard_by t = record { sender = t.sender; addressee = t.addressee; kind = kind_of t.gossip }
+
 abbrev pub turn_change : {Q : Type 0} → Turn Q → Change Q
 turn_change (turn.Call o) = change.Call o
 turn_change (turn.Query t) = change.Advance t.id
 turn_change (turn.Answer t) = change.Advance t.id
-turn_change (turn.Hear t) = change.Deliver (letter_with t.letter t.newer)
+turn_change (turn.Hear t) = change.Deliver (letter_with (heard_by t) t.hearing.newer)
 turn_change (turn.Quick q) = quick_change q
 
 abbrev pub change_of : {Q : Type 0} → Prepared Q → Change Q
@@ -99,12 +111,17 @@ abbrev pub IsReadyKind : {Q : Type 0} → RoomyNode Q → Kind Q → Copies → 
 IsReadyKind v kind.Join newer number = Unit {0}
 IsReadyKind v (kind.Gossip g) newer number = IsReadyGossip v g newer number
 
+-- a letter may be heard with these of its copies, which make of the node's what all of them would
+pub record IsHearing {Q : Type 0} (v : RoomyNode Q) (l : Letter Q) (h : Hearing) : Type 0 where
+  pub ready : IsReadyKind v l.kind h.newer h.number
+  pub newer : joined v.state.registers h.newer ≡ joined v.state.registers (copies_in l.kind)
+
 -- there is room for a turn, and what it has is right
 abbrev pub IsReady : {Q : Type 0} → RoomyNode Q → Turn Q → Type 0
 IsReady v (turn.Call o) = 0 < v.room.calls.room
 IsReady v (turn.Query t) = (o : Op) × IsReadyQuery v o t
 IsReady v (turn.Answer t) = IsReadyAnswer v t
-IsReady v (turn.Hear t) = IsReadyKind v t.letter.kind t.newer t.number
+IsReady v (turn.Hear t) = IsReadyKind v (heard_by t).kind t.hearing.newer t.hearing.number
 IsReady v (turn.Quick q) = Unit {0}
 
 -- and its change isn't refused

@@ -6,21 +6,20 @@ ghost use Rattle.rambo_gossip.specs.Letters.{letter_with, kind_with, gossip_with
 ghost use Rattle.rambo_gossip.specs.Outlines.{outlined, gossip_outlined};
 ghost use Rattle.rambo_node.specs.Changes.{refusal_of, made_by};
 ghost use Rattle.rambo_tag.specs.Copies.{joined};
-ghost use Rattle.rambo_gossip.specs.Short.{copies_in};
 ghost use Rattle.rambo_calls.specs.Hearing.{any_gap, number_after};
 ghost use Rattle.rambo_calls.specs.Kept.{IsRoomy};
 ghost use Rattle.rambo_node.specs.Hearing.{collection_after, heard_gossip, heard_rest, heard_join, heard_letter};
 ghost use Rattle.rambo_node.specs.Letters.{letter_for};
-ghost use Rattle.rambo_node.specs.Prepared.{IsReadyGossip, IsReadyKind};
+ghost use Rattle.rambo_node.specs.Prepared.{IsHearing, IsReadyGossip, IsReadyKind, heard_by};
 ghost use Rattle.rambo_node.specs.Refusals.{is_last};
 ghost use Rattle.rambo_node.specs.declared.change.Change.TheVariants as change;
 
 use crate::node::Node;
-use crate::prepared::HearTurn;
+use crate::prepared::{HearTurn, Hearing};
 use rambo_bids::{hear_offer, hear_vote, offer_of};
 use rambo_config_map::ConfigMap;
 use rambo_gc::Collection;
-use rambo_gossip::{GossipOutline, Kind, Letter, LetterOutline};
+use rambo_gossip::{Gossip, GossipOutline, Kind, Letter, LetterOutline};
 use rambo_names::{Name, Quorums, Refusal};
 use rambo_tag::{Pack, Replica};
 
@@ -36,8 +35,18 @@ impl<Q: Quorums, S: Replica> Node<Q, S> {
         ensures refused { IfErr result (IsRefusal (refusal_of Q.system self.now.state (change.Send to))) }
     {
         self.may_send(to)?;
-        let copies = self.registers.pack()?;
+        let copies = self.pack()?;
         Ok(self.outline_for(to).with_copies(copies))
+    }
+
+    /// All its copies, to be sent. No key and no value is copied.
+    ///
+    /// `OutOfMemory` where there is no room for the list of them.
+    pub fn pack(&self) -> Result<Pack, Refusal>
+        ensures all { IfOk result (λ p. p ≡ self.now.state.registers) }
+        ensures refused { IfErr result (λ r. r ≡ Refusal.OutOfMemory) }
+    {
+        self.registers.pack()
     }
 
     /// The letter for a name, without its copies. It takes no memory.
@@ -203,54 +212,66 @@ impl<Q: Quorums, S: Replica> Node<Q, S> {
     pub(crate) fn ready_letter(&mut self, letter: &Letter<Q>) -> Result<HearTurn<Q>, Refusal>
         requires { refusal_of Q.system self.old.state (change.Deliver letter.now) ≡ None }
         ensures same { self.new.state ≡ self.old.state }
-        ensures letter { IfOk result (λ t. t.letter ≡ letter_with letter.now map.empty) }
-        ensures newer { IfOk result (λ t. joined self.old.state.registers t.newer ≡ joined self.old.state.registers (copies_in letter.now.kind)) }
-        ensures ready { IfOk result (λ t. IsReadyKind self.new t.letter.kind t.newer t.number) }
+        ensures letter { IfOk result (λ t. heard_by t ≡ letter_with letter.now map.empty) }
+        ensures hearing { IfOk result (λ t. IsHearing self.new letter.now t.hearing) }
         ensures refused { IfErr result (λ r. r ≡ Refusal.OutOfMemory) }
         ensures join { letter.now.kind ≡ Kind.Join → IsOk result }
     {
         match &letter.kind {
-            Kind::Join => Ok(self.ready_join(letter.sender, letter.addressee)),
-            Kind::Gossip(gossip) => self.ready_gossip(
-                letter.sender,
-                letter.addressee,
-                &gossip.outline(),
-                &gossip.copies,
-            ),
+            Kind::Join => Ok(HearTurn {
+                sender: letter.sender,
+                addressee: letter.addressee,
+                gossip: None,
+                hearing: self.ready_join(),
+            }),
+            Kind::Gossip(gossip) => {
+                let outline = gossip.outline();
+                let hearing = self.ready_gossip(&outline, &gossip.copies)?;
+                Ok(HearTurn {
+                    sender: letter.sender,
+                    addressee: letter.addressee,
+                    gossip: Some(self.boxed(&outline)?),
+                    hearing,
+                })
+            }
         }
     }
 
-    // Of a letter that is told by its outline and its copies.
-    pub(crate) fn ready_outlined(
+    // Gossip without copies, in a box.
+    fn boxed(&self, outline: &GossipOutline<'_, Q>) -> Result<Box<Gossip<Q>>, Refusal>
+        ensures same { IfOk result (λ b. b.value ≡ gossip_outlined outline.now) }
+        ensures refused { IfErr result (λ r. r ≡ Refusal.OutOfMemory) }
+    {
+        let alloc = self.calls.alloc();
+        Ok(Box::new(alloc, outline.with_copies(Pack::empty(alloc)))?)
+    }
+
+    /// The first half of hearing a letter that isn't refused, which is told by its outline and its copies: room is made for
+    /// it, and which of its copies are newer is found. The node stays, whatever the answer.
+    ///
+    /// `OutOfMemory` where there is no room for what is new. The wish of a node to join needs none.
+    pub fn ready_outlined(
         &mut self,
         outline: &LetterOutline<'_, Q>,
         copies: &Pack,
-    ) -> Result<HearTurn<Q>, Refusal>
+    ) -> Result<Hearing, Refusal>
         requires { refusal_of Q.system self.old.state (change.Deliver outline.now) ≡ None }
         ensures same { self.new.state ≡ self.old.state }
-        ensures letter { IfOk result (λ t. t.letter ≡ letter_with (letter_with outline.now copies.now) map.empty) }
-        ensures newer { IfOk result (λ t. joined self.old.state.registers t.newer ≡ joined self.old.state.registers (copies_in (letter_with outline.now copies.now).kind)) }
-        ensures ready { IfOk result (λ t. IsReadyKind self.new t.letter.kind t.newer t.number) }
+        ensures hearing { IfOk result (IsHearing self.new (letter_with outline.now copies.now)) }
         ensures refused { IfErr result (λ r. r ≡ Refusal.OutOfMemory) }
         ensures join { outline.now.kind ≡ Kind.Join → IsOk result }
     {
         match &outline.gossip {
-            None => Ok(self.ready_join(outline.sender, outline.addressee)),
-            Some(gossip) => { self.ready_gossip(outline.sender, outline.addressee, gossip, copies) }
+            None => Ok(self.ready_join()),
+            Some(gossip) => self.ready_gossip(gossip, copies),
         }
     }
 
     // Of one of a joining node.
-    fn ready_join(&self, sender: Name, addressee: Name) -> HearTurn<Q>
-        ensures letter { result.letter ≡ record { sender = sender; addressee = addressee; kind = Kind.Join } }
+    fn ready_join(&self) -> Hearing
         ensures newer { result.newer ≡ map.empty }
     {
-        HearTurn {
-            letter: Letter {
-                sender,
-                addressee,
-                kind: Kind::Join,
-            },
+        Hearing {
             newer: Pack::empty(self.calls.alloc()),
             number: self.number,
         }
@@ -259,32 +280,20 @@ impl<Q: Quorums, S: Replica> Node<Q, S> {
     // Of gossip, for which there is a phase number.
     fn ready_gossip(
         &mut self,
-        sender: Name,
-        addressee: Name,
         gossip: &GossipOutline<'_, Q>,
         copies: &Pack,
-    ) -> Result<HearTurn<Q>, Refusal>
+    ) -> Result<Hearing, Refusal>
         requires { (any_gap gossip.now.heard gossip.now.map.now self.old.state.calls && is_last self.old.state.number) ≡ false }
         ensures same { self.new.state ≡ self.old.state }
-        ensures letter { IfOk result (λ t. t.letter ≡ record { sender = sender; addressee = addressee; kind = Kind.Gossip (gossip_outlined gossip.now) }) }
-        ensures newer { IfOk result (λ t. joined self.old.state.registers t.newer ≡ joined self.old.state.registers copies.now) }
-        ensures ready { IfOk result (λ t. IsReadyKind self.new t.letter.kind t.newer t.number) }
+        ensures newer { IfOk result (λ h. joined self.old.state.registers h.newer ≡ joined self.old.state.registers copies.now) }
+        ensures ready { IfOk result (λ h. IsReadyGossip self.new (gossip_outlined gossip.now) h.newer h.number) }
         ensures refused { IfErr result (λ r. r ≡ Refusal.OutOfMemory) }
     {
         let number = self.number_after(gossip.heard, gossip.map);
         self.room_for(gossip.map)?;
         let newer = self.registers.newer(copies)?;
         self.registers.room(&newer)?;
-        let none = Pack::empty(self.calls.alloc());
-        Ok(HearTurn {
-            letter: Letter {
-                sender,
-                addressee,
-                kind: Kind::Gossip(gossip.with_copies(none)),
-            },
-            newer,
-            number,
-        })
+        Ok(Hearing { newer, number })
     }
 }
 
@@ -292,27 +301,40 @@ impl<Q: Quorums, S: Replica> Node<Q, S> {
 impl<Q: Quorums, S: Replica> Node<Q, S> {
     // A letter is heard that is ready.
     pub(crate) fn finish_hear(&mut self, turn: HearTurn<Q>)
-        requires { IsReadyKind self.old turn.letter.kind turn.newer turn.number }
-        ensures { self.new.state ≡ heard_letter self.old.state (letter_with turn.letter turn.newer) }
+        requires { IsReadyKind self.old (heard_by turn).kind turn.hearing.newer turn.hearing.number }
+        ensures { self.new.state ≡ heard_letter self.old.state (letter_with (heard_by turn) turn.hearing.newer) }
     {
         let HearTurn {
-            letter,
-            newer,
-            number,
+            sender,
+            addressee: _,
+            gossip,
+            hearing,
         } = turn;
-        match &letter.kind {
-            Kind::Join => self.meet(letter.sender),
-            Kind::Gossip(gossip) => {
-                self.finish_gossip(letter.sender, &gossip.outline(), newer, number)
-            }
+        match gossip {
+            None => self.meet(sender),
+            Some(gossip) => self.finish_gossip(sender, &gossip.outline(), hearing),
+        }
+    }
+
+    /// The second half of hearing a letter that is ready, which is told by its outline: the node has then heard the letter.
+    ///
+    /// It takes no memory and can't fail.
+    pub fn finish_outlined(&mut self, outline: &LetterOutline<'_, Q>, hearing: Hearing)
+        requires { IsReadyKind self.old outline.now.kind hearing.newer hearing.number }
+        ensures { self.new.state ≡ heard_letter self.old.state (letter_with outline.now hearing.newer) }
+    {
+        match &outline.gossip {
+            None => self.meet(outline.sender),
+            Some(gossip) => self.finish_gossip(outline.sender, gossip, hearing),
         }
     }
 
     // Gossip is heard that is ready.
-    fn finish_gossip(&mut self, from: Name, gossip: &GossipOutline<'_, Q>, newer: Pack, number: u64)
-        requires { IsReadyGossip self.old (gossip_outlined gossip.now) newer number }
-        ensures { self.new.state ≡ heard_gossip self.old.state from (gossip_with (gossip_outlined gossip.now) newer) }
+    fn finish_gossip(&mut self, from: Name, gossip: &GossipOutline<'_, Q>, hearing: Hearing)
+        requires { IsReadyGossip self.old (gossip_outlined gossip.now) hearing.newer hearing.number }
+        ensures { self.new.state ≡ heard_gossip self.old.state from (gossip_with (gossip_outlined gossip.now) hearing.newer) }
     {
+        let Hearing { newer, number } = hearing;
         self.registers.merge_room(newer);
         self.settle(from, gossip, number);
     }

@@ -10,10 +10,12 @@ ghost use Rattle.std.specs.Option.{option_copied};
 ghost use Rattle.rambo_calls.specs.Calls.{is_missing, is_unmet};
 ghost use Rattle.rambo_calls.specs.Kept.{call_found};
 ghost use Rattle.rambo_node.specs.Changes.{refusal_of};
+ghost use Rattle.rambo_node.specs.Prepared.{quick_change};
 ghost use Rattle.rambo_node.specs.declared.change.Change.TheVariants as change;
 
 use crate::change::Change;
 use crate::node::{Node, query_of};
+use crate::prepared::Quick;
 use rambo_calls::OpenCall;
 use rambo_gossip::{GossipOutline, Kind, Letter, LetterOutline};
 use rambo_history::{CallId, Op};
@@ -76,6 +78,24 @@ impl<Q: Quorums, S: Replica> Node<Q, S> {
             Change::Rebid => self.may_rebid(),
             Change::AdvanceRecon => self.may_advance_recon(),
             Change::Stop => self.may_stop(),
+        }
+    }
+
+    /// Why a change that needs no memory is refused, if it is: what `judge` says of it.
+    pub fn judge_quick(&self, quick: &Quick<Q>) -> Result<(), Refusal>
+        ensures ok { OnOk result (refusal_of Q.system self.now.state (quick_change quick.now) ≡ None) }
+        ensures refused { IfErr result (λ r. refusal_of Q.system self.now.state (quick_change quick.now) ≡ Some r) }
+    {
+        match quick {
+            Quick::Join(contacts) => self.may_join(*contacts),
+            Quick::Send(to) => self.may_send(*to),
+            Quick::Again(id) => self.may_restart(id),
+            Quick::Collect => self.may_collect(),
+            Quick::AdvanceCollect => self.may_advance_collect(),
+            Quick::Recon(wish) => self.may_recon(wish),
+            Quick::Rebid => self.may_rebid(),
+            Quick::AdvanceRecon => self.may_advance_recon(),
+            Quick::Stop => self.may_stop(),
         }
     }
 

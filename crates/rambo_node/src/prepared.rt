@@ -3,7 +3,7 @@ ghost use Rattle.std.specs.Prelude.{◌≡◌, None};
 
 use crate::deed::Deed;
 use crate::effect::Effect;
-use rambo_gossip::Letter;
+use rambo_gossip::Gossip;
 use rambo_history::{CallId, Event, Op};
 use rambo_names::{Members, Name, Quorums};
 use rambo_sequence::Mark;
@@ -38,17 +38,26 @@ pub(crate) enum Turn<Q: Quorums> {
     Quick(Quick<Q>),
 }
 
-// A change that needs no memory.
+/// A change that needs no memory: any but a call, its advance, and the delivery of a letter.
 #[derive(Drop)]
-pub(crate) enum Quick<Q> {
+pub enum Quick<Q> {
+    /// The node begins to join, with these contacts.
     Join(Members),
+    /// It sends a letter to this name.
     Send(Name),
+    /// The present phase of its call begins anew.
     Again(CallId),
+    /// It begins to collect the lowest place of its map.
     Collect,
+    /// Its collection, whose quorum is there, goes on.
     AdvanceCollect,
+    /// It begins to have this configuration chosen for the first place that its map doesn't know.
     Recon(Q),
+    /// Its attempt begins again with a fresh ballot.
     Rebid,
+    /// Its attempt, whose quorum is there, goes on.
     AdvanceRecon,
+    /// It stops for ever.
     Stop,
 }
 
@@ -83,8 +92,16 @@ pub(crate) struct AnswerTurn<Q> {
 // A letter that may be heard.
 #[derive(Drop)]
 pub(crate) struct HearTurn<Q: Quorums> {
-    // It without its copies.
-    pub(crate) letter: Letter<Q>,
+    pub(crate) sender: Name,
+    pub(crate) addressee: Name,
+    // What its sender knows but its copies, or none where that wants to join.
+    pub(crate) gossip: Option<Box<Gossip<Q>>>,
+    pub(crate) hearing: Hearing,
+}
+
+/// What the second half of hearing a letter needs besides the letter without its copies.
+#[derive(Drop)]
+pub struct Hearing {
     // Those of its copies that are newer than what the node holds.
     pub(crate) newer: Pack,
     // The phase number after it.

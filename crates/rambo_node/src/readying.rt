@@ -1,7 +1,6 @@
 //! A change in two halves: the first may fail, and the second changes the node.
 ghost use Rattle.std.specs.Prelude.{◌≡◌, None, Some, false, IsOk, OnOk, IfOk, IfErr};
 ghost use Rattle.rambo_names.specs.Refusals.{IsRefusal};
-ghost use Rattle.rambo_gossip.specs.Letters.{letter_with};
 ghost use Rattle.rambo_node.specs.Changes.{refusal_of, made_by};
 ghost use Rattle.rambo_node.specs.Memory.{needs_memory};
 ghost use Rattle.rambo_node.specs.Prepared.{IsPrepared, IsReadyTurn, Prepares, change_of, turn_change, quick_change};
@@ -12,10 +11,10 @@ use crate::deed::Deed;
 use crate::effect::Effect;
 use crate::node::Node;
 use crate::prepared::{AnswerTurn, Prepared, QueryTurn, Quick, Turn};
-use rambo_gossip::{Kind, Letter, LetterOutline};
+use rambo_gossip::Letter;
 use rambo_history::{CallId, Event, Op};
 use rambo_names::{Quorums, Refusal};
-use rambo_tag::{Pack, Replica};
+use rambo_tag::Replica;
 
 impl<Q: Quorums, S: Replica> Node<Q, S> {
     /// The first half of a change: it is judged, room is made for all that is new, and what it will do is found. Nothing of
@@ -36,51 +35,6 @@ impl<Q: Quorums, S: Replica> Node<Q, S> {
     {
         self.judge(change)?;
         self.prepare(change)
-    }
-
-    /// The first half of a change that isn't refused: what `ready` does where `judge` finds no cause.
-    ///
-    /// `OutOfMemory` where there is no room for what is new, which only a call, its advance and a letter of an active node
-    /// may need.
-    pub fn prepare(&mut self, change: &Change<Q>) -> Result<Prepared<Q>, Refusal>
-        requires { refusal_of Q.system self.old.state change.now ≡ None }
-        ensures same { self.new.state ≡ self.old.state }
-        ensures prepares { IfOk result (Prepares Q.system self.new change.now) }
-        ensures refused { IfErr result (λ r. r ≡ Refusal.OutOfMemory) }
-        ensures no_memory { needs_memory change.now ≡ false → IsOk result }
-    {
-        match change {
-            Change::Join(contacts) => Ok(self.prepare_quick(Quick::Join(*contacts))),
-            Change::Call(op) => self.prepare_call(op),
-            Change::Send(to) => Ok(self.prepare_quick(Quick::Send(*to))),
-            Change::Deliver(letter) => self.prepare_letter(letter),
-            Change::Advance(id) => self.prepare_advance(*id),
-            Change::Again(id) => Ok(self.prepare_quick(Quick::Again(*id))),
-            Change::Collect => Ok(self.prepare_quick(Quick::Collect)),
-            Change::AdvanceCollect => Ok(self.prepare_quick(Quick::AdvanceCollect)),
-            Change::Recon(wish) => Ok(self.prepare_quick(Quick::Recon(*wish))),
-            Change::Rebid => Ok(self.prepare_quick(Quick::Rebid)),
-            Change::AdvanceRecon => Ok(self.prepare_quick(Quick::AdvanceRecon)),
-            Change::Stop => Ok(self.prepare_quick(Quick::Stop)),
-        }
-    }
-
-    /// The first half of the delivery of a letter that isn't refused, which is told by its outline and its copies.
-    ///
-    /// `OutOfMemory` where there is no room for what is new. The wish of a node to join needs none.
-    pub fn prepare_outlined(
-        &mut self,
-        outline: &LetterOutline<'_, Q>,
-        copies: &Pack,
-    ) -> Result<Prepared<Q>, Refusal>
-        requires { refusal_of Q.system self.old.state (change.Deliver outline.now) ≡ None }
-        ensures same { self.new.state ≡ self.old.state }
-        ensures prepares { IfOk result (Prepares Q.system self.new (change.Deliver (letter_with outline.now copies.now))) }
-        ensures refused { IfErr result (λ r. r ≡ Refusal.OutOfMemory) }
-        ensures join { outline.now.kind ≡ Kind.Join → IsOk result }
-    {
-        let turn = self.ready_outlined(outline, copies)?;
-        Ok(Prepared::quiet(Turn::Hear(turn)))
     }
 
     /// The second half of a change that is ready: the node changes. What is told of it is answered.
@@ -124,6 +78,30 @@ impl<Q: Quorums, S: Replica> Node<Q, S> {
 
 // The first half of a change that isn't refused.
 impl<Q: Quorums, S: Replica> Node<Q, S> {
+    // Of any.
+    fn prepare(&mut self, change: &Change<Q>) -> Result<Prepared<Q>, Refusal>
+        requires { refusal_of Q.system self.old.state change.now ≡ None }
+        ensures same { self.new.state ≡ self.old.state }
+        ensures prepares { IfOk result (Prepares Q.system self.new change.now) }
+        ensures refused { IfErr result (λ r. r ≡ Refusal.OutOfMemory) }
+        ensures no_memory { needs_memory change.now ≡ false → IsOk result }
+    {
+        match change {
+            Change::Join(contacts) => Ok(self.prepare_quick(Quick::Join(*contacts))),
+            Change::Call(op) => self.prepare_call(op),
+            Change::Send(to) => Ok(self.prepare_quick(Quick::Send(*to))),
+            Change::Deliver(letter) => self.prepare_letter(letter),
+            Change::Advance(id) => self.prepare_advance(*id),
+            Change::Again(id) => Ok(self.prepare_quick(Quick::Again(*id))),
+            Change::Collect => Ok(self.prepare_quick(Quick::Collect)),
+            Change::AdvanceCollect => Ok(self.prepare_quick(Quick::AdvanceCollect)),
+            Change::Recon(wish) => Ok(self.prepare_quick(Quick::Recon(*wish))),
+            Change::Rebid => Ok(self.prepare_quick(Quick::Rebid)),
+            Change::AdvanceRecon => Ok(self.prepare_quick(Quick::AdvanceRecon)),
+            Change::Stop => Ok(self.prepare_quick(Quick::Stop)),
+        }
+    }
+
     // Of one that needs no memory.
     fn prepare_quick(&self, quick: Quick<Q>) -> Prepared<Q>
         requires { refusal_of Q.system self.now.state (quick_change quick) ≡ None }
@@ -132,8 +110,12 @@ impl<Q: Quorums, S: Replica> Node<Q, S> {
         Prepared::quiet(Turn::Quick(quick))
     }
 
-    // Of a call.
-    fn prepare_call(&mut self, op: &Op) -> Result<Prepared<Q>, Refusal>
+    /// The first half of a call that isn't refused: room is made for it. The node stays, whatever the answer.
+    ///
+    /// `OutOfMemory` where there is no room for it.
+    // (what is prepared is large, and where this is inlined the other kinds clear its room)
+    #[inline(never)]
+    pub fn prepare_call(&mut self, op: &Op) -> Result<Prepared<Q>, Refusal>
         requires { refusal_of Q.system self.old.state (change.Call op.now) ≡ None }
         ensures same { self.new.state ≡ self.old.state }
         ensures prepares { IfOk result (Prepares Q.system self.new (change.Call op.now)) }
@@ -163,8 +145,13 @@ impl<Q: Quorums, S: Replica> Node<Q, S> {
         Ok(Prepared::quiet(Turn::Hear(turn)))
     }
 
-    // Of the advance of a call: what `go_on` does first.
-    fn prepare_advance(&mut self, id: CallId) -> Result<Prepared<Q>, Refusal>
+    /// The first half of the advance of a call that isn't refused: room is made for the copy that it puts, and what it will
+    /// do is found. The node stays, whatever the answer.
+    ///
+    /// `OutOfMemory` where there is no room for it.
+    // (as above)
+    #[inline(never)]
+    pub fn prepare_advance(&mut self, id: CallId) -> Result<Prepared<Q>, Refusal>
         requires { refusal_of Q.system self.old.state (change.Advance id) ≡ None }
         ensures same { self.new.state ≡ self.old.state }
         ensures prepares { IfOk result (Prepares Q.system self.new (change.Advance id)) }
@@ -222,9 +209,9 @@ impl<Q: Quorums, S: Replica> Node<Q, S> {
         }
     }
 
-    // Of one that needs no memory.
+    /// A change that needs no memory and isn't refused: the node changes. What is told of it is answered.
     #[tactic(auto, unfolding(crate::specs::Changes::made_by))]
-    fn finish_quick(&mut self, quick: Quick<Q>) -> Effect<Q>
+    pub fn finish_quick(&mut self, quick: Quick<Q>) -> Effect<Q>
         requires { refusal_of Q.system self.old.state (quick_change quick) ≡ None }
         ensures node { self.new.state ≡ (made_by self.old.state (quick_change quick)).node }
         ensures effect { result ≡ (made_by self.old.state (quick_change quick)).deed.effect }

@@ -1,10 +1,11 @@
 -- What a client has seen
 use mathlib.Core.List.{IsPrefix}
-use Rattle.std.specs.Prelude.{◌≡◌, ◌⊎◌, ℕ, List, [], ◌∷◌, ◌++◌, ◌<◌, ◌≢◌, true, length, slice_set, slice_index_or, All, MatchOption, Option, None, Some}
+use Rattle.std.specs.Prelude.{◌≡◌, ◌⊎◌, ℕ, List, [], ◌∷◌, ◌++◌, ◌<◌, ◌≢◌, true, length, slice_set, slice_index_or, All, MatchOption, Option, None, Some, Result, IfOk, IfErr}
 use Rattle.std.specs.Map.{lookup}
 use Rattle.rambo_history.specs.declared.operation.Answer.{Answer}
 use Rattle.rambo_names.specs.declared.refusal.Refusal.{Refusal}
 use Rattle.rambo_names.specs.declared.refusal.Refusal.TheVariants as refused
+use Rattle.rambo_names.specs.Refusals.{IsRefusal}
 use Rattle.rambo_names.specs.Quorums.{QuorumSystem}
 use Rattle.rambo_history.specs.Calls.{same_call}
 use Rattle.rambo_history.specs.Histories.{answer_in}
@@ -15,8 +16,11 @@ use Rattle.rambo_run.specs.Worlds.{WorldState, node_at}
 use Rattle.rambo_node.specs.declared.effect.Effect.{Effect}
 use Rattle.rambo_node.specs.declared.effect.Effect.TheVariants as effect
 use Rattle.rambo_run.specs.declared.step.Step.{Step}
-use Rattle.rambo_run.specs.Steps.{refusal, turn}
+use Rattle.rambo_run.specs.Steps.{meant_in, refusal, turn}
 use Rattle.rambo_run.specs.Runs.{run}
+use Rattle.rambo_deeds.specs.Deeds.{name_in}
+use Rattle.rambo_book.specs.Kept.{KeeperView}
+use Rattle.rambo_book.specs.declared.readied.Ready.{Ready}
 use Rattle.rambo_pass.specs.declared.mine.Entry.{Entry}
 use Rattle.rambo_run.specs.Legal.{IsLegal}
 
@@ -43,6 +47,17 @@ pub record Acted {Q : Type 0} (s : QuorumSystem Q) (founders : Q) (before after 
   pub accepted : refusal s (run s founders (before.seen ++ between)) st ≡ None
   pub told : e ≡ (turn (run s founders (before.seen ++ between)) st).effect
   pub mine : after.mine ≡ mine_with before.mine (length (before.seen ++ between)) e
+
+-- the first half of a step was refused for this cause: by the rules of its kind in what the keeper had seen; or, where these
+-- let it, for want of memory
+abbrev pub IsRefusedHalf : {Q : Type 0} → QuorumSystem Q → Option Q → KeeperView Q → Step Q → Refusal → Type 0
+IsRefusedHalf {Q} s agreed k st r = (f : Q) → agreed ≡ Some f → IsRefusal (refusal s (run s f k.seen) st) r
+
+-- the first half of this step, which names the keeper's node, was made, or refused
+pub record IsHalf {Q : Type 0} (s : QuorumSystem Q) (agreed : Option Q) (k : KeeperView Q) (st : Step Q) (half : Result (Ready Q) Refusal) : Type 0 where
+  pub own : name_in (meant_in [] st) ≡ Some k.name
+  pub made : IfOk half (λ r. r.step ≡ st)
+  pub refused : IfErr half (IsRefusedHalf s agreed k st)
 
 -- a client's calls, and whether there is room for one more
 pub record MineState : Type 0 where

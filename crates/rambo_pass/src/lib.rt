@@ -1,15 +1,18 @@
 //! Passes: what a client has seen of a book, and its own calls.
 //!
 //! - `Pass`: what one client has seen, and its calls; `Entry`: one of these.
-//! - `act_in`, `call_in`, `take_in`, `meet_in`: what a client does; `close_in`: the end, `Closed`.
+//! - `named`: of whose node a step is.
+//! - `act_in`, `act_ready_in`, `call_in`, `take_in`, `meet_in`: what a client does; `close_in`: the end, `Closed`.
 #![tactic(auto)]
 
 mod answer;
 mod closing;
 mod mine;
+mod naming;
 mod pass;
 
 pub use answer::{answer_in, has_stopped, take_in};
 pub use closing::{Closed, close_in};
 pub use mine::Entry;
-pub use pass::{Pass, act_in, call_in, meet_in};
+pub use naming::named;
+pub use pass::{Pass, act_in, act_ready_in, call_in, meet_in};

@@ -2,13 +2,15 @@
 ghost use Rattle.std.specs.Prelude.{◌≡◌, ◌++◌, ◌∷◌, [], None, Some, length, ◌<◌, ◌⊎◌, OnOk, OnErr, IfOk, IfErr};
 ghost use mathlib.Core.List.{IsPrefix};
 ghost use Rattle.rambo_run.specs.Runs.{run};
-ghost use Rattle.rambo_run.specs.Steps.{refusal, turn};
+ghost use Rattle.rambo_run.specs.Steps.{meant_in, refusal, turn};
+ghost use Rattle.rambo_deeds.specs.Deeds.{name_in};
+ghost use Rattle.rambo_book.specs.Readying.{IsReadyFor};
 ghost use Rattle.rambo_book.specs.Kept.{IsServedBy, Told, state};
 ghost use Rattle.rambo_run.specs.Legal.{IsLegal};
-ghost use Rattle.rambo_pass.specs.Passes.{mine_with, PassView};
+ghost use Rattle.rambo_pass.specs.Passes.{mine_with, IsHalf, IsRefusedHalf, PassView};
 
 use crate::mine::{Entry, Mine};
-use rambo_book::{Book, Keeper, Terms, commit, may_commit};
+use rambo_book::{Book, Keeper, Ready, Terms, commit, commit_ready, may_commit};
 use rambo_history::{CallId, Op};
 use rambo_names::{Name, Quorums, Refusal};
 use rambo_node::Effect;
@@ -137,28 +139,112 @@ pub fn act_in<J: Terms<Q>, Q: Quorums, S: Replica>(
     Ok(effect)
 }
 
-/// Makes a call for this client, who has then seen it: its id.
+// Why a step is refused whose first half was refused for this cause: 23 where that was want of memory, and the book is full.
+fn unready<J: Terms<Q>, Q: Quorums, S: Replica>(
+    book: &mut Book<J, Q>,
+    keeper: &mut Keeper<J, Q, S>,
+    cause: Refusal,
+) -> Refusal
+    ensures same { (book.new ≡ book.old) × (keeper.new ≡ keeper.old) }
+    ensures told { (st : Step Q) → name_in (meant_in [] st) ≡ Some keeper.old.name → IsRefusedHalf Q.system J.founders keeper.old st cause → Told (refusal Q.system (state Q.system book.old) st) (length book.old.steps) book.old.capacity result }
+{
+    book.agree(keeper);
+    book.facts();
+    keeper.facts();
+    match cause {
+        Refusal::OutOfMemory => book.no_room(),
+        _ => cause,
+    }
+}
+
+// The second half goes into the book, if the first was made and there is room for one entry more.
+fn finish_in<J: Terms<Q>, Q: Quorums, S: Replica>(
+    book: &mut Book<J, Q>,
+    keeper: &mut Keeper<J, Q, S>,
+    mine: &mut Mine,
+    ready: Result<Ready<Q>, Refusal>,
+) -> Result<Effect<Q>, Refusal>
+    requires { IfOk ready (IsReadyFor Q.system J.founders keeper.old) }
+    ensures mine { mine.new.entries ≡ mine.old.entries }
+    ensures room { OnOk result (0 < mine.new.room) }
+    ensures same { OnErr result (book.new ≡ book.old) }
+    ensures founders { book.new.founders ≡ book.old.founders }
+    ensures book { (st : Step Q) → IsHalf Q.system J.founders keeper.old st ready → OnOk result (book.new.steps ≡ book.old.steps ++ st ∷ []) }
+    ensures accepted { (st : Step Q) → IsHalf Q.system J.founders keeper.old st ready → OnOk result (refusal Q.system (state Q.system book.old) st ≡ None) }
+    ensures effect { (st : Step Q) → IsHalf Q.system J.founders keeper.old st ready → IfOk result (λ e. e ≡ (turn (state Q.system book.old) st).effect) }
+    ensures told { (st : Step Q) → IsHalf Q.system J.founders keeper.old st ready → IfErr result (λ r. Told (refusal Q.system (state Q.system book.old) st) (length book.old.steps) book.old.capacity r) }
+{
+    let ready = match ready {
+        Ok(ready) => ready,
+        Err(cause) => return Err(unready(book, keeper, cause)),
+    };
+    let Ok(()) = mine.reserve() else {
+        return Err(unready(book, keeper, Refusal::OutOfMemory));
+    };
+    commit_ready(book, keeper, ready)
+}
+
+/// Does a step for this client, of which the first half was made, or refused, before the book was there; the client has
+/// then seen it. The step is any that names the keeper's node.
+pub fn act_ready_in<J: Terms<Q>, Q: Quorums, S: Replica>(
+    book: &mut Book<J, Q>,
+    keeper: &mut Keeper<J, Q, S>,
+    pass: &mut Pass<J, Q>,
+    ready: Result<Ready<Q>, Refusal>,
+) -> Result<Effect<Q>, Refusal>
+    requires { IfOk ready (IsReadyFor Q.system J.founders keeper.old) }
+    ensures begins { IsPrefix pass.old.seen pass.new.seen }
+    ensures between { IsPrefix pass.old.seen book.old.steps }
+    ensures terms { (J.founders ≡ Some book.old.founders) × (book.old.capacity ≡ J.capacity) }
+    ensures last { (st : Step Q) → IsHalf Q.system J.founders keeper.old st ready → OnOk result (pass.new.seen ≡ book.old.steps ++ st ∷ []) }
+    ensures legal { OnOk result (IsLegal Q.system book.old.founders pass.new.seen) }
+    ensures accepted { (st : Step Q) → IsHalf Q.system J.founders keeper.old st ready → OnOk result (refusal Q.system (state Q.system book.old) st ≡ None) }
+    ensures effect { (st : Step Q) → IsHalf Q.system J.founders keeper.old st ready → IfOk result (λ e. e ≡ (turn (state Q.system book.old) st).effect) }
+    ensures mine { IfOk result (λ e. pass.new.mine ≡ mine_with pass.old.mine (length book.old.steps) e) }
+    ensures err { OnErr result (pass.new.mine ≡ pass.old.mine) }
+    ensures memory { IfErr result (λ r. r ≡ Refusal.OutOfMemory → pass.new ≡ pass.old) }
+    ensures cause { (st : Step Q) → IsHalf Q.system J.founders keeper.old st ready → IfErr result (λ r. (r ≡ Refusal.OutOfMemory) ⊎ ((pass.new.seen ≡ book.old.steps) × Told (refusal Q.system (state Q.system book.old) st) (length book.old.steps) book.old.capacity r)) }
+{
+    let Pass { seen, count, mine } = pass;
+    let place = book.begun(seen);
+    let effect = match finish_in(book, keeper, mine, ready) {
+        Ok(effect) => effect,
+        Err(cause) => match cause {
+            Refusal::OutOfMemory => return Err(cause),
+            _ => {
+                *count = book.show(seen);
+                return Err(cause);
+            }
+        },
+    };
+    *count = book.show(seen);
+    note_call(mine, place, &effect);
+    Ok(effect)
+}
+
+/// Makes a call for this client, of which the first half was made, or refused; the client has then seen it: its id.
 pub fn call_in<J: Terms<Q>, Q: Quorums, S: Replica>(
     book: &mut Book<J, Q>,
     keeper: &mut Keeper<J, Q, S>,
     pass: &mut Pass<J, Q>,
     name: Name,
-    op: Op,
+    ready: Result<Ready<Q>, Refusal>,
 ) -> Result<CallId, Refusal>
-    requires { IsServedBy (state Q.system book.old) (Step.Call name op) keeper.old.name }
+    requires ready { IfOk ready (IsReadyFor Q.system J.founders keeper.old) }
+    requires call { (op : Op) × IsHalf Q.system J.founders keeper.old (Step.Call name op) ready }
     ensures begins { IsPrefix pass.old.seen pass.new.seen }
     ensures between { IsPrefix pass.old.seen book.old.steps }
     ensures terms { (J.founders ≡ Some book.old.founders) × (book.old.capacity ≡ J.capacity) }
-    ensures last { OnOk result (pass.new.seen ≡ book.old.steps ++ Step.Call name op ∷ []) }
+    ensures last { (op : Op) → IsHalf Q.system J.founders keeper.old (Step.Call name op) ready → OnOk result (pass.new.seen ≡ book.old.steps ++ Step.Call name op ∷ []) }
     ensures legal { OnOk result (IsLegal Q.system book.old.founders pass.new.seen) }
-    ensures accepted { OnOk result (refusal Q.system (state Q.system book.old) (Step.Call name op) ≡ None) }
-    ensures effect { IfOk result (λ id. Effect.Called id ≡ (turn (state Q.system book.old) (Step.Call name op)).effect) }
+    ensures accepted { (op : Op) → IsHalf Q.system J.founders keeper.old (Step.Call name op) ready → OnOk result (refusal Q.system (state Q.system book.old) (Step.Call name op) ≡ None) }
+    ensures effect { (op : Op) → IsHalf Q.system J.founders keeper.old (Step.Call name op) ready → IfOk result (λ id. Effect.Called id ≡ (turn (state Q.system book.old) (Step.Call name op)).effect) }
     ensures mine { IfOk result (λ id. pass.new.mine ≡ pass.old.mine ++ record { place = length book.old.steps; id = id; answer = None } ∷ []) }
     ensures err { OnErr result (pass.new.mine ≡ pass.old.mine) }
     ensures memory { IfErr result (λ r. r ≡ Refusal.OutOfMemory → pass.new ≡ pass.old) }
-    ensures cause { IfErr result (λ r. (r ≡ Refusal.OutOfMemory) ⊎ ((pass.new.seen ≡ book.old.steps) × Told (refusal Q.system (state Q.system book.old) (Step.Call name op)) (length book.old.steps) book.old.capacity r)) }
+    ensures cause { (op : Op) → IsHalf Q.system J.founders keeper.old (Step.Call name op) ready → IfErr result (λ r. (r ≡ Refusal.OutOfMemory) ⊎ ((pass.new.seen ≡ book.old.steps) × Told (refusal Q.system (state Q.system book.old) (Step.Call name op)) (length book.old.steps) book.old.capacity r)) }
 {
-    match act_in(book, keeper, pass, Step::Call(name, op))? {
+    match act_ready_in(book, keeper, pass, ready)? {
         Effect::Called(id) => Ok(id),
         _ => unreachable!(),
     }

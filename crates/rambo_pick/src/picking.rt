@@ -1,13 +1,14 @@
 //! What a node does first of what it may do by itself.
 ghost use Rattle.std.specs.Prelude.{◌≡◌, map, option_map};
 ghost use Rattle.rambo_node.specs.Changes.{refusal_of};
+ghost use Rattle.rambo_node.specs.Prepared.{quick_change};
 ghost use Rattle.rambo_node.specs.declared.change.Change.TheVariants as change;
 ghost use Rattle.rambo_pick.specs.Picking.{first_of, candidates, delivery, advance, of_configurations};
 
 use rambo_deeds::{Mail, SharedLetter, Worker, may_hear};
 use rambo_history::CallId;
 use rambo_names::{Quorums, Refusal};
-use rambo_node::{Change, Node};
+use rambo_node::{Node, Quick};
 use rambo_run::Step;
 use rambo_tag::Replica;
 
@@ -31,11 +32,11 @@ fn unmoved<Q: Quorums, S: Replica>(node: &Node<Q, S>, id: &CallId) -> Option<Ref
     }
 }
 
-// Why a node refuses a change, if it does.
-fn refused<Q: Quorums, S: Replica>(node: &Node<Q, S>, change: &Change<Q>) -> Option<Refusal>
-    ensures { result ≡ refusal_of Q.system node.now.state change.now }
+// Why a node refuses a change that needs no memory, if it does.
+fn refused<Q: Quorums, S: Replica>(node: &Node<Q, S>, quick: &Quick<Q>) -> Option<Refusal>
+    ensures { result ≡ refusal_of Q.system node.now.state (quick_change quick.now) }
 {
-    match node.judge(change) {
+    match node.judge_quick(quick) {
         Ok(()) => None,
         Err(refusal) => Some(refusal),
     }
@@ -72,13 +73,13 @@ fn moved_first<Q: Quorums, S: Replica>(node: &Node<Q, S>) -> Option<CallId>
 
 // The collection of a node, or its attempt, if it goes on.
 fn turned_first<Q: Quorums, S: Replica>(worker: &Worker<Q, S>) -> Option<Step<Q>>
-    ensures { result ≡ first_of Q.system worker.now (of_configurations worker.now.name) }
+    ensures { result ≡ first_of Q.system worker.now.state (of_configurations worker.now.state.name) }
 {
     let node = worker.node();
-    if refused(node, &Change::AdvanceCollect).is_none() {
+    if refused(node, &Quick::AdvanceCollect).is_none() {
         return Some(Step::AdvanceCollect(node.name()));
     }
-    if refused(node, &Change::AdvanceRecon).is_none() {
+    if refused(node, &Quick::AdvanceRecon).is_none() {
         return Some(Step::AdvanceRecon(node.name()));
     }
     None
@@ -92,7 +93,7 @@ pub fn first_step<Q: Quorums, S: Replica>(
     worker: &Worker<Q, S>,
     tray: &[Mail<Q>],
 ) -> Option<Step<Q>>
-    ensures { result ≡ first_of Q.system worker.now (candidates worker.now tray.now) }
+    ensures { result ≡ first_of Q.system worker.now.state (candidates worker.now.state tray.now) }
 {
     let node = worker.node();
     if let Some(number) = heard_first(node, tray) {

@@ -4,8 +4,11 @@ use rambo_names::Name;
 
 /// Is told of each turn, by the thread that takes it.
 pub trait Gate: Sync {
-    /// The turn of this name has its keeper's lock, and not yet the book's; the node hasn't changed.
+    /// The turn of this name has taken its mail. It has its keeper's lock, and the book's is free; the node hasn't changed.
     fn working(&self, name: Name);
+
+    /// The turn of this name has what it needs for its step, its keeper's lock and not the book's; the node hasn't changed.
+    fn prepared(&self, name: Name);
 
     /// The turn of this name has let both locks go.
     fn ended(&self, name: Name);
@@ -16,6 +19,8 @@ pub struct NoGate;
 
 impl Gate for NoGate {
     fn working(&self, _name: Name) {}
+
+    fn prepared(&self, _name: Name) {}
 
     fn ended(&self, _name: Name) {}
 }

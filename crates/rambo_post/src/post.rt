@@ -15,17 +15,17 @@ ghost use Rattle.rambo_history.specs.Proper.{IsProperForAll};
 ghost use Rattle.rambo_pass.specs.Passes.{Acted, IsNoted, WhyNot};
 
 use crate::gate::Gate;
-use rambo_book::{Actor, Book, Keeper, Terms};
+use rambo_book::{Actor, Book, Keeper, Terms, ready};
 use rambo_config_map::ConfigMap;
 use rambo_history::{Answer, CallId, Op};
 use rambo_mail::Mails;
 use rambo_names::{Members, Name, Quorums, Refusal};
 use rambo_node::Effect;
-use rambo_pass::{Closed, Pass, act_in, call_in, close_in, meet_in, take_in};
+use rambo_pass::{Closed, Pass, act_in, act_ready_in, call_in, close_in, meet_in, named, take_in};
 use rambo_roll::Opened;
 use rambo_run::{Step, may_found};
 use rambo_tag::Replica;
-use rambo_turn::{Turn, send_in, turn_in};
+use rambo_turn::{Turn, begin_in, commit_next, ready_next, send_in};
 use std::alloc::Global;
 use std::sync::{Mutex, MutexGuard, Wait};
 
@@ -129,8 +129,9 @@ impl<J: Terms<Q>, Q: Quorums, S: Replica> Post<J, Q, S> {
         ensures cause { IfErr result (λ r. (f : Q) → J.founders ≡ Some f → (r ≡ Refusal.OutOfMemory) ⊎ Told (refusal Q.system (run Q.system f pass.new.seen) (Step.Call name op)) (length pass.new.seen) J.capacity r) }
     {
         let mut keeper = self.keeper_of(rt, name);
+        let half = ready(*self.keepers.allocator(), &mut keeper, Step::Call(name, op));
         let mut book = self.book.lock(rt);
-        call_in(&mut book, &mut keeper, pass, name, op)
+        call_in(&mut book, &mut keeper, pass, name, half)
     }
 
     /// Does a step for a client: what it did. The client has then seen all steps up to it, and it stands last.
@@ -150,8 +151,14 @@ impl<J: Terms<Q>, Q: Quorums, S: Replica> Post<J, Q, S> {
         ensures memory { IfErr result (λ r. r ≡ Refusal.OutOfMemory → pass.new ≡ pass.old) }
         ensures cause { IfErr result (λ r. (f : Q) → J.founders ≡ Some f → (r ≡ Refusal.OutOfMemory) ⊎ Told (refusal Q.system (run Q.system f pass.new.seen) step) (length pass.new.seen) J.capacity r) }
     {
-        let (mut keeper, mut book) = self.both(rt, &step);
-        act_in(&mut book, &mut keeper, pass, step)
+        let Some(name) = named(&step) else {
+            let (mut keeper, mut book) = self.both(rt, &step);
+            return act_in(&mut book, &mut keeper, pass, step);
+        };
+        let mut keeper = self.keeper_of(rt, name);
+        let half = ready(*self.keepers.allocator(), &mut keeper, step);
+        let mut book = self.book.lock(rt);
+        act_ready_in(&mut book, &mut keeper, pass, half)
     }
 
     /// Sends a letter from one node to another: its number.
@@ -160,8 +167,9 @@ impl<J: Terms<Q>, Q: Quorums, S: Replica> Post<J, Q, S> {
     /// room.
     pub fn send<R: Wait>(&self, rt: &R, from: Name, to: Name) -> Result<u64, Refusal> {
         let mut keeper = self.keeper_of(rt, from);
+        let half = ready(*self.keepers.allocator(), &mut keeper, Step::Send(from, to));
         let mut book = self.book.lock(rt);
-        send_in(&mut book, &mut keeper, from, to)
+        send_in(&mut book, &mut keeper, from, to, half)
     }
 
     /// To whom a worker of this name writes: while its node is joining or has a call, a collection or an attempt open, all
@@ -236,18 +244,19 @@ impl<J: Terms<Q>, Q: Quorums, S: Replica> Post<J, Q, S> {
         take_in(&mut book, &mut keeper, pass, id)
     }
 
-    /// The node of this name takes its mail, and does what it then picks.
+    /// The node of this name takes its mail, and does what it then picks. The book is free while the node picks, and makes the
+    /// first half of that.
     ///
-    /// The gate is told when its keeper's lock is held, and when both locks are free again, whatever the turn answers. Refused
-    /// is 23 where the book is full and there is something to do, 22 where there is no room; the letters that it took stay
-    /// in its tray.
+    /// The gate is told when the mail was taken, when the first half is made, if there is something to do, and when both locks
+    /// are free again, whatever the turn answers. Refused is 23 where the book is full and there is something to do, 22 where
+    /// there is no room; the letters that it took stay in its tray.
     pub fn turn<R: Wait, G: Gate>(&self, rt: &R, name: Name, gate: &G) -> Result<Turn<Q>, Refusal> {
         let done = self.turn_held(rt, name, gate);
         gate.ended(name);
         done
     }
 
-    // What it does with the locks held.
+    // What it does with its keeper's lock held.
     fn turn_held<R: Wait, G: Gate>(
         &self,
         rt: &R,
@@ -255,9 +264,22 @@ impl<J: Terms<Q>, Q: Quorums, S: Replica> Post<J, Q, S> {
         gate: &G,
     ) -> Result<Turn<Q>, Refusal> {
         let mut keeper = self.keeper_of(rt, name);
+        self.begin(rt, &mut keeper)?;
         gate.working(name);
-        let mut book = self.book.lock(rt);
-        turn_in(&mut book, &mut keeper)
+        let Ok(next) = ready_next(*self.keepers.allocator(), &mut keeper) else {
+            return Err(self.book.lock(rt).no_room());
+        };
+        let Some(half) = next else {
+            return Ok(Turn::Nothing);
+        };
+        gate.prepared(name);
+        let mut again = self.book.lock(rt);
+        commit_next(&mut again, &mut keeper, half)
+    }
+
+    // The keeper takes its mail.
+    fn begin<R: Wait>(&self, rt: &R, keeper: &mut Keeper<J, Q, S>) -> Result<(), Refusal> {
+        begin_in(&mut self.book.lock(rt), keeper)
     }
 
     /// The map of the node of this name. It takes no memory.

@@ -1,5 +1,5 @@
 -- What a keeper's node says of the steps that it may do by itself is what the run of what it saw says
-use Rattle.std.proofs.Common.{◌≡◌, ℕ, suc, Bool, true, false, cond, List, [], ◌∷◌, ◌++◌, map, find, All, Option, None, Some, is_none, option_map, refl, sym, ap, ◌∙◌, arith}
+use Rattle.std.proofs.Common.{◌≡◌, ℕ, suc, Bool, true, false, cond, List, [], ◌∷◌, ◌++◌, map, find, All, Option, Some, is_none, option_map, refl, sym, ap, ◌∙◌, subst, arith}
 use Rattle.rambo_names.specs.Quorums.{QuorumSystem}
 use Rattle.rambo_names.specs.Refusals.{least}
 use Rattle.rambo_calls.specs.Calls.{CallState}
@@ -9,11 +9,10 @@ use Rattle.rambo_node.specs.Nodes.{NodeState}
 use Rattle.rambo_run.specs.declared.step.Step.{Step}
 use Rattle.rambo_run.specs.declared.step.Step.TheVariants as step
 use Rattle.rambo_run.specs.Worlds.{WorldState, node_at}
-use Rattle.rambo_run.specs.Steps.{Meant, meant, refusal, delivery, causes_at, causes_of}
-use Rattle.rambo_run.proofs.Lists.{some_inj}
+use Rattle.rambo_run.specs.Steps.{refusal, delivery, causes_at, causes_of}
 use Rattle.rambo_deeds.specs.declared.mail.Mail.{Mail}
 use Rattle.std.specs.Prelude.{IfSome}
-use Rattle.rambo_book.specs.Kept.{IsMailOf, IsServedBy}
+use Rattle.rambo_book.specs.Kept.{IsMailOf}
 use Rattle.rambo_pick.specs.Picking as pick
 use Rattle.rambo_pick.specs.Picking.{Candidate, candidates, advance, of_configurations, is_accepted}
 use Rattle.rambo_turn.specs.Turns.{first_of, steps_of}
@@ -61,12 +60,12 @@ found_has : {A : Type 0} (P : A → Type 0) (test : Bool) (a : A) (rest : Option
 found_has P true a rest p h = p
 found_has P false a rest p h = h
 
-first_has : {Q : Type 0} (s : QuorumSystem Q) (w : WorldState Q) (P : Step Q → Type 0) (cs : List (Candidate Q)) → Each (λ (c : Candidate Q). P c.step) cs → IfSome (first_of s w (map (λ (c : Candidate Q). c.step) cs)) P
-first_has s w P [] a = tt
-first_has s w P (c ∷ cs) a = found_has P (is_none (refusal s w c.step)) c.step (first_of s w (map (λ (c : Candidate _). c.step) cs)) a.0 (first_has s w P cs a.1)
-
-pub first_each : {Q : Type 0} (s : QuorumSystem Q) (w : WorldState Q) (P : Step Q → Type 0) (x : NodeState Q) (tray : List (Mail Q)) → Each (λ (c : Candidate Q). P c.step) (candidates x tray) → IfSome (first_of s w (steps_of x tray)) P
-first_each s w P x tray = first_has s w P (candidates x tray)
+-- what a node accepts first has what each has
+pub picked_each : {Q : Type 0} (s : QuorumSystem Q) (x : NodeState Q) (P : Step Q → Type 0) (cs : List (Candidate Q)) → Each (λ (c : Candidate Q). P c.step) cs → IfSome (pick.first_of s x cs) P
+picked_each s x P [] a = tt
+picked_each s x P (c ∷ cs) a =
+    subst (λ o. IfSome o P) (mapped (is_accepted s x c) (λ (c : Candidate _). c.step) c (find (is_accepted s x) cs))
+    (found_has P (is_accepted s x c) c.step (pick.first_of s x cs) a.0 (picked_each s x P cs a.1))
 
 -- a world in which the node of its name is this one
 module _ {Q : Type 0} (s : QuorumSystem Q) (w : WorldState Q) (x : NodeState Q) (here : node_at w x.name ≡ Some x) where
@@ -89,20 +88,3 @@ module _ {Q : Type 0} (s : QuorumSystem Q) (w : WorldState Q) (x : NodeState Q) 
 
   pub first_is : (tray : List (Mail Q)) → All (IsMailOf w x.name) tray → first_of s w (steps_of x tray) ≡ pick.first_of s x (candidates x tray)
   first_is tray all = first_alike s w x (candidates x tray) (each_candidate (λ (c : Candidate Q). refusal s w c.step ≡ refusal_of s x c.change) (IsMailOf w x.name) x tray all hears moves collects bids)
-
--- what a keeper may pick is of its own node
-module _ {Q : Type 0} (w : WorldState Q) (x : NodeState Q) where
-  named_by : (st : Step Q) (m : Meant Q) → meant w st ≡ Some m → m.name ≡ x.name → IsServedBy w st x.name
-  named_by st m is own = λ n e. ap (λ (m : Meant _). m.name) (some_inj n m (sym e ∙ is)) ∙ own
-
-  served_letter : (m : Mail Q) → IsMailOf w x.name m → IsServedBy w (step.Deliver m.number) x.name
-  served_letter m own = named_by (step.Deliver m.number) (record { name = own.0.addressee; change = change.Deliver own.0 }) (ap delivery own.1) own.3
-
-  served_call : (c : CallState Q) → IsServedBy w (advance x.name c).step x.name
-  served_call c = named_by (advance x.name c).step (record { name = x.name; change = (advance x.name c).change }) refl refl
-
-  pub first_served : (s : QuorumSystem Q) (tray : List (Mail Q)) → All (IsMailOf w x.name) tray → IfSome (first_of s w (steps_of x tray)) (λ st. IsServedBy w st x.name)
-  first_served s tray all =
-      first_each s w (λ st. IsServedBy w st x.name) x tray
-      (each_candidate (λ (c : Candidate Q). IsServedBy w c.step x.name) (IsMailOf w x.name) x tray all served_letter served_call
-      (named_by (step.AdvanceCollect x.name) (record { name = x.name; change = change.AdvanceCollect }) refl refl) (named_by (step.AdvanceRecon x.name) (record { name = x.name; change = change.AdvanceRecon }) refl refl))

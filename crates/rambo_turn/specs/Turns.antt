@@ -1,18 +1,17 @@
 -- What a keeper does by itself: the first step of a list that isn't refused
-use Rattle.std.specs.Prelude.{◌≡◌, ◌⊎◌, ◌<◌, ℕ, List, [], ◌∷◌, ◌++◌, map, find, length, Option, None, Some, is_none}
-use Rattle.rambo_names.specs.declared.refusal.Refusal.{Refusal}
-use Rattle.rambo_names.specs.declared.refusal.Refusal.TheVariants.{OutOfMemory}
+use Rattle.std.specs.Prelude.{◌≡◌, ◌≢◌, ℕ, List, [], ◌∷◌, ◌++◌, map, find, Option, is_none}
 use Rattle.rambo_names.specs.Quorums.{QuorumSystem}
+use Rattle.rambo_history.specs.declared.operation.Op.{Op}
 use Rattle.rambo_node.specs.Nodes.{NodeState}
 use Rattle.rambo_run.specs.declared.step.Step.{Step}
 use Rattle.rambo_run.specs.declared.step.Step.TheVariants as step
 use Rattle.rambo_run.specs.Worlds.{WorldState}
+use Rattle.rambo_run.specs.Actors.{sent_by}
+use Rattle.rambo_run.specs.Runs.{run}
 use Rattle.rambo_run.specs.Steps.{refusal}
 use Rattle.rambo_deeds.specs.declared.mail.Mail.{Mail}
-use Rattle.rambo_turn.specs.declared.turn.Turn.{Turn}
-use Rattle.rambo_turn.specs.declared.turn.Turn.TheVariants as turned
-use Rattle.rambo_book.specs.Kept.{BookView, KeeperView, Told, state}
-use Rattle.rambo_book.specs.Mailing.{without, AreTaken, all_for}
+use Rattle.rambo_book.specs.Kept.{BookView, KeeperView}
+use Rattle.rambo_book.specs.Mailing.{without}
 use Rattle.rambo_pick.specs.Picking.{Candidate, candidates}
 
 -- the first of these steps that isn't refused
@@ -42,19 +41,14 @@ cleared tray (step.Rebid n) = tray
 cleared tray (step.AdvanceRecon n) = tray
 cleared tray (step.Stop n) = tray
 
--- what a keeper that has seen all steps does next, if there is something to do
-abbrev pub next_of : {Q : Type 0} → QuorumSystem Q → BookView Q → KeeperView Q → Option (Step Q)
-next_of s b k = first_of s (state s b) (steps_of k.node k.tray)
+-- what a keeper does next by what it has seen, if there is something to do
+abbrev pub next_of : {Q : Type 0} → QuorumSystem Q → Q → KeeperView Q → Option (Step Q)
+next_of s f k = first_of s (run s f k.seen) (steps_of k.node k.tray)
 
--- it did this: its next step, or nothing where there is none
-abbrev pub HasDone : {Q : Type 0} → QuorumSystem Q → BookView Q → BookView Q → KeeperView Q → KeeperView Q → Turn Q → Type 0
-HasDone s b after k later (turned.Did st) =
-    (next_of s b k ≡ Some st) × (after ≡ longer b st) × (later ≡ record k { node = later.node; tray = cleared k.tray st; seen = after.steps })
-HasDone s b after k later turned.Nothing = (next_of s b k ≡ None) × (after ≡ b) × (later ≡ k)
-
--- it has a next step, for which the book is full, or which finds no memory
-abbrev pub CannotDo : {Q : Type 0} → QuorumSystem Q → BookView Q → KeeperView Q → Refusal → Type 0
-CannotDo {Q} s b k r = (st : Step Q) × (next_of s b k ≡ Some st) × Told None (length b.steps) b.capacity r
+-- it has no bytes, and sends no letter
+pub record IsQuiet {Q : Type 0} (st : Step Q) : Type 0 where
+  pub no_call : (name : ℕ) (op : Op) → st ≢ step.Call name op
+  pub unsent : sent_by st ≡ []
 
 -- a book whose letters wait so, and a keeper that has seen its steps and has this tray
 abbrev pub mailed : {Q : Type 0} → BookView Q → List (List ℕ) → BookView Q
@@ -62,19 +56,3 @@ mailed b lists = record b { waiting = lists }
 
 abbrev pub informed : {Q : Type 0} → BookView Q → KeeperView Q → List (Mail Q) → KeeperView Q
 informed b k tray = record k { tray = tray; seen = b.steps }
-
--- a turn: the keeper took the letters that waited for its node, and then did this
-pub record IsTurn {Q : Type 0} (s : QuorumSystem Q) (b after : BookView Q) (k later : KeeperView Q) (t : Turn Q) : Type 0 where
-  pub lists : List (List ℕ)
-  pub tray : List (Mail Q)
-  pub taken : AreTaken (state s b) k.name (all_for k b.waiting) b.waiting lists k.tray tray
-  pub did : HasDone s (mailed b lists) after (informed b k tray) later t
-
--- a turn that is refused: the keeper took so many of these letters, which it keeps, and there was no memory for the next
--- one; or it took them all, and then couldn't do its next step
-pub record IsRefusedTurn {Q : Type 0} (s : QuorumSystem Q) (b after : BookView Q) (k later : KeeperView Q) (r : Refusal) : Type 0 where
-  pub count : ℕ
-  pub taken : AreTaken (state s b) k.name count b.waiting after.waiting k.tray later.tray
-  pub book : after ≡ mailed b after.waiting
-  pub keeper : later ≡ informed b k later.tray
-  pub cause : ((r ≡ OutOfMemory) × (count < all_for k b.waiting)) ⊎ ((count ≡ all_for k b.waiting) × CannotDo s after later r)

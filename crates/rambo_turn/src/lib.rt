@@ -1,6 +1,7 @@
 //! What the nodes of a post do by themselves: they take turns, and send letters.
 //!
-//! - `pick`: what a keeper does next; `turn_in`: a turn, in which it takes its mail and does that.
+//! - `pick`: what a keeper does next.
+//! - A turn: `begin_in`: it takes its mail; `ready_next`: the first half of what it picks; `commit_next`: the second half.
 //! - `send_in`: a letter is sent.
 #![tactic(auto)]
 
@@ -10,4 +11,4 @@ mod turn;
 
 pub use picking::pick;
 pub use sending::send_in;
-pub use turn::{Turn, turn_in};
+pub use turn::{Turn, begin_in, commit_next, ready_next};

@@ -1,7 +1,9 @@
 //! What a keeper does by itself.
-ghost use Rattle.std.specs.Prelude.{◌≡◌, Some};
+ghost use Rattle.std.specs.Prelude.{◌≡◌, ℕ, [], Some, IfSome};
 ghost use Rattle.rambo_run.specs.Runs.{run};
-ghost use Rattle.rambo_turn.specs.Turns.{first_of, steps_of};
+ghost use Rattle.rambo_run.specs.Steps.{Meant, meant_in};
+ghost use Rattle.rambo_book.specs.Readying.{IsIn};
+ghost use Rattle.rambo_turn.specs.Turns.{first_of, steps_of, IsQuiet};
 
 use rambo_book::{Keeper, Terms};
 use rambo_names::Quorums;
@@ -14,7 +16,10 @@ use rambo_tag::Replica;
 ///
 /// It takes no memory.
 pub fn pick<J: Terms<Q>, Q: Quorums, S: Replica>(keeper: &Keeper<J, Q, S>) -> Option<Step<Q>>
-    ensures { (f : Q) → J.founders ≡ Some f → result ≡ first_of Q.system (run Q.system f keeper.now.seen) (steps_of keeper.now.node keeper.now.tray) }
+    ensures first { (f : Q) → J.founders ≡ Some f → result ≡ first_of Q.system (run Q.system f keeper.now.seen) (steps_of keeper.now.node keeper.now.tray) }
+    ensures own { (f : Q) → J.founders ≡ Some f → IfSome result (λ st. (m : Meant _) → meant_in [] st ≡ Some m → m.name ≡ keeper.now.name) }
+    ensures in_tray { IfSome result (λ st. (number : ℕ) → st ≡ Step.Deliver number → IsIn keeper.now.tray number) }
+    ensures quiet { IfSome result IsQuiet }
 {
     keeper.facts();
     first_step(keeper.worker(), keeper.tray())

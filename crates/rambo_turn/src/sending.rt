@@ -1,16 +1,34 @@
 //! A letter is sent.
 ghost use Rattle.std.specs.Prelude.{◌≡◌, ◌++◌, ◌∷◌, [], None, length, OnOk, OnErr, IfOk, IfErr};
 ghost use Rattle.rambo_run.specs.Steps.{refusal, turn};
+ghost use Rattle.rambo_book.specs.Readying.{IsReadyFor};
 ghost use Rattle.rambo_book.specs.Kept.{IsServedBy, Told, state};
 ghost use Rattle.rambo_book.specs.Mailing.{waiting_after};
 
-use rambo_book::{Book, Keeper, Terms, commit};
+use rambo_book::{Book, Keeper, Ready, Terms, commit_ready, may_commit};
 use rambo_names::{Name, Quorums, Refusal};
 use rambo_node::Effect;
 use rambo_run::Step;
 use rambo_tag::Replica;
 
-/// Sends a letter from the keeper's node to another: its number.
+// Why a step is refused of which the first half was: what the rules of its kind say, by the least number; else 23 where the
+// book is full; else 22.
+fn why_not<J: Terms<Q>, Q: Quorums, S: Replica>(
+    book: &mut Book<J, Q>,
+    keeper: &mut Keeper<J, Q, S>,
+    step: &Step<Q>,
+) -> Refusal
+    requires { IsServedBy (state Q.system book.old) step.now keeper.old.name }
+    ensures same { (book.new ≡ book.old) × (keeper.new ≡ keeper.old) }
+    ensures told { Told (refusal Q.system (state Q.system book.old) step.now) (length book.old.steps) book.old.capacity result }
+{
+    match may_commit(book, keeper, step) {
+        Err(refusal) => refusal,
+        Ok(()) => Refusal::OutOfMemory,
+    }
+}
+
+/// Sends a letter from the keeper's node to another, of which the first half was made, or refused: its number.
 ///
 /// Refused is what the rules of a send say, by the least number; else 23 where the book is full; else 22.
 pub fn send_in<J: Terms<Q>, Q: Quorums, S: Replica>(
@@ -18,14 +36,20 @@ pub fn send_in<J: Terms<Q>, Q: Quorums, S: Replica>(
     keeper: &mut Keeper<J, Q, S>,
     from: Name,
     to: Name,
+    ready: Result<Ready<Q>, Refusal>,
 ) -> Result<u64, Refusal>
-    requires { keeper.old.name ≡ from }
+    requires name { keeper.old.name ≡ from }
+    requires step { IfOk ready (λ r. r.step ≡ Step.Send from to) }
+    requires ready { IfOk ready (IsReadyFor Q.system J.founders keeper.old) }
     ensures effect { IfOk result (λ number. Effect.Sent number ≡ (turn (state Q.system book.old) (Step.Send from to)).effect) }
     ensures book { OnOk result (book.new ≡ record book.old { steps = book.old.steps ++ Step.Send from to ∷ []; waiting = waiting_after book.old (to ∷ []) (length (state Q.system book.new).letters) }) }
     ensures same { OnErr result ((book.new ≡ book.old) × (keeper.new ≡ keeper.old)) }
     ensures told { IfErr result (λ r. Told (refusal Q.system (state Q.system book.old) (Step.Send from to)) (length book.old.steps) book.old.capacity r) }
 {
-    match commit(book, keeper, Step::Send(from, to))? {
+    let Ok(ready) = ready else {
+        return Err(why_not(book, keeper, &Step::Send(from, to)));
+    };
+    match commit_ready(book, keeper, ready)? {
         Effect::Sent(number) => Ok(number),
         _ => unreachable!(),
     }

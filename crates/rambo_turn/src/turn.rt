@@ -1,13 +1,18 @@
-//! What a keeper does by itself.
-ghost use Rattle.std.specs.Prelude.{◌≡◌, IfSome, OnErr, IfOk, IfErr};
-ghost use Rattle.rambo_book.specs.Kept.{IsServedBy, state};
-ghost use Rattle.rambo_turn.specs.Turns.{cleared, next_of, HasDone, CannotDo, IsTurn, IsRefusedTurn};
+//! A turn: what a keeper does by itself.
+ghost use Rattle.std.specs.Prelude.{◌≡◌, ◌<◌, ℕ, None, Some, length, option_map, OnOk, OnErr, IfOk, IfErr, IfSome};
+ghost use Rattle.rambo_run.specs.Steps.{refusal};
+ghost use Rattle.rambo_run.specs.Worlds.{node_at};
+ghost use Rattle.rambo_book.specs.Readying.{IsReadyFor};
+ghost use Rattle.rambo_book.specs.Kept.{Told, state};
+ghost use Rattle.rambo_book.specs.Mailing.{AreTaken, all_for};
+ghost use Rattle.rambo_turn.specs.Turns.{cleared, informed, longer, mailed, next_of, IsQuiet};
 
 use crate::picking::pick;
-use rambo_book::{Book, Keeper, Terms, commit, see_all, take_mail};
+use rambo_book::{Book, Keeper, Ready, Terms, commit_ready, ready, see_all, take_mail};
 use rambo_names::{Quorums, Refusal};
 use rambo_run::Step;
 use rambo_tag::Replica;
+use std::alloc::Global;
 
 /// What a turn did.
 #[derive(Drop)]
@@ -16,6 +21,46 @@ pub enum Turn<Q: Quorums> {
     Did(Step<Q>),
     /// There was nothing to do.
     Nothing,
+}
+
+/// A turn begins: the keeper has seen all steps, and takes its mail. What has stopped hears nothing more, and leaves it.
+///
+/// `OutOfMemory` where there is no room for a letter; those before it were taken, and the others wait.
+pub fn begin_in<J: Terms<Q>, Q: Quorums, S: Replica>(
+    book: &mut Book<J, Q>,
+    keeper: &mut Keeper<J, Q, S>,
+) -> Result<(), Refusal>
+    ensures book { book.new ≡ mailed book.old book.new.waiting }
+    ensures keeper { keeper.new ≡ informed book.old keeper.old keeper.new.tray }
+    ensures all { OnOk result (AreTaken (state Q.system book.old) keeper.old.name (all_for keeper.old book.old.waiting) book.old.waiting book.new.waiting keeper.old.tray keeper.new.tray) }
+    ensures some { OnErr result ((count : ℕ) × (count < all_for keeper.old book.old.waiting) × AreTaken (state Q.system book.old) keeper.old.name count book.old.waiting book.new.waiting keeper.old.tray keeper.new.tray) }
+    ensures refused { IfErr result (λ r. r ≡ Refusal.OutOfMemory) }
+{
+    see_all(book, keeper);
+    take_mail(book, keeper)
+}
+
+/// The first half of what the keeper picks, by what it has seen: it needs no book. None where there is nothing to do.
+///
+/// `OutOfMemory` where there is something to do, and no room for it in the node.
+pub fn ready_next<J: Terms<Q>, Q: Quorums, S: Replica>(
+    alloc: Global,
+    keeper: &mut Keeper<J, Q, S>,
+) -> Result<Option<Ready<Q>>, Refusal>
+    ensures same { keeper.new ≡ record keeper.old { room = keeper.new.room } }
+    ensures picked { IfOk result (λ r. (f : Q) → J.founders ≡ Some f → option_map (λ r. r.step) r ≡ next_of Q.system f keeper.old) }
+    ensures quiet { IfOk result (λ r. IfSome r (λ r. IsQuiet r.step)) }
+    ensures ready { IfOk result (λ r. IfSome r (IsReadyFor Q.system J.founders keeper.new)) }
+    ensures something { OnErr result ((st : Step Q) × ((f : Q) → J.founders ≡ Some f → Some st ≡ next_of Q.system f keeper.old)) }
+    ensures refused { IfErr result (λ r. r ≡ Refusal.OutOfMemory) }
+{
+    let Some(step) = pick(keeper) else {
+        return Ok(None);
+    };
+    match ready(alloc, keeper, step) {
+        Ok(ready) => Ok(Some(ready)),
+        Err(_) => Err(Refusal::OutOfMemory),
+    }
 }
 
 // The letter that was delivered leaves the tray.
@@ -27,52 +72,30 @@ fn clear_up<J: Terms<Q>, Q: Quorums, S: Replica>(keeper: &mut Keeper<J, Q, S>, s
     }
 }
 
-// What the keeper, which has seen all steps, does next.
-fn next_in<J: Terms<Q>, Q: Quorums, S: Replica>(
-    book: &Book<J, Q>,
-    keeper: &Keeper<J, Q, S>,
-) -> Option<Step<Q>>
-    requires { keeper.now.seen ≡ book.now.steps }
-    ensures first { result ≡ next_of Q.system book.now keeper.now }
-    ensures served { IfSome result (λ st. IsServedBy (state Q.system book.now) st keeper.now.name) }
-{
-    book.facts();
-    keeper.facts();
-    pick(keeper)
-}
-
-// The keeper, which has seen all steps, does what it picks.
-fn do_next<J: Terms<Q>, Q: Quorums, S: Replica>(
+/// The second half of what the keeper picked, a turn's end. A letter that came leaves its tray, once where it is there twice.
+///
+/// `HistoryFull` where the book is full, else `OutOfMemory` where it has no room for the step; book and keeper are then as
+/// before.
+pub fn commit_next<J: Terms<Q>, Q: Quorums, S: Replica>(
     book: &mut Book<J, Q>,
     keeper: &mut Keeper<J, Q, S>,
+    ready: Ready<Q>,
 ) -> Result<Turn<Q>, Refusal>
-    requires { keeper.old.seen ≡ book.old.steps }
-    ensures did { IfOk result (λ t. HasDone Q.system book.old book.new keeper.old keeper.new t) }
+    requires ready { IsReadyFor Q.system J.founders keeper.old ready }
+    requires quiet { IsQuiet ready.step }
+    ensures did { IfOk result (λ t. t ≡ Turn.Did ready.step) }
+    ensures legal { OnOk result (refusal Q.system (state Q.system book.old) ready.step ≡ None) }
+    ensures book { OnOk result (book.new ≡ longer book.old ready.step) }
+    ensures keeper { OnOk result (keeper.new ≡ record keeper.old { node = keeper.new.node; room = keeper.new.room; tray = cleared keeper.old.tray ready.step; seen = book.new.steps }) }
+    ensures node { OnOk result (node_at (state Q.system book.new) keeper.old.name ≡ Some keeper.new.node) }
     ensures same { OnErr result ((book.new ≡ book.old) × (keeper.new ≡ keeper.old)) }
-    ensures cause { IfErr result (λ r. CannotDo Q.system book.old keeper.old r) }
+    ensures told { IfErr result (λ r. Told None (length book.old.steps) book.old.capacity r) }
 {
-    let Some(step) = next_in(book, keeper) else {
-        return Ok(Turn::Nothing);
+    let Ok(told) = ready.step.clone() else {
+        // (what it picks has no bytes, so that this can't fail)
+        unreachable!();
     };
-    // (what it picks has no bytes, so that this can't fail)
-    let told = step.clone()?;
-    commit(book, keeper, step)?;
+    commit_ready(book, keeper, ready)?;
     clear_up(keeper, &told);
     Ok(Turn::Did(told))
-}
-
-/// The keeper takes its mail, and does what it then picks. A letter that came leaves its tray, once where it is there twice.
-///
-/// `HistoryFull` where there is something to do and the book is full, `OutOfMemory` where there is no room for a letter or
-/// for the step; what it took of its mail stays in its tray.
-pub fn turn_in<J: Terms<Q>, Q: Quorums, S: Replica>(
-    book: &mut Book<J, Q>,
-    keeper: &mut Keeper<J, Q, S>,
-) -> Result<Turn<Q>, Refusal>
-    ensures did { IfOk result (λ t. IsTurn Q.system book.old book.new keeper.old keeper.new t) }
-    ensures refused { IfErr result (λ r. IsRefusedTurn Q.system book.old book.new keeper.old keeper.new r) }
-{
-    see_all(book, keeper);
-    take_mail(book, keeper)?;
-    do_next(book, keeper)
 }

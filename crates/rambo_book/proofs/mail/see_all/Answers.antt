@@ -12,7 +12,7 @@ invariant_of-keeper g c =
     let k = c.keeper.invariant in
     let idle = c.agree.ensures.idle in
     let all : c.catch_up.new.keeper.1 ≡ c.book.inside.steps.items = ap (λ h. h.1) c.catch_up.ensures.keeper ∙ ap (λ r. r.1) c.agree.ensures.roll ∙ b.all in
-    kept_on s g.J.Terms.founders c.book.inside.founders c.keeper.inside.holder.0 c.catch_up.new.keeper.0 c.keeper.inside.name c.keeper.inside.worker c.keeper.inside.worker c.keeper.inside.tray.items c.keeper.inside.holder.1 c.catch_up.new.keeper.1
+    kept_on s g.J.Terms.founders c.book.inside.founders c.keeper.inside.holder.0 c.catch_up.new.keeper.0 c.keeper.inside.name c.keeper.inside.worker.state c.keeper.inside.worker.state c.keeper.inside.tray.items c.keeper.inside.holder.1 c.catch_up.new.keeper.1
     b.founded k (ap (λ h. h.0) c.catch_up.ensures.keeper ∙ ap (λ h. h.0) c.agree.ensures.keeper)
     (subst (IsPrefix c.keeper.inside.holder.1) (sym all) (begun _ _ _ _ _ _ _ _ _ _ _ _ _ _ _ b k idle))
     (ap (λ l. node_at (run s c.book.inside.founders l) c.keeper.inside.name) all ∙ still _ _ _ _ _ _ _ _ _ _ _ _ _ _ _ b k idle)

@@ -1,15 +1,20 @@
-use Rattle.std.proofs.Common.{sym, ap, ◌∙◌}
-use Rattle.rambo_run.specs.Steps.{Meant}
+use Rattle.std.proofs.Common.{◌≡◌, IfOk, sym, ap, ◌∙◌, subst}
+use Rattle.rambo_run.specs.declared.step.Step.TheVariants as step
+use Rattle.rambo_run.specs.Steps.{Meant, refusal, turn}
 use Rattle.rambo_run.proofs.Lists.{some_inj}
 use Rattle.rambo_book.specs.Kept.{state}
+use Rattle.rambo_book.specs.declared.readied.Ready.{Ready}
 use Rattle.rambo_turn.proofs.Told.{send_sent}
 use Rattle.rambo_turn.proofs.sending.send_in.Goals as goal
 
-pub commit-requires : goal.commit-requires
-commit-requires g c = (c.requires-raw.1.1.1.0, λ m e. ap (λ (m : Meant _). m.name) (some_inj m _ (sym e)) ∙ sym c.requires)
+pub why_not-requires : goal.why_not-requires
+why_not-requires g c = (c.requires-raw.1.1.1.0, λ m e. ap (λ (m : Meant _). m.name) (some_inj m _ (sym e)) ∙ sym c.requires.name)
 
 pub unreachable-requires : goal.unreachable-requires
 unreachable-requires g c =
+    let s = g.Q.Quorums.system in
+    let w = state s c.args.book.now in
+    let own = subst (λ r. IfOk r (λ (r : Ready _). r.step ≡ step.Send c.args.from c.args.to)) c.in-Ok.is c.requires.step in
     let e = c.in_ok-number.ensures in
-    let r = send_sent g.Q.Quorums.system (state g.Q.Quorums.system c.args.book.now) c.args.from c.args.to e.legal in
-    c.in_default.not-Sent r.0 (e.effect ∙ r.1)
+    let r = send_sent s w c.args.from c.args.to (ap (refusal s w) (sym own) ∙ e.legal) in
+    c.in_default-2.not-Sent r.0 (e.effect ∙ ap (λ st. (turn w st).effect) own ∙ r.1)

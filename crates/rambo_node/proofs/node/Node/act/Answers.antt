@@ -81,6 +81,3 @@ do_join-requires g c = assumption
 
 pub do_stop-requires : goal.do_stop-requires
 do_stop-requires g c = assumption
-
-pub quiet-requires : goal.quiet-requires
-quiet-requires g c = assumption

@@ -8,7 +8,7 @@ use Rattle.rambo_node.proofs.Readiness.{gossip_ends}
 use Rattle.rambo_node.proofs.node.Node.finish_gossip.Goals as goal
 
 pub merge_room-requires : goal.merge_room-requires
-merge_room-requires g c = subst (λ n. HasRoom n.room.keys n.state.registers c.args.newer) (sym c.self.view_is) c.requires.keys
+merge_room-requires g c = subst (λ n. HasRoom n.room.keys n.state.registers c.args.hearing.newer) (sym c.self.view_is) c.requires.keys
 
 pub settle-requires : goal.settle-requires
 settle-requires g c =
@@ -24,5 +24,5 @@ pub returns : goal.returns
 returns g c =
     let o = gossip_outlined c.args.gossip.now in
     let v = ap (λ n. n.state) c.self.view_is in
-    let copies = c.merge_room.ensures ∙ ap (λ x. joined x.registers c.args.newer) v in
-    c.settle.ensures ∙ (λ i. heard_rest (record (v i) { registers = copies i }) c.args.from o) ∙ gossip_ends c.args.self.now.state c.args.from o c.args.newer
+    let copies = c.merge_room.ensures ∙ ap (λ x. joined x.registers c.args.hearing.newer) v in
+    c.settle.ensures ∙ (λ i. heard_rest (record (v i) { registers = copies i }) c.args.from o) ∙ gossip_ends c.args.self.now.state c.args.from o c.args.hearing.newer

@@ -1,29 +1,33 @@
 use Rattle.std.proofs.Common.{sym, ap, ◌∙◌, subst}
+use Rattle.std.specs.FinMap as map
 use Rattle.rambo_gossip.specs.Letters.{gossip_with, kind_with}
 use Rattle.rambo_node.specs.Hearing.{heard_kind, heard_gossip}
-use Rattle.rambo_node.specs.Prepared.{IsReadyKind}
+use Rattle.rambo_node.specs.Prepared.{IsReadyKind, kind_of}
 use Rattle.rambo_node.proofs.Readiness.{outline_ready}
 use Rattle.rambo_node.proofs.Sizes.{gossip_fits}
 use Rattle.rambo_node.proofs.node.Node.finish_hear.Goals as goal
 
-pub returns-in-Join : goal.returns-in-Join
-returns-in-Join g c =
+pub returns-in-None : goal.returns-in-None
+returns-in-None g c =
     let t = c.args.turn in
-    c.meet.ensures ∙ sym (ap (λ k. heard_kind c.args.self.now.state t.letter.sender (kind_with k t.newer)) c.in-Join.is)
+    c.meet.ensures ∙ sym (ap (λ o. heard_kind c.args.self.now.state t.sender (kind_with (kind_of o) t.hearing.newer)) c.in-None.is)
 
 pub finish_gossip-requires : goal.finish_gossip-requires
 finish_gossip-requires g c =
-    let t = c.args.turn in
-    let ready = subst (λ k. IsReadyKind c.args.self.now k t.newer t.number) c.in-Gossip.is c.requires in
-    (c.requires-raw.1.1.0, outline_ready c.args.self.now c.in-Gossip.gossip _ t.newer t.number c.outline.ensures ready)
+    let h = c.args.turn.hearing in
+    let ready = subst (λ o. IsReadyKind c.args.self.now (kind_of o) h.newer h.number) c.in-Some.is c.requires in
+    (c.requires-raw.1.1.0, outline_ready c.args.self.now c.in-Some.gossip.value _ h.newer h.number (c.outline.ensures ∙ ap (λ p. gossip_with p map.empty) c.deref.ensures) ready)
 
-pub returns : goal.returns
-returns g c =
+pub returns-in-Some : goal.returns-in-Some
+returns-in-Some g c =
     let x = c.args.self.now.state in
     let t = c.args.turn in
     c.finish_gossip.ensures
-    ∙ ap (λ o. heard_gossip x t.letter.sender (gossip_with o t.newer)) c.outline.ensures
-    ∙ sym (ap (λ k. heard_kind x t.letter.sender (kind_with k t.newer)) c.in-Gossip.is)
+    ∙ ap (λ o. heard_gossip x t.sender (gossip_with o t.hearing.newer)) (c.outline.ensures ∙ ap (λ p. gossip_with p map.empty) c.deref.ensures)
+    ∙ sym (ap (λ o. heard_kind x t.sender (kind_with (kind_of o) t.hearing.newer)) c.in-Some.is)
 
 pub outline-requires : goal.outline-requires
 outline-requires g c = gossip_fits 0 g.row.Q g.Q.Quorums g.Q.PartialEq g.met.Q.Quorums.small
+
+pub drop-gossip-requires-room-T-Destruct : goal.drop-gossip-requires-room-T-Destruct
+drop-gossip-requires-room-T-Destruct g c κs within = gossip_fits 0 g.row.Q g.Q.Quorums g.Q.PartialEq g.met.Q.Quorums.small

@@ -5,7 +5,6 @@ use Rattle.rambo_node.specs.Refusals.{query_spent}
 use Rattle.rambo_node.specs.declared.effect.Effect.TheVariants as effect
 use Rattle.rambo_node.proofs.Judged.{call_next, advance_next, asked_next}
 use Rattle.rambo_node.proofs.Readiness.{query_ends, query_tells, answer_ends}
-use Rattle.rambo_node.proofs.Sizes.{hear_fits}
 use Rattle.rambo_node.proofs.node.Node.finish_turn.Goals as goal
 
 pub finish_call-requires : goal.finish_call-requires
@@ -75,7 +74,7 @@ pub returns-in-Quick-clause-effect : goal.returns-in-Quick-clause-effect
 returns-in-Quick-clause-effect g c = c.finish_quick.ensures.effect ∙ sym (ap (λ t. (made_by c.args.self.now.state (turn_change t)).deed.effect) c.in-Quick.is)
 
 pub finish_hear-requires : goal.finish_hear-requires
-finish_hear-requires g c = (c.requires-raw.1.1.0, (hear_fits 0 g.row.Q g.Q.Quorums g.Q.PartialEq g.met.Q.Quorums.small, subst (IsReady c.args.self.now) c.in-Hear.is c.requires.ready))
+finish_hear-requires g c = (c.requires-raw.1.1.0, subst (IsReady c.args.self.now) c.in-Hear.is c.requires.ready)
 
 pub finish_quick-requires : goal.finish_quick-requires
 finish_quick-requires g c = (

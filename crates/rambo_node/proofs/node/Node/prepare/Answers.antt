@@ -2,7 +2,7 @@ use Rattle.std.proofs.Common.{◌≡◌, None, false, IfOk, sym, subst}
 use Rattle.rambo_node.specs.Changes.{refusal_of}
 use Rattle.rambo_node.specs.Memory.{needs_memory}
 use Rattle.rambo_node.specs.Prepared.{Prepares}
-use Rattle.rambo_node.proofs.Sizes.{deliver_fits, prepared_fits}
+use Rattle.rambo_node.proofs.Sizes.{deliver_fits}
 use Rattle.rambo_node.proofs.node.Node.prepare.Goals as goal
 
 pub returns-in-Join-clause-prepares : goal.returns-in-Join-clause-prepares
@@ -42,43 +42,43 @@ pub returns-in-Advance-clause-prepares : goal.returns-in-Advance-clause-prepares
 returns-in-Advance-clause-prepares g c = subst (λ ch. IfOk c.prepare_advance.result (Prepares g.Q.Quorums.system c.prepare_advance.new.self ch)) (sym c.in-Advance.is) c.prepare_advance.ensures.prepares
 
 pub prepare_quick-requires : goal.prepare_quick-requires
-prepare_quick-requires g c = (c.requires-raw.1.1.0, (prepared_fits 0 g.row.Q g.Q.Quorums g.Q.PartialEq g.met.Q.Quorums.small, subst (λ ch. refusal_of g.Q.Quorums.system c.args.self.now.state ch ≡ None) c.in-Join.is c.requires))
+prepare_quick-requires g c = (c.requires-raw.1.1.0, subst (λ ch. refusal_of g.Q.Quorums.system c.args.self.now.state ch ≡ None) c.in-Join.is c.requires)
 
 pub prepare_quick-requires-in-Send : goal.prepare_quick-requires-in-Send
-prepare_quick-requires-in-Send g c = (c.requires-raw.1.1.0, (prepared_fits 0 g.row.Q g.Q.Quorums g.Q.PartialEq g.met.Q.Quorums.small, subst (λ ch. refusal_of g.Q.Quorums.system c.args.self.now.state ch ≡ None) c.in-Send.is c.requires))
+prepare_quick-requires-in-Send g c = (c.requires-raw.1.1.0, subst (λ ch. refusal_of g.Q.Quorums.system c.args.self.now.state ch ≡ None) c.in-Send.is c.requires)
 
 pub prepare_quick-requires-in-Again : goal.prepare_quick-requires-in-Again
-prepare_quick-requires-in-Again g c = (c.requires-raw.1.1.0, (prepared_fits 0 g.row.Q g.Q.Quorums g.Q.PartialEq g.met.Q.Quorums.small, subst (λ ch. refusal_of g.Q.Quorums.system c.args.self.now.state ch ≡ None) c.in-Again.is c.requires))
+prepare_quick-requires-in-Again g c = (c.requires-raw.1.1.0, subst (λ ch. refusal_of g.Q.Quorums.system c.args.self.now.state ch ≡ None) c.in-Again.is c.requires)
 
 pub prepare_quick-requires-in-Collect : goal.prepare_quick-requires-in-Collect
-prepare_quick-requires-in-Collect g c = (c.requires-raw.1.1.0, (prepared_fits 0 g.row.Q g.Q.Quorums g.Q.PartialEq g.met.Q.Quorums.small, subst (λ ch. refusal_of g.Q.Quorums.system c.args.self.now.state ch ≡ None) c.in-Collect.is c.requires))
+prepare_quick-requires-in-Collect g c = (c.requires-raw.1.1.0, subst (λ ch. refusal_of g.Q.Quorums.system c.args.self.now.state ch ≡ None) c.in-Collect.is c.requires)
 
 pub prepare_quick-requires-in-AdvanceCollect : goal.prepare_quick-requires-in-AdvanceCollect
-prepare_quick-requires-in-AdvanceCollect g c = (c.requires-raw.1.1.0, (prepared_fits 0 g.row.Q g.Q.Quorums g.Q.PartialEq g.met.Q.Quorums.small, subst (λ ch. refusal_of g.Q.Quorums.system c.args.self.now.state ch ≡ None) c.in-AdvanceCollect.is c.requires))
+prepare_quick-requires-in-AdvanceCollect g c = (c.requires-raw.1.1.0, subst (λ ch. refusal_of g.Q.Quorums.system c.args.self.now.state ch ≡ None) c.in-AdvanceCollect.is c.requires)
 
 pub prepare_quick-requires-in-Recon : goal.prepare_quick-requires-in-Recon
-prepare_quick-requires-in-Recon g c = (c.requires-raw.1.1.0, (prepared_fits 0 g.row.Q g.Q.Quorums g.Q.PartialEq g.met.Q.Quorums.small, subst (λ ch. refusal_of g.Q.Quorums.system c.args.self.now.state ch ≡ None) c.in-Recon.is c.requires))
+prepare_quick-requires-in-Recon g c = (c.requires-raw.1.1.0, subst (λ ch. refusal_of g.Q.Quorums.system c.args.self.now.state ch ≡ None) c.in-Recon.is c.requires)
 
 pub prepare_quick-requires-in-Rebid : goal.prepare_quick-requires-in-Rebid
-prepare_quick-requires-in-Rebid g c = (c.requires-raw.1.1.0, (prepared_fits 0 g.row.Q g.Q.Quorums g.Q.PartialEq g.met.Q.Quorums.small, subst (λ ch. refusal_of g.Q.Quorums.system c.args.self.now.state ch ≡ None) c.in-Rebid.is c.requires))
+prepare_quick-requires-in-Rebid g c = (c.requires-raw.1.1.0, subst (λ ch. refusal_of g.Q.Quorums.system c.args.self.now.state ch ≡ None) c.in-Rebid.is c.requires)
 
 pub prepare_quick-requires-in-AdvanceRecon : goal.prepare_quick-requires-in-AdvanceRecon
-prepare_quick-requires-in-AdvanceRecon g c = (c.requires-raw.1.1.0, (prepared_fits 0 g.row.Q g.Q.Quorums g.Q.PartialEq g.met.Q.Quorums.small, subst (λ ch. refusal_of g.Q.Quorums.system c.args.self.now.state ch ≡ None) c.in-AdvanceRecon.is c.requires))
+prepare_quick-requires-in-AdvanceRecon g c = (c.requires-raw.1.1.0, subst (λ ch. refusal_of g.Q.Quorums.system c.args.self.now.state ch ≡ None) c.in-AdvanceRecon.is c.requires)
 
 pub prepare_quick-requires-in-Stop : goal.prepare_quick-requires-in-Stop
-prepare_quick-requires-in-Stop g c = (c.requires-raw.1.1.0, (prepared_fits 0 g.row.Q g.Q.Quorums g.Q.PartialEq g.met.Q.Quorums.small, subst (λ ch. refusal_of g.Q.Quorums.system c.args.self.now.state ch ≡ None) c.in-Stop.is c.requires))
+prepare_quick-requires-in-Stop g c = (c.requires-raw.1.1.0, subst (λ ch. refusal_of g.Q.Quorums.system c.args.self.now.state ch ≡ None) c.in-Stop.is c.requires)
 
 pub prepare_call-requires : goal.prepare_call-requires
-prepare_call-requires g c = (c.requires-raw.1.1.0, (prepared_fits 0 g.row.Q g.Q.Quorums g.Q.PartialEq g.met.Q.Quorums.small, subst (λ ch. refusal_of g.Q.Quorums.system c.args.self.now.state ch ≡ None) c.in-Call.is c.requires))
+prepare_call-requires g c = (c.requires-raw.1.1.0, subst (λ ch. refusal_of g.Q.Quorums.system c.args.self.now.state ch ≡ None) c.in-Call.is c.requires)
 
 pub prepare_letter-requires : goal.prepare_letter-requires
 prepare_letter-requires g c = (
   c.requires-raw.1.1.0,
-  (deliver_fits _ _ _ _ _ _ _ _ c.requires-raw.1.1.1.0, (prepared_fits 0 g.row.Q g.Q.Quorums g.Q.PartialEq g.met.Q.Quorums.small, subst (λ ch. refusal_of g.Q.Quorums.system c.args.self.now.state ch ≡ None) c.in-Deliver.is c.requires)),
+  (deliver_fits _ _ _ _ _ _ _ _ c.requires-raw.1.1.1.0, subst (λ ch. refusal_of g.Q.Quorums.system c.args.self.now.state ch ≡ None) c.in-Deliver.is c.requires),
 )
 
 pub prepare_advance-requires : goal.prepare_advance-requires
-prepare_advance-requires g c = (c.requires-raw.1.1.0, (prepared_fits 0 g.row.Q g.Q.Quorums g.Q.PartialEq g.met.Q.Quorums.small, subst (λ ch. refusal_of g.Q.Quorums.system c.args.self.now.state ch ≡ None) c.in-Advance.is c.requires))
+prepare_advance-requires g c = (c.requires-raw.1.1.0, subst (λ ch. refusal_of g.Q.Quorums.system c.args.self.now.state ch ≡ None) c.in-Advance.is c.requires)
 
 pub returns-in-Deliver-clause-no_memory : goal.returns-in-Deliver-clause-no_memory
 returns-in-Deliver-clause-no_memory g c = λ none. c.prepare_letter.ensures.no_memory (subst (λ ch. needs_memory ch ≡ false) c.in-Deliver.is none)

@@ -1,20 +1,14 @@
 use Rattle.std.proofs.Common.{◌≡◌, None, sym, subst}
 use Rattle.std.proofs.lemmas.Bool.{true≢false}
-use Rattle.rambo_tag.specs.Copies.{joined}
-use Rattle.rambo_gossip.specs.Short.{copies_in}
 use Rattle.rambo_node.specs.Changes.{refusal_of}
 use Rattle.rambo_node.specs.Prepared.{Prepares}
 use Rattle.rambo_node.specs.declared.change.Change.TheVariants as change
 use Rattle.rambo_node.proofs.Memory.{join_from_no_gossip}
 use Rattle.rambo_node.proofs.Readiness.{hear_prepares}
-use Rattle.rambo_node.proofs.Sizes.{prepared_fits, turn_fits, hear_fits}
 use Rattle.rambo_node.proofs.node.Node.prepare_letter.Goals as goal
 
 pub ready_letter-requires : goal.ready_letter-requires
-ready_letter-requires g c = (c.requires-raw.1.1.0, (c.requires-raw.1.1.1.0, (hear_fits 0 g.row.Q g.Q.Quorums g.Q.PartialEq g.met.Q.Quorums.small, c.requires)))
-
-pub quiet-requires : goal.quiet-requires
-quiet-requires g c = (turn_fits 0 g.row.Q g.Q.Quorums g.Q.PartialEq g.met.Q.Quorums.small, prepared_fits 0 g.row.Q g.Q.Quorums g.Q.PartialEq g.met.Q.Quorums.small)
+ready_letter-requires g c = (c.requires-raw.1.1.0, (c.requires-raw.1.1.1.0, c.requires))
 
 pub returns-clause-prepares : goal.returns-clause-prepares
 returns-clause-prepares g c =
@@ -23,8 +17,7 @@ returns-clause-prepares g c =
     let l = c.args.letter.now in
     let t = c.in_ok-turn in
     let accepted = subst (λ x. refusal_of s x (change.Deliver l) ≡ None) (sym t.ensures.same) c.requires in
-    let newer = subst (λ x. joined x.registers t.turn.newer ≡ joined x.registers (copies_in l.kind)) (sym t.ensures.same) t.ensures.newer in
-    subst (Prepares s v (change.Deliver l)) (sym c.quiet.ensures) (hear_prepares s v l t.turn accepted t.ensures.letter newer t.ensures.ready)
+    subst (Prepares s v (change.Deliver l)) (sym c.quiet.ensures) (hear_prepares s v l t.turn accepted t.ensures.letter t.ensures.hearing)
 
 pub returns-in_err-turn-clause-no_memory : goal.returns-in_err-turn-clause-no_memory
 returns-in_err-turn-clause-no_memory g c = λ none. absurd (true≢false (sym (c.in_err-turn.ensures.join (join_from_no_gossip c.args.letter.now.kind none))))

@@ -1,11 +1,7 @@
 use Rattle.std.proofs.Common.{sym, subst}
 use Rattle.rambo_node.specs.Prepared.{Prepares, quick_change}
 use Rattle.rambo_node.proofs.Readiness.{quick_prepares}
-use Rattle.rambo_node.proofs.Sizes.{prepared_fits, turn_fits}
 use Rattle.rambo_node.proofs.node.Node.prepare_quick.Goals as goal
-
-pub quiet-requires : goal.quiet-requires
-quiet-requires g c = (turn_fits 0 g.row.Q g.Q.Quorums g.Q.PartialEq g.met.Q.Quorums.small, prepared_fits 0 g.row.Q g.Q.Quorums g.Q.PartialEq g.met.Q.Quorums.small)
 
 pub returns : goal.returns
 returns g c =

@@ -4,11 +4,10 @@ use Rattle.rambo_names.specs.Refusals.{IsRefusal}
 use Rattle.rambo_node.specs.Changes.{made_by}
 use Rattle.rambo_node.specs.Prepared.{change_of}
 use Rattle.rambo_node.proofs.Memory.{IfErr-from_ok, OnOk-always}
-use Rattle.rambo_node.proofs.Sizes.{prepared_fits}
 use Rattle.rambo_node.proofs.node.Node.ready.Goals as goal
 
 pub prepare-requires : goal.prepare-requires
-prepare-requires g c = (c.requires-raw.1.1.0, (c.requires-raw.1.1.1.0, (prepared_fits 0 g.row.Q g.Q.Quorums g.Q.PartialEq g.met.Q.Quorums.small, c.in_ok-judge.ensures.ok)))
+prepare-requires g c = (c.requires-raw.1.1.0, (c.requires-raw.1.1.1, c.in_ok-judge.ensures.ok))
 
 pub returns-clause-judged : goal.returns-clause-judged
 returns-clause-judged g c = OnOk-always c.prepare.result _ c.in_ok-judge.ensures.ok

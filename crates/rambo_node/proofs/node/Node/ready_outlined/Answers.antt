@@ -1,59 +1,40 @@
 use Rattle.std.proofs.lemmas.Grind.{common_steps}
-use Rattle.std.proofs.Common.{◌&&◌, sym, ap, ◌∙◌, subst, arith}
+use Rattle.std.proofs.Common.{◌≡◌, ◌&&◌, sym, ap, ◌∙◌, subst, arith}
 use Rattle.std.proofs.lemmas.Result.{IfOk-weaker}
-use Rattle.std.specs.FinMap as map
 use Rattle.rambo_tag.specs.Copies.{joined}
-use Rattle.rambo_gossip.specs.declared.letter.Letter.{Letter}
 use Rattle.rambo_gossip.specs.Letters.{kind_with, letter_with}
-use Rattle.rambo_gossip.specs.Outlines.{outlined}
+use Rattle.rambo_gossip.specs.Outlines.{outlined, gossip_outlined}
 use Rattle.rambo_gossip.specs.Short.{copies_in}
-use Rattle.rambo_node.specs.Prepared.{IsReadyKind}
+use Rattle.rambo_node.specs.Prepared.{IsReadyGossip, IsReadyKind}
 use Rattle.rambo_node.specs.Refusals.{restarts, is_last}
 use Rattle.rambo_node.proofs.Judged.{hear_next}
-use Rattle.rambo_node.proofs.Sizes.{hear_fits}
+use Rattle.rambo_node.proofs.Memory.{IfOk-both}
+use Rattle.rambo_node.proofs.Readiness.{gossip_hearing}
 use Rattle.rambo_node.proofs.node.Node.ready_outlined.Goals as goal
 
-pub returns-in-None-clause-letter : goal.returns-in-None-clause-letter
-returns-in-None-clause-letter g c =
-    let o = c.outline.inside in
+pub returns-in-None-clause-hearing : goal.returns-in-None-clause-hearing
+returns-in-None-clause-hearing g c =
+    let v = c.args.self.now in
     let copies = c.args.copies.now in
-    c.ready_join.ensures.letter
-    ∙ sym (λ i. record { sender = o.sender; addressee = o.addressee; kind = kind_with (kind_with (outlined (c.in-None.is i)) copies) map.empty })
-    ∙ ap (λ l. letter_with (letter_with l copies) map.empty) c.outline.view_is
-
-pub returns-in-None-clause-newer : goal.returns-in-None-clause-newer
-returns-in-None-clause-newer g c =
-    let copies = c.args.copies.now in
-    ap (joined c.args.self.now.state.registers)
-    (c.ready_join.ensures.newer ∙ sym (ap (λ o. copies_in (kind_with (outlined o) copies)) c.in-None.is) ∙ ap (λ l. copies_in (kind_with l.kind copies)) c.outline.view_is)
-
-pub returns-in-None-clause-ready : goal.returns-in-None-clause-ready
-returns-in-None-clause-ready g c =
-    let t = c.ready_join.result in
-    subst (λ (l : Letter _). IsReadyKind c.args.self.now l.kind t.newer t.number) (sym c.ready_join.ensures.letter) tt
+    let h = c.ready_join.result in
+    let kind_is = sym (ap (λ l. kind_with l.kind copies) c.outline.view_is) ∙ ap (λ o. kind_with (outlined o) copies) c.in-None.is in
+    record { ready = subst (λ k. IsReadyKind v k h.newer h.number) (sym kind_is) tt; newer = ap (joined v.state.registers) (c.ready_join.ensures.newer ∙ sym (ap copies_in kind_is)) }
 
 pub ready_gossip-requires : goal.ready_gossip-requires
 ready_gossip-requires g c =
     let x = c.args.self.now.state in
     let kind_is = sym (ap (λ l. l.kind) c.outline.view_is) ∙ ap outlined c.in-Some.is in
-    (c.requires-raw.1.1.0, (hear_fits 0 g.row.Q g.Q.Quorums g.Q.PartialEq g.met.Q.Quorums.small, sym (ap (λ k. restarts x k && is_last x.number) kind_is) ∙ hear_next x c.args.outline.now.kind c.requires))
+    (c.requires-raw.1.1.0, sym (ap (λ k. restarts x k && is_last x.number) kind_is) ∙ hear_next x c.args.outline.now.kind c.requires)
 
-pub returns-in-Some-clause-letter : goal.returns-in-Some-clause-letter
-returns-in-Some-clause-letter g c =
-    let o = c.outline.inside in
+pub returns-in-Some-clause-hearing : goal.returns-in-Some-clause-hearing
+returns-in-Some-clause-hearing g c =
     let copies = c.args.copies.now in
-    IfOk-weaker c.ready_gossip.result _ _
-    (λ t e. e ∙ sym (λ i. record { sender = o.sender; addressee = o.addressee; kind = kind_with (kind_with (outlined (c.in-Some.is i)) copies) map.empty })
-    ∙ ap (λ l. letter_with (letter_with l copies) map.empty) c.outline.view_is)
-    c.ready_gossip.ensures.letter
-
-pub returns-in-Some-clause-newer : goal.returns-in-Some-clause-newer
-returns-in-Some-clause-newer g c =
-    let r = c.args.self.now.state.registers in
-    let copies = c.args.copies.now in
-    IfOk-weaker c.ready_gossip.result _ _
-    (λ t e. e ∙ ap (joined r) (sym (ap (λ o. copies_in (kind_with (outlined o) copies)) c.in-Some.is) ∙ ap (λ l. copies_in (kind_with l.kind copies)) c.outline.view_is))
-    c.ready_gossip.ensures.newer
+    let v = c.ready_gossip.new.self in
+    let kind_is = sym (ap (λ l. l.kind) c.outline.view_is) ∙ ap outlined c.in-Some.is in
+    let r = c.ready_gossip in
+    IfOk-weaker r.result (λ h. IsReadyGossip v (gossip_outlined c.in-Some.gossip) h.newer h.number × (joined c.args.self.now.state.registers h.newer ≡ joined c.args.self.now.state.registers copies)) _
+    (λ h e. gossip_hearing v c.args.self.now.state (letter_with c.args.outline.now copies) (gossip_outlined c.in-Some.gossip) copies h r.ensures.same (ap (λ k. kind_with k copies) kind_is) e.0 e.1)
+    (IfOk-both r.result _ _ r.ensures.ready r.ensures.newer)
 
 pub returns-in-Some-clause-join : goal.returns-in-Some-clause-join
 returns-in-Some-clause-join g c = grind (arith, common_steps)

@@ -1,7 +1,6 @@
 use Rattle.std.proofs.Common.{ap, ◌∙◌}
 use Rattle.rambo_node.specs.Changes.{made_by}
 use Rattle.rambo_node.specs.Prepared.{change_of}
-use Rattle.rambo_node.proofs.Sizes.{prepared_fits}
 use Rattle.rambo_node.proofs.node.Node.take.Goals as goal
 
 pub returns-in-Ok-clause-node : goal.returns-in-Ok-clause-node
@@ -16,7 +15,7 @@ returns-in-Ok-clause-deed g c =
     c.carry_out.ensures.deed ∙ λ i. record { effect = effect i; event = c.in-Ok.ensures.event i; mark = c.in-Ok.ensures.mark i; copy = c.in-Ok.ensures.copy i }
 
 pub ready-requires : goal.ready-requires
-ready-requires g c = (c.requires-raw.1.1.0, (c.requires-raw.1.1.1, prepared_fits 0 g.row.Q g.Q.Quorums g.Q.PartialEq g.met.Q.Quorums.small))
+ready-requires g c = (c.requires-raw.1.1.0, c.requires-raw.1.1.1)
 
 pub carry_out-requires : goal.carry_out-requires
-carry_out-requires g c = (c.requires-raw.1.1.0, (prepared_fits 0 g.row.Q g.Q.Quorums g.Q.PartialEq g.met.Q.Quorums.small, c.in-Ok.ensures.prepared))
+carry_out-requires g c = (c.requires-raw.1.1.0, c.in-Ok.ensures.prepared)

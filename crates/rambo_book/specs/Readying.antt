@@ -1,0 +1,55 @@
+-- Steps whose first half is made
+use Rattle.std.specs.Prelude.{◌≡◌, ℕ, nat_eq, if◌then◌else◌, List, [], ◌∷◌, slice_get, Option, None, Some}
+use Rattle.rambo_names.specs.Quorums.{QuorumSystem}
+use Rattle.rambo_gossip.specs.declared.letter.Letter.{Letter}
+use Rattle.rambo_node.specs.declared.change.Change.{Change}
+use Rattle.rambo_node.specs.Nodes.{RoomyNode}
+use Rattle.rambo_run.specs.declared.step.Step.{Step}
+use Rattle.rambo_run.specs.declared.step.Step.TheVariants as step
+use Rattle.rambo_run.specs.Worlds.{WorldState}
+use Rattle.rambo_run.specs.Steps.{meant, refusal}
+use Rattle.rambo_run.specs.Runs.{run}
+use Rattle.rambo_deeds.specs.declared.mail.Mail.{Mail}
+use Rattle.rambo_deeds.specs.Deeds.{IsReadyStep, letter_in, outline_of}
+use Rattle.rambo_book.specs.declared.readied.Ready.{Ready}
+use Rattle.rambo_book.specs.Kept.{KeeperView}
+
+-- a letter of this number is in a tray
+abbrev pub IsIn : {Q : Type 0} → List (Mail Q) → ℕ → Type 0
+IsIn {Q} tray number = (place : ℕ) × (m : Mail Q) × (slice_get tray place ≡ Some m) × (m.number ≡ number)
+
+-- the oldest one
+abbrev pub mail_in : {Q : Type 0} → List (Mail Q) → ℕ → Option (Letter Q)
+mail_in [] number = None
+mail_in (m ∷ ms) number = if nat_eq m.number number then Some m.letter else mail_in ms number
+
+-- the letter of a tray that a step lets come, if it lets one come
+abbrev pub came_in : {Q : Type 0} → List (Mail Q) → Step Q → Option (Letter Q)
+came_in tray (step.Deliver number) = mail_in tray number
+came_in tray (step.Join n contacts) = None
+came_in tray (step.Call n o) = None
+came_in tray (step.Send n to) = None
+came_in tray (step.Advance id) = None
+came_in tray (step.Again id) = None
+came_in tray (step.Collect n) = None
+came_in tray (step.AdvanceCollect n) = None
+came_in tray (step.Recon n wish) = None
+came_in tray (step.Rebid n) = None
+came_in tray (step.AdvanceRecon n) = None
+came_in tray (step.Stop n) = None
+
+-- the node of a keeper, with the room that is in it
+abbrev pub roomy : {Q : Type 0} → KeeperView Q → RoomyNode Q
+roomy k = record { state = k.node; room = k.room }
+
+-- in this world a step is one of the keeper's node, and isn't refused; and its first half is made, by the letter that it
+-- lets come, if it lets one come
+pub record IsReadyIn {Q : Type 0} (s : QuorumSystem Q) (w : WorldState Q) (k : KeeperView Q) (r : Ready Q) : Type 0 where
+  pub change : Change Q
+  pub means : meant w r.step ≡ Some (record { name = k.name; change = change })
+  pub accepted : refusal s w r.step ≡ None
+  pub ready : IsReadyStep s (roomy k) (outline_of (letter_in w.letters r.step)) change r.half
+
+-- so it is in the run of what the keeper has seen
+abbrev pub IsReadyFor : {Q : Type 0} → QuorumSystem Q → Option Q → KeeperView Q → Ready Q → Type 0
+IsReadyFor {Q} s agreed k r = (f : Q) → agreed ≡ Some f → IsReadyIn s (run s f k.seen) k r

@@ -1,0 +1,63 @@
+//! The first half of a step, which needs no book.
+ghost use Rattle.std.specs.Prelude.{◌≡◌, ℕ, [], Some, IfOk, IfErr};
+ghost use Rattle.std.specs.Option.{option_copied};
+ghost use Rattle.rambo_names.specs.Refusals.{IsRefusal};
+ghost use Rattle.rambo_run.specs.Runs.{run};
+ghost use Rattle.rambo_run.specs.Steps.{Meant, meant_in, refusal};
+ghost use Rattle.rambo_book.specs.Readying.{IsIn, mail_in, came_in, IsReadyFor};
+
+use crate::keeper::Keeper;
+use crate::readied::Ready;
+use crate::terms::Terms;
+use rambo_deeds::{Mail, SharedLetter};
+use rambo_names::{Quorums, Refusal};
+use rambo_run::Step;
+use rambo_tag::Replica;
+use std::alloc::Global;
+
+/// The first half of a step of the keeper's node: it is judged by what the keeper has seen, room is made in the node, and what
+/// it will do is found. A letter that is delivered is one of the tray.
+///
+/// The node stays, whatever the answer. Refused is what the rules of the step's kind say, by the least number; else 22,
+/// where there is no room for what it makes new.
+pub fn ready<J: Terms<Q>, Q: Quorums, S: Replica>(
+    alloc: Global,
+    keeper: &mut Keeper<J, Q, S>,
+    step: Step<Q>,
+) -> Result<Ready<Q>, Refusal>
+    requires own { (f : Q) → J.founders ≡ Some f → (m : Meant _) → meant_in [] step ≡ Some m → m.name ≡ keeper.old.name }
+    requires in_tray { (number : ℕ) → step ≡ Step.Deliver number → IsIn keeper.old.tray number }
+    ensures same { keeper.new ≡ record keeper.old { room = keeper.new.room } }
+    ensures step { IfOk result (λ r. r.step ≡ step) }
+    ensures ready { IfOk result (IsReadyFor Q.system J.founders keeper.new) }
+    ensures refused { (f : Q) → J.founders ≡ Some f → IfErr result (IsRefusal (refusal Q.system (run Q.system f keeper.old.seen) step)) }
+{
+    let letter = letter_in(keeper.tray.as_slice(), &step);
+    keeper.worker.judge(letter, &step)?;
+    let half = keeper.worker.prepare(alloc, letter, &step)?;
+    Ok(Ready { step, half })
+}
+
+// The letter of a tray that a step lets come, if it lets one come that is there.
+fn letter_in<'a, Q: Quorums>(tray: &'a [Mail<Q>], step: &Step<Q>) -> Option<&'a SharedLetter<Q>>
+    ensures { option_copied result ≡ came_in tray.now step.now }
+{
+    match step {
+        Step::Deliver(number) => mail_of(tray, *number),
+        _ => None,
+    }
+}
+
+// The oldest letter of this number in a tray, if there is one.
+fn mail_of<Q: Quorums>(tray: &[Mail<Q>], number: u64) -> Option<&SharedLetter<Q>>
+    ensures { option_copied result ≡ mail_in tray.now number }
+{
+    let mut rest = tray;
+    while let Some((mail, others)) = rest.split_first() {
+        if mail.number == number {
+            return Some(&mail.letter);
+        }
+        rest = others;
+    }
+    None
+}

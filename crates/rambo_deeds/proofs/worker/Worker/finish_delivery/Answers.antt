@@ -1,0 +1,30 @@
+use Rattle.std.proofs.Common.{◌≡◌, sym, ap, ◌∙◌, subst}
+use Rattle.std.specs.FinMap as map
+use Rattle.rambo_tag.specs.Copies.{Copies}
+use Rattle.rambo_gossip.specs.declared.letter.Letter.{Letter}
+use Rattle.rambo_gossip.specs.Letters.{letter_with}
+use Rattle.rambo_node.specs.Hearing.{heard_letter}
+use Rattle.rambo_node.specs.Nodes.{NodeState, RoomyNode}
+use Rattle.rambo_node.specs.Prepared.{IsReadyKind}
+use Rattle.rambo_node.proofs.Readiness.{ready_apart}
+use Rattle.rambo_names.proofs.Sizes.{up_fits, back_fits}
+use Rattle.rambo_deeds.proofs.Outlines.{letter_twice}
+use Rattle.rambo_deeds.proofs.worker.Worker.finish_delivery.Goals as goal
+
+pub finish_outlined-requires : goal.finish_outlined-requires
+finish_outlined-requires g c =
+    let l = c.args.letter.now in
+    let newer = c.args.hearing.newer in
+    let number = c.args.hearing.number in
+    let inside = subst (λ v. IsReadyKind v l.kind newer number) (sym c.self.view_is) c.requires in
+    (back_fits _ _ _ (up_fits _ _ _ c.requires-raw.1.1.0), subst (λ (n : Letter _). IsReadyKind c.self.inside.node n.kind newer number) (sym c.outline.ensures) (ready_apart c.self.inside.node l.kind map.empty newer number inside))
+
+-- a letter that is told by its outline is heard as it is with these copies
+told_heard : {Q : Type 0} (x y : NodeState Q) (l o : Letter Q) (newer : Copies) → x ≡ y → o ≡ letter_with l map.empty → heard_letter x (letter_with o newer) ≡ heard_letter y (letter_with l newer)
+told_heard x y l o newer same outline = (λ i. heard_letter (same i) (letter_with (outline i) newer)) ∙ ap (heard_letter y) (letter_twice l map.empty newer)
+
+pub returns : goal.returns
+returns g c =
+    let l = c.args.letter.now in
+    let newer = c.args.hearing.newer in
+    c.finish_outlined.ensures ∙ told_heard c.self.inside.node.state c.args.self.now.state l _ newer (ap (λ (v : RoomyNode _). v.state) c.self.view_is) c.outline.ensures

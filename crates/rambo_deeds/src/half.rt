@@ -1,0 +1,20 @@
+//! First halves of steps.
+
+use crate::letter::SharedLetter;
+use rambo_names::Quorums;
+use rambo_node::{Hearing, Prepared, Quick};
+
+/// The first half of a step, for which there is room: what its second half needs of it.
+///
+/// Most steps send a letter or hear one, so these are small, and what is large is in a box.
+#[derive(Drop)]
+pub enum Half<Q: Quorums> {
+    /// This letter goes out.
+    Send(SharedLetter<Q>),
+    /// The letter that comes is heard.
+    Hear(Hearing),
+    /// A call is made, or goes on.
+    Call(Box<Prepared<Q>>),
+    /// Any other change.
+    Quick(Quick<Q>),
+}

@@ -1,0 +1,31 @@
+use Rattle.std.proofs.Common.{◌≡◌, Some, IfErr, sym, subst}
+use Rattle.rambo_node.specs.Changes.{refusal_of}
+use Rattle.rambo_node.specs.Prepared.{quick_change}
+use Rattle.rambo_node.proofs.node.Node.judge_quick.Goals as goal
+
+pub returns-in-Join-clause-refused : goal.returns-in-Join-clause-refused
+returns-in-Join-clause-refused g c = subst (λ q. IfErr c.may_join.result (λ r. refusal_of g.Q.Quorums.system c.args.self.now.state (quick_change q) ≡ Some r)) (sym c.in-Join.is) c.may_join.ensures.refused
+
+pub returns-in-Send-clause-refused : goal.returns-in-Send-clause-refused
+returns-in-Send-clause-refused g c = subst (λ q. IfErr c.may_send.result (λ r. refusal_of g.Q.Quorums.system c.args.self.now.state (quick_change q) ≡ Some r)) (sym c.in-Send.is) c.may_send.ensures.refused
+
+pub returns-in-Again-clause-refused : goal.returns-in-Again-clause-refused
+returns-in-Again-clause-refused g c = subst (λ q. IfErr c.may_restart.result (λ r. refusal_of g.Q.Quorums.system c.args.self.now.state (quick_change q) ≡ Some r)) (sym c.in-Again.is) c.may_restart.ensures.refused
+
+pub returns-in-Stop-clause-refused : goal.returns-in-Stop-clause-refused
+returns-in-Stop-clause-refused g c = subst (λ q. IfErr c.may_stop.result (λ r. refusal_of g.Q.Quorums.system c.args.self.now.state (quick_change q) ≡ Some r)) (sym c.in-Stop.is) c.may_stop.ensures.refused
+
+pub returns-in-Collect-clause-refused : goal.returns-in-Collect-clause-refused
+returns-in-Collect-clause-refused g c = subst (λ q. IfErr c.may_collect.result (λ r. refusal_of g.Q.Quorums.system c.args.self.now.state (quick_change q) ≡ Some r)) (sym c.in-Collect.is) c.may_collect.ensures.refused
+
+pub returns-in-AdvanceCollect-clause-refused : goal.returns-in-AdvanceCollect-clause-refused
+returns-in-AdvanceCollect-clause-refused g c = subst (λ q. IfErr c.may_advance_collect.result (λ r. refusal_of g.Q.Quorums.system c.args.self.now.state (quick_change q) ≡ Some r)) (sym c.in-AdvanceCollect.is) c.may_advance_collect.ensures.refused
+
+pub returns-in-Recon-clause-refused : goal.returns-in-Recon-clause-refused
+returns-in-Recon-clause-refused g c = subst (λ q. IfErr c.may_recon.result (λ r. refusal_of g.Q.Quorums.system c.args.self.now.state (quick_change q) ≡ Some r)) (sym c.in-Recon.is) c.may_recon.ensures.refused
+
+pub returns-in-Rebid-clause-refused : goal.returns-in-Rebid-clause-refused
+returns-in-Rebid-clause-refused g c = subst (λ q. IfErr c.may_rebid.result (λ r. refusal_of g.Q.Quorums.system c.args.self.now.state (quick_change q) ≡ Some r)) (sym c.in-Rebid.is) c.may_rebid.ensures.refused
+
+pub returns-in-AdvanceRecon-clause-refused : goal.returns-in-AdvanceRecon-clause-refused
+returns-in-AdvanceRecon-clause-refused g c = subst (λ q. IfErr c.may_advance_recon.result (λ r. refusal_of g.Q.Quorums.system c.args.self.now.state (quick_change q) ≡ Some r)) (sym c.in-AdvanceRecon.is) c.may_advance_recon.ensures.refused

@@ -1,5 +1,0 @@
-use Rattle.rambo_names.proofs.Sizes.{up_fits, back_fits, next}
-use Rattle.rambo_node.proofs.node.Node.ready_join.Goals as goal
-
-pub alloc-requires : goal.alloc-requires
-alloc-requires g c = back_fits _ _ _ (next _ _ _ _ (up_fits _ _ _ c.requires-raw.1.1.0))
