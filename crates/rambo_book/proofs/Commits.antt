@@ -9,7 +9,9 @@ use Rattle.rambo_history.specs.declared.event.Event.{Event}
 use Rattle.rambo_gossip.specs.declared.letter.Letter.{Letter}
 use Rattle.rambo_node.specs.declared.effect.Effect.{Effect}
 use Rattle.rambo_node.specs.Changes.{made_by}
-use Rattle.rambo_node.specs.Nodes.{NodeState, Room, RoomyNode}
+use Rattle.rambo_node.specs.FullNodes.{FullNode, beside_after, full, full_after}
+use Rattle.rambo_node.specs.Nodes.{NodeState, Room, Beside, RoomyNode}
+use Rattle.rambo_node.proofs.Besides.{full_after_is}
 use Rattle.rambo_run.specs.declared.step.Step.{Step}
 use Rattle.rambo_run.specs.declared.step.Step.TheVariants as step
 use Rattle.rambo_run.specs.Steps.{Meant, meant, effect_in, refusal, with_letter, with_event, with_mark}
@@ -26,8 +28,10 @@ use Rattle.rambo_book.specs.Kept.{BookView, KeeperView, AreSent, IsKeeper, IsBoo
 use Rattle.rambo_book.specs.declared.readied.Ready.{Ready}
 use Rattle.rambo_book.specs.Readying.{IsReadyIn}
 use Rattle.rambo_run.proofs.GoingOn.{prefix_trans}
-use Rattle.rambo_book.proofs.Standing.{Alike, outlines_alike, light_sent, light_count}
-use Rattle.rambo_book.proofs.Judging.{Judged, judged_by, still, begun, Finished, finished, kept_on}
+use Rattle.rambo_run.proofs.NodeLists.{nodes_count}
+use Rattle.rambo_book.proofs.Standing.{Alike, outlines_alike, letter_goes, light_sent, light_count}
+use Rattle.rambo_book.proofs.Firsts.{is_named}
+use Rattle.rambo_book.proofs.Judging.{Judged, judged_by, still, still_full, begun, Finished, finished, kept_on}
 use Rattle.rambo_book.proofs.Readying.{ready_alike}
 
 -- the condition of a commit, of what the book and the keeper are made of
@@ -68,25 +72,25 @@ book_same {s = s} {f = f} {steps = steps} {capacity = capacity} rolled' steps' l
 }
 
 module _ {Q : Type 0} {s : QuorumSystem Q} {agreed : Option Q} {most : ℕ} {rolled : List (Step Q)} {f : Q} {steps : List (Step Q)} {letters : List (Letter Q)} {history : List Event} {marks : List Mark} {capacity : ℕ}
-    {holds name : ℕ} {node : NodeState Q} {tray : List (Mail Q)} {seen : List (Step Q)}
+    {holds name : ℕ} {node : FullNode Q} {tray : List (Mail Q)} {seen : List (Step Q)}
     (b : IsBook s agreed most rolled f steps letters history marks capacity) (k : IsKeeper s agreed holds name node tray seen) (idle : Idle actor holds seen rolled)
     (st : Step Q) (served : IsServedBy (run s f steps) st name) where
-  judged_here : Judged s f steps st name node letters
+  judged_here : Judged s f steps st name node.state letters
   judged_here = judged_by s agreed most rolled f steps letters history marks capacity holds name node tray seen b k idle st served
 
-  pub verdict : (o : Option (Letter Q)) (ls : List (Letter Q)) → ls ≡ letters → meant_by o st ≡ meant_in ls st → refusal s (run s f steps) st ≡ judged s node (meant_by o st)
-  verdict o ls e named = judged_here.verdict ∙ ap (λ ls. judged s node (meant_in ls st)) (sym e) ∙ ap (judged s node) (sym named)
+  pub verdict : (o : Option (Letter Q)) (ls : List (Letter Q)) → ls ≡ letters → meant_by o st ≡ meant_in ls st → refusal s (run s f steps) st ≡ judged s node.state (meant_by o st)
+  verdict o ls e named = judged_here.verdict ∙ ap (λ ls. judged s node.state (meant_in ls st)) (sym e) ∙ ap (judged s node.state) (sym named)
 
-  pub told_refused : (o : Option (Letter Q)) (ls : List (Letter Q)) (r : Refusal) → ls ≡ letters → meant_by o st ≡ meant_in ls st → judged s node (meant_by o st) ≡ Some r → Told (refusal s (run s f steps) st) (length steps) capacity r
+  pub told_refused : (o : Option (Letter Q)) (ls : List (Letter Q)) (r : Refusal) → ls ≡ letters → meant_by o st ≡ meant_in ls st → judged s node.state (meant_by o st) ≡ Some r → Told (refusal s (run s f steps) st) (length steps) capacity r
   told_refused o ls r e named h = subst (λ o. Told o (length steps) capacity r) (sym (verdict o ls e named ∙ h)) refl
 
-  pub told_full : (o : Option (Letter Q)) (ls : List (Letter Q)) → ls ≡ letters → meant_by o st ≡ meant_in ls st → judged s node (meant_by o st) ≡ None → capacity ≤ length steps → Told (refusal s (run s f steps) st) (length steps) capacity HistoryFull
+  pub told_full : (o : Option (Letter Q)) (ls : List (Letter Q)) → ls ≡ letters → meant_by o st ≡ meant_in ls st → judged s node.state (meant_by o st) ≡ None → capacity ≤ length steps → Told (refusal s (run s f steps) st) (length steps) capacity HistoryFull
   told_full o ls e named h full = subst (λ o. Told o (length steps) capacity HistoryFull) (sym (verdict o ls e named ∙ h)) (inl (refl, omega (arith, full, b.fits)))
 
   -- where it isn't refused, what is ready by the letter of the book is ready
-  pub ready_here : (o : Option (Letter Q)) (half : Half Q) (v : RoomyNode Q) (held : List (Mail Q)) (looked : List (Step Q)) → v.state ≡ node → o ≡ letter_in letters st → meant_by o st ≡ meant_in letters st
+  pub ready_here : (o : Option (Letter Q)) (half : Half Q) (v : RoomyNode Q) (held : List (Mail Q)) (looked : List (Step Q)) → v.state ≡ node.state → o ≡ letter_in letters st → meant_by o st ≡ meant_in letters st
       → refusal s (run s f steps) st ≡ None → ((m : Meant Q) → meant_by o st ≡ Some m → IsReadyStep s v (outline_of o) m.change half)
-      → IsReadyIn s (run s f steps) (record { name = name; node = v.state; room = v.room; tray = held; seen = looked }) (record { step = st; half = half })
+      → IsReadyIn s (run s f steps) (record { name = name; node = v.state; room = v.room; beside = v.beside; tray = held; seen = looked }) (record { step = st; half = half })
   ready_here o half v held looked same letter named none ready =
       let w = run s f steps in
       let x = v.state in
@@ -94,36 +98,45 @@ module _ {Q : Type 0} {s : QuorumSystem Q} {agreed : Option Q} {most : ℕ} {rol
       let alike : Alike s x (meant_in letters st) (meant w st) = subst (λ x. Alike s x (meant_in letters st) (meant w st)) (sym same) j.same in
       let outline = ap outline_of letter ∙ outlines_alike w letters st b.sent in
       let ok : judged s x (meant_in letters st) ≡ None = ap (λ x. judged s x (meant_in letters st)) same ∙ sym j.verdict ∙ none in
-      ready_alike s w st (record { name = name; node = x; room = v.room; tray = held; seen = looked }) (meant_in letters st) (outline_of o) half alike outline served none ok (λ m is. ready m (named ∙ is))
+      ready_alike s w st (record { name = name; node = x; room = v.room; beside = v.beside; tray = held; seen = looked }) (meant_in letters st) (outline_of o) half alike outline served none ok (λ m is. ready m (named ∙ is))
 
 module _ {Q : Type 0} {s : QuorumSystem Q} {agreed : Option Q} {most : ℕ} {rolled : List (Step Q)} {f : Q} {steps : List (Step Q)} {letters : List (Letter Q)} {history : List Event} {marks : List Mark} {capacity : ℕ}
-    {holds name : ℕ} {node : NodeState Q} {tray : List (Mail Q)} {seen : List (Step Q)}
+    {holds name : ℕ} {node : FullNode Q} {tray : List (Mail Q)} {seen : List (Step Q)}
     (b : IsBook s agreed most rolled f steps letters history marks capacity) (k : IsKeeper s agreed holds name node tray seen) (idle : Idle actor holds seen rolled)
     (st : Step Q) where
-  module _ (room : Room Q) (held : List (Mail Q)) (looked : List (Step Q)) (half : Half Q)
-      (ready : IsReadyIn s (run s f steps) (record { name = name; node = node; room = room; tray = held; seen = looked }) (record { step = st; half = half })) (ls : List (Letter Q)) (same : ls ≡ letters) where
-    -- a step whose first half is made, which the letters of the book tell
-    pub half_here : IsReadyStep s (record { state = node; room = room }) (outline_of (letter_in ls st)) ready.change half
-    half_here =
-        subst (λ o. IsReadyStep s (record { state = node; room = room }) o ready.change half)
-        (sym (outlines_alike (run s f steps) letters st b.sent) ∙ sym (ap (λ ls. outline_of (letter_in ls st)) same)) ready.ready
+  module _ (room : Room Q) (held : List (Mail Q)) (looked : List (Step Q)) (half : Half Q) where
+    -- the keeper's node, with this room in it
+    abbrev kept : RoomyNode Q
+    kept = record { state = node.state; room = room; beside = record { stamps = node.stamps; bases = node.bases } }
 
-    -- and then the second
-    pub finished_here : (new : NodeState Q) (effect : Effect Q) → new ≡ (made_by node ready.change).node → effect ≡ effect_in ls (made_by node ready.change).deed.effect (made_by node ready.change).letter
-        → Finished s f steps st name letters history marks new (record { effect = effect; event = event_of half; mark = mark_of half; letter = letter_of half })
-    finished_here new effect after did =
-        let made = made_by node ready.change in
-        let d : Done Q = record { effect = effect; event = event_of half; mark = mark_of half; letter = letter_of half } in
-        let told : d ≡ done letters made = λ i. record {
-          effect = (did ∙ ap (λ ls. effect_in ls made.deed.effect made.letter) same) i;
-          event = ready.ready.event i;
-          mark = ready.ready.mark i;
-          letter = ready.ready.letter i;
-        } in
-        finished s f steps st name node letters history marks new d (still s agreed most rolled f steps letters history marks capacity holds name node tray seen b k idle) ready.change
-        ready.means ready.accepted b.legal b.sent b.told b.marked after told
+    module _ (ready : IsReadyIn s (run s f steps) (record { name = name; node = node.state; room = room; beside = kept.beside; tray = held; seen = looked }) (record { step = st; half = half })) (ls : List (Letter Q)) (same : ls ≡ letters) where
+      -- a step whose first half is made, which the letters of the book tell
+      pub half_here : IsReadyStep s kept (outline_of (letter_in ls st)) ready.change half
+      half_here =
+          subst (λ o. IsReadyStep s kept o ready.change half)
+          (sym (outlines_alike (run s f steps) letters st b.sent) ∙ sym (ap (λ ls. outline_of (letter_in ls st)) same)) ready.ready
 
-  module _ {new : NodeState Q} {d : Done Q} (h : Finished s f steps st name letters history marks new d) where
+      -- and then the second
+      pub finished_here : (new : RoomyNode Q) (effect : Effect Q) → new.state ≡ (made_by node.state ready.change).node → new.beside ≡ beside_after node.state kept.beside ready.change
+          → effect ≡ effect_in ls (made_by node.state ready.change).deed.effect (made_by node.state ready.change).letter
+          → Finished s f steps st name letters history marks (full new) (record { effect = effect; event = event_of half; mark = mark_of half; letter = letter_of half })
+      finished_here new effect after beside did =
+          let w = run s f steps in
+          let made = made_by node.state ready.change in
+          let here = still s agreed most rolled f steps letters history marks capacity holds name node tray seen b k idle in
+          let whole = still_full s agreed most rolled f steps letters history marks capacity holds name node tray seen b k idle in
+          let d : Done Q = record { effect = effect; event = event_of half; mark = mark_of half; letter = letter_of half } in
+          let told : d ≡ record (done letters made) { letter = d.letter } = λ i. record {
+            effect = (did ∙ ap (λ ls. effect_in ls made.deed.effect made.letter) same) i;
+            event = ready.ready.event i;
+            mark = ready.ready.mark i;
+            letter = d.letter;
+          } in
+          let named = is_named w name node.state (nodes_count s f steps) here in
+          finished s f steps st name node letters history marks (full new) d here whole ready.change ready.means ready.accepted b.legal b.sent b.told b.marked (full_after_is kept new ready.change after beside) told
+          (letter_goes s f steps (steps ++ st ∷ []) (st ∷ [], refl) name named kept whole ready.change (letter_of half) ready.ready.letter)
+
+  module _ {new : FullNode Q} {d : Done Q} (h : Finished s f steps st name letters history marks new d) where
     pub book_after : (rolled' steps' : List (Step Q)) (letters' : List (Letter Q)) (history' : List Event) (marks' : List Mark) → length steps < capacity
         → (came : Option ℕ) → ((n : ℕ) → came ≡ Some n → st ≡ step.Deliver n)
         → rolled' ≡ rolled ++ st ∷ [] → steps' ≡ steps ++ st ∷ [] → letters' ≡ lightened (with_letter letters d.letter) came → history' ≡ with_event history d.event → marks' ≡ with_mark marks d.mark
@@ -144,9 +157,9 @@ module _ {Q : Type 0} {s : QuorumSystem Q} {agreed : Option Q} {most : ℕ} {rol
     pub keeper_after : (held : ℕ) (longer : List (Step Q)) → held ≡ holds → longer ≡ steps ++ st ∷ [] → IsKeeper s agreed held name new tray longer
     keeper_after held longer same e =
         let p : IsPrefix seen (steps ++ st ∷ []) = prefix_trans seen steps (steps ++ st ∷ []) (begun s agreed most rolled f steps letters history marks capacity holds name node tray seen b k idle) (st ∷ [], refl) in
-        subst (IsKeeper s agreed held name new tray) (sym e) (kept_on s agreed f holds held name node new tray seen (steps ++ st ∷ []) b.founded k same p h.node)
+        subst (IsKeeper s agreed held name new tray) (sym e) (kept_on s agreed f holds held name node new tray seen (steps ++ st ∷ []) b.founded k same p h.node h.full)
 
 -- the letters that are kept are as many as were sent
-pub counted_light : {Q : Type 0} {s : QuorumSystem Q} {f : Q} {steps : List (Step Q)} {st : Step Q} {name : ℕ} {letters : List (Letter Q)} {history : List Event} {marks : List Mark} {new : NodeState Q} {d : Done Q}
+pub counted_light : {Q : Type 0} {s : QuorumSystem Q} {f : Q} {steps : List (Step Q)} {st : Step Q} {name : ℕ} {letters : List (Letter Q)} {history : List Event} {marks : List Mark} {new : FullNode Q} {d : Done Q}
     → Finished s f steps st name letters history marks new d → (came : Option ℕ) → length (lightened (with_letter letters d.letter) came) ≡ length (run s f (steps ++ st ∷ [])).letters
 counted_light {letters = letters} {d = d} h came = light_count (with_letter letters d.letter) came ∙ h.sent.0

@@ -4,14 +4,17 @@ use Rattle.rambo_names.specs.Names.{IsName}
 use Rattle.rambo_names.specs.Quorums.{QuorumSystem}
 use Rattle.rambo_history.specs.declared.event.Event.{Event}
 use Rattle.rambo_gossip.specs.declared.letter.Letter.{Letter}
+use Rattle.rambo_node.specs.FullNodes.{FullNode, first_full}
 use Rattle.rambo_node.specs.Nodes.{NodeState, first_node}
 use Rattle.rambo_run.specs.declared.step.Step.{Step}
 use Rattle.rambo_run.specs.Worlds.{WorldState, node_at, first_world}
 use Rattle.rambo_run.specs.Steps.{meant_in}
+use Rattle.rambo_run.specs.Journals.{journal, journal_from}
 use Rattle.rambo_run.specs.Runs.{run}
 use Rattle.rambo_run.proofs.FirstWorlds.{first_named}
 use Rattle.rambo_run.proofs.Lists.{none-some, some_inj, there_below}
 use Rattle.rambo_sequence.specs.declared.mark.Mark.{Mark}
+use Rattle.rambo_deltas.specs.Deltas.{full_at}
 use Rattle.rambo_deeds.specs.declared.mail.Mail.{Mail}
 use Rattle.rambo_run.specs.Legal.{IsLegal}
 use Rattle.rambo_deeds.specs.Deeds.{name_in}
@@ -48,13 +51,18 @@ first_book s agreed most rolled f steps letters history marks capacity founded t
   marked = m ∙ sym (no_marks s f) ∙ sym (ap (λ (w : WorldState _). w.marks) (run_none s f)) ∙ ap (λ steps. (run s f steps).marks) (sym e);
 }
 
-pub first_keeper : {Q : Type 0} (s : QuorumSystem Q) (agreed : Option Q) (f : Q) (holds name : ℕ) (node : NodeState Q) (tray : List (Mail Q)) (seen : List (Step Q))
-    → agreed ≡ Some f → IsName name → holds ≡ name → node ≡ first_node s f name → tray ≡ [] → seen ≡ [] → IsKeeper s agreed holds name node tray seen
+none_full : {Q : Type 0} (s : QuorumSystem Q) (f : Q) (n : ℕ) → full_at s f [] n ≡ first_full s f n
+unfolding full_at journal journal_from
+none_full s f n = refl
+
+pub first_keeper : {Q : Type 0} (s : QuorumSystem Q) (agreed : Option Q) (f : Q) (holds name : ℕ) (node : FullNode Q) (tray : List (Mail Q)) (seen : List (Step Q))
+    → agreed ≡ Some f → IsName name → holds ≡ name → node ≡ first_full s f name → tray ≡ [] → seen ≡ [] → IsKeeper s agreed holds name node tray seen
 first_keeper s agreed f holds name node tray seen founded is same first empty none = record {
   named = same;
   replays = λ g e.
       let fg = some_inj f g (sym founded ∙ e) in
-      ap (λ l. node_at (run s g l) name) none ∙ ap (λ w. node_at w name) (run_none s g) ∙ first_named s g name is ∙ ap Some (ap (λ g. first_node s g name) (sym fg) ∙ sym first);
+      ap (λ l. node_at (run s g l) name) none ∙ ap (λ w. node_at w name) (run_none s g) ∙ first_named s g name is ∙ ap Some (ap (λ g. first_node s g name) (sym fg) ∙ sym (ap (λ (v : FullNode _). v.state) first));
+  full = λ g e. ap (λ l. full_at s g l name) none ∙ none_full s g name ∙ ap (λ g. first_full s g name) (some_inj g f (sym e ∙ founded)) ∙ sym first;
   mail = λ g e. subst (All (IsMailOf (run s g seen) name)) (sym empty) (λ k d lt. absurd (omega (arith, lt)));
 }
 

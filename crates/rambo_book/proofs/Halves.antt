@@ -1,25 +1,37 @@
 -- The second half of a step whose first half is made
-use Rattle.std.proofs.Common.{◌≡◌, List, Option, None, Some, Box, Global, sym, ap, ◌∙◌, subst}
+use Rattle.std.proofs.Common.{◌≡◌, List, Option, None, Some, Box, Global, refl, sym, ap, ◌∙◌, subst}
 use Rattle.std.specs.FinMap as map
 use Rattle.rambo_names.specs.Quorums.{QuorumSystem}
 use Rattle.rambo_gossip.specs.declared.letter.Letter.{Letter}
 use Rattle.rambo_gossip.specs.Letters.{letter_with}
 use Rattle.rambo_gossip.specs.Short.{copies_in}
 use Rattle.rambo_node.specs.declared.change.Change.{Change}
+use Rattle.rambo_node.specs.declared.change.Change.TheVariants as change
 use Rattle.rambo_node.specs.declared.effect.Effect.{Effect}
 use Rattle.rambo_node.specs.declared.effect.Effect.TheVariants as effect
 use Rattle.rambo_node.specs.declared.prepared.Hearing.{Hearing}
 use Rattle.rambo_node.specs.declared.prepared.Prepared.{Prepared}
 use Rattle.rambo_node.specs.Changes.{Made, made_by}
+use Rattle.rambo_node.specs.FullNodes.{beside_after}
 use Rattle.rambo_node.specs.Hearing.{heard_letter}
 use Rattle.rambo_node.specs.Nodes.{RoomyNode}
 use Rattle.rambo_node.specs.Prepared.{IsReadyKind, change_of}
-use Rattle.rambo_node.proofs.Readiness.{hearing_ends, hearing_ready, ready_apart}
+use Rattle.rambo_node.proofs.Readiness.{hearing_beside, hearing_ends, hearing_ready, ready_apart}
 use Rattle.rambo_run.specs.Steps.{effect_in}
 use Rattle.rambo_run.proofs.Lists.{some_inj}
 use Rattle.rambo_deeds.specs.declared.half.Half.TheVariants as half
-use Rattle.rambo_deeds.specs.Deeds.{IsReadyDelivery, IsReadyStep, outline_of}
+use Rattle.rambo_deeds.specs.Deeds.{IsReadyDelivery, IsReadyStep, SendsFor, outline_of}
 use Rattle.rambo_deeds.proofs.Outlines.{letter_again, letter_twice}
+
+-- where none goes out the change sends none
+pub none_goes : {Q : Type 0} (v : RoomyNode Q) (whole : Option (Letter Q)) → SendsFor v None whole → None ≡ whole
+none_goes v None sends = refl
+none_goes v (Some l) sends = absurd sends
+
+-- and where one goes out its number is told
+one_tells : {Q : Type 0} (v : RoomyNode Q) (ls : List (Letter Q)) (l : Letter Q) (e : Effect Q) (whole : Option (Letter Q)) → SendsFor v (Some l) whole → effect_in ls effect.Done (Some l) ≡ effect_in ls e whole
+one_tells v ls l e None sends = absurd sends
+one_tells v ls l e (Some whole) sends = refl
 
 module _ {Q : Type 0} (v : RoomyNode Q) (o : Option (Letter Q)) (c : Change Q) where
   -- a letter goes out: its node stays, and its number is told
@@ -28,8 +40,11 @@ module _ {Q : Type 0} (v : RoomyNode Q) (o : Option (Letter Q)) (c : Change Q) w
     unfolding made_by
     send_stays = sym (ap (λ c. (made_by v.state c).node) ready.half.1)
 
+    pub send_keeps : v.beside ≡ beside_after v.state v.beside c
+    send_keeps = sym (ap (beside_after v.state v.beside) ready.half.1)
+
     pub send_tells : (ls : List (Letter Q)) → effect_in ls effect.Done (Some l) ≡ effect_in ls (made_by v.state c).deed.effect (made_by v.state c).letter
-    send_tells ls = ap (effect_in ls (made_by v.state c).deed.effect) ready.letter
+    send_tells ls = one_tells v ls l (made_by v.state c).deed.effect (made_by v.state c).letter ready.letter
 
   -- where none goes out what the change tells is told
   pub told_alone : (ls : List (Letter Q)) (told : Effect Q) → told ≡ (made_by v.state c).deed.effect → None ≡ (made_by v.state c).letter → told ≡ effect_in ls (made_by v.state c).deed.effect (made_by v.state c).letter
@@ -46,6 +61,9 @@ module _ {Q : Type 0} (v : RoomyNode Q) (o : Option (Letter Q)) (c : Change Q) w
 
     pub call_moves : (made_by v.state (change_of p)).node ≡ (made_by v.state c).node
     call_moves = ap (λ (m : Made Q). m.node) prepared_made
+
+    pub call_keeps : beside_after v.state v.beside (change_of p) ≡ beside_after v.state v.beside c
+    call_keeps = ap (λ p. beside_after v.state v.beside (change_of p)) is ∙ ready.half.beside
 
     pub call_tells : (made_by v.state (change_of p)).deed.effect ≡ (made_by v.state c).deed.effect
     call_tells = ap (λ (m : Made Q). m.deed.effect) prepared_made
@@ -67,3 +85,9 @@ module _ {Q : Type 0} (v : RoomyNode Q) (l : Letter Q) (c : Change Q) (h : Heari
       sym (ap (heard_letter v.state) (letter_twice l map.empty h.newer))
       ∙ hearing_ends v ready.letter (letter_with l map.empty) h same_outline ready.hearing
       ∙ sym (ap (λ c. (made_by v.state c).node) ready.delivers)
+
+  pub hear_keeps : beside_after v.state v.beside (change.Deliver (letter_with l h.newer)) ≡ beside_after v.state v.beside c
+  hear_keeps =
+      sym (ap (λ l. beside_after v.state v.beside (change.Deliver l)) (letter_twice l map.empty h.newer))
+      ∙ hearing_beside v ready.letter (letter_with l map.empty) h same_outline ready.hearing
+      ∙ sym (ap (beside_after v.state v.beside) ready.delivers)

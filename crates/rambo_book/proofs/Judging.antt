@@ -16,6 +16,7 @@ use Rattle.rambo_node.specs.declared.change.Change.{Change}
 use Rattle.rambo_node.specs.declared.change.Change.TheVariants as change
 use Rattle.rambo_node.specs.Changes.{made_by}
 use Rattle.rambo_node.specs.Hearing.{heard_kind, heard_join, heard_gossip}
+use Rattle.rambo_node.specs.FullNodes.{FullNode, full_after}
 use Rattle.rambo_node.specs.Nodes.{NodeState}
 use Rattle.rambo_run.specs.declared.step.Step.{Step}
 use Rattle.rambo_run.specs.declared.step.Step.TheVariants as step
@@ -29,13 +30,14 @@ use Rattle.rambo_run.proofs.Replays.{own_put}
 use Rattle.rambo_run.proofs.GoingOn.{run-more}
 use Rattle.rambo_run.proofs.Legal.{legal-more, events_fit_run}
 use Rattle.rambo_run.proofs.Actors.{acts, addressees}
+use Rattle.rambo_deltas.specs.Deltas.{full_at}
 use Rattle.rambo_roll.specs.Rolls.{Idle}
 use Rattle.rambo_sequence.specs.declared.mark.Mark.{Mark}
 use Rattle.rambo_deeds.specs.declared.mail.Mail.{Mail}
 use Rattle.rambo_deeds.specs.Deeds.{Done, judged, done}
 use Rattle.rambo_book.specs.Kept.{AreSent, IsKeeper, IsBook, IsServedBy}
-use Rattle.rambo_book.proofs.Idle.{idle_node}
-use Rattle.rambo_book.proofs.Standing.{Alike, alike, sent_more, done_counts, mail_longer, letter-left, IsHeard}
+use Rattle.rambo_book.proofs.Idle.{idle_node, idle_full, full-more}
+use Rattle.rambo_book.proofs.Standing.{Alike, GoesFor, alike, sent_more, done_counts, mail_longer, letter-left, IsHeard}
 
 pub judge_of : {Q : Type 0} (s : QuorumSystem Q) (w : WorldState Q) (x : NodeState Q) (name : ℕ) (o : Option (Meant Q)) → node_at w name ≡ Some x → ((m : Meant Q) → o ≡ Some m → m.name ≡ name)
     → least (causes_of s w o) ≡ judged s x o
@@ -54,24 +56,34 @@ pub record Judged {Q : Type 0} (s : QuorumSystem Q) (f : Q) (steps : List (Step 
   pub same : Alike s node (meant_in letters st) (meant (run s f steps) st)
 
 module _ {Q : Type 0} (s : QuorumSystem Q) (agreed : Option Q) (most : ℕ) (rolled : List (Step Q)) (f : Q) (steps : List (Step Q)) (letters : List (Letter Q)) (history : List Event) (marks : List Mark) (capacity : ℕ)
-    (holds name : ℕ) (node : NodeState Q) (tray : List (Mail Q)) (seen : List (Step Q))
+    (holds name : ℕ) (node : FullNode Q) (tray : List (Mail Q)) (seen : List (Step Q))
     (b : IsBook s agreed most rolled f steps letters history marks capacity) (k : IsKeeper s agreed holds name node tray seen) (idle : Idle actor holds seen rolled) where
-  pub still : node_at (run s f steps) name ≡ Some node
+  legal_rolled : IsLegal s f rolled
+  legal_rolled = subst (IsLegal s f) (sym b.all) b.legal
+
+  pub still : node_at (run s f steps) name ≡ Some node.state
   still =
-      let legal : IsLegal s f rolled = subst (IsLegal s f) (sym b.all) b.legal in
       ap (λ l. node_at (run s f l) name) (sym b.all)
       ∙ ap (node_at (run s f rolled)) (sym k.named)
-      ∙ idle_node s f holds seen rolled legal idle
+      ∙ idle_node s f holds seen rolled legal_rolled idle
       ∙ ap (node_at (run s f seen)) k.named
       ∙ k.replays f b.founded
 
-  pub judged_by : (st : Step Q) → IsServedBy (run s f steps) st name → Judged s f steps st name node letters
+  pub still_full : full_at s f steps name ≡ node
+  still_full =
+      ap (λ l. full_at s f l name) (sym b.all)
+      ∙ ap (full_at s f rolled) (sym k.named)
+      ∙ idle_full s f holds seen rolled legal_rolled idle
+      ∙ ap (full_at s f seen) k.named
+      ∙ k.full f b.founded
+
+  pub judged_by : (st : Step Q) → IsServedBy (run s f steps) st name → Judged s f steps st name node.state letters
   judged_by st served =
       let w = run s f steps in
-      let same : Alike s node (meant_in letters st) (meant w st) = alike s w letters name node st b.sent still served in
+      let same : Alike s node.state (meant_in letters st) (meant w st) = alike s w letters name node.state st b.sent still served in
       record {
         here = still;
-        verdict = refusal_is s w st ∙ judge_of s w node name (meant w st) still served ∙ sym same.judges;
+        verdict = refusal_is s w st ∙ judge_of s w node.state name (meant w st) still served ∙ sym same.judges;
         same = same;
       }
 
@@ -83,7 +95,7 @@ some_meant s x None e = absurd (true≢false (ap is_some e))
 some_meant s x (Some m) e = (m, refl)
 
 -- what holds once the step is done
-pub record Finished {Q : Type 0} (s : QuorumSystem Q) (f : Q) (steps : List (Step Q)) (st : Step Q) (name : ℕ) (letters : List (Letter Q)) (history : List Event) (marks : List Mark) (new : NodeState Q) (d : Done Q) : Type 0 where
+pub record Finished {Q : Type 0} (s : QuorumSystem Q) (f : Q) (steps : List (Step Q)) (st : Step Q) (name : ℕ) (letters : List (Letter Q)) (history : List Event) (marks : List Mark) (new : FullNode Q) (d : Done Q) : Type 0 where
   pub accepted : refusal s (run s f steps) st ≡ None
   pub legal : IsLegal s f (steps ++ st ∷ [])
   pub sent : AreSent (run s f (steps ++ st ∷ [])) (with_letter letters d.letter)
@@ -91,7 +103,8 @@ pub record Finished {Q : Type 0} (s : QuorumSystem Q) (f : Q) (steps : List (Ste
   pub marked : with_mark marks d.mark ≡ (run s f (steps ++ st ∷ [])).marks
   pub fits : (e : Event) → d.event ≡ Some e → fault_of history e ≡ None
   pub effect : d.effect ≡ (turn (run s f steps) st).effect
-  pub node : node_at (run s f (steps ++ st ∷ [])) name ≡ Some new
+  pub node : node_at (run s f (steps ++ st ∷ [])) name ≡ Some new.state
+  pub full : full_at s f (steps ++ st ∷ []) name ≡ new
   pub acts : actor steps st ≡ name
   pub heard : (n : ℕ) (whole : Letter Q) → st ≡ step.Deliver n → letter_at (run s f (steps ++ st ∷ [])).letters n ≡ Some whole → IsHeard (run s f (steps ++ st ∷ [])) whole
 
@@ -119,27 +132,32 @@ turn_is : {Q : Type 0} (w : WorldState Q) (st : Step Q) (m : Meant Q) (x : NodeS
 unfolding turn
 turn_is w st m x means there = ap (turn_of w) means ∙ ap (λ o. turn_at w m.name o m.change) there
 
-module _ {Q : Type 0} (s : QuorumSystem Q) (f : Q) (steps : List (Step Q)) (st : Step Q) (name : ℕ) (node : NodeState Q) (letters : List (Letter Q)) (history : List Event) (marks : List Mark) (new : NodeState Q) (d : Done Q) where
-  pub finished : node_at (run s f steps) name ≡ Some node → (c : Change Q) → meant (run s f steps) st ≡ Some (record { name = name; change = c }) → refusal s (run s f steps) st ≡ None → IsLegal s f steps
+state_after : {Q : Type 0} (v : FullNode Q) (c : Change Q) → (full_after v c).state ≡ (made_by v.state c).node
+unfolding full_after
+state_after v c = refl
+
+module _ {Q : Type 0} (s : QuorumSystem Q) (f : Q) (steps : List (Step Q)) (st : Step Q) (name : ℕ) (node : FullNode Q) (letters : List (Letter Q)) (history : List Event) (marks : List Mark) (new : FullNode Q) (d : Done Q) where
+  pub finished : node_at (run s f steps) name ≡ Some node.state → full_at s f steps name ≡ node → (c : Change Q) → meant (run s f steps) st ≡ Some (record { name = name; change = c }) → refusal s (run s f steps) st ≡ None → IsLegal s f steps
       → AreSent (run s f steps) letters → history ≡ (run s f steps).history → marks ≡ (run s f steps).marks
-      → new ≡ (made_by node c).node → d ≡ done letters (made_by node c)
+      → new ≡ full_after node c → d ≡ record (done letters (made_by node.state c)) { letter = d.letter } → GoesFor (run s f (steps ++ st ∷ [])) d.letter (made_by node.state c).letter
       → Finished s f steps st name letters history marks new d
-  finished here c means accepted legal sent told marked after did =
+  finished here whole c means accepted legal sent told marked after did goes =
       let w = run s f steps in
       let m : Meant Q = record { name = name; change = c } in
-      let made = made_by node c in
-      let t : turn w st ≡ turn_by w name made = turn_is w st m node means here in
-      let e : d ≡ done w.letters made = did ∙ done_counts letters w.letters made sent.0 in
+      let x = node.state in
+      let made = made_by x c in
+      let state : new.state ≡ made.node = ap (λ (v : FullNode Q). v.state) after ∙ state_after node c in
+      let t : turn w st ≡ turn_by w name made = turn_is w st m x means here in
+      let e : d ≡ record (done w.letters made) { letter = d.letter } = did ∙ ap (λ (m : Done Q). record m { letter = d.letter }) (done_counts letters w.letters made sent.0) in
       let more : run s f (steps ++ st ∷ []) ≡ (turn w st).world = run-more s f steps st accepted in
       let nodes : (turn w st).world.nodes ≡ slice_set w.nodes (name - 1) made.node = ap (λ (t : Turn _). t.world.nodes) t in
-      let list : (run s f (steps ++ st ∷ [])).letters ≡ with_letter w.letters d.letter =
-      ap (λ (w : WorldState _). w.letters) more ∙ ap (λ (t : Turn _). t.world.letters) t ∙ sym (ap (λ (d : Done _). with_letter w.letters d.letter) e) in
-      let there_after : node_at (run s f (steps ++ st ∷ [])) name ≡ Some new =
-      ap (λ w. node_at w name) more ∙ own_put w (turn w st).world name node made.node here nodes ∙ ap Some (sym after) in
+      let list : (run s f (steps ++ st ∷ [])).letters ≡ with_letter w.letters made.letter = ap (λ (w : WorldState _). w.letters) more ∙ ap (λ (t : Turn _). t.world.letters) t in
+      let there_after : node_at (run s f (steps ++ st ∷ [])) name ≡ Some new.state =
+      ap (λ w. node_at w name) more ∙ own_put w (turn w st).world name x made.node here nodes ∙ ap Some (sym state) in
       record {
         accepted = accepted;
         legal = legal-more s f steps st legal accepted;
-        sent = sent_more s f steps (steps ++ st ∷ []) (st ∷ [], refl) letters d.letter sent list;
+        sent = sent_more s f steps (steps ++ st ∷ []) (st ∷ [], refl) letters d.letter made.letter sent list goes;
         told = ap (λ es. with_event es d.event) told ∙ ap (λ (d : Done _). with_event w.history d.event) e ∙ sym (ap (λ (t : Turn _). t.world.history) t) ∙ sym (ap (λ (w : WorldState _). w.history) more);
         marked = ap (λ ms. with_mark ms d.mark) marked ∙ ap (λ (d : Done _). with_mark w.marks d.mark) e ∙ sym (ap (λ (t : Turn _). t.world.marks) t) ∙ sym (ap (λ (w : WorldState _). w.marks) more);
         fits = λ v is.
@@ -147,22 +165,24 @@ module _ {Q : Type 0} (s : QuorumSystem Q) (f : Q) (steps : List (Step Q)) (st :
             ap (λ h. fault_of h v) told ∙ events_fit_run s f steps st v accepted grown;
         effect = ap (λ (d : Done _). d.effect) e ∙ sym (ap (λ (t : Turn _). t.effect) t);
         node = there_after;
+        full = full-more s f steps st name c means accepted ∙ ap (λ v. full_after v c) whole ∙ sym after;
         acts = acts steps w st m (addressees s f steps legal) means;
         heard = λ n whole is there.
             let it = delivered_letter (letter_at w.letters n) m (ap (meant w) (sym is) ∙ means) in
             let same : it.0 ≡ whole = some_inj it.0 whole (sym (letter-left s f steps (steps ++ st ∷ []) (st ∷ [], refl) n it.0 it.1) ∙ there) in
             let to : whole.addressee ≡ name = ap (λ (l : Letter _). l.addressee) (sym same) ∙ ap (λ (m : Meant _). m.name) it.2 in
-            let after_it : new ≡ (made_by node (change.Deliver whole)).node =
-            after ∙ ap (λ (m : Meant _). (made_by node m.change).node) (sym it.2) ∙ ap (λ l. (made_by node (change.Deliver l)).node) same in
-            let held : held_by (run s f (steps ++ st ∷ [])) whole.addressee ≡ new.registers = ap (held_by (run s f (steps ++ st ∷ []))) to ∙ ap copies_of there_after in
-            subst (λ r. joined r (copies_in whole.kind) ≡ r) (sym held) (holds_heard node new whole after_it);
+            let after_it : new.state ≡ (made_by x (change.Deliver whole)).node =
+            state ∙ ap (λ (m : Meant _). (made_by x m.change).node) (sym it.2) ∙ ap (λ l. (made_by x (change.Deliver l)).node) same in
+            let held : held_by (run s f (steps ++ st ∷ [])) whole.addressee ≡ new.state.registers = ap (held_by (run s f (steps ++ st ∷ []))) to ∙ ap copies_of there_after in
+            subst (λ r. joined r (copies_in whole.kind) ≡ r) (sym held) (holds_heard x new.state whole after_it);
       }
 
 -- a keeper that has seen more, whose node is that of what it has seen
-pub kept_on : {Q : Type 0} (s : QuorumSystem Q) (agreed : Option Q) (f : Q) (holds held name : ℕ) (node new : NodeState Q) (tray : List (Mail Q)) (seen longer : List (Step Q))
-    → agreed ≡ Some f → IsKeeper s agreed holds name node tray seen → held ≡ holds → IsPrefix seen longer → node_at (run s f longer) name ≡ Some new → IsKeeper s agreed held name new tray longer
-kept_on s agreed f holds held name node new tray seen longer founded k same p there = record {
+pub kept_on : {Q : Type 0} (s : QuorumSystem Q) (agreed : Option Q) (f : Q) (holds held name : ℕ) (node new : FullNode Q) (tray : List (Mail Q)) (seen longer : List (Step Q))
+    → agreed ≡ Some f → IsKeeper s agreed holds name node tray seen → held ≡ holds → IsPrefix seen longer → node_at (run s f longer) name ≡ Some new.state → full_at s f longer name ≡ new → IsKeeper s agreed held name new tray longer
+kept_on s agreed f holds held name node new tray seen longer founded k same p there whole = record {
   named = same ∙ k.named;
-  replays = λ g e. subst (λ g. node_at (run s g longer) name ≡ Some new) (some_inj f g (sym founded ∙ e)) there;
+  replays = λ g e. subst (λ g. node_at (run s g longer) name ≡ Some new.state) (some_inj f g (sym founded ∙ e)) there;
+  full = λ g e. subst (λ g. full_at s g longer name ≡ new) (some_inj f g (sym founded ∙ e)) whole;
   mail = λ g e. mail_longer s g seen longer p name tray (k.mail g e);
 }

@@ -8,12 +8,15 @@ use Rattle.rambo_names.specs.declared.refusal.Refusal.{Refusal}
 use Rattle.rambo_names.specs.declared.refusal.Refusal.TheVariants.{OutOfMemory}
 use Rattle.rambo_gossip.specs.declared.letter.Letter.{Letter}
 use Rattle.rambo_gossip.specs.Short.{copies_in, IsShort}
+use Rattle.rambo_tag.specs.Copies.{joined}
+use Rattle.rambo_tag.proofs.StampLaws.{stamped_alike}
 use Rattle.rambo_node.specs.declared.change.Change.{Change}
 use Rattle.rambo_node.specs.declared.change.Change.TheVariants as change
 use Rattle.rambo_node.specs.declared.prepared.Hearing.{Hearing}
 use Rattle.rambo_node.specs.declared.prepared.Quick.{Quick}
 use Rattle.rambo_node.specs.declared.prepared.Quick.TheVariants as quick
 use Rattle.rambo_node.specs.Changes.{Made, made_by, refusal_of}
+use Rattle.rambo_node.specs.FullNodes.{FullNode, beside_after, full, full_after}
 use Rattle.rambo_node.specs.Nodes.{NodeState, RoomyNode}
 use Rattle.rambo_node.specs.Prepared.{IsHearing, IsReadyKind, quick_change}
 use Rattle.rambo_node.proofs.Readiness.{ready_apart}
@@ -25,11 +28,12 @@ use Rattle.rambo_run.specs.Runs.{run}
 use Rattle.rambo_run.specs.Legal.{IsLegal}
 use Rattle.rambo_run.specs.Actors.{actor}
 use Rattle.rambo_run.proofs.Lists.{none-some, some_inj}
+use Rattle.rambo_deltas.proofs.Alike.{short_letters_are_replayed_alike}
 use Rattle.rambo_roll.specs.Rolls.{Idle}
 use Rattle.rambo_deeds.specs.declared.half.Half.{Half}
 use Rattle.rambo_deeds.specs.declared.half.Half.TheVariants as half
 use Rattle.rambo_deeds.specs.declared.mail.Mail.{Mail}
-use Rattle.rambo_deeds.specs.Deeds.{IsHalf, IsReadyDelivery, IsReadyStep, judged, letter_in, meant_by, outline_of}
+use Rattle.rambo_deeds.specs.Deeds.{IsHalf, IsReadyDelivery, IsReadyStep, SendsFor, judged, letter_in, letter_of, meant_by, outline_of}
 use Rattle.rambo_book.specs.declared.readied.Ready.{Ready}
 use Rattle.rambo_book.specs.Kept.{KeeperView, IsKeeper, IsMailOf, IsServedBy}
 use Rattle.rambo_book.specs.Readying.{IsIn, mail_in, came_in, roomy, IsReadyIn, IsReadyFor}
@@ -60,10 +64,19 @@ never quick.Stop = refl
 module _ {Q : Type 0} (s : QuorumSystem Q) (v : RoomyNode Q) where
   -- what may be heard of a letter may be heard of the one for which it stands
   hearing_as : (l whole : Letter Q) (h : Hearing) → IsShort l whole v.state.registers → IsHearing v l h → IsHearing v whole h
-  hearing_as l whole h short e = record {
-    ready = subst (λ (n : Letter Q). IsReadyKind v n.kind h.newer h.number) short.rest (ready_apart v l.kind (copies_in whole.kind) h.newer h.number e.ready);
-    newer = e.newer ∙ sym (made_joined v.state l) ∙ ap (λ (m : Made Q). m.node.registers) (made_alike s v.state l whole short) ∙ made_joined v.state whole;
-  }
+  hearing_as l whole h short e =
+      let newer : joined v.state.registers h.newer ≡ joined v.state.registers (copies_in whole.kind) =
+      e.newer ∙ sym (made_joined v.state l) ∙ ap (λ (m : Made Q). m.node.registers) (made_alike s v.state l whole short) ∙ made_joined v.state whole in
+      record {
+        ready = subst (λ (n : Letter Q). IsReadyKind v n.kind h.newer h.number) short.rest (ready_apart v l.kind (copies_in whole.kind) h.newer h.number e.ready);
+        newer = newer;
+        stamped = stamped_alike v.state.registers h.newer (copies_in whole.kind) newer;
+      }
+
+  -- what is kept beside after a letter is what is kept after the one for which it stands
+  short_beside : (l whole : Letter Q) → IsShort l whole v.state.registers → beside_after v.state v.beside (change.Deliver l) ≡ beside_after v.state v.beside (change.Deliver whole)
+  unfolding full_after
+  short_beside l whole short = ap (λ (x : FullNode Q). record { stamps = x.stamps; bases = x.bases }) (short_letters_are_replayed_alike (full v) l whole short)
 
   module _ (o : Option (Letter Q)) (c d : Change Q) (short : IsShortDelivery v.state c d) where
     delivery_as : (h : Hearing) → IsReadyDelivery v o c h → IsReadyDelivery v o d h
@@ -80,12 +93,16 @@ module _ {Q : Type 0} (s : QuorumSystem Q) (v : RoomyNode Q) where
     made_as : made_by v.state c ≡ made_by v.state d
     made_as = ap (made_by v.state) short.delivers ∙ made_alike s v.state short.letter short.whole short.short ∙ sym (ap (made_by v.state) short.delivered)
 
+    beside_as : beside_after v.state v.beside c ≡ beside_after v.state v.beside d
+    beside_as = ap (beside_after v.state v.beside) short.delivers ∙ short_beside short.letter short.whole short.short ∙ sym (ap (beside_after v.state v.beside) short.delivered)
+
     half_as : (h : Half Q) → IsHalf s v o c h → IsHalf s v o d h
     half_as (half.Send l) e = absurd (true≢false (sym (ap comes short.delivers) ∙ ap comes e.1))
     half_as (half.Hear h) e = delivery_as h e
     half_as (half.Call p) e = record {
       prepared = e.prepared;
       same = e.same ∙ made_as;
+      beside = e.beside ∙ beside_as;
       event = e.event ∙ ap (λ (m : Made Q). m.deed.event) made_as;
       mark = e.mark ∙ ap (λ (m : Made Q). m.deed.mark) made_as;
       copy = e.copy ∙ ap (λ (m : Made Q). m.deed.copy) made_as;
@@ -102,7 +119,7 @@ module _ {Q : Type 0} (s : QuorumSystem Q) (v : RoomyNode Q) where
         half = half_as o c d short h e.half;
         event = e.event ∙ ap (λ (m : Made Q). m.deed.event) made;
         mark = e.mark ∙ ap (λ (m : Made Q). m.deed.mark) made;
-        letter = e.letter ∙ ap (λ (m : Made Q). m.letter) made;
+        letter = subst (SendsFor v (letter_of h)) (ap (λ (m : Made Q). m.letter) made) e.letter;
       }
 
 -- so what is ready as it is seen is ready in a world, where it comes to what the step means there
@@ -269,7 +286,7 @@ ready_longer s f steps k r legal idle h =
     }
 
 -- a keeper whose node has more room
-pub keeper_roomy : {Q : Type 0} {s : QuorumSystem Q} {agreed : Option Q} {holds held name : ℕ} {node x : NodeState Q} {tray : List (Mail Q)} {seen looked : List (Step Q)}
+pub keeper_roomy : {Q : Type 0} {s : QuorumSystem Q} {agreed : Option Q} {holds held name : ℕ} {node x : FullNode Q} {tray : List (Mail Q)} {seen looked : List (Step Q)}
     → IsKeeper s agreed holds name node tray seen → held ≡ holds → looked ≡ seen → x ≡ node → IsKeeper s agreed held name x tray looked
 keeper_roomy {s = s} {agreed = agreed} {held = held} {name = name} {node = node} {x = x} {tray = tray} {seen = seen} k h l e =
     subst (λ looked. IsKeeper s agreed held name x tray looked) (sym l)
@@ -277,21 +294,21 @@ keeper_roomy {s = s} {agreed = agreed} {held = held} {name = name} {node = node}
     (subst (λ held. IsKeeper s agreed held name node tray seen) (sym h) k))
 
 -- what a keeper makes ready by its tray is ready
-module _ {Q : Type 0} {s : QuorumSystem Q} {agreed : Option Q} {holds name : ℕ} {node : NodeState Q} {tray : List (Mail Q)} {seen : List (Step Q)} (k : IsKeeper s agreed holds name node tray seen) (st : Step Q)
+module _ {Q : Type 0} {s : QuorumSystem Q} {agreed : Option Q} {holds name : ℕ} {node : FullNode Q} {tray : List (Mail Q)} {seen : List (Step Q)} (k : IsKeeper s agreed holds name node tray seen) (st : Step Q)
     (own : (f : Q) → agreed ≡ Some f → (m : Meant Q) → meant_in [] st ≡ Some m → m.name ≡ name) (there : (n : ℕ) → st ≡ step.Deliver n → IsIn tray n) where
-  pub tray_judged : (o : Option (Letter Q)) → o ≡ came_in tray st → (f : Q) → agreed ≡ Some f → refusal s (run s f seen) st ≡ judged s node (meant_by o st)
-  tray_judged o is f e = tray_verdict s (run s f seen) name node tray (k.replays f e) (k.mail f e) st (own f e) there ∙ ap (λ o. judged s node (meant_by o st)) (sym is)
+  pub tray_judged : (o : Option (Letter Q)) → o ≡ came_in tray st → (f : Q) → agreed ≡ Some f → refusal s (run s f seen) st ≡ judged s node.state (meant_by o st)
+  tray_judged o is f e = tray_verdict s (run s f seen) name node.state tray (k.replays f e) (k.mail f e) st (own f e) there ∙ ap (λ o. judged s node.state (meant_by o st)) (sym is)
 
-  pub tray_ready : (o : Option (Letter Q)) → o ≡ came_in tray st → (half : Half Q) (v : RoomyNode Q) → v.state ≡ node → judged s node (meant_by o st) ≡ None
+  pub tray_ready : (o : Option (Letter Q)) → o ≡ came_in tray st → (half : Half Q) (v : RoomyNode Q) → v.state ≡ node.state → judged s node.state (meant_by o st) ≡ None
       → ((m : Meant Q) → meant_by o st ≡ Some m → IsReadyStep s v (outline_of o) m.change half)
-      → IsReadyFor s agreed (record { name = name; node = v.state; room = v.room; tray = tray; seen = seen }) (record { step = st; half = half })
+      → IsReadyFor s agreed (record { name = name; node = v.state; room = v.room; beside = v.beside; tray = tray; seen = seen }) (record { step = st; half = half })
   tray_ready o is half v same none ready = λ f e.
       let w = run s f seen in
       let x = v.state in
-      let t = tray_alike s w name node tray (k.replays f e) (k.mail f e) st (own f e) there in
-      let alike : Alike s x (meant_by o st) (meant w st) = subst (λ x. Alike s x (meant_by o st) (meant w st)) (sym same) (subst (λ o. Alike s node (meant_by o st) (meant w st)) (sym is) t.1) in
+      let t = tray_alike s w name node.state tray (k.replays f e) (k.mail f e) st (own f e) there in
+      let alike : Alike s x (meant_by o st) (meant w st) = subst (λ x. Alike s x (meant_by o st) (meant w st)) (sym same) (subst (λ o. Alike s node.state (meant_by o st) (meant w st)) (sym is) t.1) in
       let ok : judged s x (meant_by o st) ≡ None = ap (λ x. judged s x (meant_by o st)) same ∙ none in
-      ready_alike s w st (record { name = name; node = x; room = v.room; tray = tray; seen = seen }) (meant_by o st) (outline_of o) half alike (ap outline_of is ∙ tray_outline w name tray (k.mail f e) st there) t.0 (tray_judged o is f e ∙ none) ok ready
+      ready_alike s w st (record { name = name; node = x; room = v.room; beside = v.beside; tray = tray; seen = seen }) (meant_by o st) (outline_of o) half alike (ap outline_of is ∙ tray_outline w name tray (k.mail f e) st there) t.0 (tray_judged o is f e ∙ none) ok ready
 
 -- which refusal is told
 pub refused_as_judged : {o p : Option Refusal} {r : Refusal} → o ≡ p → p ≡ Some r → IsRefusal o r

@@ -4,6 +4,7 @@ use Rattle.std.proofs.lemmas.List.{length-append, length-set}
 use Rattle.std.proofs.lemmas.Bool.{cases_eq}
 use mathlib.Core.List.{IsPrefix}
 use Rattle.std.specs.FinMap as map
+use Rattle.rambo_names.specs.Names.{IsName}
 use Rattle.rambo_names.specs.Quorums.{QuorumSystem}
 use Rattle.rambo_names.specs.Refusals.{least}
 use Rattle.rambo_tag.specs.Copies.{Copies, joined}
@@ -19,7 +20,9 @@ use Rattle.rambo_node.specs.declared.change.Change.{Change}
 use Rattle.rambo_node.specs.declared.change.Change.TheVariants as change
 use Rattle.rambo_node.specs.declared.effect.Effect.{Effect}
 use Rattle.rambo_node.specs.Changes.{Made, made_by, refusal_of}
-use Rattle.rambo_node.specs.Nodes.{NodeState}
+use Rattle.rambo_node.specs.FullNodes.{FullNode, IsDelta, delta_letter, full}
+use Rattle.rambo_node.specs.Letters.{letter_for}
+use Rattle.rambo_node.specs.Nodes.{NodeState, RoomyNode}
 use Rattle.rambo_node.proofs.Short.{heard_as_whole, whole_is_short}
 use Rattle.rambo_run.specs.declared.step.Step.{Step}
 use Rattle.rambo_run.specs.declared.step.Step.TheVariants as step
@@ -29,8 +32,11 @@ use Rattle.rambo_run.specs.Runs.{run}
 use Rattle.rambo_run.proofs.Lists.{none-some, some_inj, get_more}
 use Rattle.rambo_run.proofs.Growing.{copies_are_kept}
 use Rattle.rambo_run.proofs.Legal.{get-left, run-grows}
+use Rattle.rambo_run.proofs.Quiet.{quiet_made}
+use Rattle.rambo_deltas.specs.Deltas.{full_at}
+use Rattle.rambo_deltas.proofs.Short.{later_too}
 use Rattle.rambo_deeds.specs.declared.mail.Mail.{Mail}
-use Rattle.rambo_deeds.specs.Deeds.{judged, done, letter_in, name_in, outline_of}
+use Rattle.rambo_deeds.specs.Deeds.{SendsFor, judged, done, letter_in, name_in, outline_of}
 use Rattle.rambo_deeds.proofs.Outlines.{letter_twice}
 use Rattle.rambo_sequence.proofs.Members.{set_here, set_there}
 use Rattle.rambo_book.specs.Kept.{StandsFor, AreSent, IsMailOf, IsServedBy, lightened_at, lightened}
@@ -196,7 +202,52 @@ short_longer l whole held more grows short = record {
       is_newer-is_below (map.get more key) v ∙ not_below-trans (map.get more key) (map.get held key) (Some v) above (sym (is_newer-is_below (map.get held key) v) ∙ short.held_anyway key v e f);
 }
 
+-- a letter that goes out stands for the whole one that is sent, or there is neither
+abbrev pub GoesFor : {Q : Type 0} → WorldState Q → Option (Letter Q) → Option (Letter Q) → Type 0
+GoesFor w None None = Unit {0}
+GoesFor w None (Some whole) = ⊥
+GoesFor w (Some l) None = ⊥
+GoesFor w (Some l) (Some whole) = StandsFor w l whole
+
+-- the letter that a change sends is the node's
+its_letter : {Q : Type 0} (x : NodeState Q) (c : Change Q) (whole : Letter Q) → (made_by x c).letter ≡ Some whole → whole ≡ letter_for x whole.addressee
+unfolding made_by
+its_letter x (change.Send to) whole e =
+    let is : letter_for x to ≡ whole = some_inj (letter_for x to) whole e in
+    sym is ∙ ap (λ (l : Letter _). letter_for x l.addressee) is
+its_letter x (change.Join contacts) whole e = absurd (none-some whole e)
+its_letter x (change.Call o) whole e = absurd (none-some whole e)
+its_letter x (change.Deliver l) whole e = absurd (none-some whole e)
+its_letter x (change.Advance id) whole e = absurd (none-some whole (sym (quiet_made x (change.Advance id) refl) ∙ e))
+its_letter x (change.Again id) whole e = absurd (none-some whole (sym (quiet_made x (change.Again id) refl) ∙ e))
+its_letter x change.Collect whole e = absurd (none-some whole e)
+its_letter x change.AdvanceCollect whole e = absurd (none-some whole (sym (quiet_made x change.AdvanceCollect refl) ∙ e))
+its_letter x (change.Recon wish) whole e = absurd (none-some whole e)
+its_letter x change.Rebid whole e = absurd (none-some whole (sym (quiet_made x change.Rebid refl) ∙ e))
+its_letter x change.AdvanceRecon whole e = absurd (none-some whole (sym (quiet_made x change.AdvanceRecon refl) ∙ e))
+its_letter x change.Stop whole e = absurd (none-some whole e)
+
 module _ {Q : Type 0} (s : QuorumSystem Q) (f : Q) (xs ys : List (Step Q)) (p : IsPrefix xs ys) where
+  -- what a node tells another that may be new to it stands for all that it has, then and later
+  module _ (n : ℕ) (named : IsName n) (v : RoomyNode Q) (same : full_at s f xs n ≡ full v) where
+    short_stands : (j : ℕ) (copies : Copies) → IsName j → IsDelta (full v) j copies → IsShort (delta_letter (full v) j copies) (letter_for v.state j) (held_by (run s f ys) j)
+    short_stands j copies to since =
+        let later : IsDelta (full_at s f xs n) j copies → IsShort (delta_letter (full_at s f xs n) j copies) (letter_for (full_at s f xs n).state j) (held_by (run s f ys) j) = later_too s f xs ys n j copies p named to in
+        subst (λ (v : FullNode Q). IsDelta v j copies → IsShort (delta_letter v j copies) (letter_for v.state j) (held_by (run s f ys) j)) same later since
+
+    goes_for : (o whole : Option (Letter Q)) → ((l : Letter Q) → whole ≡ Some l → l ≡ letter_for v.state l.addressee) → SendsFor v o whole → GoesFor (run s f ys) o whole
+    goes_for None None own sends = _
+    goes_for None (Some whole) own sends = sends
+    goes_for (Some l) None own sends = sends
+    goes_for (Some l) (Some whole) own sends =
+        let j : ℕ = whole.addressee in
+        let copies : Copies = sends.1.0 in
+        subst (λ l. IsShort l whole (held_by (run s f ys) j)) (sym sends.1.2)
+        (subst (λ whole. IsShort (delta_letter (full v) j copies) whole (held_by (run s f ys) j)) (sym (own whole refl)) (short_stands j copies sends.0 sends.1.1))
+
+    pub letter_goes : (c : Change Q) (o : Option (Letter Q)) → SendsFor v o (made_by v.state c).letter → GoesFor (run s f ys) o (made_by v.state c).letter
+    letter_goes c o = goes_for o (made_by v.state c).letter (its_letter v.state c)
+
   pub stands_longer : (l whole : Letter Q) → StandsFor (run s f xs) l whole → StandsFor (run s f ys) l whole
   stands_longer l whole short = short_longer l whole (held_by (run s f xs) whole.addressee) (held_by (run s f ys) whole.addressee) (copies_are_kept s f xs ys p whole.addressee) short
 
@@ -213,15 +264,17 @@ module _ {Q : Type 0} (s : QuorumSystem Q) (f : Q) (xs ys : List (Step Q)) (p : 
       (m.0, letter-left (get_or tray k d).number m.0 m.1, stands_longer (get_or tray k d).letter m.0 m.2, m.3)
 
   -- and those of the book, with what is sent behind them
-  pub sent_more : (letters : List (Letter Q)) (o : Option (Letter Q)) → AreSent (run s f xs) letters → (run s f ys).letters ≡ with_letter (run s f xs).letters o
+  pub sent_more : (letters : List (Letter Q)) (o whole : Option (Letter Q)) → AreSent (run s f xs) letters → (run s f ys).letters ≡ with_letter (run s f xs).letters whole → GoesFor (run s f ys) o whole
       → AreSent (run s f ys) (with_letter letters o)
-  sent_more letters None sent same = (
+  sent_more letters None None sent same goes = (
     sent.0 ∙ sym (ap length same),
     λ place l whole e h. stands_longer l whole (sent.1 place l whole e (ap (λ ls. slice_get ls place) (sym same) ∙ h)),
   )
-  sent_more letters (Some new) sent same = (
-    length-append letters (new ∷ []) ∙ ap (λ n. n + 1) sent.0 ∙ sym (length-append (run s f xs).letters (new ∷ [])) ∙ sym (ap length same),
-    λ place l whole e h. at_place place l whole (get_more letters new l place e) (get_more (run s f xs).letters new whole place (ap (λ ls. slice_get ls place) (sym same) ∙ h)),
+  sent_more letters None (Some other) sent same goes = absurd goes
+  sent_more letters (Some new) None sent same goes = absurd goes
+  sent_more letters (Some new) (Some other) sent same goes = (
+    length-append letters (new ∷ []) ∙ ap (λ n. n + 1) sent.0 ∙ sym (length-append (run s f xs).letters (other ∷ [])) ∙ sym (ap length same),
+    λ place l whole e h. at_place place l whole (get_more letters new l place e) (get_more (run s f xs).letters other whole place (ap (λ ls. slice_get ls place) (sym same) ∙ h)),
   )
     where
       apart : (place : ℕ) → place ≡ length letters → (whole : Letter Q) → slice_get (run s f xs).letters place ≡ Some whole → ⊥
@@ -231,11 +284,11 @@ module _ {Q : Type 0} (s : QuorumSystem Q) (f : Q) (xs ys : List (Step Q)) (p : 
       apart_too place at l e = let b = Rattle.rambo_run.proofs.Lists.there_below letters place l e in omega (arith, b, at, sent.0)
 
       at_place : (place : ℕ) (l whole : Letter Q) → (slice_get letters place ≡ Some l) ⊎ ((place ≡ length letters) × (new ≡ l))
-          → (slice_get (run s f xs).letters place ≡ Some whole) ⊎ ((place ≡ length (run s f xs).letters) × (new ≡ whole)) → StandsFor (run s f ys) l whole
+          → (slice_get (run s f xs).letters place ≡ Some whole) ⊎ ((place ≡ length (run s f xs).letters) × (other ≡ whole)) → StandsFor (run s f ys) l whole
       at_place place l whole (inl e) (inl h) = stands_longer l whole (sent.1 place l whole e h)
       at_place place l whole (inl e) (inr h) = absurd (apart_too place h.0 l e)
       at_place place l whole (inr e) (inl h) = absurd (apart place e.0 whole h)
-      at_place place l whole (inr e) (inr h) = subst (λ l. StandsFor (run s f ys) l whole) (sym h.1 ∙ e.1) (whole_is_short whole _)
+      at_place place l whole (inr e) (inr h) = subst (λ l. StandsFor (run s f ys) l whole) e.1 (subst (StandsFor (run s f ys) new) h.1 goes)
 
 -- the addressee of a letter holds its copies
 abbrev pub IsHeard : {Q : Type 0} → WorldState Q → Letter Q → Type 0

@@ -4,7 +4,7 @@ use Rattle.std.proofs.lemmas.List.Elements.{All-push}
 use Rattle.rambo_names.specs.Quorums.{QuorumSystem}
 use Rattle.rambo_history.specs.declared.event.Event.{Event}
 use Rattle.rambo_gossip.specs.declared.letter.Letter.{Letter}
-use Rattle.rambo_node.specs.Nodes.{NodeState}
+use Rattle.rambo_node.specs.FullNodes.{FullNode}
 use Rattle.rambo_run.specs.declared.step.Step.{Step}
 use Rattle.rambo_run.specs.Worlds.{WorldState, letter_at}
 use Rattle.rambo_run.specs.Runs.{run}
@@ -16,13 +16,14 @@ use Rattle.rambo_book.specs.Mailing.{goes_to, sent_to}
 use Rattle.rambo_book.proofs.Standing.{letters_paired, goes_alike}
 
 pub tray_more : {Q : Type 0} {s : QuorumSystem Q} {agreed : Option Q} {most : ℕ} {rolled : List (Step Q)} {f : Q} {steps : List (Step Q)} {letters : List (Letter Q)} {history : List Event} {marks : List Mark} {capacity : ℕ}
-    {holds name : ℕ} {node : NodeState Q} {tray : List (Mail Q)} {seen : List (Step Q)}
+    {holds name : ℕ} {node : FullNode Q} {tray : List (Mail Q)} {seen : List (Step Q)}
     → IsBook s agreed most rolled f steps letters history marks capacity → IsKeeper s agreed holds name node tray seen → seen ≡ steps
     → (number : ℕ) (l : Letter Q) (longer : List (Mail Q)) → letter_at letters number ≡ Some l → l.addressee ≡ name → longer ≡ tray ++ record { number = number; letter = l } ∷ []
     → IsKeeper s agreed holds name node longer seen
 tray_more {s = s} {f = f} {steps = steps} {letters = letters} {name = name} {tray = tray} {seen = seen} b k same number l longer there own e = record {
   named = k.named;
   replays = k.replays;
+  full = k.full;
   mail = λ g is.
       let w = run s f steps in
       let here : IsMailOf w name (record { number = number; letter = l }) = elim (letters_paired w letters b.sent number) [

@@ -8,20 +8,27 @@ use Rattle.rambo_history.specs.declared.event.Event.{Event}
 use Rattle.rambo_gossip.specs.declared.letter.Letter.{Letter}
 use Rattle.rambo_gossip.specs.Letters.{letter_with}
 use Rattle.rambo_gossip.specs.Short.{IsShort}
-use Rattle.rambo_node.specs.Nodes.{NodeState, Room}
+use Rattle.rambo_names.specs.Names.{IsName}
+use Rattle.rambo_tag.specs.declared.version.Version.{Version}
+use Rattle.rambo_node.specs.FullNodes.{FullNode}
+use Rattle.rambo_node.specs.Nodes.{NodeState, Room, Beside, heard_from}
 use Rattle.rambo_run.specs.declared.step.Step.{Step}
 use Rattle.rambo_run.specs.Worlds.{WorldState, node_at, held_by, letter_at}
 use Rattle.rambo_run.specs.Steps.{Meant, meant}
+use Rattle.rambo_run.specs.Journals.{journal}
 use Rattle.rambo_run.specs.Runs.{run}
+use Rattle.rambo_deltas.specs.Bases.{IsLastChange, base_in}
+use Rattle.rambo_deltas.specs.Deltas.{full_at}
 use Rattle.rambo_deeds.specs.declared.mail.Mail.{Mail}
 use Rattle.rambo_run.specs.Legal.{IsLegal}
 use Rattle.rambo_sequence.specs.declared.mark.Mark.{Mark}
 
--- room: what there is in the node
+-- room: what there is in the node; beside: what it keeps for letters that tell only what is new
 pub record KeeperView (Q : Type 0) : Type 0 where
   pub name : ℕ
   pub node : NodeState Q
   pub room : Room Q
+  pub beside : Beside
   pub tray : List (Mail Q)
   pub seen : List (Step Q)
 
@@ -62,11 +69,23 @@ lightened letters (Some number) = lightened_at letters number (letter_at letters
 abbrev pub IsMailOf : {Q : Type 0} → WorldState Q → ℕ → Mail Q → Type 0
 IsMailOf {Q} w name m = (whole : Letter Q) × (letter_at w.letters m.number ≡ Some whole) × StandsFor w m.letter whole × (whole.addressee ≡ name)
 
--- the node of a keeper is that of the run of what it has seen, and its letters were sent to it there
-pub record IsKeeper {Q : Type 0} (s : QuorumSystem Q) (agreed : Option Q) (holds name : ℕ) (node : NodeState Q) (tray : List (Mail Q)) (seen : List (Step Q)) : Type 0 where
+-- the node of a keeper, with what it keeps beside, is that of the run of what it has seen, and its letters were sent to it
+-- there
+pub record IsKeeper {Q : Type 0} (s : QuorumSystem Q) (agreed : Option Q) (holds name : ℕ) (node : FullNode Q) (tray : List (Mail Q)) (seen : List (Step Q)) : Type 0 where
   pub named : holds ≡ name
-  pub replays : (f : Q) → agreed ≡ Some f → node_at (run s f seen) name ≡ Some node
+  pub replays : (f : Q) → agreed ≡ Some f → node_at (run s f seen) name ≡ Some node.state
+  pub full : (f : Q) → agreed ≡ Some f → full_at s f seen name ≡ node
   pub mail : (f : Q) → agreed ≡ Some f → All (IsMailOf (run s f seen) name) tray
+
+-- each copy's stamp is the phase number of the keeper's node before the step that last changed it, of those that it has seen
+abbrev pub AreStampsOf : {Q : Type 0} → QuorumSystem Q → Q → KeeperView Q → Type 0
+AreStampsOf {Q} s f k =
+    (key : List ℕ) (v : Version) → copies.get k.node.registers key ≡ Some v
+    → (m : ℕ) × (x : NodeState Q) × IsLastChange s f k.seen k.name key v m x × (copies.get k.beside.stamps key ≡ Some x.number)
+
+-- each base is the greatest heard number that letters of its name carried to the node, of those that it has heard
+abbrev pub AreBasesOf : {Q : Type 0} → QuorumSystem Q → Q → KeeperView Q → Type 0
+AreBasesOf {Q} s f k = (j : ℕ) → IsName j → heard_from k.beside.bases j ≡ base_in j (journal s f k.name k.seen)
 
 -- a book is of the founders and the capacity that it was opened with; its steps, which all tokens speak of, are legal and at
 -- most as many; and its letters, its history and its marks are those of their run

@@ -40,7 +40,7 @@ came_in tray (step.Stop n) = None
 
 -- the node of a keeper, with the room that is in it
 abbrev pub roomy : {Q : Type 0} → KeeperView Q → RoomyNode Q
-roomy k = record { state = k.node; room = k.room }
+roomy k = record { state = k.node; room = k.room; beside = k.beside }
 
 -- in this world a step is one of the keeper's node, and isn't refused; and its first half is made, by the letter that it
 -- lets come, if it lets one come

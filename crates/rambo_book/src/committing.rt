@@ -65,7 +65,7 @@ pub fn commit<J: Terms<Q>, Q: Quorums, S: Replica>(
     ensures effect { IfOk result (λ e. e ≡ (turn (state Q.system book.old) step).effect) }
     ensures book { OnOk result (book.new ≡ record book.old { steps = book.old.steps ++ step ∷ []; waiting = book.new.waiting }) }
     ensures waiting { OnOk result (book.new.waiting ≡ waiting_after book.old (sent_by step) (length (state Q.system book.new).letters)) }
-    ensures keeper { OnOk result (keeper.new ≡ record keeper.old { node = keeper.new.node; room = keeper.new.room; seen = book.old.steps ++ step ∷ [] }) }
+    ensures keeper { OnOk result (keeper.new ≡ record keeper.old { node = keeper.new.node; room = keeper.new.room; beside = keeper.new.beside; seen = book.old.steps ++ step ∷ [] }) }
     ensures node { OnOk result (node_at (state Q.system book.new) keeper.old.name ≡ Some keeper.new.node) }
     ensures same { OnErr result ((book.new ≡ book.old) × (keeper.new ≡ record keeper.old { room = keeper.new.room })) }
     ensures told { IfErr result (λ r. Told (refusal Q.system (state Q.system book.old) step) (length book.old.steps) book.old.capacity r) }
@@ -89,7 +89,7 @@ pub fn commit_ready<J: Terms<Q>, Q: Quorums, S: Replica>(
     ensures effect { IfOk result (λ e. e ≡ (turn (state Q.system book.old) ready.step).effect) }
     ensures book { OnOk result (book.new ≡ record book.old { steps = book.old.steps ++ ready.step ∷ []; waiting = book.new.waiting }) }
     ensures waiting { OnOk result (book.new.waiting ≡ waiting_after book.old (sent_by ready.step) (length (state Q.system book.new).letters)) }
-    ensures keeper { OnOk result (keeper.new ≡ record keeper.old { node = keeper.new.node; room = keeper.new.room; seen = book.old.steps ++ ready.step ∷ [] }) }
+    ensures keeper { OnOk result (keeper.new ≡ record keeper.old { node = keeper.new.node; room = keeper.new.room; beside = keeper.new.beside; seen = book.old.steps ++ ready.step ∷ [] }) }
     ensures node { OnOk result (node_at (state Q.system book.new) keeper.old.name ≡ Some keeper.new.node) }
     ensures same { OnErr result ((book.new ≡ book.old) × (keeper.new ≡ keeper.old)) }
     ensures told { IfErr result (λ r. Told None (length book.old.steps) book.old.capacity r) }
@@ -129,7 +129,7 @@ fn enter<J: Terms<Q>, Q: Quorums, S: Replica>(
     ensures effect { IfOk result (λ e. e ≡ (turn (state Q.system book.old) ready.step).effect) }
     ensures book { OnOk result (book.new ≡ record book.old { steps = book.old.steps ++ ready.step ∷ []; waiting = book.new.waiting }) }
     ensures waiting { OnOk result (book.new.waiting ≡ waiting_after book.old (sent_by ready.step) (length (state Q.system book.new).letters)) }
-    ensures keeper { OnOk result (keeper.new ≡ record keeper.old { node = keeper.new.node; room = keeper.new.room; seen = book.old.steps ++ ready.step ∷ [] }) }
+    ensures keeper { OnOk result (keeper.new ≡ record keeper.old { node = keeper.new.node; room = keeper.new.room; beside = keeper.new.beside; seen = book.old.steps ++ ready.step ∷ [] }) }
     ensures node { OnOk result (node_at (state Q.system book.new) keeper.old.name ≡ Some keeper.new.node) }
     ensures same { OnErr result ((book.new ≡ book.old) × (keeper.new ≡ keeper.old)) }
     ensures told { IfErr result (λ r. Told None (length book.old.steps) book.old.capacity r) }

@@ -5,6 +5,7 @@ ghost use Rattle.std.specs.Prelude.{◌≡◌, ◌<◌, ◌^◌, None, Some, len
 ghost use Rattle.std.specs.Vec.{vec_len, vec_capacity};
 ghost use Rattle.rambo_history.specs.Faults.{fault_of};
 ghost use Rattle.rambo_node.specs.Changes.{made_by};
+ghost use Rattle.rambo_node.specs.FullNodes.{beside_after};
 ghost use Rattle.rambo_node.specs.Prepared.{IsPrepared, change_of};
 ghost use Rattle.rambo_node.specs.declared.change.Change.{Change};
 ghost use Rattle.rambo_run.specs.Steps.{effect_in, with_letter, with_event, with_mark};
@@ -32,6 +33,7 @@ pub(crate) fn finish<Q: Quorums, S: Replica>(
     requires room { (vec_len letters.old < vec_capacity letters.old) × (0 < history.old.room) × (vec_len marks.old < vec_capacity marks.old) }
     requires fits { (e : Event) → event_of half ≡ Some e → fault_of history.old.events e ≡ None }
     ensures node { (c : Change Q) → IsReadyStep Q.system worker.old (outline_of (letter_in letters.old.items step.now)) c half → worker.new.state ≡ (made_by worker.old.state c).node }
+    ensures beside { (c : Change Q) → IsReadyStep Q.system worker.old (outline_of (letter_in letters.old.items step.now)) c half → worker.new.beside ≡ beside_after worker.old.state worker.old.beside c }
     ensures effect { (c : Change Q) → IsReadyStep Q.system worker.old (outline_of (letter_in letters.old.items step.now)) c half → result ≡ effect_in letters.old.items (made_by worker.old.state c).deed.effect (made_by worker.old.state c).letter }
     ensures letters { letters.new.items ≡ with_letter letters.old.items (letter_of half) }
     ensures history { history.new.events ≡ with_event history.old.events (event_of half) }
@@ -67,7 +69,8 @@ fn hear<Q: Quorums, S: Replica>(
     hearing: Hearing,
 )
     requires { (c : Change Q) × IsReadyDelivery worker.old (outline_of (letter_in letters.now step.now)) c hearing }
-    ensures { (c : Change Q) → IsReadyDelivery worker.old (outline_of (letter_in letters.now step.now)) c hearing → worker.new.state ≡ (made_by worker.old.state c).node }
+    ensures node { (c : Change Q) → IsReadyDelivery worker.old (outline_of (letter_in letters.now step.now)) c hearing → worker.new.state ≡ (made_by worker.old.state c).node }
+    ensures beside { (c : Change Q) → IsReadyDelivery worker.old (outline_of (letter_in letters.now step.now)) c hearing → worker.new.beside ≡ beside_after worker.old.state worker.old.beside c }
 {
     let Some(letter) = letter_named(letters, step) else {
         return;
@@ -88,6 +91,7 @@ fn finish_call<Q: Quorums, S: Replica>(
     requires room { (0 < history.old.room) × (vec_len marks.old < vec_capacity marks.old) }
     requires fits { (e : Event) → prepared.event ≡ Some e → fault_of history.old.events e ≡ None }
     ensures node { worker.new.state ≡ (made_by worker.old.state (change_of prepared)).node }
+    ensures beside { worker.new.beside ≡ beside_after worker.old.state worker.old.beside (change_of prepared) }
     ensures effect { result ≡ (made_by worker.old.state (change_of prepared)).deed.effect }
     ensures history { history.new.events ≡ with_event history.old.events prepared.event }
     ensures marks { marks.new.items ≡ with_mark marks.old.items prepared.mark }

@@ -8,7 +8,7 @@ ghost use Rattle.rambo_node.specs.Nodes.{first_node};
 ghost use Rattle.rambo_run.specs.Journals.{journal};
 ghost use Rattle.rambo_run.specs.Runs.{run};
 ghost use Rattle.rambo_run.specs.Worlds.{node_at};
-ghost use Rattle.rambo_book.specs.Kept.{IsMailOf};
+ghost use Rattle.rambo_book.specs.Kept.{AreBasesOf, AreStampsOf, IsMailOf};
 
 use crate::terms::Terms;
 use rambo_config_map::ConfigMap;
@@ -54,15 +54,16 @@ impl<J: Terms<Q>, Q: Quorums, S: Replica> Model for Keeper<J, Q, S> {
     ghost use Rattle.std.specs.Coded.{codes};
     ghost use Rattle.rambo_names.specs.Names.{names_code};
     ghost use Rattle.rambo_tag.specs.Copies.{copies_code};
+    ghost use Rattle.rambo_tag.specs.Stamps.{stamps_code};
     ghost use Rattle.rambo_book.specs.Kept.{KeeperView, IsKeeper};
 
     ghost Value = { KeeperView Q };
 
-    ghost coded = { Prim.hlevel (codes, names_code, copies_code, Q.code) };
+    ghost coded = { Prim.hlevel (codes, names_code, copies_code, stamps_code, Q.code) };
 
-    ghost view = { λ k. record { name = k.name; node = k.worker.state; room = k.worker.room; tray = k.tray.items; seen = k.holder.1 } };
+    ghost view = { λ k. record { name = k.name; node = k.worker.state; room = k.worker.room; beside = k.worker.beside; tray = k.tray.items; seen = k.holder.1 } };
 
-    ghost invariant = { λ k. IsKeeper Q.system J.founders k.holder.0 k.name k.worker.state k.tray.items k.holder.1 };
+    ghost invariant = { λ k. IsKeeper Q.system J.founders k.holder.0 k.name (record { state = k.worker.state; stamps = k.worker.beside.stamps; bases = k.worker.beside.bases }) k.tray.items k.holder.1 };
 }
 
 impl<J: Terms<Q>, Q: Quorums, S: Replica> Keeper<J, Q, S> {
@@ -76,6 +77,7 @@ impl<J: Terms<Q>, Q: Quorums, S: Replica> Keeper<J, Q, S> {
     ) -> Keeper<J, Q, S>
         requires named { IsName name }
         requires copies { S.copies registers ≡ map.empty }
+        requires stamps { S.stamps registers ≡ map.empty }
         requires holder { holder ≡ (name, []) }
         requires founders { J.founders ≡ Some founders }
     {
@@ -88,10 +90,14 @@ impl<J: Terms<Q>, Q: Quorums, S: Replica> Keeper<J, Q, S> {
     }
 
     /// What holds of every keeper, whatever happened before: its node is that of the run of what it has seen, which is the
-    /// replay of its own changes in that run; and each letter of its tray stands for one that was sent to it there.
+    /// replay of its own changes in that run; each letter of its tray stands for one that was sent to it there; each stamp is
+    /// the node's phase number before the step that last changed the copy; and each base is the greatest heard number that
+    /// letters of that name carried to it.
     pub fn facts(&self)
         ensures node { (f : Q) → J.founders ≡ Some f → node_at (run Q.system f self.now.seen) self.now.name ≡ Some self.now.node }
         ensures replay { (f : Q) → J.founders ≡ Some f → self.now.node ≡ replayed (first_node Q.system f self.now.name) (journal Q.system f self.now.name self.now.seen) }
+        ensures stamps { (f : Q) → J.founders ≡ Some f → AreStampsOf Q.system f self.now }
+        ensures bases { (f : Q) → J.founders ≡ Some f → AreBasesOf Q.system f self.now }
         ensures tray { (f : Q) → J.founders ≡ Some f → All (IsMailOf (run Q.system f self.now.seen) self.now.name) self.now.tray }
     {
         let _ = &self.worker;
@@ -106,7 +112,7 @@ impl<J: Terms<Q>, Q: Quorums, S: Replica> Keeper<J, Q, S> {
 
     /// Its node, as it takes steps.
     pub fn worker(&self) -> &Worker<Q, S>
-        ensures { result.now ≡ record { state = self.now.node; room = self.now.room } }
+        ensures { result.now ≡ record { state = self.now.node; room = self.now.room; beside = self.now.beside } }
     {
         &self.worker
     }
@@ -123,6 +129,11 @@ impl<J: Terms<Q>, Q: Quorums, S: Replica> Keeper<J, Q, S> {
         ensures { result ≡ self.now.node.map }
     {
         self.worker.map()
+    }
+
+    /// Whether the last letter that it made carries more than 32 copies.
+    pub fn is_long(&self) -> bool {
+        self.worker.is_long()
     }
 
     /// Whether its node is joining, or has a call, a collection or an attempt open.

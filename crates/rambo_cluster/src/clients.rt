@@ -1,12 +1,14 @@
 //! What a client has the nodes do.
 
 use crate::hub::Hub;
+use crate::visits::names_in;
 use rambo_history::{Answer, CallId, Op};
 use rambo_names::{Name, Refusal, Weighted};
 use rambo_post::{Gate, Pass, Terms};
 use rambo_rooms::Bell;
 use rambo_run::Step;
 use std::sync::Wait;
+use std::sync::atomic::Ordering;
 use std::time::Clock;
 
 impl<J: Terms<Weighted>> Hub<J> {
@@ -20,11 +22,28 @@ impl<J: Terms<Weighted>> Hub<J> {
         name: Name,
         op: Op,
     ) -> Result<Option<Answer>, Refusal> {
+        self.shorten(rt, pass, place, &op);
         let number = self.call(rt, pass, place, name, op)?;
         let answer = self.wait_at(rt, gate, pass, place, name, number);
         self.forget(rt, name, number);
         self.hand_over(rt);
         answer
+    }
+
+    // Has each node whose letters grew long get the key of an operation too. By its own calls a node's phase number rises, and
+    // what changed before that it needn't tell again to who heard of the rise; a node that no client asks makes none, and
+    // would tell all that it holds in each letter. Nobody waits for the answer.
+    fn shorten<R: Wait>(&self, rt: &R, pass: &mut Pass<J, Weighted>, place: usize, op: &Op) {
+        let long = self.long.swap(0, Ordering::SeqCst);
+        if long == 0 {
+            return;
+        }
+        for name in names_in(long).iter() {
+            if let Ok(key) = op.key().clone() {
+                let _ = self.call(rt, pass, place, name, Op::Get(key));
+                self.point_at(name);
+            }
+        }
     }
 
     // Calls, and notes who waits. The desk is held meanwhile, so that no advance of the call is noted before.

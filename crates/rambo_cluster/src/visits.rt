@@ -66,7 +66,15 @@ impl<J: Terms<Weighted>> Hub<J> {
                 done = self.leave_letter(rt, name, to, refusal);
             }
         }
+        self.note_long(rt, name);
         done
+    }
+
+    // Notes it where the letters of a node grew long.
+    fn note_long<R: Wait>(&self, rt: &R, name: Name) {
+        if self.post.is_long(rt, name) {
+            self.long.fetch_or(bit(name), Ordering::SeqCst);
+        }
     }
 
     // What is to do at a node is left for later, since memory was refused; where the book is full, it is left for good.
@@ -161,8 +169,8 @@ impl<J: Terms<Weighted>> Hub<J> {
     }
 }
 
-// The names of these bits.
-fn names_in(bits: u64) -> Members {
+/// The names of these bits.
+pub(crate) fn names_in(bits: u64) -> Members {
     let mut names = Members::empty();
     let mut rest = bits;
     for _ in 0..64 {

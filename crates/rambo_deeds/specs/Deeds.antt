@@ -2,6 +2,7 @@
 use Rattle.std.specs.Prelude.{◌≡◌, ℕ, Option, None, Some, List, []}
 use Rattle.rambo_names.specs.declared.refusal.Refusal.{Refusal}
 use Rattle.rambo_names.specs.declared.refusal.Refusal.TheVariants.{NoSuchLetter}
+use Rattle.rambo_names.specs.Names.{IsName}
 use Rattle.rambo_names.specs.Quorums.{QuorumSystem}
 use Rattle.rambo_history.specs.declared.event.Event.{Event}
 use Rattle.std.specs.FinMap as copies
@@ -12,6 +13,7 @@ use Rattle.rambo_node.specs.declared.change.Change.TheVariants as change
 use Rattle.rambo_node.specs.declared.prepared.Hearing.{Hearing}
 use Rattle.rambo_node.specs.declared.effect.Effect.{Effect}
 use Rattle.rambo_node.specs.Changes.{Made, refusal_of, made_by}
+use Rattle.rambo_node.specs.FullNodes.{IsDeltaLetter, full}
 use Rattle.rambo_node.specs.Nodes.{NodeState, RoomyNode}
 use Rattle.rambo_node.specs.Prepared.{IsHearing, Prepares, quick_change}
 use Rattle.rambo_run.specs.declared.step.Step.{Step}
@@ -95,13 +97,20 @@ letter_of (half.Call p) = None
 letter_of (half.Hear h) = None
 letter_of (half.Quick q) = None
 
+-- the letter that goes out, where the change sends this whole one to a name: it with those copies that its addressee may lack
+abbrev pub SendsFor : {Q : Type 0} → RoomyNode Q → Option (Letter Q) → Option (Letter Q) → Type 0
+SendsFor v None None = Unit {0}
+SendsFor v None (Some whole) = ⊥
+SendsFor v (Some l) None = ⊥
+SendsFor v (Some l) (Some whole) = IsName whole.addressee × IsDeltaLetter (full v) whole.addressee l
+
 -- and what it tells is what the change does, which isn't refused
 pub record IsReadyStep {Q : Type 0} (s : QuorumSystem Q) (v : RoomyNode Q) (outline : Option (Letter Q)) (c : Change Q) (h : Half Q) : Type 0 where
   pub accepted : refusal_of s v.state c ≡ None
   pub half : IsHalf s v outline c h
   pub event : event_of h ≡ (made_by v.state c).deed.event
   pub mark : mark_of h ≡ (made_by v.state c).deed.mark
-  pub letter : letter_of h ≡ (made_by v.state c).letter
+  pub letter : SendsFor v (letter_of h) (made_by v.state c).letter
 
 -- what a step did
 pub record Done (Q : Type 0) : Type 0 where

@@ -3,6 +3,7 @@ ghost use Rattle.std.specs.Prelude.{◌≡◌, None, Some, OnOk, IfOk, IfErr};
 ghost use Rattle.std.specs.Option.{option_copied};
 ghost use Rattle.rambo_node.specs.Changes.{refusal_of, made_by};
 ghost use Rattle.rambo_gossip.specs.Letters.{letter_with};
+ghost use Rattle.rambo_node.specs.FullNodes.{beside_after};
 ghost use Rattle.rambo_node.specs.Hearing.{heard_letter};
 ghost use Rattle.rambo_node.specs.Prepared.{IsPrepared, IsReadyKind, change_of, quick_change};
 ghost use Rattle.rambo_run.specs.Steps.{Meant, meant_in, delivery};
@@ -113,11 +114,14 @@ impl<Q: Quorums, S: Replica> Worker<Q, S> {
     ) -> Result<Half<Q>, Refusal>
         requires { judged Q.system self.old.state (meant_by (option_copied letter) step.now) ≡ None }
         ensures same { self.new.state ≡ self.old.state }
+        ensures beside { self.new.beside ≡ self.old.beside }
         ensures ready { IfOk result (λ h. (m : Meant _) → meant_by (option_copied letter.entry) step.now ≡ Some m → IsReadyStep Q.system self.new (outline_of (option_copied letter.entry)) m.change h) }
         ensures refused { IfErr result (λ r. r ≡ Refusal.OutOfMemory) }
     {
         let quick = match step {
-            Step::Send(_, to) => return prepare_send(alloc, &self.node, &mut self.told, *to),
+            Step::Send(_, to) => {
+                return prepare_send(alloc, &self.node, &mut self.told, &mut self.long, *to);
+            }
             Step::Deliver(_) => return prepare_delivery(alloc, &mut self.node, letter),
             Step::Call(_, op) => return prepare_call(alloc, &mut self.node, op),
             Step::Advance(id) => return prepare_advance(alloc, &mut self.node, id),
@@ -139,6 +143,7 @@ impl<Q: Quorums, S: Replica> Worker<Q, S> {
     pub fn finish(&mut self, prepared: Prepared<Q>) -> Effect<Q>
         requires { IsPrepared Q.system self.old prepared }
         ensures node { self.new.state ≡ (made_by self.old.state (change_of prepared)).node }
+        ensures beside { self.new.beside ≡ beside_after self.old.state self.old.beside (change_of prepared) }
         ensures effect { result ≡ (made_by self.old.state (change_of prepared)).deed.effect }
     {
         self.node.finish(prepared)
@@ -149,7 +154,8 @@ impl<Q: Quorums, S: Replica> Worker<Q, S> {
     /// It takes no memory and can't fail.
     pub fn finish_delivery(&mut self, letter: &SharedLetter<Q>, hearing: Hearing)
         requires { IsReadyKind self.old letter.now.kind hearing.newer hearing.number }
-        ensures { self.new.state ≡ heard_letter self.old.state (letter_with letter.now hearing.newer) }
+        ensures node { self.new.state ≡ heard_letter self.old.state (letter_with letter.now hearing.newer) }
+        ensures beside { self.new.beside ≡ beside_after self.old.state self.old.beside (change.Deliver (letter_with letter.now hearing.newer)) }
     {
         self.node.finish_outlined(&letter.outline(), hearing);
     }
@@ -158,6 +164,7 @@ impl<Q: Quorums, S: Replica> Worker<Q, S> {
     pub fn finish_quick(&mut self, quick: Quick<Q>) -> Effect<Q>
         requires { refusal_of Q.system self.old.state (quick_change quick) ≡ None }
         ensures node { self.new.state ≡ (made_by self.old.state (quick_change quick)).node }
+        ensures beside { self.new.beside ≡ beside_after self.old.state self.old.beside (quick_change quick) }
         ensures effect { result ≡ (made_by self.old.state (quick_change quick)).deed.effect }
     {
         self.node.finish_quick(quick)
@@ -186,6 +193,7 @@ fn prepare_call<Q: Quorums, S: Replica>(
 ) -> Result<Half<Q>, Refusal>
     requires { refusal_of Q.system node.old.state (change.Call op.now) ≡ None }
     ensures same { node.new.state ≡ node.old.state }
+    ensures beside { node.new.beside ≡ node.old.beside }
     ensures ready { IfOk result (IsReadyStep Q.system node.new None (change.Call op.now)) }
     ensures refused { IfErr result (λ r. r ≡ Refusal.OutOfMemory) }
 {
@@ -201,6 +209,7 @@ fn prepare_advance<Q: Quorums, S: Replica>(
 ) -> Result<Half<Q>, Refusal>
     requires { refusal_of Q.system node.old.state (change.Advance id.now) ≡ None }
     ensures same { node.new.state ≡ node.old.state }
+    ensures beside { node.new.beside ≡ node.old.beside }
     ensures ready { IfOk result (IsReadyStep Q.system node.new None (change.Advance id.now)) }
     ensures refused { IfErr result (λ r. r ≡ Refusal.OutOfMemory) }
 {
@@ -208,18 +217,26 @@ fn prepare_advance<Q: Quorums, S: Replica>(
     Ok(Half::Call(Box::new(alloc, prepared)?))
 }
 
-// That of the node's letter. It shares what it tells of configurations with the node's last one, if that told the same.
+// A letter is long that has more copies.
+const LONG: usize = 32;
+
+// That of the node's letter, with those copies that its addressee may lack. It shares what it tells of configurations with
+// the node's last one, if that told the same. Whether it is long is noted.
 fn prepare_send<Q: Quorums, S: Replica>(
     alloc: Global,
     node: &Node<Q, S>,
     told: &mut Option<Arc<Standing<Q>, Global>>,
+    long: &mut bool,
     to: Name,
 ) -> Result<Half<Q>, Refusal>
     requires { refusal_of Q.system node.now.state (change.Send to) ≡ None }
     ensures ready { IfOk result (IsReadyStep Q.system node.now None (change.Send to)) }
     ensures refused { IfErr result (λ r. r ≡ Refusal.OutOfMemory) }
 {
-    let copies = node.pack()?;
+    // (whom it is for has a number in range)
+    let _number = to.number();
+    let copies = node.pack_for(to)?;
+    *long = copies.copies().len() > LONG;
     let letter = SharedLetter::new(alloc, &node.outline_for(to), copies, told)?;
     Ok(Half::Send(letter))
 }
@@ -232,6 +249,7 @@ fn prepare_delivery<Q: Quorums, S: Replica>(
 ) -> Result<Half<Q>, Refusal>
     requires { judged Q.system node.old.state (delivery (option_copied letter)) ≡ None }
     ensures same { node.new.state ≡ node.old.state }
+    ensures beside { node.new.beside ≡ node.old.beside }
     ensures ready { IfOk result (λ h. (m : Meant _) → delivery (option_copied letter.entry) ≡ Some m → IsReadyStep Q.system node.new (outline_of (option_copied letter.entry)) m.change h) }
     ensures refused { IfErr result (λ r. r ≡ Refusal.OutOfMemory) }
 {

@@ -162,6 +162,7 @@ pub(crate) fn ready_letter<Q: Quorums, S: Replica>(
 ) -> Result<Hearing, Refusal>
     requires { refusal_of Q.system node.old.state (change.Deliver letter.now) ≡ None }
     ensures same { node.new.state ≡ node.old.state }
+    ensures beside { node.new.beside ≡ node.old.beside }
     ensures hearing { IfOk result (IsHearing node.new letter.now) }
     ensures refused { IfErr result (λ r. r ≡ Refusal.OutOfMemory) }
 {

@@ -15,6 +15,8 @@ use std::sync::Arc;
 pub struct Worker<Q: Quorums, S: Replica> {
     // What it told of configurations in its last letter, for the next ones that tell the same.
     pub(crate) told: Option<Arc<Standing<Q>, Global>>,
+    // Whether its last letter was long.
+    pub(crate) long: bool,
     pub(crate) node: Node<Q, S>,
 }
 
@@ -23,6 +25,7 @@ impl<Q: Quorums, S: Replica> Drop for Worker<Q, S> {
     fn drop(self) {
         let Worker {
             told: _told,
+            long: _,
             node: _node,
         } = self;
     }
@@ -32,11 +35,12 @@ impl<Q: Quorums, S: Replica> Model for Worker<Q, S> {
     ghost use Rattle.std.specs.Coded.{codes};
     ghost use Rattle.rambo_names.specs.Names.{names_code};
     ghost use Rattle.rambo_tag.specs.Copies.{copies_code};
+    ghost use Rattle.rambo_tag.specs.Stamps.{stamps_code};
     ghost use Rattle.rambo_node.specs.Nodes.{RoomyNode};
 
     ghost Value = { RoomyNode Q };
 
-    ghost coded = { Prim.hlevel (codes, names_code, copies_code, Q.code) };
+    ghost coded = { Prim.hlevel (codes, names_code, copies_code, stamps_code, Q.code) };
 
     ghost view = { λ w. w.node };
 }
@@ -46,7 +50,11 @@ impl<Q: Quorums, S: Replica> Worker<Q, S> {
     pub fn new(node: Node<Q, S>) -> Worker<Q, S>
         ensures { result ≡ node }
     {
-        Worker { told: None, node }
+        Worker {
+            told: None,
+            long: false,
+            node,
+        }
     }
 
     /// Its node.
@@ -81,6 +89,11 @@ impl<Q: Quorums, S: Replica> Worker<Q, S> {
         ensures { result ≡ is_stopped self.now.state.status }
     {
         self.node.status().is_stopped()
+    }
+
+    /// Whether the last letter that it made carries more than 32 copies.
+    pub fn is_long(&self) -> bool {
+        self.long
     }
 
     /// Whether its node is joining, or has a call, a collection or an attempt open.

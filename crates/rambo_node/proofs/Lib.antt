@@ -1,6 +1,8 @@
 pub mod Advances
+pub mod Besides
 pub mod Judged
 pub mod LastNumbers
+pub mod Late
 pub mod Memory
 pub mod Fitting
 pub mod Readiness

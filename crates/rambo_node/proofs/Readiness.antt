@@ -6,6 +6,7 @@ use Rattle.std.specs.List.{remove}
 use Rattle.rambo_names.specs.Quorums.{QuorumSystem}
 use Rattle.rambo_names.specs.Refusals.{least}
 use Rattle.rambo_tag.specs.Copies.{Copies, joined}
+use Rattle.rambo_tag.specs.Stamps.{AreStampedAlike}
 use Rattle.rambo_history.specs.declared.event.CallId.{CallId}
 use Rattle.rambo_history.specs.declared.event.Event.TheVariants as event
 use Rattle.rambo_history.specs.declared.operation.Op.{Op}
@@ -32,6 +33,7 @@ use Rattle.rambo_node.specs.declared.prepared.Quick.TheVariants as quick
 use Rattle.rambo_node.specs.declared.prepared.HearTurn.{HearTurn}
 use Rattle.rambo_node.specs.declared.prepared.Hearing.{Hearing}
 use Rattle.rambo_node.specs.declared.prepared.Taken.{Taken}
+use Rattle.rambo_node.specs.FullNodes.{beside_after}
 use Rattle.rambo_node.specs.Changes.{refusal_of, made_by, told, quiet, bid_made, decided, collection_turned, collection_advanced, attempt_advanced, rebid_made, begun_again}
 use Rattle.rambo_node.specs.Hearing.{heard_letter, heard_gossip, heard_rest}
 use Rattle.rambo_node.specs.Kept.{answered_from, move_deed, propagation_begun}
@@ -41,6 +43,7 @@ use Rattle.rambo_node.specs.Prepared.{quick_change, put_by, with_put, HasRoomFor
 use Rattle.rambo_node.specs.Reconfigurations.{collection_move, attempt_ended}
 use Rattle.rambo_node.specs.Refusals.{hear_causes, is_last, query_spent, tags_spent}
 use Rattle.rambo_node.proofs.Advances.{query_moves, call_closes}
+use Rattle.rambo_node.proofs.Besides.{alike_beside}
 use Rattle.rambo_node.proofs.Judged.{advance_next, asked_next}
 use Rattle.rambo_node.proofs.Short.{own_copies}
 use Rattle.rambo_node.proofs.Telling.{heard_alike, kind_twice}
@@ -124,15 +127,23 @@ hearing_ends v l o h is e =
     ∙ ap (heard_letter v.state) (short_is v.state l h.newer e.newer)
     ∙ (heard_alike v.state l h.newer (copies_in l.kind) e.newer).0 ∙ ap (heard_letter v.state) (own_copies l)
 
+-- and leaves beside what the whole letter would
+pub hearing_beside : {Q : Type 0} (v : RoomyNode Q) (l o : Letter Q) (h : Hearing) → o ≡ letter_with l map.empty → IsHearing v l h
+    → beside_after v.state v.beside (change.Deliver (letter_with o h.newer)) ≡ beside_after v.state v.beside (change.Deliver l)
+hearing_beside v l o h is e =
+    ap (λ (n : Letter _). beside_after v.state v.beside (change.Deliver (letter_with n h.newer))) is
+    ∙ alike_beside v.state v.beside l.sender l.kind h.newer e.stamped
+
 pub hearing_ready : {Q : Type 0} (v : RoomyNode Q) (l o : Letter Q) (h : Hearing) → o ≡ letter_with l map.empty → IsHearing v l h → IsReadyKind v o.kind h.newer h.number
 hearing_ready v l o h is e = subst (λ (n : Letter _). IsReadyKind v n.kind h.newer h.number) (sym is) (ready_apart v l.kind map.empty h.newer h.number e.ready)
 
 -- what was found of gossip is right for a letter that has it
 pub gossip_hearing : {Q : Type 0} (v : RoomyNode Q) (x : NodeState Q) (l : Letter Q) (o : Gossip Q) (copies : Copies) (h : Hearing) → v.state ≡ x → l.kind ≡ kind.Gossip (gossip_with o copies)
-    → IsReadyGossip v o h.newer h.number → joined x.registers h.newer ≡ joined x.registers copies → IsHearing v l h
-gossip_hearing v x l o copies h same is ready newer = record {
+    → IsReadyGossip v o h.newer h.number → joined x.registers h.newer ≡ joined x.registers copies → AreStampedAlike x.registers h.newer copies → IsHearing v l h
+gossip_hearing v x l o copies h same is ready newer stamped = record {
   ready = subst (λ k. IsReadyKind v k h.newer h.number) (sym is) (ready_apart v (kind.Gossip o) copies h.newer h.number ready);
   newer = subst (λ y. joined y.registers h.newer ≡ joined y.registers (copies_in l.kind)) (sym same) (newer ∙ sym (ap (λ k. joined x.registers (copies_in k)) is));
+  stamped = subst (λ y. AreStampedAlike y.registers h.newer (copies_in l.kind)) (sym same) (subst (λ k. AreStampedAlike x.registers h.newer (copies_in k)) (sym is) stamped);
 }
 
 -- other copies are refused alike
@@ -197,6 +208,7 @@ module _ {Q : Type 0} (s : QuorumSystem Q) (v : RoomyNode Q) where
   call_prepares o asked named id ok same told own room = record {
     prepared = record { accepted = ap (λ p. refusal_of s v.state (change.Call p)) same ∙ ok; ready = room };
     same = ap (λ p. made_by v.state (change.Call p)) same;
+    beside = refl;
     event = λ i. Some (event.Call (own i) (told i));
     mark = refl;
     copy = refl;
@@ -214,6 +226,7 @@ module _ {Q : Type 0} (s : QuorumSystem Q) (v : RoomyNode Q) where
           ready = (o, record { asked = asked; place = own; kept = kept; put = put; room = subst (HasRoomFor v.room) (sym put) room });
         };
         same = refl;
+        beside = refl;
         event = ap (λ e. e.event) told;
         mark = ap (λ e. e.mark) told;
         copy = ap (λ e. e.copy) told;
@@ -228,6 +241,7 @@ module _ {Q : Type 0} (s : QuorumSystem Q) (v : RoomyNode Q) where
       record {
         prepared = record { accepted = ok; ready = record { told = asked; place = own; effect = ap (λ e. e.effect) told } };
         same = refl;
+        beside = refl;
         event = ap (λ e. e.event) told;
         mark = ap (λ e. e.mark) told;
         copy = ap (λ e. e.copy) told;
@@ -245,6 +259,7 @@ module _ {Q : Type 0} (s : QuorumSystem Q) (v : RoomyNode Q) where
           ready = subst (λ (n : Letter Q). IsReadyKind v n.kind newer t.hearing.number) (sym is) (ready_apart v l.kind map.empty newer t.hearing.number h.ready);
         };
         same = ap (made_by v.state) alike ∙ short_ends v.state l newer h.newer;
+        beside = hearing_beside v l (heard_by t) t.hearing is h;
         event = refl;
         mark = refl;
         copy = refl;
@@ -256,6 +271,7 @@ module _ {Q : Type 0} (s : QuorumSystem Q) (v : RoomyNode Q) where
       record {
         prepared = record { accepted = ok; ready = _ };
         same = refl;
+        beside = refl;
         event = nothing.0;
         mark = nothing.1;
         copy = nothing.2;

@@ -7,5 +7,6 @@ pub mod Operations
 pub mod Reconfigurations
 pub mod Refusals
 pub mod Changes
+pub mod FullNodes
 pub mod Prepared
 pub mod Claims

@@ -5,6 +5,7 @@ use Rattle.std.specs.FinMap as map
 use Rattle.rambo_names.specs.Names.{NameSet}
 use Rattle.rambo_names.specs.Quorums.{QuorumSystem}
 use Rattle.rambo_tag.specs.Copies.{Copies}
+use Rattle.rambo_tag.specs.Stamps.{Stamps}
 use Rattle.rambo_history.specs.declared.event.CallId.{CallId}
 use Rattle.rambo_config_map.specs.Maps.{MapState, first_map}
 use Rattle.rambo_gc.specs.Collections.{CollectionState}
@@ -38,10 +39,17 @@ pub record Room (Q : Type 0) : Type 0 where
   pub keys : ℕ
   pub calls : KeptCalls Q
 
--- a node, and the room that it has made
+-- what a node keeps for letters that tell only what is new: of each key the phase number before the change that last put
+-- or merged its copy, and of the names 1, 2, .. the greatest phase number of the node that their letters carried as heard
+pub record Beside : Type 0 where
+  pub stamps : Stamps
+  pub bases : List ℕ
+
+-- a node, the room that it has made, and what it keeps beside
 pub record RoomyNode (Q : Type 0) : Type 0 where
   pub state : NodeState Q
   pub room : Room Q
+  pub beside : Beside
 
 -- the open call of an id: none where the id is of another node
 abbrev pub open_call : {Q : Type 0} → NodeState Q → CallId → Option (CallState Q)

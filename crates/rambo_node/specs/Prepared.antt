@@ -5,6 +5,7 @@ use Rattle.rambo_names.specs.Quorums.{QuorumSystem}
 use Rattle.rambo_tag.specs.declared.keyed_version.KeyedVersion.{KeyedVersion}
 use Rattle.rambo_tag.specs.declared.version.Version.{Version}
 use Rattle.rambo_tag.specs.Copies.{Copies, HasRoom, joined}
+use Rattle.rambo_tag.specs.Stamps.{AreStampedAlike}
 use Rattle.rambo_history.specs.declared.event.CallId.{CallId}
 use Rattle.rambo_history.specs.declared.operation.Op.{Op}
 use Rattle.rambo_calls.specs.Calls.{place_of, query_in}
@@ -27,6 +28,7 @@ use Rattle.rambo_node.specs.declared.prepared.Hearing.{Hearing}
 use Rattle.rambo_node.specs.declared.prepared.QueryTurn.{QueryTurn}
 use Rattle.rambo_node.specs.declared.prepared.AnswerTurn.{AnswerTurn}
 use Rattle.rambo_node.specs.Changes.{refusal_of, made_by, copy_put}
+use Rattle.rambo_node.specs.FullNodes.{beside_after}
 use Rattle.rambo_node.specs.Hearing.{number_after}
 use Rattle.rambo_node.specs.Kept.{propagation_begun}
 use Rattle.rambo_node.specs.Nodes.{NodeState, Room, RoomyNode, open_call}
@@ -103,7 +105,7 @@ pub record IsReadyAnswer {Q : Type 0} (v : RoomyNode Q) (t : AnswerTurn Q) : Typ
 -- gossip may be heard with these copies, after which the phase number is this
 pub record IsReadyGossip {Q : Type 0} (v : RoomyNode Q) (g : Gossip Q) (newer : Copies) (number : ℕ) : Type 0 where
   pub counted : number ≡ number_after v.state g
-  pub keys : HasRoom v.room.keys v.state.registers newer
+  pub keys : HasRoom v.room.keys newer
   pub phases : IsRoomy g.map v.room.calls.list
 
 -- what a letter says may be heard: the wish to join needs no room
@@ -111,10 +113,11 @@ abbrev pub IsReadyKind : {Q : Type 0} → RoomyNode Q → Kind Q → Copies → 
 IsReadyKind v kind.Join newer number = Unit {0}
 IsReadyKind v (kind.Gossip g) newer number = IsReadyGossip v g newer number
 
--- a letter may be heard with these of its copies, which make of the node's what all of them would
+-- a letter may be heard with these of its copies, which make of the node's what all of them would, and are stamped alike
 pub record IsHearing {Q : Type 0} (v : RoomyNode Q) (l : Letter Q) (h : Hearing) : Type 0 where
   pub ready : IsReadyKind v l.kind h.newer h.number
   pub newer : joined v.state.registers h.newer ≡ joined v.state.registers (copies_in l.kind)
+  pub stamped : AreStampedAlike v.state.registers h.newer (copies_in l.kind)
 
 -- there is room for a turn, and what it has is right
 abbrev pub IsReady : {Q : Type 0} → RoomyNode Q → Turn Q → Type 0
@@ -137,6 +140,7 @@ IsPrepared s v p = IsReadyTurn s v p.turn
 pub record Prepares {Q : Type 0} (s : QuorumSystem Q) (v : RoomyNode Q) (c : Change Q) (p : Prepared Q) : Type 0 where
   pub prepared : IsPrepared s v p
   pub same : made_by v.state (change_of p) ≡ made_by v.state c
+  pub beside : beside_after v.state v.beside (change_of p) ≡ beside_after v.state v.beside c
   pub event : p.event ≡ (made_by v.state c).deed.event
   pub mark : p.mark ≡ (made_by v.state c).deed.mark
   pub copy : p.copy ≡ (made_by v.state c).deed.copy

@@ -5,6 +5,7 @@ ghost use Rattle.std.specs.Option.{option_copied};
 ghost use Rattle.rambo_tag.specs.Tags.{tag_of};
 ghost use Rattle.rambo_history.specs.declared.operation.Op.TheVariants as asked;
 ghost use Rattle.rambo_node.specs.Changes.{refusal_of, made_by, quiet_deed};
+ghost use Rattle.rambo_node.specs.FullNodes.{beside_after};
 ghost use Rattle.rambo_node.specs.Kept.{answered_from, move_deed};
 ghost use Rattle.rambo_calls.specs.Calls.{query_in};
 ghost use Rattle.rambo_node.specs.Operations.{new_copy, taken};
@@ -27,9 +28,11 @@ impl<Q: Quorums, S: Replica> Node<Q, S> {
     pub(crate) fn do_call(&mut self, op: Op) -> Result<Deed<Q>, Refusal>
         requires { refusal_of Q.system self.old.state (change.Call op) ≡ None }
         ensures node { OnOk result (self.new.state ≡ (made_by self.old.state (change.Call op)).node) }
+        ensures beside { OnOk result (self.new.beside ≡ beside_after self.old.state self.old.beside (change.Call op)) }
         ensures deed { IfOk result (λ d. d ≡ (made_by self.old.state (change.Call op)).deed) }
         ensures refused { IfErr result (λ r. r ≡ Refusal.OutOfMemory) }
         ensures err { OnErr result (self.new.state ≡ self.old.state) }
+        ensures kept { OnErr result (self.new.beside ≡ self.old.beside) }
     {
         let id = self.next_id();
         let event = Event::Call(id, op.clone()?);
@@ -61,9 +64,11 @@ impl<Q: Quorums, S: Replica> Node<Q, S> {
     pub fn begin(&mut self, op: Op) -> Result<CallId, Refusal>
         requires { refusal_of Q.system self.old.state (change.Call op) ≡ None }
         ensures node { OnOk result (self.new.state ≡ (made_by self.old.state (change.Call op)).node) }
+        ensures beside { OnOk result (self.new.beside ≡ beside_after self.old.state self.old.beside (change.Call op)) }
         ensures id { IfOk result (λ id. id ≡ record { name = self.old.state.name; number = self.old.state.made + 1 }) }
         ensures refused { IfErr result (λ r. r ≡ Refusal.OutOfMemory) }
         ensures err { OnErr result (self.new.state ≡ self.old.state) }
+        ensures kept { OnErr result (self.new.beside ≡ self.old.beside) }
     {
         self.room_for_call()?;
         Ok(self.finish_call(op))
@@ -72,6 +77,7 @@ impl<Q: Quorums, S: Replica> Node<Q, S> {
     // Makes room for one call more.
     pub(crate) fn room_for_call(&mut self) -> Result<(), Refusal>
         ensures same { self.new.state ≡ self.old.state }
+        ensures beside { self.new.beside ≡ self.old.beside }
         ensures ok { OnOk result (0 < self.new.room.calls.room) }
         ensures refused { IfErr result (λ r. r ≡ Refusal.OutOfMemory) }
     {
@@ -82,7 +88,8 @@ impl<Q: Quorums, S: Replica> Node<Q, S> {
     #[tactic(auto, unfolding(crate::specs::Changes::made_by, crate::specs::Operations::called_again))]
     pub(crate) fn do_again(&mut self, id: CallId)
         requires { refusal_of Q.system self.old.state (change.Again id) ≡ None }
-        ensures { self.new.state ≡ (made_by self.old.state (change.Again id)).node }
+        ensures state { self.new.state ≡ (made_by self.old.state (change.Again id)).node }
+        ensures beside { self.new.beside ≡ self.old.beside }
     {
         let place = self.place_of(&id);
         self.number += 1;
@@ -98,9 +105,11 @@ impl<Q: Quorums, S: Replica> Node<Q, S> {
         requires accepted { refusal_of Q.system self.old.state (change.Advance id) ≡ None }
         requires quiet { deed.old ≡ quiet_deed }
         ensures node { OnOk result (self.new.state ≡ (made_by self.old.state (change.Advance id)).node) }
+        ensures beside { OnOk result (self.new.beside ≡ beside_after self.old.state self.old.beside (change.Advance id)) }
         ensures deed { OnOk result (deed.new ≡ (made_by self.old.state (change.Advance id)).deed) }
         ensures refused { IfErr result (λ r. r ≡ Refusal.OutOfMemory) }
         ensures err { OnErr result ((self.new.state ≡ self.old.state) × (deed.new ≡ deed.old)) }
+        ensures kept { OnErr result (self.new.beside ≡ self.old.beside) }
     {
         let place = self.ready_place(&id)?;
         match self.query_at(place) {
@@ -121,6 +130,7 @@ impl<Q: Quorums, S: Replica> Node<Q, S> {
     pub(crate) fn ready_place(&mut self, id: &CallId) -> Result<usize, Refusal>
         requires { refusal_of Q.system self.old.state (change.Advance id.now) ≡ None }
         ensures same { self.new.state ≡ self.old.state }
+        ensures beside { self.new.beside ≡ self.old.beside }
         ensures found { IfOk result (IsFound Q.system self.new.state id.now) }
         ensures room { IfOk result (λ place. HasRoomFor self.new.room (put_by self.new.state (query_in (slice_get self.new.state.calls place)))) }
         ensures refused { IfErr result (λ r. r ≡ Refusal.OutOfMemory) }
@@ -133,6 +143,7 @@ impl<Q: Quorums, S: Replica> Node<Q, S> {
     // Makes room for the copy that the call at a place will put, if it is a set in its query.
     fn room_at(&mut self, place: usize) -> Result<(), Refusal>
         ensures same { self.new.state ≡ self.old.state }
+        ensures beside { self.new.beside ≡ self.old.beside }
         ensures room { OnOk result (HasRoomFor self.new.room (put_by self.new.state (query_in (slice_get self.new.state.calls place)))) }
         ensures refused { IfErr result (λ r. r ≡ Refusal.OutOfMemory) }
     {

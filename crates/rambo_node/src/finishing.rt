@@ -2,6 +2,7 @@
 //!
 //! Nothing here takes memory, and nothing fails.
 ghost use Rattle.std.specs.Prelude.{◌≡◌, ◌+◌, ◌<◌, false, remove};
+ghost use Rattle.rambo_node.specs.FullNodes.{stamp_put};
 ghost use Rattle.rambo_node.specs.Kept.{propagation_begun};
 ghost use Rattle.rambo_node.specs.Operations.{called};
 ghost use Rattle.rambo_node.specs.Prepared.{HasRoomFor, with_put, query_done};
@@ -21,6 +22,7 @@ impl<Q: Quorums, S: Replica> Node<Q, S> {
         requires made { is_last self.old.state.made ≡ false }
         requires room { 0 < self.old.room.calls.room }
         ensures node { self.new.state ≡ called self.old.state op }
+        ensures beside { self.new.beside ≡ self.old.beside }
         ensures id { result ≡ record { name = self.old.state.name; number = self.old.state.made + 1 } }
     {
         let id = self.next_id();
@@ -35,27 +37,30 @@ impl<Q: Quorums, S: Replica> Node<Q, S> {
     pub(crate) fn finish_query(&mut self, place: usize, taken: Taken)
         requires next { is_last self.old.state.number ≡ false }
         requires room { HasRoomFor self.old.room taken.put }
-        ensures { self.new.state ≡ query_done self.old.state place taken.kept taken.put }
+        ensures state { self.new.state ≡ query_done self.old.state place taken.kept taken.put }
+        ensures beside { self.new.beside ≡ record self.old.beside { stamps = stamp_put self.old.state.number self.old.beside.stamps taken.put } }
     {
         let Taken { kept, put } = taken;
         self.put(put);
         self.propagate(place, kept);
     }
 
-    // Puts a copy, if there is one, for which there is room.
+    // Puts a copy, if there is one, for which there is room: it is stamped with the phase number.
     fn put(&mut self, put: Option<KeyedVersion>)
         requires { HasRoomFor self.old.room put }
-        ensures { self.new.state ≡ record self.old.state { registers = with_put self.old.state.registers put } }
+        ensures state { self.new.state ≡ record self.old.state { registers = with_put self.old.state.registers put } }
+        ensures beside { self.new.beside ≡ record self.old.beside { stamps = stamp_put self.old.state.number self.old.beside.stamps put } }
     {
         if let Some(KeyedVersion { key, version }) = put {
-            self.registers.put_room(key, version);
+            self.registers.put_room(key, version, self.number);
         }
     }
 
     // The propagation of the call at a place begins.
     fn propagate(&mut self, place: usize, kept: Option<Version>)
         requires { is_last self.old.state.number ≡ false }
-        ensures { self.new.state ≡ propagation_begun self.old.state place kept }
+        ensures state { self.new.state ≡ propagation_begun self.old.state place kept }
+        ensures beside { self.new.beside ≡ self.old.beside }
     {
         self.number += 1;
         self.calls
@@ -64,7 +69,8 @@ impl<Q: Quorums, S: Replica> Node<Q, S> {
 
     // A met propagation at a place is answered: its call is taken out.
     pub(crate) fn finish_answer(&mut self, place: usize)
-        ensures { self.new.state ≡ record self.old.state { calls = remove self.old.state.calls place } }
+        ensures state { self.new.state ≡ record self.old.state { calls = remove self.old.state.calls place } }
+        ensures beside { self.new.beside ≡ self.old.beside }
     {
         self.calls.close(place);
     }

@@ -6,9 +6,12 @@ ghost use Rattle.rambo_gossip.specs.Letters.{letter_with, kind_with, gossip_with
 ghost use Rattle.rambo_gossip.specs.Outlines.{outlined, gossip_outlined};
 ghost use Rattle.rambo_node.specs.Changes.{refusal_of, made_by};
 ghost use Rattle.rambo_tag.specs.Copies.{joined};
+ghost use Rattle.rambo_tag.specs.Stamps.{AreStampedAlike};
 ghost use Rattle.rambo_calls.specs.Hearing.{any_gap, number_after};
 ghost use Rattle.rambo_calls.specs.Kept.{IsRoomy};
+ghost use Rattle.rambo_node.specs.FullNodes.{IsDelta, IsDeltaLetter, full, beside_after, beside_heard};
 ghost use Rattle.rambo_node.specs.Hearing.{collection_after, heard_gossip, heard_rest, heard_join, heard_letter};
+ghost use Rattle.rambo_node.specs.Nodes.{raised};
 ghost use Rattle.rambo_node.specs.Letters.{letter_for};
 ghost use Rattle.rambo_node.specs.Prepared.{IsHearing, IsReadyGossip, IsReadyKind, heard_by};
 ghost use Rattle.rambo_node.specs.Refusals.{is_last};
@@ -37,6 +40,35 @@ impl<Q: Quorums, S: Replica> Node<Q, S> {
         self.may_send(to)?;
         let copies = self.pack()?;
         Ok(self.outline_for(to).with_copies(copies))
+    }
+
+    /// The letter for a name with those copies alone that may be new to it, as `pack_for` finds them: what it leaves out, the
+    /// name holds. The rest of it is as in `letter_for`.
+    ///
+    /// Refused are 3 where the node is idle, 4 where it has stopped, 5 where the name is its own or one that
+    /// it doesn't know, 22 where there is no room for the list of its copies.
+    #[tactic(auto, unfolding(crate::specs::Changes::made_by))]
+    pub fn delta_for(&self, to: Name) -> Result<Letter<Q>, Refusal>
+        ensures judged { OnOk result (refusal_of Q.system self.now.state (change.Send to) ≡ None) }
+        ensures letter { IfOk result (IsDeltaLetter (full self.now) to) }
+        ensures refused { IfErr result (IsRefusal (refusal_of Q.system self.now.state (change.Send to))) }
+    {
+        self.may_send(to)?;
+        let copies = self.pack_for(to)?;
+        let outline = self.outline_for(to);
+        Ok(outline.with_copies(copies))
+    }
+
+    /// The copies that may be new to a name: those whose stamp is at least the node's base for it, which is the greatest
+    /// phase number of the node that letters of the name carried as heard. All that changed before, the name holds. No key
+    /// and no value is copied, and it takes the time of what it gives.
+    ///
+    /// `OutOfMemory` where there is no room for the list of them.
+    pub fn pack_for(&self, to: Name) -> Result<Pack, Refusal>
+        ensures since { IfOk result (IsDelta (full self.now) to) }
+        ensures refused { IfErr result (λ r. r ≡ Refusal.OutOfMemory) }
+    {
+        self.registers.pack_since(self.bases.of(to))
     }
 
     /// All its copies, to be sent. No key and no value is copied.
@@ -73,9 +105,11 @@ impl<Q: Quorums, S: Replica> Node<Q, S> {
     pub fn hear(&mut self, letter: &Letter<Q>) -> Result<(), Refusal>
         ensures judged { OnOk result (refusal_of Q.system self.old.state (change.Deliver letter.now) ≡ None) }
         ensures node { OnOk result (self.new.state ≡ (made_by self.old.state (change.Deliver letter.now)).node) }
+        ensures beside { OnOk result (self.new.beside ≡ beside_after self.old.state self.old.beside (change.Deliver letter.now)) }
         ensures refused { IfErr result (IsRefusal (refusal_of Q.system self.old.state (change.Deliver letter.now))) }
         ensures join { letter.now.kind ≡ Kind.Join → IfErr result (λ r. refusal_of Q.system self.old.state (change.Deliver letter.now) ≡ Some r) }
         ensures err { OnErr result (self.new.state ≡ self.old.state) }
+        ensures kept { OnErr result (self.new.beside ≡ self.old.beside) }
     {
         self.may_hear(letter)?;
         self.do_hear(letter)
@@ -93,9 +127,11 @@ impl<Q: Quorums, S: Replica> Node<Q, S> {
     ) -> Result<(), Refusal>
         requires { refusal_of Q.system self.old.state (change.Deliver outline.now) ≡ None }
         ensures node { OnOk result (self.new.state ≡ (made_by self.old.state (change.Deliver (letter_with outline.now copies.now))).node) }
+        ensures beside { OnOk result (self.new.beside ≡ beside_after self.old.state self.old.beside (change.Deliver (letter_with outline.now copies.now))) }
         ensures refused { IfErr result (λ r. r ≡ Refusal.OutOfMemory) }
         ensures join { outline.now.kind ≡ Kind.Join → IsOk result }
         ensures err { OnErr result (self.new.state ≡ self.old.state) }
+        ensures kept { OnErr result (self.new.beside ≡ self.old.beside) }
     {
         match &outline.gossip {
             None => {
@@ -113,9 +149,11 @@ impl<Q: Quorums, S: Replica> Node<Q, S> {
     pub(crate) fn do_hear(&mut self, letter: &Letter<Q>) -> Result<(), Refusal>
         requires { refusal_of Q.system self.old.state (change.Deliver letter.now) ≡ None }
         ensures node { OnOk result (self.new.state ≡ heard_letter self.old.state letter.now) }
+        ensures beside { OnOk result (self.new.beside ≡ beside_after self.old.state self.old.beside (change.Deliver letter.now)) }
         ensures refused { IfErr result (λ r. r ≡ Refusal.OutOfMemory) }
         ensures join { letter.now.kind ≡ Kind.Join → IsOk result }
         ensures err { OnErr result (self.new.state ≡ self.old.state) }
+        ensures kept { OnErr result (self.new.beside ≡ self.old.beside) }
     {
         match &letter.kind {
             Kind::Join => {
@@ -154,7 +192,8 @@ impl<Q: Quorums, S: Replica> Node<Q, S> {
     // A joining node makes itself known.
     #[tactic(auto, unfolding(crate::specs::Hearing::heard_join))]
     fn meet(&mut self, from: Name)
-        ensures { self.new.state ≡ heard_join self.old.state from }
+        ensures state { self.new.state ≡ heard_join self.old.state from }
+        ensures beside { self.new.beside ≡ self.old.beside }
     {
         self.known = self.known.with(from);
     }
@@ -168,12 +207,14 @@ impl<Q: Quorums, S: Replica> Node<Q, S> {
     ) -> Result<(), Refusal>
         requires { (any_gap gossip.now.heard gossip.now.map.now self.old.state.calls && is_last self.old.state.number) ≡ false }
         ensures ok { OnOk result (self.new.state ≡ heard_gossip self.old.state from (gossip_with (gossip_outlined gossip.now) copies.now)) }
+        ensures beside { OnOk result (self.new.beside ≡ beside_heard self.old.state self.old.beside from (Kind.Gossip (gossip_with (gossip_outlined gossip.now) copies.now))) }
         ensures refused { IfErr result (λ r. r ≡ Refusal.OutOfMemory) }
         ensures err { OnErr result (self.new.state ≡ self.old.state) }
+        ensures kept { OnErr result (self.new.beside ≡ self.old.beside) }
     {
         let number = self.number_after(gossip.heard, gossip.map);
         self.room_for(gossip.map)?;
-        self.registers.merge(copies)?;
+        self.registers.merge(copies, self.number)?;
         self.settle(from, gossip, number);
         Ok(())
     }
@@ -181,6 +222,7 @@ impl<Q: Quorums, S: Replica> Node<Q, S> {
     // Makes room in the open calls to hear gossip with this map.
     fn room_for(&mut self, map: &ConfigMap<Q>) -> Result<(), Refusal>
         ensures same { self.new.state ≡ self.old.state }
+        ensures beside { self.new.beside ≡ self.old.beside }
         ensures room { OnOk result (IsRoomy map.now self.new.room.calls.list) }
         ensures refused { IfErr result (λ r. r ≡ Refusal.OutOfMemory) }
     {
@@ -192,7 +234,8 @@ impl<Q: Quorums, S: Replica> Node<Q, S> {
     fn settle(&mut self, from: Name, gossip: &GossipOutline<'_, Q>, number: u64)
         requires room { IsRoomy gossip.now.map.now self.old.room.calls.list }
         requires number { number ≡ number_after self.old.state.number gossip.now.heard gossip.now.map.now self.old.state.calls }
-        ensures { self.new.state ≡ heard_rest self.old.state from (gossip_outlined gossip.now) }
+        ensures state { self.new.state ≡ heard_rest self.old.state from (gossip_outlined gossip.now) }
+        ensures beside { self.new.beside ≡ record self.old.beside { bases = raised self.old.beside.bases from gossip.now.heard } }
     {
         hear_reply(&mut self.collection, from, gossip.heard);
         hear_vote(&mut self.attempt, &self.map, from, gossip.map, gossip.vote);
@@ -202,6 +245,7 @@ impl<Q: Quorums, S: Replica> Node<Q, S> {
         self.status.wake();
         self.known = self.known.union(gossip.known);
         self.heard.raise(from, gossip.number);
+        self.bases.raise(from, gossip.heard);
         self.number = number;
     }
 }
@@ -212,6 +256,7 @@ impl<Q: Quorums, S: Replica> Node<Q, S> {
     pub(crate) fn ready_letter(&mut self, letter: &Letter<Q>) -> Result<HearTurn<Q>, Refusal>
         requires { refusal_of Q.system self.old.state (change.Deliver letter.now) ≡ None }
         ensures same { self.new.state ≡ self.old.state }
+        ensures beside { self.new.beside ≡ self.old.beside }
         ensures letter { IfOk result (λ t. heard_by t ≡ letter_with letter.now map.empty) }
         ensures hearing { IfOk result (λ t. IsHearing self.new letter.now t.hearing) }
         ensures refused { IfErr result (λ r. r ≡ Refusal.OutOfMemory) }
@@ -257,6 +302,7 @@ impl<Q: Quorums, S: Replica> Node<Q, S> {
     ) -> Result<Hearing, Refusal>
         requires { refusal_of Q.system self.old.state (change.Deliver outline.now) ≡ None }
         ensures same { self.new.state ≡ self.old.state }
+        ensures beside { self.new.beside ≡ self.old.beside }
         ensures hearing { IfOk result (IsHearing self.new (letter_with outline.now copies.now)) }
         ensures refused { IfErr result (λ r. r ≡ Refusal.OutOfMemory) }
         ensures join { outline.now.kind ≡ Kind.Join → IsOk result }
@@ -285,7 +331,9 @@ impl<Q: Quorums, S: Replica> Node<Q, S> {
     ) -> Result<Hearing, Refusal>
         requires { (any_gap gossip.now.heard gossip.now.map.now self.old.state.calls && is_last self.old.state.number) ≡ false }
         ensures same { self.new.state ≡ self.old.state }
+        ensures beside { self.new.beside ≡ self.old.beside }
         ensures newer { IfOk result (λ h. joined self.old.state.registers h.newer ≡ joined self.old.state.registers copies.now) }
+        ensures stamped { IfOk result (λ h. AreStampedAlike self.old.state.registers h.newer copies.now) }
         ensures ready { IfOk result (λ h. IsReadyGossip self.new (gossip_outlined gossip.now) h.newer h.number) }
         ensures refused { IfErr result (λ r. r ≡ Refusal.OutOfMemory) }
     {
@@ -302,7 +350,8 @@ impl<Q: Quorums, S: Replica> Node<Q, S> {
     // A letter is heard that is ready.
     pub(crate) fn finish_hear(&mut self, turn: HearTurn<Q>)
         requires { IsReadyKind self.old (heard_by turn).kind turn.hearing.newer turn.hearing.number }
-        ensures { self.new.state ≡ heard_letter self.old.state (letter_with (heard_by turn) turn.hearing.newer) }
+        ensures state { self.new.state ≡ heard_letter self.old.state (letter_with (heard_by turn) turn.hearing.newer) }
+        ensures beside { self.new.beside ≡ beside_after self.old.state self.old.beside (change.Deliver (letter_with (heard_by turn) turn.hearing.newer)) }
     {
         let HearTurn {
             sender,
@@ -321,7 +370,8 @@ impl<Q: Quorums, S: Replica> Node<Q, S> {
     /// It takes no memory and can't fail.
     pub fn finish_outlined(&mut self, outline: &LetterOutline<'_, Q>, hearing: Hearing)
         requires { IsReadyKind self.old outline.now.kind hearing.newer hearing.number }
-        ensures { self.new.state ≡ heard_letter self.old.state (letter_with outline.now hearing.newer) }
+        ensures state { self.new.state ≡ heard_letter self.old.state (letter_with outline.now hearing.newer) }
+        ensures beside { self.new.beside ≡ beside_after self.old.state self.old.beside (change.Deliver (letter_with outline.now hearing.newer)) }
     {
         match &outline.gossip {
             None => self.meet(outline.sender),
@@ -332,10 +382,11 @@ impl<Q: Quorums, S: Replica> Node<Q, S> {
     // Gossip is heard that is ready.
     fn finish_gossip(&mut self, from: Name, gossip: &GossipOutline<'_, Q>, hearing: Hearing)
         requires { IsReadyGossip self.old (gossip_outlined gossip.now) hearing.newer hearing.number }
-        ensures { self.new.state ≡ heard_gossip self.old.state from (gossip_with (gossip_outlined gossip.now) hearing.newer) }
+        ensures state { self.new.state ≡ heard_gossip self.old.state from (gossip_with (gossip_outlined gossip.now) hearing.newer) }
+        ensures beside { self.new.beside ≡ beside_heard self.old.state self.old.beside from (Kind.Gossip (gossip_with (gossip_outlined gossip.now) hearing.newer)) }
     {
         let Hearing { newer, number } = hearing;
-        self.registers.merge_room(newer);
+        self.registers.merge_room(newer, self.number);
         self.settle(from, gossip, number);
     }
 }

@@ -2,6 +2,7 @@
 ghost use Rattle.std.specs.Prelude.{◌≡◌, false, length, slice_get};
 ghost use Rattle.std.specs.FinMap as map;
 ghost use Rattle.std.specs.Option.{option_copied};
+ghost use Rattle.rambo_node.specs.FullNodes.{first_beside};
 ghost use Rattle.rambo_node.specs.Nodes.{first_node, first_status, first_known, open_call, id_of};
 ghost use Rattle.rambo_calls.specs.Calls.{place_of, is_missing, query_in, number_in};
 ghost use Rattle.rambo_calls.specs.Kept.{call_found};
@@ -22,6 +23,10 @@ use std::marker::Model;
 /// phase numbers that it heard of others, its open calls, and how far it is with the next and the oldest
 /// configuration.
 ///
+/// So that a letter may leave out what its addressee holds, each copy has a stamp, the phase number before the change that
+/// put it or merged it; and each name has a base, the greatest phase number of the node that letters of the name carried as
+/// heard.
+///
 /// All that happens to it is a `Change`. One that is refused leaves the node as it was. Of several causes of
 /// a refusal the one of the least number is told, and `OutOfMemory` only where there is no other.
 pub struct Node<Q: Quorums, S: Replica> {
@@ -31,6 +36,7 @@ pub struct Node<Q: Quorums, S: Replica> {
     pub(crate) number: u64,
     pub(crate) made: u64,
     pub(crate) heard: HeardNumbers,
+    pub(crate) bases: HeardNumbers,
     pub(crate) collection: Option<Collection>,
     pub(crate) registers: S,
     pub(crate) vote: Vote<Q>,
@@ -49,6 +55,7 @@ impl<Q: Quorums, S: Replica> Drop for Node<Q, S> {
             number: _number,
             made: _made,
             heard: _heard,
+            bases: _bases,
             collection: _collection,
             registers: _registers,
             vote: _vote,
@@ -63,14 +70,16 @@ impl<Q: Quorums, S: Replica> Model for Node<Q, S> {
     ghost use Rattle.std.specs.Coded.{codes};
     ghost use Rattle.rambo_names.specs.Names.{names_code};
     ghost use Rattle.rambo_tag.specs.Copies.{copies_code};
+    ghost use Rattle.rambo_tag.specs.Stamps.{stamps_code};
     ghost use Rattle.rambo_node.specs.Nodes.{RoomyNode};
 
     ghost Value = { RoomyNode Q };
 
-    ghost coded = { Prim.hlevel (codes, names_code, copies_code, Q.code) };
+    ghost coded = { Prim.hlevel (codes, names_code, copies_code, stamps_code, Q.code) };
 
     ghost use Rattle.rambo_calls.specs.Kept.{calls_of};
     ghost use Rattle.rambo_bids.specs.Fitting.{AttemptFits};
+    ghost use Rattle.rambo_tag.specs.Stamps.{AreAtMost};
 
     ghost view = { λ n. record {
       state = record {
@@ -88,20 +97,23 @@ impl<Q: Quorums, S: Replica> Model for Node<Q, S> {
         vote = n.vote;
       };
       room = record { keys = S.spare n.registers; calls = n.calls };
+      beside = record { stamps = S.stamps n.registers; bases = n.bases };
     } };
 
-    ghost invariant = { λ n. AttemptFits n.map n.attempt };
+    ghost invariant = { λ n. AttemptFits n.map n.attempt × AreAtMost n.number (S.stamps n.registers) };
 }
 
 impl<Q: Quorums, S: Replica> Node<Q, S> {
     /// A node of this name in a store of these founders: active if it is one of them, else idle. It holds the
     /// founders at place 0.
     ///
-    /// Its copies have to be empty.
+    /// Its registers have to be empty: nothing is stamped, and no letter has raised a base.
     #[tactic(auto, unfolding(crate::specs::Nodes::first_node))]
     pub fn new(alloc: Global, name: Name, founders: Q, registers: S) -> Node<Q, S>
-        requires { S.copies registers ≡ map.empty }
-        ensures { result.state ≡ first_node Q.system founders name }
+        requires copies { S.copies registers ≡ map.empty }
+        requires stamps { S.stamps registers ≡ map.empty }
+        ensures state { result.state ≡ first_node Q.system founders name }
+        ensures beside { result.beside ≡ first_beside }
     {
         let members = founders.members();
         Node {
@@ -113,6 +125,7 @@ impl<Q: Quorums, S: Replica> Node<Q, S> {
             number: 0,
             made: 0,
             heard: HeardNumbers::new(),
+            bases: HeardNumbers::new(),
             calls: OpenCalls::new(alloc),
             collection: None,
             attempt: None,

@@ -2,6 +2,7 @@
 ghost use Rattle.std.specs.Prelude.{◌≡◌, None, Some, false, IsOk, OnOk, IfOk, IfErr};
 ghost use Rattle.rambo_names.specs.Refusals.{IsRefusal};
 ghost use Rattle.rambo_node.specs.Changes.{refusal_of, made_by};
+ghost use Rattle.rambo_node.specs.FullNodes.{beside_after};
 ghost use Rattle.rambo_node.specs.Memory.{needs_memory};
 ghost use Rattle.rambo_node.specs.Prepared.{IsPrepared, IsReadyTurn, Prepares, change_of, turn_change, quick_change};
 ghost use Rattle.rambo_node.specs.declared.change.Change.TheVariants as change;
@@ -25,8 +26,10 @@ impl<Q: Quorums, S: Replica> Node<Q, S> {
     pub fn ready(&mut self, change: &Change<Q>) -> Result<Prepared<Q>, Refusal>
         ensures judged { OnOk result (refusal_of Q.system self.old.state change.now ≡ None) }
         ensures same { self.new.state ≡ self.old.state }
+        ensures beside { self.new.beside ≡ self.old.beside }
         ensures prepared { IfOk result (IsPrepared Q.system self.new) }
         ensures change { IfOk result (λ p. made_by self.old.state (change_of p) ≡ made_by self.old.state change.now) }
+        ensures after { IfOk result (λ p. beside_after self.old.state self.old.beside (change_of p) ≡ beside_after self.old.state self.old.beside change.now) }
         ensures event { IfOk result (λ p. p.event ≡ (made_by self.old.state change.now).deed.event) }
         ensures mark { IfOk result (λ p. p.mark ≡ (made_by self.old.state change.now).deed.mark) }
         ensures copy { IfOk result (λ p. p.copy ≡ (made_by self.old.state change.now).deed.copy) }
@@ -43,6 +46,7 @@ impl<Q: Quorums, S: Replica> Node<Q, S> {
     pub fn finish(&mut self, prepared: Prepared<Q>) -> Effect<Q>
         requires { IsPrepared Q.system self.old prepared }
         ensures node { self.new.state ≡ (made_by self.old.state (change_of prepared)).node }
+        ensures beside { self.new.beside ≡ beside_after self.old.state self.old.beside (change_of prepared) }
         ensures effect { result ≡ (made_by self.old.state (change_of prepared)).deed.effect }
     {
         let Prepared {
@@ -58,6 +62,7 @@ impl<Q: Quorums, S: Replica> Node<Q, S> {
     pub(crate) fn carry_out(&mut self, prepared: Prepared<Q>) -> Deed<Q>
         requires { IsPrepared Q.system self.old prepared }
         ensures node { self.new.state ≡ (made_by self.old.state (change_of prepared)).node }
+        ensures beside { self.new.beside ≡ beside_after self.old.state self.old.beside (change_of prepared) }
         ensures deed { result ≡ record { effect = (made_by self.old.state (change_of prepared)).deed.effect; event = prepared.event; mark = prepared.mark; copy = prepared.copy } }
     {
         let Prepared {
@@ -82,6 +87,7 @@ impl<Q: Quorums, S: Replica> Node<Q, S> {
     fn prepare(&mut self, change: &Change<Q>) -> Result<Prepared<Q>, Refusal>
         requires { refusal_of Q.system self.old.state change.now ≡ None }
         ensures same { self.new.state ≡ self.old.state }
+        ensures beside { self.new.beside ≡ self.old.beside }
         ensures prepares { IfOk result (Prepares Q.system self.new change.now) }
         ensures refused { IfErr result (λ r. r ≡ Refusal.OutOfMemory) }
         ensures no_memory { needs_memory change.now ≡ false → IsOk result }
@@ -118,6 +124,7 @@ impl<Q: Quorums, S: Replica> Node<Q, S> {
     pub fn prepare_call(&mut self, op: &Op) -> Result<Prepared<Q>, Refusal>
         requires { refusal_of Q.system self.old.state (change.Call op.now) ≡ None }
         ensures same { self.new.state ≡ self.old.state }
+        ensures beside { self.new.beside ≡ self.old.beside }
         ensures prepares { IfOk result (Prepares Q.system self.new (change.Call op.now)) }
         ensures refused { IfErr result (λ r. r ≡ Refusal.OutOfMemory) }
     {
@@ -137,6 +144,7 @@ impl<Q: Quorums, S: Replica> Node<Q, S> {
     fn prepare_letter(&mut self, letter: &Letter<Q>) -> Result<Prepared<Q>, Refusal>
         requires { refusal_of Q.system self.old.state (change.Deliver letter.now) ≡ None }
         ensures same { self.new.state ≡ self.old.state }
+        ensures beside { self.new.beside ≡ self.old.beside }
         ensures prepares { IfOk result (Prepares Q.system self.new (change.Deliver letter.now)) }
         ensures refused { IfErr result (λ r. r ≡ Refusal.OutOfMemory) }
         ensures no_memory { needs_memory (change.Deliver letter.now) ≡ false → IsOk result }
@@ -154,6 +162,7 @@ impl<Q: Quorums, S: Replica> Node<Q, S> {
     pub fn prepare_advance(&mut self, id: CallId) -> Result<Prepared<Q>, Refusal>
         requires { refusal_of Q.system self.old.state (change.Advance id) ≡ None }
         ensures same { self.new.state ≡ self.old.state }
+        ensures beside { self.new.beside ≡ self.old.beside }
         ensures prepares { IfOk result (Prepares Q.system self.new (change.Advance id)) }
         ensures refused { IfErr result (λ r. r ≡ Refusal.OutOfMemory) }
     {
@@ -179,6 +188,7 @@ impl<Q: Quorums, S: Replica> Node<Q, S> {
     fn finish_turn(&mut self, turn: Turn<Q>) -> Effect<Q>
         requires { IsReadyTurn Q.system self.old turn }
         ensures node { self.new.state ≡ (made_by self.old.state (turn_change turn)).node }
+        ensures beside { self.new.beside ≡ beside_after self.old.state self.old.beside (turn_change turn) }
         ensures effect { result ≡ (made_by self.old.state (turn_change turn)).deed.effect }
     {
         match turn {
@@ -214,6 +224,7 @@ impl<Q: Quorums, S: Replica> Node<Q, S> {
     pub fn finish_quick(&mut self, quick: Quick<Q>) -> Effect<Q>
         requires { refusal_of Q.system self.old.state (quick_change quick) ≡ None }
         ensures node { self.new.state ≡ (made_by self.old.state (quick_change quick)).node }
+        ensures beside { self.new.beside ≡ beside_after self.old.state self.old.beside (quick_change quick) }
         ensures effect { result ≡ (made_by self.old.state (quick_change quick)).deed.effect }
     {
         match quick {

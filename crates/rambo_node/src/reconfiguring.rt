@@ -25,7 +25,8 @@ impl<Q: Quorums, S: Replica> Node<Q, S> {
     #[tactic(auto, unfolding(crate::specs::Reconfigurations::collection_opened))]
     pub(crate) fn do_collect(&mut self)
         requires { refusal_of Q.system self.old.state change.Collect ≡ None }
-        ensures { self.new.state ≡ collection_opened self.old.state }
+        ensures state { self.new.state ≡ collection_opened self.old.state }
+        ensures beside { self.new.beside ≡ self.old.beside }
     {
         self.number += 1;
         self.collection = Some(collection_of(&self.map, self.number, self.name));
@@ -35,6 +36,7 @@ impl<Q: Quorums, S: Replica> Node<Q, S> {
     pub(crate) fn do_advance_collect(&mut self) -> Deed<Q>
         requires { refusal_of Q.system self.old.state change.AdvanceCollect ≡ None }
         ensures node { self.new.state ≡ (collection_advanced self.old.state self.old.state.collection).node }
+        ensures beside { self.new.beside ≡ self.old.beside }
         ensures deed { result ≡ (collection_advanced self.old.state self.old.state.collection).deed }
     {
         match self.collection {
@@ -48,6 +50,7 @@ impl<Q: Quorums, S: Replica> Node<Q, S> {
         requires held { self.old.state.collection ≡ Some collection }
         requires judged { refusal_of Q.system self.old.state change.AdvanceCollect ≡ None }
         ensures node { self.new.state ≡ (collection_advanced self.old.state (Some collection)).node }
+        ensures beside { self.new.beside ≡ self.old.beside }
         ensures deed { result ≡ (collection_advanced self.old.state (Some collection)).deed }
     {
         match collection.would_advance(&self.map) {
@@ -63,6 +66,7 @@ impl<Q: Quorums, S: Replica> Node<Q, S> {
         requires met { move_of Q.system self.old.state.map collection ≡ Some GcMove.Propagating }
         requires next { is_last self.old.state.number ≡ false }
         ensures node { self.new.state ≡ collection_moved self.old.state collection }
+        ensures beside { self.new.beside ≡ self.old.beside }
         ensures deed { result ≡ told Effect.Moved }
     {
         self.number += 1;
@@ -75,6 +79,7 @@ impl<Q: Quorums, S: Replica> Node<Q, S> {
     fn end_collection(&mut self, collection: &Collection) -> Deed<Q>
         requires { move_of Q.system self.old.state.map collection.now ≡ Some GcMove.Done }
         ensures node { self.new.state ≡ collection_ended self.old.state collection.now }
+        ensures beside { self.new.beside ≡ self.old.beside }
         ensures deed { result ≡ told (Effect.Collected self.old.state.name collection.now.place) }
     {
         let place = collection.place();
@@ -87,7 +92,8 @@ impl<Q: Quorums, S: Replica> Node<Q, S> {
     #[tactic(auto, unfolding(crate::specs::Reconfigurations::attempt_opened))]
     pub(crate) fn do_recon(&mut self, wish: Q)
         requires { refusal_of Q.system self.old.state (change.Recon wish) ≡ None }
-        ensures { self.new.state ≡ attempt_opened self.old.state wish }
+        ensures state { self.new.state ≡ attempt_opened self.old.state wish }
+        ensures beside { self.new.beside ≡ self.old.beside }
     {
         let place = top_of(&self.map) + 1;
         self.attempt = Some(attempt_of(place, wish, &mut self.vote, self.name));
@@ -96,7 +102,8 @@ impl<Q: Quorums, S: Replica> Node<Q, S> {
     // An attempt that isn't refused begins again.
     pub(crate) fn do_rebid(&mut self)
         requires { refusal_of Q.system self.old.state change.Rebid ≡ None }
-        ensures { self.new.state ≡ (rebid_made self.old.state self.old.state.attempt).node }
+        ensures state { self.new.state ≡ (rebid_made self.old.state self.old.state.attempt).node }
+        ensures beside { self.new.beside ≡ self.old.beside }
     {
         match self.attempt {
             Some(attempt) => self.bid_again(attempt),
@@ -109,7 +116,8 @@ impl<Q: Quorums, S: Replica> Node<Q, S> {
     fn bid_again(&mut self, attempt: Attempt<Q>)
         requires held { self.old.state.attempt ≡ Some attempt }
         requires next { is_spent self.old.state.vote ≡ false }
-        ensures { self.new.state ≡ attempt_rebid self.old.state attempt }
+        ensures state { self.new.state ≡ attempt_rebid self.old.state attempt }
+        ensures beside { self.new.beside ≡ self.old.beside }
     {
         self.attempt = Some(rebid(attempt, &mut self.vote));
     }
@@ -118,6 +126,7 @@ impl<Q: Quorums, S: Replica> Node<Q, S> {
     pub(crate) fn do_advance_recon(&mut self) -> Deed<Q>
         requires { refusal_of Q.system self.old.state change.AdvanceRecon ≡ None }
         ensures node { self.new.state ≡ (attempt_advanced self.old.state self.old.state.attempt).node }
+        ensures beside { self.new.beside ≡ self.old.beside }
         ensures deed { result ≡ (attempt_advanced self.old.state self.old.state.attempt).deed }
     {
         match self.attempt {
@@ -131,6 +140,7 @@ impl<Q: Quorums, S: Replica> Node<Q, S> {
         requires held { self.old.state.attempt ≡ Some attempt }
         requires judged { refusal_of Q.system self.old.state change.AdvanceRecon ≡ None }
         ensures node { self.new.state ≡ (attempt_advanced self.old.state (Some attempt)).node }
+        ensures beside { self.new.beside ≡ self.old.beside }
         ensures deed { result ≡ (attempt_advanced self.old.state (Some attempt)).deed }
     {
         if is_known(&self.map, attempt.place()) {
@@ -143,6 +153,7 @@ impl<Q: Quorums, S: Replica> Node<Q, S> {
     #[tactic(auto, unfolding(crate::specs::Reconfigurations::attempt_ended))]
     fn end_attempt(&mut self, place: u64) -> Deed<Q>
         ensures node { self.new.state ≡ attempt_ended self.old.state }
+        ensures beside { self.new.beside ≡ self.old.beside }
         ensures deed { result ≡ told (Effect.Decided self.old.state.name (record { place = place; config = active_at self.old.state.map place })) }
     {
         self.attempt = None;
@@ -156,6 +167,7 @@ impl<Q: Quorums, S: Replica> Node<Q, S> {
         requires unknown { end_of self.old.state.map ≤ attempt.place }
         requires met { has_quorum Q.system (active_at self.old.state.map (top_of self.old.state.map)) attempt.repliers ≡ true }
         ensures node { self.new.state ≡ (bid_made self.old.state attempt (bid_of attempt)).node }
+        ensures beside { self.new.beside ≡ self.old.beside }
         ensures deed { result ≡ (bid_made self.old.state attempt (bid_of attempt)).deed }
     {
         let place = attempt.place();

@@ -2,6 +2,7 @@
 ghost use Rattle.std.specs.Prelude.{◌≡◌, ◌+◌, None, Some, false, OnOk, OnErr, IsOk, IfOk, IfErr};
 ghost use Rattle.rambo_names.specs.Refusals.{IsRefusal};
 ghost use Rattle.rambo_node.specs.Changes.{refusal_of, made_by, answer_in, collected_in, decided_in};
+ghost use Rattle.rambo_node.specs.FullNodes.{beside_after};
 ghost use Rattle.rambo_node.specs.Memory.{needs_memory};
 ghost use Rattle.rambo_node.specs.Operations.{joined_by, stopped};
 ghost use Rattle.rambo_node.specs.declared.change.Change.TheVariants as change;
@@ -24,10 +25,12 @@ impl<Q: Quorums, S: Replica> Node<Q, S> {
     pub fn take(&mut self, change: Change<Q>) -> Result<Deed<Q>, Refusal>
         ensures judged { OnOk result (refusal_of Q.system self.old.state change ≡ None) }
         ensures node { OnOk result (self.new.state ≡ (made_by self.old.state change).node) }
+        ensures beside { OnOk result (self.new.beside ≡ beside_after self.old.state self.old.beside change) }
         ensures deed { IfOk result (λ d. d ≡ (made_by self.old.state change).deed) }
         ensures refused { IfErr result (IsRefusal (refusal_of Q.system self.old.state change)) }
         ensures no_memory { needs_memory change ≡ false → IfErr result (λ r. refusal_of Q.system self.old.state change ≡ Some r) }
         ensures err { OnErr result (self.new.state ≡ self.old.state) }
+        ensures kept { OnErr result (self.new.beside ≡ self.old.beside) }
     {
         // (one way out: what a change holds is dropped on each)
         match self.ready(&change) {
@@ -46,10 +49,12 @@ impl<Q: Quorums, S: Replica> Node<Q, S> {
     pub fn act(&mut self, change: &Change<Q>) -> Result<Deed<Q>, Refusal>
         requires { refusal_of Q.system self.old.state change.now ≡ None }
         ensures node { OnOk result (self.new.state ≡ (made_by self.old.state change.now).node) }
+        ensures beside { OnOk result (self.new.beside ≡ beside_after self.old.state self.old.beside change.now) }
         ensures deed { IfOk result (λ d. d ≡ (made_by self.old.state change.now).deed) }
         ensures refused { IfErr result (λ r. r ≡ Refusal.OutOfMemory) }
         ensures no_memory { needs_memory change.now ≡ false → IsOk result }
         ensures err { OnErr result (self.new.state ≡ self.old.state) }
+        ensures kept { OnErr result (self.new.beside ≡ self.old.beside) }
     {
         match change {
             Change::Join(contacts) => {
@@ -99,8 +104,10 @@ impl<Q: Quorums, S: Replica> Node<Q, S> {
     pub fn join(&mut self, contacts: Members) -> Result<(), Refusal>
         ensures judged { OnOk result (refusal_of Q.system self.old.state (change.Join contacts) ≡ None) }
         ensures node { OnOk result (self.new.state ≡ (made_by self.old.state (change.Join contacts)).node) }
+        ensures beside { OnOk result (self.new.beside ≡ beside_after self.old.state self.old.beside (change.Join contacts)) }
         ensures refused { IfErr result (λ r. refusal_of Q.system self.old.state (change.Join contacts) ≡ Some r) }
         ensures err { OnErr result (self.new.state ≡ self.old.state) }
+        ensures kept { OnErr result (self.new.beside ≡ self.old.beside) }
     {
         self.may_join(contacts)?;
         self.do_join(contacts);
@@ -115,9 +122,11 @@ impl<Q: Quorums, S: Replica> Node<Q, S> {
     pub fn call(&mut self, op: Op) -> Result<CallId, Refusal>
         ensures judged { OnOk result (refusal_of Q.system self.old.state (change.Call op) ≡ None) }
         ensures node { OnOk result (self.new.state ≡ (made_by self.old.state (change.Call op)).node) }
+        ensures beside { OnOk result (self.new.beside ≡ beside_after self.old.state self.old.beside (change.Call op)) }
         ensures id { IfOk result (λ id. id ≡ record { name = self.old.state.name; number = self.old.state.made + 1 }) }
         ensures refused { IfErr result (IsRefusal (refusal_of Q.system self.old.state (change.Call op))) }
         ensures err { OnErr result (self.new.state ≡ self.old.state) }
+        ensures kept { OnErr result (self.new.beside ≡ self.old.beside) }
     {
         self.may_call(&op)?;
         let id = self.begin(op)?;
@@ -134,9 +143,11 @@ impl<Q: Quorums, S: Replica> Node<Q, S> {
     pub fn advance(&mut self, id: CallId) -> Result<Option<Answer>, Refusal>
         ensures judged { OnOk result (refusal_of Q.system self.old.state (change.Advance id) ≡ None) }
         ensures node { OnOk result (self.new.state ≡ (made_by self.old.state (change.Advance id)).node) }
+        ensures beside { OnOk result (self.new.beside ≡ beside_after self.old.state self.old.beside (change.Advance id)) }
         ensures answer { IfOk result (λ a. a ≡ answer_in (made_by self.old.state (change.Advance id)).deed.effect) }
         ensures refused { IfErr result (IsRefusal (refusal_of Q.system self.old.state (change.Advance id))) }
         ensures err { OnErr result (self.new.state ≡ self.old.state) }
+        ensures kept { OnErr result (self.new.beside ≡ self.old.beside) }
     {
         self.may_advance(&id)?;
         let mut deed = Deed::quiet();
@@ -152,8 +163,10 @@ impl<Q: Quorums, S: Replica> Node<Q, S> {
     pub fn again(&mut self, id: CallId) -> Result<(), Refusal>
         ensures judged { OnOk result (refusal_of Q.system self.old.state (change.Again id) ≡ None) }
         ensures node { OnOk result (self.new.state ≡ (made_by self.old.state (change.Again id)).node) }
+        ensures beside { OnOk result (self.new.beside ≡ beside_after self.old.state self.old.beside (change.Again id)) }
         ensures refused { IfErr result (λ r. refusal_of Q.system self.old.state (change.Again id) ≡ Some r) }
         ensures err { OnErr result (self.new.state ≡ self.old.state) }
+        ensures kept { OnErr result (self.new.beside ≡ self.old.beside) }
     {
         self.may_restart(&id)?;
         self.do_again(id);
@@ -169,8 +182,10 @@ impl<Q: Quorums, S: Replica> Node<Q, S> {
     pub fn collect(&mut self) -> Result<(), Refusal>
         ensures judged { OnOk result (refusal_of Q.system self.old.state change.Collect ≡ None) }
         ensures node { OnOk result (self.new.state ≡ (made_by self.old.state change.Collect).node) }
+        ensures beside { OnOk result (self.new.beside ≡ beside_after self.old.state self.old.beside change.Collect) }
         ensures refused { IfErr result (λ r. refusal_of Q.system self.old.state change.Collect ≡ Some r) }
         ensures err { OnErr result (self.new.state ≡ self.old.state) }
+        ensures kept { OnErr result (self.new.beside ≡ self.old.beside) }
     {
         self.may_collect()?;
         self.do_collect();
@@ -189,9 +204,11 @@ impl<Q: Quorums, S: Replica> Node<Q, S> {
     pub fn advance_collect(&mut self) -> Result<Option<u64>, Refusal>
         ensures judged { OnOk result (refusal_of Q.system self.old.state change.AdvanceCollect ≡ None) }
         ensures node { OnOk result (self.new.state ≡ (made_by self.old.state change.AdvanceCollect).node) }
+        ensures beside { OnOk result (self.new.beside ≡ beside_after self.old.state self.old.beside change.AdvanceCollect) }
         ensures place { IfOk result (λ place. place ≡ collected_in (made_by self.old.state change.AdvanceCollect).deed.effect) }
         ensures refused { IfErr result (λ r. refusal_of Q.system self.old.state change.AdvanceCollect ≡ Some r) }
         ensures err { OnErr result (self.new.state ≡ self.old.state) }
+        ensures kept { OnErr result (self.new.beside ≡ self.old.beside) }
     {
         self.may_advance_collect()?;
         let deed = self.do_advance_collect();
@@ -209,8 +226,10 @@ impl<Q: Quorums, S: Replica> Node<Q, S> {
     pub fn recon(&mut self, wish: Q) -> Result<(), Refusal>
         ensures judged { OnOk result (refusal_of Q.system self.old.state (change.Recon wish) ≡ None) }
         ensures node { OnOk result (self.new.state ≡ (made_by self.old.state (change.Recon wish)).node) }
+        ensures beside { OnOk result (self.new.beside ≡ beside_after self.old.state self.old.beside (change.Recon wish)) }
         ensures refused { IfErr result (λ r. refusal_of Q.system self.old.state (change.Recon wish) ≡ Some r) }
         ensures err { OnErr result (self.new.state ≡ self.old.state) }
+        ensures kept { OnErr result (self.new.beside ≡ self.old.beside) }
     {
         self.may_recon(&wish)?;
         self.do_recon(wish);
@@ -226,8 +245,10 @@ impl<Q: Quorums, S: Replica> Node<Q, S> {
     pub fn rebid(&mut self) -> Result<(), Refusal>
         ensures judged { OnOk result (refusal_of Q.system self.old.state change.Rebid ≡ None) }
         ensures node { OnOk result (self.new.state ≡ (made_by self.old.state change.Rebid).node) }
+        ensures beside { OnOk result (self.new.beside ≡ beside_after self.old.state self.old.beside change.Rebid) }
         ensures refused { IfErr result (λ r. refusal_of Q.system self.old.state change.Rebid ≡ Some r) }
         ensures err { OnErr result (self.new.state ≡ self.old.state) }
+        ensures kept { OnErr result (self.new.beside ≡ self.old.beside) }
     {
         self.may_rebid()?;
         self.do_rebid();
@@ -245,9 +266,11 @@ impl<Q: Quorums, S: Replica> Node<Q, S> {
     pub fn advance_recon(&mut self) -> Result<Option<Decided<Q>>, Refusal>
         ensures judged { OnOk result (refusal_of Q.system self.old.state change.AdvanceRecon ≡ None) }
         ensures node { OnOk result (self.new.state ≡ (made_by self.old.state change.AdvanceRecon).node) }
+        ensures beside { OnOk result (self.new.beside ≡ beside_after self.old.state self.old.beside change.AdvanceRecon) }
         ensures decided { IfOk result (λ d. d ≡ decided_in (made_by self.old.state change.AdvanceRecon).deed.effect) }
         ensures refused { IfErr result (λ r. refusal_of Q.system self.old.state change.AdvanceRecon ≡ Some r) }
         ensures err { OnErr result (self.new.state ≡ self.old.state) }
+        ensures kept { OnErr result (self.new.beside ≡ self.old.beside) }
     {
         self.may_advance_recon()?;
         let deed = self.do_advance_recon();
@@ -261,8 +284,10 @@ impl<Q: Quorums, S: Replica> Node<Q, S> {
     pub fn stop(&mut self) -> Result<(), Refusal>
         ensures judged { OnOk result (refusal_of Q.system self.old.state change.Stop ≡ None) }
         ensures node { OnOk result (self.new.state ≡ (made_by self.old.state change.Stop).node) }
+        ensures beside { OnOk result (self.new.beside ≡ beside_after self.old.state self.old.beside change.Stop) }
         ensures refused { IfErr result (λ r. refusal_of Q.system self.old.state change.Stop ≡ Some r) }
         ensures err { OnErr result (self.new.state ≡ self.old.state) }
+        ensures kept { OnErr result (self.new.beside ≡ self.old.beside) }
     {
         self.may_stop()?;
         self.do_stop();
@@ -274,7 +299,8 @@ impl<Q: Quorums, S: Replica> Node<Q, S> {
     // Begins to join.
     #[tactic(auto, unfolding(crate::specs::Operations::joined_by))]
     pub(crate) fn do_join(&mut self, contacts: Members)
-        ensures { self.new.state ≡ joined_by self.old.state contacts }
+        ensures state { self.new.state ≡ joined_by self.old.state contacts }
+        ensures beside { self.new.beside ≡ self.old.beside }
     {
         self.status = Status::Joining;
         self.known = contacts.with(self.name);
@@ -283,7 +309,8 @@ impl<Q: Quorums, S: Replica> Node<Q, S> {
     // Stops.
     #[tactic(auto, unfolding(crate::specs::Operations::stopped))]
     pub(crate) fn do_stop(&mut self)
-        ensures { self.new.state ≡ stopped self.old.state }
+        ensures state { self.new.state ≡ stopped self.old.state }
+        ensures beside { self.new.beside ≡ self.old.beside }
     {
         self.status = Status::Stopped;
     }

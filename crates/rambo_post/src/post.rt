@@ -282,6 +282,11 @@ impl<J: Terms<Q>, Q: Quorums, S: Replica> Post<J, Q, S> {
         begin_in(&mut self.book.lock(rt), keeper)
     }
 
+    /// Whether the last letter of the node of this name carries more than 32 copies.
+    pub fn is_long<R: Wait>(&self, rt: &R, name: Name) -> bool {
+        self.keeper_of(rt, name).is_long()
+    }
+
     /// The map of the node of this name. It takes no memory.
     pub fn map<R: Wait>(&self, rt: &R, name: Name) -> ConfigMap<Q> {
         self.keeper_of(rt, name).map()

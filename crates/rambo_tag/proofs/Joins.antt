@@ -46,11 +46,11 @@ pub get-with_newer_other : (a : Copies) (key : List ℕ) (v : Version) (q : List
 get-with_newer_other a key v q apart =
     get-with_newer a key v q ∙ ap (λ t. cond t (greater (get a q) (Some v)) (get a q)) (same_key-false q key apart)
 
-first : (a b : Bool) → T (a && b) → T a
+pub first : (a b : Bool) → T (a && b) → T a
 first true b h = tt
 first false b h = h
 
-second : (a b : Bool) → T (a && b) → T b
+pub second : (a b : Bool) → T (a && b) → T b
 second true b h = h
 second false b h = absurd h
 
@@ -60,7 +60,7 @@ not_tied Equal h = absurd h
 not_tied Greater h = refl
 
 -- a key below all of a list isn't in it
-below_none : (key : List ℕ) (es : List (List ℕ × Version)) → T (below_all key_cmp key es) → find key_cmp key es ≡ None
+pub below_none : (key : List ℕ) (es : List (List ℕ × Version)) → T (below_all key_cmp key es) → find key_cmp key es ≡ None
 below_none key [] h = refl
 below_none key (e ∷ es) h =
     ap (λ t. cond t (Some e.1) (find key_cmp key es)) (not_tied (key_cmp key e.0) (first _ _ h)) ∙ below_none key es (second _ _ h)

@@ -3,6 +3,11 @@ pub mod CopyOrder
 pub mod Keys
 pub mod Joins
 pub mod Logged
-pub mod Tables
 pub mod MergeSteps
+pub mod StampLaws
+pub mod Slots
+pub mod Rows
+pub mod Sweeps
+pub mod Tellings
+pub mod Stampings
 pub mod Rooms

@@ -1,19 +1,16 @@
 -- The copies of a list that are newer than a map's, as far as the list was gone through
-use Rattle.std.proofs.Common.{◌≡◌, ℕ, ◌+◌, ◌<◌, Bool, true, false, cond, List, [], ◌∷◌, ◌++◌, length, get_or, take, drop, Option, Some, None, Result, Ok, Err, refl, sym, ap, ◌∙◌, true≢false, arith}
+use Rattle.std.proofs.Common.{◌≡◌, ℕ, ◌+◌, ◌<◌, true, false, List, [], ◌∷◌, ◌++◌, length, get_or, take, drop, Option, Some, Result, Ok, Err, refl, sym, ap, ◌∙◌, true≢false, arith}
 use Rattle.std.specs.Prelude.{if◌then◌else◌, IsOk, OnOk, OnErr, IfErr}
 use Rattle.std.specs.FinMap.{get, insert}
 use Rattle.std.proofs.lemmas.List.{take-append-drop, take_more}
 use Rattle.rambo_tag.specs.declared.version.Version.{Version}
 use Rattle.rambo_tag.specs.declared.keyed_version.KeyedVersion.{KeyedVersion}
-use Rattle.rambo_tag.specs.Tags.{is_newer, greater, version_lt}
+use Rattle.rambo_tag.specs.Tags.{is_newer, greater}
 use Rattle.rambo_tag.specs.Copies.{Copies, with_newer, joined}
 use Rattle.rambo_tag.specs.Logs.{greatest_after, greatest_of}
-use Rattle.rambo_tag.specs.Tables.{Table, kept_in, copies_in}
 use Rattle.rambo_tag.proofs.CopyOrder.{is_below, is_newer-is_below, greater-left, greater-right, not_below-trans}
-use Rattle.rambo_tag.proofs.Joins.{get-with_newer_same, same_copies, get-put, joined-empty}
-use Rattle.rambo_tag.proofs.Keys.{same_key, same_key-true}
+use Rattle.rambo_tag.proofs.Joins.{get-with_newer_same, joined-empty}
 use Rattle.rambo_tag.proofs.Logged.{greatest_after-append, get-greatest_after, greatest_of-nil, joined-greatest_of}
-use Rattle.rambo_tag.proofs.Tables.{get-copies_in}
 
 greatest_after-take_more : (a : Copies) (cs : List KeyedVersion) (i : ℕ) (c : KeyedVersion) → i < length cs → c ≡ get_or cs i c
     → greatest_after a (take (i + 1) cs) ≡ with_newer (greatest_after a (take i cs)) c.key c.version
@@ -86,52 +83,15 @@ pub not_idle : {X : Type 0} (a b : Copies) (cs : List KeyedVersion) (i : ℕ) (c
     → is_newer (get a c.key) c.version ≡ true → joined a b ≡ a → X
 not_idle a b cs i c within at is newer idle = absurd (true≢false (sym newer ∙ is_newer-idle a cs i c (ap (joined a) is ∙ idle) within at))
 
--- a copy was taken into a table, where it is newer
-pub greatest_after-step : (t u : Table) (copy : KeyedVersion) (rest next : List KeyedVersion) (all : Copies) → greatest_after (copies_in t) rest ≡ all → rest ≡ copy ∷ next
-    → copies_in u ≡ with_newer (copies_in t) copy.key copy.version → greatest_after (copies_in u) next ≡ all
-greatest_after-step t u copy rest next all h is taken = ap (λ m. greatest_after m next) taken ∙ ap (greatest_after (copies_in t)) (sym is) ∙ h
-
 -- what holds of a call that succeeds
 pub OnOk-from_ok : {T E P : Type 0} (r : Result T E) → IsOk r → OnOk r P → P
 OnOk-from_ok (Ok x) ok h = h
 OnOk-from_ok (Err e) ok h = absurd (true≢false (sym ok))
 
--- a key's own copy may be put once more
-insert-held : (a : Copies) (key : List ℕ) (k : Version) → get a key ≡ Some k → insert a key k ≡ a
-insert-held a key k held =
-    same_copies _ _ (λ q. get-put a key k q
-    ∙ elim (same_key q key) as (λ s. same_key q key ≡ s → cond s (Some k) (get a q) ≡ get a q) [
-      | true ↦ λ same. sym (ap (get a) (same_key-true q key same) ∙ held)
-      | false ↦ λ other. refl
-    ] refl)
-
-put_either : (a : Copies) (key : List ℕ) (k v : Version) (t : Bool) → get a key ≡ Some k → insert a key (if t then v else k) ≡ (if t then insert a key v else a)
-put_either a key k v true held = refl
-put_either a key k v false held = insert-held a key k held
-
--- the greater of what a key holds and another copy was put
-pub insert-raised : (a : Copies) (key : List ℕ) (k v w : Version) → get a key ≡ Some k → w ≡ (if version_lt k v then v else k) → insert a key w ≡ with_newer a key v
-insert-raised a key k v w held is =
-    ap (insert a key) is ∙ put_either a key k v (version_lt k v) held ∙ sym (ap (λ g. if is_newer g v then insert a key v else a) held)
-
-pub insert-unraised : (a : Copies) (key : List ℕ) (k w : Version) → get a key ≡ Some k → w ≡ k → insert a key w ≡ a
-insert-unraised a key k w held is = ap (insert a key) is ∙ insert-held a key k held
-
--- a copy of a key that isn't there was put
-pub insert-absent : (a : Copies) (key : List ℕ) (v : Version) → get a key ≡ None → insert a key v ≡ with_newer a key v
-insert-absent a key v absent = sym (ap (λ g. if is_newer g v then insert a key v else a) absent)
-
--- what a look-up in the table tells of the copies
-pub held_in : (a : Copies) (t : Table) (key : List ℕ) (kept : Version) → copies_in t ≡ a → Some kept ≡ kept_in t key → get a key ≡ Some kept
-held_in a t key kept view found = ap (λ m. get m key) (sym view) ∙ get-copies_in t key ∙ sym found
-
-pub absent_in : (a : Copies) (t : Table) (key : List ℕ) → copies_in t ≡ a → None ≡ kept_in t key → get a key ≡ None
-absent_in a t key view none = ap (λ m. get m key) (sym view) ∙ get-copies_in t key ∙ sym none
-
--- to merge the pack of one copy is to take it where it is newer
-pub joined-one : (a b : Copies) (cs : List KeyedVersion) (c : KeyedVersion) → 0 < length cs → length cs < 2 → c ≡ get_or cs 0 c → greatest_of cs ≡ b → joined a b ≡ with_newer a c.key c.version
+-- to merge the pack of one copy is to take that one
+pub joined-one : (a b : Copies) (cs : List KeyedVersion) (c : KeyedVersion) → 0 < length cs → length cs < 2 → c ≡ get_or cs 0 c → greatest_of cs ≡ b → greatest_after a (c ∷ []) ≡ joined a b
 joined-one a b [] c some one at is = absurd (omega arith)
-joined-one a b (x ∷ []) c some one at is = ap (joined a) (sym is) ∙ joined-greatest_of a (x ∷ []) ∙ ap (λ y. with_newer a y.key y.version) (sym at)
+joined-one a b (x ∷ []) c some one at is = ap (λ y. greatest_after a (y ∷ [])) at ∙ sym (joined-greatest_of a (x ∷ [])) ∙ ap (joined a) is
 joined-one a b (x ∷ y ∷ ys) c some one at is = absurd (omega arith)
 
 pub OnOk-map : {T E P Q : Type 0} (r : Result T E) → (P → Q) → OnOk r P → OnOk r Q

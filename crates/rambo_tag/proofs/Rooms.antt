@@ -1,131 +1,182 @@
--- How many keys there are as copies are taken
-use Rattle.std.proofs.Common.{◌≡◌, ℕ, ◌+◌, ◌<◌, ◌≤◌, Bool, true, false, cond, List, [], ◌∷◌, ◌++◌, length, get_or, take, Option, Some, None, refl, sym, ap, ◌∙◌, arith}
-use Rattle.std.specs.Prelude.{if◌then◌else◌, is_some}
-use Rattle.std.specs.FinMap.{get, insert, len, len-insert}
+-- There is room for each key of a list of copies, also where keys stand more than once
+use Rattle.std.proofs.Common.{◌≡◌, ◌≢◌, ℕ, suc, ◌+◌, ◌≤◌, ◌<◌, Bool, true, false, cond, ◌||◌, List, [], ◌∷◌, length, Option, Some, None, is_some, refl, sym, ap, ◌∙◌, arith, true≢false}
+use Rattle.std.specs.Prelude.{if◌then◌else◌}
+use Rattle.std.specs.FinMap.{empty, get, get-empty, insert, len, keys, entries, contains_key, contains_key-keys, len-insert, len-empty, len-entries}
+use Rattle.std.specs.Map.{keys_of}
+use Rattle.std.specs.Str.{bytes_eq}
+use Rattle.std.specs.List.{IsDistinct, AllByRecursion, list_any}
+use Rattle.std.specs.Cmp.Lexicographic.{nat_list_eq_equiv}
 use Rattle.std.proofs.lemmas.Cmp.{nat_list_cmp_total}
-use Rattle.std.proofs.lemmas.List.{take_more}
+use Rattle.std.proofs.lemmas.Map.Made.{length-le_from_is_member}
 use Rattle.rambo_tag.specs.declared.version.Version.{Version}
 use Rattle.rambo_tag.specs.declared.keyed_version.KeyedVersion.{KeyedVersion}
 use Rattle.rambo_tag.specs.Tags.{is_newer, greater}
 use Rattle.rambo_tag.specs.Copies.{Copies, with_newer, HasRoom}
 use Rattle.rambo_tag.specs.Logs.{greatest_after, greatest_of}
-use Rattle.rambo_tag.proofs.Joins.{get-with_newer}
-use Rattle.rambo_tag.proofs.Keys.{same_key, same_key-true}
-use Rattle.rambo_tag.proofs.Logged.{joined-greatest_of}
+use Rattle.rambo_tag.specs.Rows.{Slots, slot_in, told_at}
+use Rattle.rambo_tag.proofs.Logged.{get-greatest_of-first}
+use Rattle.rambo_tag.proofs.Keys.{key_cmp, same_key, same_key-itself, same_key-bytes_eq, bytes_eq-true}
 
--- how many keys a key adds that is there, or isn't
-abbrev pub added : Bool → ℕ
-added true = 0
-added false = 1
+-- no more keys than copies
+grown : (a : Copies) (k : List ℕ) (v : Version) (t : Bool) → len (if t then insert a k v else a) ≤ len a + 1
+grown a k v true = at_most (contains_key a k) (len a) (len (insert a k v)) (len-insert nat_list_cmp_total a k v)
+  where
+    at_most : (b : Bool) (n m : ℕ) → m ≡ cond b n (n + 1) → m ≤ n + 1
+    at_most true n m e = omega (arith, e)
+    at_most false n m e = omega (arith, e)
+grown a k v false = up (len a)
+  where
+    up : (n : ℕ) → n ≤ n + 1
+    up n = omega (arith)
 
-at_most_one : (b : Bool) → added b ≤ 1
-at_most_one true = omega arith
-at_most_one false = omega arith
+len-greatest_after : (a : Copies) (cs : List KeyedVersion) → len (greatest_after a cs) ≤ len a + length cs
+len-greatest_after a [] = same (len a)
+  where
+    same : (n : ℕ) → n ≤ n + 0
+    same n = omega (arith)
+len-greatest_after a (c ∷ cs) =
+    let rest = len-greatest_after (with_newer a c.key c.version) cs in
+    let one = grown a c.key c.version (is_newer (get a c.key) c.version) in
+    omega (arith, rest, one)
 
-counted : (b : Bool) (n : ℕ) → cond b n (n + 1) ≡ n + added b
-counted true n = omega arith
-counted false n = refl
+pub len-greatest_of : (cs : List KeyedVersion) → len (greatest_of cs) ≤ length cs
+unfolding greatest_of
+len-greatest_of cs = let h = len-greatest_after empty cs in let e = len-empty key_cmp Version in omega (arith, h, e)
 
-put_if : (t : Bool) (a : Copies) (key : List ℕ) (v : Version) (o : Option Version) → get a key ≡ o → (o ≡ None → t ≡ true) → len (if t then insert a key v else a) ≡ len a + added (is_some o)
-put_if true a key v o e h = len-insert nat_list_cmp_total a key v ∙ ap (λ x. cond (is_some x) (len a) (len a + 1)) e ∙ counted (is_some o) (len a)
-put_if false a key v None e h = cc (h refl)
-put_if false a key v (Some k) e h = omega arith
+-- each copy's key is there
+is_some-greater : (a b : Option Version) → is_some (greater a b) ≡ (is_some a || is_some b)
+is_some-greater None None = refl
+is_some-greater (Some a) None = refl
+is_some-greater None (Some b) = refl
+is_some-greater (Some a) (Some b) = elim (is_newer (Some a) b) as (λ t. is_some (if t then Some b else Some a) ≡ true) [ true ↦ refl | false ↦ refl ]
 
-newer_none : (v : Version) (o : Option Version) → o ≡ None → is_newer o v ≡ true
-newer_none v None e = refl
-newer_none v (Some k) e = cc
+or_right : (a b : Bool) → b ≡ true → (a || b) ≡ true
+or_right true b h = refl
+or_right false b h = h
 
-pub len-with_newer : (a : Copies) (key : List ℕ) (v : Version) → len (with_newer a key v) ≡ len a + added (is_some (get a key))
-len-with_newer a key v = put_if (is_newer (get a key) v) a key v (get a key) refl (newer_none v (get a key))
+abbrev pub AreThere : Copies → List KeyedVersion → Type 0
+AreThere m cs = AllByRecursion (λ c. is_some (get m c.key) ≡ true) cs
 
-pub len-there : (a : Copies) (key : List ℕ) (v k : Version) → get a key ≡ Some k → len (with_newer a key v) ≡ len a
-len-there a key v k e = len-with_newer a key v ∙ ap (λ o. len a + added (is_some o)) e ∙ omega arith
+some_after : (c : KeyedVersion) (cs : List KeyedVersion) (k : List ℕ) → is_some (get (greatest_of cs) k) ≡ true → is_some (get (greatest_of (c ∷ cs)) k) ≡ true
+some_after c cs k h =
+    ap is_some (get-greatest_of-first c cs k) ∙ is_some-greater (cond (same_key k c.key) (Some c.version) None) (get (greatest_of cs) k)
+    ∙ or_right (is_some (cond (same_key k c.key) (Some c.version) None)) (is_some (get (greatest_of cs) k)) h
 
-pub len-new : (a : Copies) (key : List ℕ) (v : Version) → get a key ≡ None → len (with_newer a key v) ≡ len a + 1
-len-new a key v e = len-with_newer a key v ∙ ap (λ o. len a + added (is_some o)) e
+there_after : (c : KeyedVersion) (cs ds : List KeyedVersion) → AreThere (greatest_of cs) ds → AreThere (greatest_of (c ∷ cs)) ds
+there_after c cs [] h = tt
+there_after c cs (d ∷ ds) h = (some_after c cs d.key h.0, there_after c cs ds h.1)
 
-pub len-grows : (a : Copies) (cs : List KeyedVersion) → len a ≤ len (greatest_after a cs)
-len-grows a [] = omega arith
-len-grows a (c ∷ cs) = omega (arith, len-with_newer a c.key c.version, len-grows (with_newer a c.key c.version) cs)
+pub all_there : (cs : List KeyedVersion) → AreThere (greatest_of cs) cs
+all_there [] = tt
+all_there (c ∷ cs) = (
+  ap is_some (get-greatest_of-first c cs c.key) ∙ is_some-greater (cond (same_key c.key c.key) (Some c.version) None) (get (greatest_of cs) c.key)
+      ∙ ap (λ b. is_some (cond b (Some c.version) None) || is_some (get (greatest_of cs) c.key)) (same_key-itself c.key),
+  there_after c cs cs (all_there cs),
+)
 
--- where there is room for a list, there is some for its first copy, if that has a new key
-pub room-new : (a : Copies) (c : KeyedVersion) (rest next : List KeyedVersion) (room : ℕ) → get a c.key ≡ None → rest ≡ c ∷ next
-    → len (greatest_after a rest) ≤ len a + room → 0 < room
-room-new a c rest next room absent is fits =
-    omega (arith, fits, ap (λ cs. len (greatest_after a cs)) is, len-new a c.key c.version absent, len-grows (with_newer a c.key c.version) next)
+-- distinct keys of a map are no more than it has
+apart : (k : List ℕ) (ks : List (List ℕ)) → list_any (bytes_eq k) ks ≡ false → AllByRecursion (λ y. bytes_eq k y ≡ false) ks
+apart k [] h = tt
+apart k (y ∷ ks) h = (none_of (bytes_eq k y) (list_any (bytes_eq k) ks) h, apart k ks (none_of_rest (bytes_eq k y) (list_any (bytes_eq k) ks) h))
+  where
+    none_of : (a b : Bool) → (a || b) ≡ false → a ≡ false
+    none_of true b h = h
+    none_of false b h = refl
 
--- how many of a list's copies have keys that a map doesn't have
-abbrev pub new_keys : Copies → List KeyedVersion → ℕ
-new_keys a [] = 0
-new_keys a (c ∷ cs) = added (is_some (get a c.key)) + new_keys a cs
+    none_of_rest : (a b : Bool) → (a || b) ≡ false → b ≡ false
+    none_of_rest true b h = absurd (true≢false h)
+    none_of_rest false b h = h
 
-new_keys-push : (a : Copies) (cs : List KeyedVersion) (c : KeyedVersion) → new_keys a (cs ++ c ∷ []) ≡ new_keys a cs + added (is_some (get a c.key))
-new_keys-push a [] c = omega arith
-new_keys-push a (x ∷ xs) c = omega (arith, new_keys-push a xs c)
+length-keys : (es : List (List ℕ × Version)) → length (keys_of es) ≡ length es
+length-keys [] = refl
+length-keys (e ∷ es) = ap suc (length-keys es)
 
-pub new_keys-take_more : (a : Copies) (cs : List KeyedVersion) (i : ℕ) (c : KeyedVersion) → i < length cs → c ≡ get_or cs i c
-    → new_keys a (take (i + 1) cs) ≡ new_keys a (take i cs) + added (is_some (get a c.key))
-new_keys-take_more a cs i c within is =
-    ap (new_keys a) (take_more cs i c within ∙ ap (λ x. take i cs ++ x ∷ []) (sym is)) ∙ new_keys-push a (take i cs) c
+a_key : (m : Copies) (q : List ℕ) → is_some (get m q) ≡ true → list_any (bytes_eq q) (keys m) ≡ true
+a_key m q h = sym (contains_key-keys m q ∙ (λ i. list_any (λ k. same_key-bytes_eq q k i) (keys m))) ∙ h
 
-pub new_keys-few : (a : Copies) (cs : List KeyedVersion) → new_keys a cs ≤ length cs
-new_keys-few a [] = omega arith
-new_keys-few a (c ∷ cs) = omega (arith, at_most_one (is_some (get a c.key)), new_keys-few a cs)
+-- the keys that were written under a number so far, the copies that are left, and the room that is left
+pub record Wrote (t : Slots) (now : ℕ) (m : Copies) (rest : List KeyedVersion) (room : ℕ) : Type 0 where
+  pub keys : List (List ℕ)
+  pub distinct : IsDistinct bytes_eq keys
+  pub there : (k : List ℕ) → list_any (bytes_eq k) keys ≡ true → is_some (get m k) ≡ true
+  pub told : (k : List ℕ) → list_any (bytes_eq k) keys ≡ true → told_at now (slot_in t k) ≡ true
+  pub rest_there : AreThere m rest
+  pub fits : len m ≤ room + length keys
 
--- the one map has each key that the other has
-abbrev HasKeysOf : Copies → Copies → Type 0
-HasKeysOf a b = (key : List ℕ) → is_some (get b key) ≡ true → is_some (get a key) ≡ true
+pub Wrote-start : (t : Slots) (now : ℕ) (cs : List KeyedVersion) (room : ℕ) → HasRoom room (greatest_of cs) → Wrote t now (greatest_of cs) cs room
+unfolding IsDistinct
+Wrote-start t now cs room h = record {
+  keys = [];
+  distinct = tt;
+  there = λ k e. absurd (true≢false (sym e));
+  told = λ k e. absurd (true≢false (sym e));
+  rest_there = all_there cs;
+  fits = omega (arith, h);
+}
 
-added-fewer : (p q : Bool) → (q ≡ true → p ≡ true) → added p ≤ added q
-added-fewer true q h = omega arith
-added-fewer false true h = cc (h refl)
-added-fewer false false h = omega arith
+-- a copy that isn't newer is passed over
+pub Wrote-older : (t : Slots) (now : ℕ) (m : Copies) (c : KeyedVersion) (rest : List KeyedVersion) (room : ℕ) → Wrote t now m (c ∷ rest) room → Wrote t now m rest room
+Wrote-older t now m c rest room h = record { keys = h.keys; distinct = h.distinct; there = h.there; told = h.told; rest_there = h.rest_there.1; fits = h.fits }
 
-either_some : (newer : Bool) (o : Option Version) (v : Version) → is_some o ≡ true → is_some (if newer then Some v else o) ≡ true
-either_some true o v h = refl
-either_some false o v h = h
+-- a key that wasn't written is one more
+fresh_key : (t : Slots) (now : ℕ) (k : List ℕ) (ks : List (List ℕ)) → (list_any (bytes_eq k) ks ≡ true → told_at now (slot_in t k) ≡ true) → told_at now (slot_in t k) ≡ false → list_any (bytes_eq k) ks ≡ false
+fresh_key t now k ks told fresh = elim (list_any (bytes_eq k) ks) as (λ b. list_any (bytes_eq k) ks ≡ b → b ≡ false) [
+  | true ↦ λ e. absurd (true≢false (sym (told e) ∙ fresh))
+  | false ↦ λ _. refl
+] refl
 
-still_some : (same : Bool) (o : Option Version) (v : Version) → is_some o ≡ true → is_some (cond same (greater o (Some v)) o) ≡ true
-still_some true o v h = either_some (is_newer o v) o v h
-still_some false o v h = h
+or_cases : {X : Type 0} (a b : Bool) → (a ≡ true → X) → (b ≡ true → X) → (a || b) ≡ true → X
+or_cases true b f g h = f refl
+or_cases false b f g h = g h
 
--- a map with one copy more has all keys that it had
-more_keys : (a b : Copies) (key : List ℕ) (v : Version) → HasKeysOf a b → HasKeysOf (with_newer a key v) b
-more_keys a b key v h q there =
-    ap is_some (get-with_newer a key v q) ∙ still_some (same_key q key) (get a q) v (h q there)
+one_more_key : (m : Copies) (k : List ℕ) (ks : List (List ℕ)) → IsDistinct bytes_eq ks → list_any (bytes_eq k) ks ≡ false → is_some (get m k) ≡ true
+    → ((q : List ℕ) → list_any (bytes_eq q) ks ≡ true → is_some (get m q) ≡ true) → length ks + 1 ≤ len m
+unfolding IsDistinct
+one_more_key m k ks distinct new at there =
+    let h = length-le_from_is_member nat_list_eq_equiv (k ∷ ks) (keys m) (apart k ks new, distinct)
+    (λ q e. or_cases (bytes_eq q k) (list_any (bytes_eq q) ks) (λ f. a_key m q (ap (λ x. is_some (get m x)) (bytes_eq-true q k f) ∙ at)) (λ f. a_key m q (there q f)) e) in
+    let e : len m ≡ length (keys m) = len-entries m ∙ sym (length-keys (entries m)) in
+    omega (arith, h, e)
 
--- and no more, where it had the copy's key
-no_more_keys : (a b : Copies) (key : List ℕ) (v : Version) → HasKeysOf a b → is_some (get a key) ≡ true → HasKeysOf a (with_newer b key v)
-no_more_keys a b key v h there q held =
-    elim (same_key q key) as (λ s. same_key q key ≡ s → is_some (cond s (greater (get b q) (Some v)) (get b q)) ≡ true → is_some (get a q) ≡ true) [
-      | true ↦ λ same _. ap (λ k. is_some (get a k)) (same_key-true q key same) ∙ there
-      | false ↦ λ _ other. h q other
-    ] refl (sym (ap is_some (get-with_newer b key v q)) ∙ held)
+-- so there is room for it
+pub Wrote-room : (t : Slots) (now : ℕ) (m : Copies) (c : KeyedVersion) (rest : List KeyedVersion) (room : ℕ) → Wrote t now m (c ∷ rest) room → told_at now (slot_in t c.key) ≡ false → 0 < room
+Wrote-room t now m c rest room h fresh =
+    let n = one_more_key m c.key h.keys h.distinct (fresh_key t now c.key h.keys (h.told c.key) fresh) h.rest_there.0 h.there in
+    omega (arith, n, h.fits)
 
-len-bound : (a b : Copies) (cs : List KeyedVersion) → HasKeysOf b a → len (greatest_after b cs) ≤ len b + new_keys a cs
-len-bound a b [] h = omega arith
-len-bound a b (c ∷ cs) h =
-    omega (
-      arith,
-      len-with_newer b c.key c.version,
-      added-fewer (is_some (get b c.key)) (is_some (get a c.key)) (h c.key),
-      len-bound a (with_newer b c.key c.version) cs (more_keys b a c.key c.version h),
-    )
-
-none_new : (a b : Copies) (cs : List KeyedVersion) → HasKeysOf a b → len (greatest_after b cs) ≤ len b → new_keys a cs ≡ 0
-none_new a b [] h few = refl
-none_new a b (c ∷ cs) h few =
-    let more = len-with_newer b c.key c.version in
-    let grown = len-grows (with_newer b c.key c.version) cs in
-    elim (is_some (get a c.key)) as (λ t. is_some (get a c.key) ≡ t → added t + new_keys a cs ≡ 0) [
-      | true ↦ λ there. omega (arith, none_new a (with_newer b c.key c.version) cs (no_more_keys a b c.key c.version h there) (omega (arith, more, grown, few)))
-      | false ↦ λ absent. absurd (omega (arith, more, grown, few, ap added absent, added-fewer (is_some (get a c.key)) (is_some (get b c.key)) (h c.key)))
+-- a copy was written, which took room where its key wasn't written before
+pub Wrote-newer : (t u : Slots) (now : ℕ) (m : Copies) (c : KeyedVersion) (rest : List KeyedVersion) (room left : ℕ) → Wrote t now m (c ∷ rest) room
+    → ((q : List ℕ) → told_at now (slot_in u q) ≡ (if bytes_eq q c.key then true else told_at now (slot_in t q)))
+    → room ≤ left + 1 → (told_at now (slot_in t c.key) ≡ true → room ≤ left) → Wrote u now m rest left
+unfolding IsDistinct
+Wrote-newer t u now m c rest room left h written one none =
+    elim (told_at now (slot_in t c.key)) as (λ b. told_at now (slot_in t c.key) ≡ b → Wrote u now m rest left) [
+      | true ↦ λ told. record {
+        keys = h.keys;
+        distinct = h.distinct;
+        there = h.there;
+        told = λ q e. kept q (h.told q e);
+        rest_there = h.rest_there.1;
+        fits = omega (arith, h.fits, none told);
+      }
+      | false ↦ λ fresh.
+          let new = fresh_key t now c.key h.keys (h.told c.key) fresh in
+          record {
+            keys = c.key ∷ h.keys;
+            distinct = (apart c.key h.keys new, h.distinct);
+            there = λ q e. or_cases (bytes_eq q c.key) (list_any (bytes_eq q) h.keys) (λ f. ap (λ x. is_some (get m x)) (bytes_eq-true q c.key f) ∙ h.rest_there.0) (h.there q) e;
+            told = λ q e. or_cases (bytes_eq q c.key) (list_any (bytes_eq q) h.keys) (λ f. written q ∙ ap (λ b. if b then true else told_at now (slot_in t q)) f) (λ f. kept q (h.told q f)) e;
+            rest_there = h.rest_there.1;
+            fits = omega (arith, h.fits, one);
+          }
     ] refl
+  where
+    kept : (q : List ℕ) → told_at now (slot_in t q) ≡ true → told_at now (slot_in u q) ≡ true
+    kept q e = written q ∙ elim (bytes_eq q c.key) as (λ b. (if b then true else told_at now (slot_in t q)) ≡ true) [ true ↦ refl | false ↦ e ]
 
--- so much room is enough for a list
-pub HasRoom-new_keys : (a : Copies) (cs : List KeyedVersion) → HasRoom (new_keys a cs) a (greatest_of cs)
-HasRoom-new_keys a cs = omega (arith, ap len (joined-greatest_of a cs), len-bound a a cs (λ key there. there))
-
--- and where none is needed, none is asked for
-pub new_keys-held : (a : Copies) (cs : List KeyedVersion) → HasRoom 0 a (greatest_of cs) → new_keys a cs ≡ 0
-new_keys-held a cs few = none_new a a cs (λ key there. there) (omega (arith, ap len (joined-greatest_of a cs), few))
+-- a list with no greatest copy is empty
+pub none_for_empty : (cs : List KeyedVersion) → greatest_of cs ≡ empty → length cs ≡ 0
+none_for_empty [] e = refl
+none_for_empty (c ∷ cs) e =
+    let there = (all_there (c ∷ cs)).0 in
+    absurd (true≢false (sym there ∙ ap (λ m. is_some (get m c.key)) e ∙ ap is_some (get-empty key_cmp c.key)))

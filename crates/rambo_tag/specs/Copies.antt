@@ -1,5 +1,5 @@
 -- The copies that a node holds, and how they are merged
-use Rattle.std.specs.Prelude.{ℕ, ◌+◌, ◌≤◌, if◌then◌else◌, List, [], ◌∷◌}
+use Rattle.std.specs.Prelude.{ℕ, ◌≤◌, if◌then◌else◌, List, [], ◌∷◌}
 use Rattle.std.specs.Ordering.{nat_cmp}
 use Rattle.std.specs.Cmp.Lexicographic.{slice_cmp}
 use Rattle.std.specs.FinMap.{FinMap, code, insert, get, entries, len}
@@ -28,11 +28,6 @@ with_all a (e ∷ es) = with_all (with_newer a e.0 e.1) es
 unfoldable pub joined : Copies → Copies → Copies
 joined a b = with_all a (entries b)
 
--- copies that are held, and how many more keys there is room for
-pub record HeldCopies : Type 0 where
-  pub copies : Copies
-  pub spare : ℕ
-
--- what is sent has at most so many keys that aren't held
-abbrev pub HasRoom : ℕ → Copies → Copies → Type 0
-HasRoom spare held sent = len (joined held sent) ≤ len held + spare
+-- there is room for each key of what is sent
+abbrev pub HasRoom : ℕ → Copies → Type 0
+HasRoom spare sent = len sent ≤ spare

@@ -2,4 +2,5 @@ pub mod Tags
 pub mod Copies
 pub mod Logs
 pub mod Merging
-pub mod Tables
+pub mod Stamps
+pub mod Rows

@@ -7,6 +7,8 @@ mod merging;
 mod pack;
 mod registers;
 mod replica;
+mod slot;
+mod stamping;
 mod tag;
 mod version;
 
@@ -15,5 +17,6 @@ pub use merging::merging_laws;
 pub use pack::{NoCopies, Pack};
 pub use registers::Registers;
 pub use replica::Replica;
+pub use stamping::stamp_laws;
 pub use tag::Tag;
 pub use version::Version;

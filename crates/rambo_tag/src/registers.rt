@@ -1,16 +1,19 @@
-//! Copies in a hash table.
-ghost use Rattle.std.specs.Prelude.{◌≡◌, ◌+◌, ◌<◌, ◌≤◌, true, [], IsOk, IfOk, IfErr, OnOk, OnErr};
+//! Copies in a hash table, and the log of their changes.
+ghost use Rattle.std.specs.Prelude.{◌≡◌, ◌+◌, ◌<◌, ◌≤◌, true, false, ℕ, List, [], ◌∷◌, filter, if◌then◌else◌, IsOk, IfOk, IfErr, OnOk, OnErr};
 ghost use Rattle.std.specs.FinMap.{empty, get, insert};
-ghost use Rattle.indexmap.specs.IndexMap.{spare};
+ghost use Rattle.std.specs.Str.{bytes_eq};
+ghost use Rattle.std.specs.Vec.{vec_len, vec_capacity};
 ghost use Rattle.rambo_tag.specs.Tags.{is_newer};
-ghost use Rattle.rambo_tag.specs.Copies.{joined, with_newer, HasRoom};
+ghost use Rattle.rambo_tag.specs.Copies.{joined, HasRoom};
 ghost use Rattle.rambo_tag.specs.Logs.{greatest_after, greatest_of};
-ghost use Rattle.rambo_tag.specs.Tables.{copies_in};
+ghost use Rattle.rambo_tag.specs.Stamps.{AreAtMost, stamps_merged};
+ghost use Rattle.rambo_tag.specs.Rows.{slot_in, place_in, copies_of, stamps_of, stamps_after, told_at, is_current, room_in, IsIndexed};
 
 use crate::borrowed_key::BorrowedKey;
 use crate::keyed_version::KeyedVersion;
 use crate::pack::Pack;
 use crate::replica::Replica;
+use crate::slot::{Row, Slot};
 use crate::version::Version;
 use indexmap::IndexMap;
 use rambo_names::{Bytes, Refusal};
@@ -18,68 +21,60 @@ use std::alloc::Global;
 use std::hash::BuildHasher;
 use std::marker::Model;
 
-/// The copies of a node in a hash table.
+/// The copies of a node in a hash table, with a log of their changes.
 ///
-/// Each call takes time in the size of what it is given or makes.
+/// Each call takes time in the size of what it is given or makes, on the average of many calls.
 #[derive(Drop)]
 pub struct Registers<H: BuildHasher> {
-    // Packs share the keys and the values.
-    table: IndexMap<Bytes, Version, H>,
+    // Packs share the keys and the values. A key keeps its place.
+    table: IndexMap<Bytes, Slot, H>,
+    // The changes, oldest first: what changed since a number is the end of it.
+    log: Vec<Row>,
 }
 
 impl<H: BuildHasher> Model for Registers<H> {
     ghost use Rattle.std.specs.Coded.{codes};
-    ghost use Rattle.indexmap.specs.IndexMap.{spare};
-    ghost use Rattle.rambo_tag.specs.Copies.{HeldCopies, copies_code};
-    ghost use Rattle.rambo_tag.specs.Tables.{copies_in};
+    ghost use Rattle.rambo_tag.specs.Copies.{copies_code};
+    ghost use Rattle.rambo_tag.specs.Stamps.{HeldCopies, stamps_code};
+    ghost use Rattle.rambo_tag.specs.Rows.{copies_of, stamps_of, room_in, IsIndexed};
 
     ghost Value = { HeldCopies };
 
-    ghost coded = { Prim.hlevel (codes, copies_code) };
+    ghost coded = { Prim.hlevel (codes, copies_code, stamps_code) };
 
-    ghost view = { λ r. record { copies = copies_in r.table.entries; spare = spare r.table } };
+    ghost view = { λ r. record { copies = copies_of r.table.entries; stamps = stamps_of r.table.entries; spare = room_in r.table r.log } };
+
+    ghost invariant = { λ r. IsIndexed r.table.entries r.log.items };
 }
 
 impl<H: BuildHasher> Registers<H> {
     /// The replica that holds nothing, under a hasher.
     pub fn new(alloc: Global, hasher: H) -> Self
-        ensures { result.copies ≡ empty }
+        ensures copies { result.copies ≡ empty }
+        ensures stamps { result.stamps ≡ empty }
     {
         Registers {
             table: IndexMap::with_hasher(alloc, hasher),
+            log: Vec::new(alloc),
         }
     }
 
     // Takes one copy, where it is newer than what its key holds here. A key that stands here is looked up once.
-    fn merge_one(&mut self, copy: &KeyedVersion) -> Result<(), Refusal>
-        ensures ok { OnOk result (self.new.copies ≡ with_newer self.old.copies copy.now.key copy.now.version) }
+    fn merge_one(&mut self, copy: &KeyedVersion, now: u64) -> Result<(), Refusal>
+        requires { AreAtMost now self.old.stamps }
+        ensures ok { OnOk result (self.new.copies ≡ greatest_after self.old.copies (copy.now ∷ [])) }
+        ensures stamped { OnOk result (self.new.stamps ≡ stamps_after now self.old.copies self.old.stamps (copy.now ∷ [])) }
         ensures newer { IfErr result (λ _. is_newer (get self.old.copies copy.now.key) copy.now.version ≡ true) }
         ensures err { OnErr result (self.new.copies ≡ self.old.copies) }
+        ensures unstamped { OnErr result (self.new.stamps ≡ self.old.stamps) }
         ensures refused { IfErr result (λ r. r ≡ Refusal.OutOfMemory) }
     {
-        match self.table.get_mut(&copy.key) {
-            Some(kept) => kept.raise(&copy.version),
-            None => {
-                let KeyedVersion { key, version } = copy.clone()?;
-                self.table.insert(key, version)?;
-                Ok(())
-            }
+        let (place, newer) = find(&self.table, copy);
+        if newer {
+            let copy = copy.clone()?;
+            make_room(&mut self.table, &mut self.log, 1)?;
+            write(&mut self.table, &mut self.log, place, copy, now);
         }
-    }
-
-    // Takes the greater copy of each key.
-    fn merge_all(&mut self, pack: &Pack) -> Result<(), Refusal>
-        ensures ok { OnOk result (self.new.copies ≡ joined self.old.copies pack.now) }
-        ensures idle { joined self.old.copies pack.now ≡ self.old.copies → IsOk result }
-        ensures err { OnErr result (self.new.copies ≡ self.old.copies) }
-        ensures refused { IfErr result (λ r. r ≡ Refusal.OutOfMemory) }
-    {
-        let copies = self.newer_copies(pack)?;
-        if copies.is_empty() {
-            return Ok(());
-        }
-        self.table.reserve(copies.len())?;
-        put_newer(&mut self.table, copies);
         Ok(())
     }
 
@@ -92,7 +87,8 @@ impl<H: BuildHasher> Registers<H> {
     {
         let mut copies = Vec::new(*self.table.allocator());
         for copy in pack.copies() {
-            if is_newer(&self.table, copy) {
+            let (_, newer) = find(&self.table, copy);
+            if newer {
                 copies.push(copy.clone()?)?;
             }
         }
@@ -100,8 +96,28 @@ impl<H: BuildHasher> Registers<H> {
     }
 }
 
+impl<H: BuildHasher + Clone + Drop> Registers<H> {
+    // Takes the greater copy of each key.
+    fn merge_all(&mut self, pack: &Pack, now: u64) -> Result<(), Refusal>
+        requires { AreAtMost now self.old.stamps }
+        ensures ok { OnOk result (self.new.copies ≡ joined self.old.copies pack.now) }
+        ensures stamped { OnOk result (self.new.stamps ≡ stamps_merged now self.old.copies self.old.stamps pack.now) }
+        ensures idle { joined self.old.copies pack.now ≡ self.old.copies → IsOk result }
+        ensures err { OnErr result (self.new.copies ≡ self.old.copies) }
+        ensures unstamped { OnErr result (self.new.stamps ≡ self.old.stamps) }
+        ensures refused { IfErr result (λ r. r ≡ Refusal.OutOfMemory) }
+    {
+        let newer = self.newer(pack)?;
+        self.room(&newer)?;
+        self.merge_room(newer, now);
+        Ok(())
+    }
+}
+
 impl<H: BuildHasher + Clone + Drop> Replica for Registers<H> {
     ghost copies = { λ r. r.copies };
+
+    ghost stamps = { λ r. r.stamps };
 
     ghost spare = { λ r. r.spare };
 
@@ -110,19 +126,23 @@ impl<H: BuildHasher + Clone + Drop> Replica for Registers<H> {
     }
 
     fn copy(&self, key: &[u8]) -> Option<&Version> {
-        self.table.get(BorrowedKey { bytes: key })
+        match self.table.get(BorrowedKey { bytes: key }) {
+            Some(slot) => Some(&slot.version),
+            None => None,
+        }
     }
 
-    fn put(&mut self, key: Bytes, version: Version) -> Result<(), Refusal> {
-        self.table.insert(key, version)?;
+    fn put(&mut self, key: Bytes, version: Version, now: u64) -> Result<(), Refusal> {
+        self.room_for_key()?;
+        self.put_room(key, version, now);
         Ok(())
     }
 
-    fn merge(&mut self, pack: &Pack) -> Result<(), Refusal> {
+    fn merge(&mut self, pack: &Pack, now: u64) -> Result<(), Refusal> {
         match pack.copies() {
             [] => Ok(()),
-            [copy] => self.merge_one(copy),
-            _ => self.merge_all(pack),
+            [copy] => self.merge_one(copy, now),
+            _ => self.merge_all(pack, now),
         }
     }
 
@@ -132,82 +152,167 @@ impl<H: BuildHasher + Clone + Drop> Replica for Registers<H> {
     }
 
     fn room(&mut self, pack: &Pack) -> Result<(), Refusal> {
-        let count = new_keys(&self.table, pack.copies());
-        self.table.reserve(count)?;
-        Ok(())
+        make_room(&mut self.table, &mut self.log, pack.copies().len())
     }
 
-    fn merge_room(&mut self, pack: Pack) {
-        put_newer(&mut self.table, pack.into_copies());
+    fn merge_room(&mut self, pack: Pack, now: u64) {
+        write_newer(&mut self.table, &mut self.log, pack.into_copies(), now);
     }
 
     fn room_for_key(&mut self) -> Result<(), Refusal> {
-        self.table.reserve(1)?;
-        Ok(())
+        make_room(&mut self.table, &mut self.log, 1)
     }
 
-    fn put_room(&mut self, key: Bytes, version: Version) {
-        put_reserved(&mut self.table, key, version);
+    fn put_room(&mut self, key: Bytes, version: Version, now: u64) {
+        let place = self.table.get_index_of(&key);
+        write(
+            &mut self.table,
+            &mut self.log,
+            place,
+            KeyedVersion { key, version },
+            now,
+        );
     }
 
-    fn pack(&self) -> Result<Pack, Refusal> {
-        let mut copies = Vec::with_capacity(*self.table.allocator(), self.table.len())?;
-        for (key, version) in self.table.iter() {
-            copies.push(KeyedVersion {
-                key: key.clone()?,
-                version: version.clone()?,
-            })?;
+    fn pack_since(&self, base: u64) -> Result<Pack, Refusal> {
+        let mut copies = Vec::new(*self.table.allocator());
+        let mut left = self.log.len();
+        while left > 0 && self.log[left - 1].number >= base {
+            left -= 1;
+            let row = self.log[left];
+            if let Some((key, slot)) = self.table.get_index(row.place) {
+                if slot.number == row.number {
+                    copies.push(KeyedVersion {
+                        key: key.clone()?,
+                        version: slot.version.clone()?,
+                    })?;
+                }
+            }
         }
         Ok(Pack::new(copies))
     }
-}
 
-// Whether a copy is newer than what its key holds.
-fn is_newer<H: BuildHasher>(table: &IndexMap<Bytes, Version, H>, copy: &KeyedVersion) -> bool
-    ensures { result ≡ is_newer (get (copies_in table.now.entries) copy.now.key) copy.now.version }
-{
-    match table.get(&copy.key) {
-        Some(kept) => kept.is_before(&copy.version),
-        None => true,
+    fn pack(&self) -> Result<Pack, Refusal> {
+        self.pack_since(0)
     }
 }
 
-// How many of these copies have keys that the table doesn't have.
-fn new_keys<H: BuildHasher>(table: &IndexMap<Bytes, Version, H>, copies: &[KeyedVersion]) -> usize
-    ensures room { HasRoom result (copies_in table.now.entries) (greatest_of copies.now) }
-    ensures held { HasRoom 0 (copies_in table.now.entries) (greatest_of copies.now) → result ≡ 0 }
+// The place of a copy's key, and whether the copy is newer than what its key holds.
+fn find<H: BuildHasher>(
+    table: &IndexMap<Bytes, Slot, H>,
+    copy: &KeyedVersion,
+) -> (Option<usize>, bool)
+    ensures place { result.0 ≡ place_in table.now.entries copy.now.key }
+    ensures newer { result.1 ≡ is_newer (get (copies_of table.now.entries) copy.now.key) copy.now.version }
 {
-    let mut count = 0;
-    for copy in copies {
-        if !table.contains_key(&copy.key) {
-            count += 1;
-        }
-    }
-    count
-}
-
-// Puts copies into a table that has room for them, each where it is newer. It needs no memory.
-fn put_newer<H: BuildHasher>(table: &mut IndexMap<Bytes, Version, H>, copies: Vec<KeyedVersion>)
-    requires room { HasRoom (spare table.old) (copies_in table.old.entries) (greatest_of copies.items) }
-    ensures { copies_in table.new.entries ≡ greatest_after (copies_in table.old.entries) copies.items }
-{
-    for KeyedVersion { key, version } in copies {
-        match table.get_mut(&key) {
-            Some(kept) => kept.become_greater(version),
-            None => put_reserved(table, key, version),
-        }
+    match table.get_index_of(&copy.key) {
+        Some(place) => (Some(place), table[place].version.is_before(&copy.version)),
+        None => (None, true),
     }
 }
 
-// Puts a copy in the place of a key's, in a table that has room for it. It needs no memory.
-fn put_reserved<H: BuildHasher>(
-    table: &mut IndexMap<Bytes, Version, H>,
-    key: Bytes,
-    version: Version,
+// Makes room for so many more changes. Stale rows are swept before, where they are as many as the table's keys.
+fn make_room<H: BuildHasher>(
+    table: &mut IndexMap<Bytes, Slot, H>,
+    log: &mut Vec<Row>,
+    more: usize,
+) -> Result<(), Refusal>
+    requires { IsIndexed table.old.entries log.old.items }
+    ensures entries { table.new.entries ≡ table.old.entries }
+    ensures indexed { IsIndexed table.old.entries log.new.items }
+    ensures kept { room_in table.old log.old ≤ room_in table.new log.new }
+    ensures ok { OnOk result (more ≤ room_in table.new log.new) }
+    ensures idle { more ≡ 0 → IsOk result }
+    ensures refused { IfErr result (λ r. r ≡ Refusal.OutOfMemory) }
+{
+    if more == 0 {
+        return Ok(());
+    }
+    if log.len() / 2 >= table.len() {
+        sweep(table, log);
+    }
+    table.reserve(more)?;
+    log.reserve(more)?;
+    Ok(())
+}
+
+// Drops the stale rows. It needs no memory.
+fn sweep<H: BuildHasher>(table: &IndexMap<Bytes, Slot, H>, log: &mut Vec<Row>)
+    ensures rows { log.new.items ≡ filter (is_current table.now.entries) log.old.items }
+    ensures room { room_in table.now log.old ≤ room_in table.now log.new }
+{
+    log.retain(|row| is_current(table, *row));
+}
+
+// Whether a row tells of a key's last change.
+fn is_current<H: BuildHasher>(table: &IndexMap<Bytes, Slot, H>, row: Row) -> bool
+    ensures { result ≡ is_current table.now.entries row }
+{
+    match table.get_index(row.place) {
+        Some((_, slot)) => slot.number == row.number,
+        None => false,
+    }
+}
+
+// Puts a copy in the place of a key's, which was looked up, under a number. It needs no memory, and no room where the
+// key's last change was under that number.
+fn write<H: BuildHasher>(
+    table: &mut IndexMap<Bytes, Slot, H>,
+    log: &mut Vec<Row>,
+    place: Option<usize>,
+    copy: KeyedVersion,
+    now: u64,
 )
-    requires { 0 < spare table.old }
-    ensures put { copies_in table.new.entries ≡ insert (copies_in table.old.entries) key version }
-    ensures room { spare table.old ≤ spare table.new + 1 }
+    requires place { place ≡ place_in table.old.entries copy.key }
+    requires room { told_at now (slot_in table.old.entries copy.key) ≡ false → 0 < room_in table.old log.old }
+    requires late { AreAtMost now (stamps_of table.old.entries) }
+    requires indexed { IsIndexed table.old.entries log.old.items }
+    ensures copies { copies_of table.new.entries ≡ insert (copies_of table.old.entries) copy.key copy.version }
+    ensures stamps { stamps_of table.new.entries ≡ insert (stamps_of table.old.entries) copy.key now }
+    ensures indexed { IsIndexed table.new.entries log.new.items }
+    ensures told { (key : List ℕ) → told_at now (slot_in table.new.entries key) ≡ (if bytes_eq key copy.key then true else told_at now (slot_in table.old.entries key)) }
+    ensures room { room_in table.old log.old ≤ room_in table.new log.new + 1 }
+    ensures again { told_at now (slot_in table.old.entries copy.key) ≡ true → room_in table.old log.old ≤ room_in table.new log.new }
 {
-    let _kept = table.insert(key, version);
+    let KeyedVersion { key, version } = copy;
+    let slot = Slot {
+        version,
+        number: now,
+    };
+    match place {
+        Some(place) => {
+            let told = table[place].number == now;
+            table[place] = slot;
+            if !told {
+                let _done = log.push(Row { place, number: now });
+            }
+        }
+        None => {
+            if let Ok((place, _old)) = table.insert_full(key, slot) {
+                let _done = log.push(Row { place, number: now });
+            }
+        }
+    }
+}
+
+// Puts copies into a table that has room for them, each where it is newer, under a number. It needs no memory.
+fn write_newer<H: BuildHasher>(
+    table: &mut IndexMap<Bytes, Slot, H>,
+    log: &mut Vec<Row>,
+    copies: Vec<KeyedVersion>,
+    now: u64,
+)
+    requires room { HasRoom (room_in table.old log.old) (greatest_of copies.items) }
+    requires late { AreAtMost now (stamps_of table.old.entries) }
+    requires indexed { IsIndexed table.old.entries log.old.items }
+    ensures copies { copies_of table.new.entries ≡ greatest_after (copies_of table.old.entries) copies.items }
+    ensures stamps { stamps_of table.new.entries ≡ stamps_after now (copies_of table.old.entries) (stamps_of table.old.entries) copies.items }
+    ensures indexed { IsIndexed table.new.entries log.new.items }
+{
+    for copy in copies {
+        let (place, newer) = find(table, &copy);
+        if newer {
+            write(table, log, place, copy, now);
+        }
+    }
 }

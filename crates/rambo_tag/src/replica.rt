@@ -3,19 +3,23 @@ ghost use Rattle.std.specs.Prelude.{◌≡◌, ◌<◌, ◌≤◌, ℕ, IsOk, If
 ghost use Rattle.std.specs.FinMap as map;
 ghost use Rattle.std.specs.Option.{option_copied};
 ghost use Rattle.rambo_tag.specs.Copies.{Copies, joined, HasRoom};
+ghost use Rattle.rambo_tag.specs.Stamps.{Stamps, AreAtMost, AreStampedAlike, IsSince, stamps_merged};
 
 use crate::pack::Pack;
 use crate::version::Version;
 use rambo_names::{Bytes, Refusal};
 
-/// The copies of one node, seen as a finite map from keys to copies.
+/// The copies of one node, seen as a finite map from keys to copies, and of each key a stamp: the number under
+/// which its copy last changed.
 ///
 /// An absent key stands for the tag (0, 0) with nil. Each call that answers `OutOfMemory` leaves the
-/// copies as they were.
+/// copies and the stamps as they were.
 pub trait Replica: Drop {
     ghost copies: { Self → Copies };
 
-    /// How many more keys it has room for.
+    ghost stamps: { Self → Stamps };
+
+    /// How many more changes of copies it has room for.
     ghost spare: { Self → ℕ };
 
     /// A replica of the same kind that holds nothing.
@@ -23,67 +27,92 @@ pub trait Replica: Drop {
     /// `OutOfMemory` where there is no room for it.
     fn fresh(&self) -> Result<Self, Refusal>
         ensures empty { IfOk result (λ r. copies r ≡ map.empty) }
+        ensures unstamped { IfOk result (λ r. stamps r ≡ map.empty) }
         ensures refused { IfErr result (λ r. r ≡ Refusal.OutOfMemory) };
 
     /// The copy of a key, if there is one. A key is any bytes.
     fn copy(&self, key: &[u8]) -> Option<&Version>
         ensures { option_copied result ≡ map.get (copies self.now) key.now };
 
-    /// Puts a copy in the place of a key's.
+    /// Puts a copy in the place of a key's, under a number that no stamp is above.
     ///
     /// `OutOfMemory` where there is no room for it.
-    fn put(&mut self, key: Bytes, version: Version) -> Result<(), Refusal>
+    fn put(&mut self, key: Bytes, version: Version, now: u64) -> Result<(), Refusal>
+        requires late { AreAtMost now (stamps self.old) }
         ensures ok { OnOk result (copies self.new ≡ map.insert (copies self.old) key version) }
+        ensures stamped { OnOk result (stamps self.new ≡ map.insert (stamps self.old) key now) }
         ensures err { OnErr result (copies self.new ≡ copies self.old) }
+        ensures unstamped { OnErr result (stamps self.new ≡ stamps self.old) }
         ensures refused { IfErr result (λ r. r ≡ Refusal.OutOfMemory) };
 
-    /// Takes the greater copy of each key (all of them, or none).
+    /// Takes the greater copy of each key (all of them, or none), under a number that no stamp is above.
     ///
     /// `OutOfMemory` where there is no room for what is newer. Where nothing is newer no memory is taken.
-    fn merge(&mut self, pack: &Pack) -> Result<(), Refusal>
+    fn merge(&mut self, pack: &Pack, now: u64) -> Result<(), Refusal>
+        requires late { AreAtMost now (stamps self.old) }
         ensures ok { OnOk result (copies self.new ≡ joined (copies self.old) pack.now) }
+        ensures stamped { OnOk result (stamps self.new ≡ stamps_merged now (copies self.old) (stamps self.old) pack.now) }
         ensures idle { joined (copies self.old) pack.now ≡ copies self.old → IsOk result }
         ensures err { OnErr result (copies self.new ≡ copies self.old) }
+        ensures unstamped { OnErr result (stamps self.new ≡ stamps self.old) }
         ensures refused { IfErr result (λ r. r ≡ Refusal.OutOfMemory) };
 
-    /// Those copies of a pack that are newer than what it holds.
+    /// Those copies of a pack that are newer than what it holds: merged in the place of the pack they come to the
+    /// same copies and the same stamps.
     ///
     /// `OutOfMemory` where there is no room for the list of them. Where nothing is newer no memory is taken.
     fn newer(&self, pack: &Pack) -> Result<Pack, Refusal>
         ensures all { IfOk result (λ p. joined (copies self.now) p ≡ joined (copies self.now) pack.now) }
+        ensures stamped { IfOk result (λ p. AreStampedAlike (copies self.now) p pack.now) }
         ensures none { joined (copies self.now) pack.now ≡ copies self.now → IfOk result (λ p. p ≡ map.empty) }
         ensures idle { joined (copies self.now) pack.now ≡ copies self.now → IsOk result }
         ensures refused { IfErr result (λ r. r ≡ Refusal.OutOfMemory) };
 
-    /// Makes room for a pack, so that `merge_room` can take it. The copies stay, whatever the answer, and so does
-    /// the room that there is.
+    /// Makes room for a pack, so that `merge_room` can take it. The copies and the stamps stay, whatever the answer,
+    /// and so does the room that there is.
     ///
-    /// `OutOfMemory` where there is no room for its new keys. Where it has none no memory is taken.
+    /// `OutOfMemory` where there is no room for it. Where it is empty no memory is taken.
     fn room(&mut self, pack: &Pack) -> Result<(), Refusal>
         ensures same { copies self.new ≡ copies self.old }
+        ensures stamped { stamps self.new ≡ stamps self.old }
         ensures kept { spare self.old ≤ spare self.new }
-        ensures ok { OnOk result (HasRoom (spare self.new) (copies self.new) pack.now) }
-        ensures held { HasRoom 0 (copies self.old) pack.now → IsOk result }
+        ensures ok { OnOk result (HasRoom (spare self.new) pack.now) }
+        ensures idle { pack.now ≡ map.empty → IsOk result }
         ensures refused { IfErr result (λ r. r ≡ Refusal.OutOfMemory) };
 
-    /// Takes the greater copy of each key of a pack for which there is room. It takes no memory and can't fail.
-    fn merge_room(&mut self, pack: Pack)
-        requires { HasRoom (spare self.old) (copies self.old) pack }
-        ensures { copies self.new ≡ joined (copies self.old) pack };
+    /// Takes the greater copy of each key of a pack for which there is room, under a number that no stamp is above.
+    /// It takes no memory and can't fail.
+    fn merge_room(&mut self, pack: Pack, now: u64)
+        requires room { HasRoom (spare self.old) pack }
+        requires late { AreAtMost now (stamps self.old) }
+        ensures copies { copies self.new ≡ joined (copies self.old) pack }
+        ensures stamped { stamps self.new ≡ stamps_merged now (copies self.old) (stamps self.old) pack };
 
-    /// Makes room for one key more. The copies stay, whatever the answer, and so does the room that there is.
+    /// Makes room for a change of one key more. The copies and the stamps stay, whatever the answer, and so does the
+    /// room that there is.
     ///
     /// `OutOfMemory` where there is no room for it.
     fn room_for_key(&mut self) -> Result<(), Refusal>
         ensures same { copies self.new ≡ copies self.old }
+        ensures stamped { stamps self.new ≡ stamps self.old }
         ensures kept { spare self.old ≤ spare self.new }
         ensures ok { OnOk result (0 < spare self.new) }
         ensures refused { IfErr result (λ r. r ≡ Refusal.OutOfMemory) };
 
-    /// Puts a copy in the place of a key's, where there is room for one key more. It takes no memory and can't fail.
-    fn put_room(&mut self, key: Bytes, version: Version)
-        requires { 0 < spare self.old }
-        ensures { copies self.new ≡ map.insert (copies self.old) key version };
+    /// Puts a copy in the place of a key's, where there is room for one change more, under a number that no stamp is
+    /// above. It takes no memory and can't fail.
+    fn put_room(&mut self, key: Bytes, version: Version, now: u64)
+        requires room { 0 < spare self.old }
+        requires late { AreAtMost now (stamps self.old) }
+        ensures copies { copies self.new ≡ map.insert (copies self.old) key version }
+        ensures stamped { stamps self.new ≡ map.insert (stamps self.old) key now };
+
+    /// The copies with a stamp of at least a base, to be sent. No key and no value is copied.
+    ///
+    /// `OutOfMemory` where there is no room for the list of them.
+    fn pack_since(&self, base: u64) -> Result<Pack, Refusal>
+        ensures since { IfOk result (λ p. IsSince (copies self.now) (stamps self.now) base p) }
+        ensures refused { IfErr result (λ r. r ≡ Refusal.OutOfMemory) };
 
     /// All copies, to be sent. No key and no value is copied.
     ///

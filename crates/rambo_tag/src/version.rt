@@ -1,9 +1,9 @@
 //! Copies of a key's value.
-ghost use Rattle.std.specs.Prelude.{◌≡◌, true, if◌then◌else◌, OnOk, OnErr, IfErr};
+ghost use Rattle.std.specs.Prelude.{◌≡◌};
 ghost use Rattle.rambo_tag.specs.Tags.{value_lt, version_lt};
 
 use crate::tag::Tag;
-use rambo_names::{Bytes, Refusal};
+use rambo_names::Bytes;
 use std::alloc::AllocError;
 
 /// A copy of a key's value, with the tag that it was written under. No value is nil.
@@ -20,28 +20,6 @@ impl Version {
     {
         self.tag.is_before(&other.tag)
             || (!other.tag.is_before(&self.tag) && is_less(&self.value, &other.value))
-    }
-
-    // Becomes another copy where that is the greater. No value is copied.
-    pub(crate) fn raise(&mut self, other: &Version) -> Result<(), Refusal>
-        ensures ok { OnOk result (self.new ≡ (if version_lt self.old other.now then other.now else self.old)) }
-        ensures newer { IfErr result (λ _. version_lt self.old other.now ≡ true) }
-        ensures err { OnErr result (self.new ≡ self.old) }
-        ensures refused { IfErr result (λ r. r ≡ Refusal.OutOfMemory) }
-    {
-        if self.is_before(other) {
-            *self = other.clone()?;
-        }
-        Ok(())
-    }
-
-    // Becomes another copy where that is the greater.
-    pub(crate) fn become_greater(&mut self, other: Version)
-        ensures { self.new ≡ (if version_lt self.old other then other else self.old) }
-    {
-        if self.is_before(&other) {
-            *self = other;
-        }
     }
 }
 

@@ -86,7 +86,7 @@ pub fn commit_next<J: Terms<Q>, Q: Quorums, S: Replica>(
     ensures did { IfOk result (λ t. t ≡ Turn.Did ready.step) }
     ensures legal { OnOk result (refusal Q.system (state Q.system book.old) ready.step ≡ None) }
     ensures book { OnOk result (book.new ≡ longer book.old ready.step) }
-    ensures keeper { OnOk result (keeper.new ≡ record keeper.old { node = keeper.new.node; room = keeper.new.room; tray = cleared keeper.old.tray ready.step; seen = book.new.steps }) }
+    ensures keeper { OnOk result (keeper.new ≡ record keeper.old { node = keeper.new.node; room = keeper.new.room; beside = keeper.new.beside; tray = cleared keeper.old.tray ready.step; seen = book.new.steps }) }
     ensures node { OnOk result (node_at (state Q.system book.new) keeper.old.name ≡ Some keeper.new.node) }
     ensures same { OnErr result ((book.new ≡ book.old) × (keeper.new ≡ keeper.old)) }
     ensures told { IfErr result (λ r. Told None (length book.old.steps) book.old.capacity r) }

@@ -56,11 +56,12 @@ impl<Q: Quorums, S: Replica> Model for Nodes<Q, S> {
     ghost use Rattle.std.specs.Coded.{codes};
     ghost use Rattle.rambo_names.specs.Names.{names_code};
     ghost use Rattle.rambo_tag.specs.Copies.{copies_code};
+    ghost use Rattle.rambo_tag.specs.Stamps.{stamps_code};
     ghost use Rattle.rambo_world.specs.Kept.{KeptNode, kept_of};
 
     ghost Value = { List (KeptNode Q) };
 
-    ghost coded = { Prim.hlevel (codes, names_code, copies_code, Q.code) };
+    ghost coded = { Prim.hlevel (codes, names_code, copies_code, stamps_code, Q.code) };
 
     ghost view = { λ n. kept_of n.list.items n.logs.logs };
 

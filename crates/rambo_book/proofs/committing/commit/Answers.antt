@@ -75,9 +75,9 @@ returns-clause-keeper g c =
     let eb = c.ready_by_book.ensures.same.0 ∙ c.may_commit.ensures.same.0 in
     let ek = c.ready_by_book.ensures.same.1 ∙ (λ i. record (c.may_commit.ensures.same.1 i) { room = c.ready_by_book.new.keeper.room }) in
     let new = c.enter.new.keeper in
-    subst (λ st. OnOk c.enter.result (new ≡ record c.args.keeper.now { node = new.node; room = new.room; seen = c.args.book.now.steps ++ st ∷ [] })) c.in_ok-ready.ensures.step
-    (subst (λ (b : BookView _). OnOk c.enter.result (new ≡ record c.args.keeper.now { node = new.node; room = new.room; seen = b.steps ++ c.in_ok-ready.ready.step ∷ [] })) eb
-    (subst (λ (k : KeeperView _). OnOk c.enter.result (new ≡ record k { node = new.node; room = new.room; seen = c.ready_by_book.new.book.steps ++ c.in_ok-ready.ready.step ∷ [] })) ek c.enter.ensures.keeper))
+    subst (λ st. OnOk c.enter.result (new ≡ record c.args.keeper.now { node = new.node; room = new.room; beside = new.beside; seen = c.args.book.now.steps ++ st ∷ [] })) c.in_ok-ready.ensures.step
+    (subst (λ (b : BookView _). OnOk c.enter.result (new ≡ record c.args.keeper.now { node = new.node; room = new.room; beside = new.beside; seen = b.steps ++ c.in_ok-ready.ready.step ∷ [] })) eb
+    (subst (λ (k : KeeperView _). OnOk c.enter.result (new ≡ record k { node = new.node; room = new.room; beside = new.beside; seen = c.ready_by_book.new.book.steps ++ c.in_ok-ready.ready.step ∷ [] })) ek c.enter.ensures.keeper))
 
 pub returns-clause-node : goal.returns-clause-node
 returns-clause-node g c =

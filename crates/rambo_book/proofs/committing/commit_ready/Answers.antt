@@ -45,8 +45,8 @@ returns-clause-keeper g c =
     let eb = c.agree.ensures.same.0 in
     let ek = c.agree.ensures.same.1 in
     let new = c.enter.new.keeper in
-    subst (λ (b : BookView _). OnOk c.enter.result (new ≡ record c.args.keeper.now { node = new.node; room = new.room; seen = b.steps ++ c.args.ready.step ∷ [] })) eb
-    (subst (λ (k : KeeperView _). OnOk c.enter.result (new ≡ record k { node = new.node; room = new.room; seen = c.agree.new.self.steps ++ c.args.ready.step ∷ [] })) ek c.enter.ensures.keeper)
+    subst (λ (b : BookView _). OnOk c.enter.result (new ≡ record c.args.keeper.now { node = new.node; room = new.room; beside = new.beside; seen = b.steps ++ c.args.ready.step ∷ [] })) eb
+    (subst (λ (k : KeeperView _). OnOk c.enter.result (new ≡ record k { node = new.node; room = new.room; beside = new.beside; seen = c.agree.new.self.steps ++ c.args.ready.step ∷ [] })) ek c.enter.ensures.keeper)
 
 pub returns-clause-node : goal.returns-clause-node
 returns-clause-node g c =

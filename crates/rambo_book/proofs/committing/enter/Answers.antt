@@ -1,5 +1,7 @@
 use Rattle.std.proofs.Common.{◌∙◌, ◌<◌, ◌≤◌, ◌++◌, ◌∷◌, [], None, length, refl, sym, ap, subst, inl, arith}
 use Rattle.rambo_history.specs.Faults.{fault_of}
+use Rattle.rambo_node.specs.Changes.{made_by}
+use Rattle.rambo_node.specs.FullNodes.{beside_after}
 use Rattle.rambo_run.specs.Worlds.{node_at}
 use Rattle.rambo_run.specs.Steps.{turn, with_letter, with_event, with_mark}
 use Rattle.rambo_names.proofs.Sizes.{up_fits, back_fits}
@@ -17,7 +19,7 @@ use Rattle.rambo_book.proofs.committing.enter.Goals as goal
 
 pub returns-then-len-capacity-clause-same : goal.returns-then-len-capacity-clause-same
 returns-then-len-capacity-clause-same g c =
-    (c.book.view_is, (λ i. record { name = c.keeper.inside.name; node = c.keeper.inside.worker.state; room = c.keeper.inside.worker.room; tray = c.keeper.inside.tray.items; seen = (c.agree.ensures.keeper i).1 }) ∙ c.keeper.view_is)
+    (c.book.view_is, (λ i. record { name = c.keeper.inside.name; node = c.keeper.inside.worker.state; room = c.keeper.inside.worker.room; beside = c.keeper.inside.worker.beside; tray = c.keeper.inside.tray.items; seen = (c.agree.ensures.keeper i).1 }) ∙ c.keeper.view_is)
 
 pub returns-then-len-capacity-clause-told : goal.returns-then-len-capacity-clause-told
 returns-then-len-capacity-clause-told g c =
@@ -29,7 +31,7 @@ add-requires g c =
     let s = g.Q.Quorums.system in
     let ready = ready_inside s _ _ _ _ c.args.ready c.book.view_is c.keeper.view_is c.requires in
     let step = half_here c.book.invariant c.keeper.invariant c.agree.ensures.idle c.args.ready.step c.keeper.inside.worker.room c.keeper.inside.tray.items c.keeper.inside.holder.1 c.args.ready.half ready c.make_room.new.letters.items c.make_room.ensures.same.1 in
-    let done = finished_here c.book.invariant c.keeper.invariant c.agree.ensures.idle c.args.ready.step c.keeper.inside.worker.room c.keeper.inside.tray.items c.keeper.inside.holder.1 c.args.ready.half ready c.make_room.new.letters.items c.make_room.ensures.same.1 c.finish-effect.new.worker.state c.finish-effect.result (c.finish-effect.ensures.node ready.change step) (c.finish-effect.ensures.effect ready.change step) in
+    let done = finished_here c.book.invariant c.keeper.invariant c.agree.ensures.idle c.args.ready.step c.keeper.inside.worker.room c.keeper.inside.tray.items c.keeper.inside.holder.1 c.args.ready.half ready c.make_room.new.letters.items c.make_room.ensures.same.1 c.finish-effect.new.worker c.finish-effect.result (c.finish-effect.ensures.node ready.change step) (c.finish-effect.ensures.beside ready.change step) (c.finish-effect.ensures.effect ready.change step) in
     ap (λ l. actor l c.args.ready.step) (ap (λ r. r.1) c.agree.ensures.roll ∙ c.book.invariant.all) ∙ done.acts ∙ sym c.keeper.invariant.named ∙ sym (ap (λ h. h.0) c.agree.ensures.keeper)
 
 pub push_reserved-requires : goal.push_reserved-requires
@@ -40,7 +42,7 @@ finish-effect-requires g c =
     let s = g.Q.Quorums.system in
     let ready = ready_inside s _ _ _ _ c.args.ready c.book.view_is c.keeper.view_is c.requires in
     let step = half_here c.book.invariant c.keeper.invariant c.agree.ensures.idle c.args.ready.step c.keeper.inside.worker.room c.keeper.inside.tray.items c.keeper.inside.holder.1 c.args.ready.half ready c.make_room.new.letters.items c.make_room.ensures.same.1 in
-    let done = finished_here c.book.invariant c.keeper.invariant c.agree.ensures.idle c.args.ready.step c.keeper.inside.worker.room c.keeper.inside.tray.items c.keeper.inside.holder.1 c.args.ready.half ready c.make_room.new.letters.items c.make_room.ensures.same.1 _ _ refl refl in
+    let done = finished_here c.book.invariant c.keeper.invariant c.agree.ensures.idle c.args.ready.step c.keeper.inside.worker.room c.keeper.inside.tray.items c.keeper.inside.holder.1 c.args.ready.half ready c.make_room.new.letters.items c.make_room.ensures.same.1 (record { state = (made_by c.keeper.inside.worker.state ready.change).node; room = c.keeper.inside.worker.room; beside = beside_after c.keeper.inside.worker.state c.keeper.inside.worker.beside ready.change }) _ refl refl refl in
     let room = c.in-Ok.ensures.room in
     (back_fits _ _ _ (up_fits _ _ _ c.requires-raw.1.1.1.0), ((ready.change, step), (omega (arith, c.make_room.new.letters.ok.0, c.make_room.new.letters.small), ((room.1, room.2, room.3), λ e is. ap (λ h. fault_of h e) c.make_room.ensures.same.2 ∙ done.fits e is))))
 
@@ -51,7 +53,7 @@ invariant_of-book-2 g c =
     let half = c.args.ready.half in
     let ready = ready_inside s _ _ _ _ c.args.ready c.book.view_is c.keeper.view_is c.requires in
     let step = half_here c.book.invariant c.keeper.invariant c.agree.ensures.idle c.args.ready.step c.keeper.inside.worker.room c.keeper.inside.tray.items c.keeper.inside.holder.1 c.args.ready.half ready c.make_room.new.letters.items c.make_room.ensures.same.1 in
-    let done = finished_here c.book.invariant c.keeper.invariant c.agree.ensures.idle c.args.ready.step c.keeper.inside.worker.room c.keeper.inside.tray.items c.keeper.inside.holder.1 c.args.ready.half ready c.make_room.new.letters.items c.make_room.ensures.same.1 c.finish-effect.new.worker.state c.finish-effect.result (c.finish-effect.ensures.node ready.change step) (c.finish-effect.ensures.effect ready.change step) in
+    let done = finished_here c.book.invariant c.keeper.invariant c.agree.ensures.idle c.args.ready.step c.keeper.inside.worker.room c.keeper.inside.tray.items c.keeper.inside.holder.1 c.args.ready.half ready c.make_room.new.letters.items c.make_room.ensures.same.1 c.finish-effect.new.worker c.finish-effect.result (c.finish-effect.ensures.node ready.change step) (c.finish-effect.ensures.beside ready.change step) (c.finish-effect.ensures.effect ready.change step) in
     let less : length c.book.inside.steps.items < c.book.inside.capacity = omega (arith, c.if-len-capacity.false, c.len.ensures, c.book.inside.steps.ok.0) in
     book_after c.book.invariant c.keeper.invariant c.agree.ensures.idle c.args.ready.step done c.add.new.self.1 c.push_reserved.new.self.items c.leave_out_copies.new.letters.items c.finish-effect.new.history.events c.finish-effect.new.marks.items less
     c.delivered-came.result c.delivered-came.ensures
@@ -66,7 +68,7 @@ invariant_of-keeper-2 g c =
     let s = g.Q.Quorums.system in
     let ready = ready_inside s _ _ _ _ c.args.ready c.book.view_is c.keeper.view_is c.requires in
     let step = half_here c.book.invariant c.keeper.invariant c.agree.ensures.idle c.args.ready.step c.keeper.inside.worker.room c.keeper.inside.tray.items c.keeper.inside.holder.1 c.args.ready.half ready c.make_room.new.letters.items c.make_room.ensures.same.1 in
-    let done = finished_here c.book.invariant c.keeper.invariant c.agree.ensures.idle c.args.ready.step c.keeper.inside.worker.room c.keeper.inside.tray.items c.keeper.inside.holder.1 c.args.ready.half ready c.make_room.new.letters.items c.make_room.ensures.same.1 c.finish-effect.new.worker.state c.finish-effect.result (c.finish-effect.ensures.node ready.change step) (c.finish-effect.ensures.effect ready.change step) in
+    let done = finished_here c.book.invariant c.keeper.invariant c.agree.ensures.idle c.args.ready.step c.keeper.inside.worker.room c.keeper.inside.tray.items c.keeper.inside.holder.1 c.args.ready.half ready c.make_room.new.letters.items c.make_room.ensures.same.1 c.finish-effect.new.worker c.finish-effect.result (c.finish-effect.ensures.node ready.change step) (c.finish-effect.ensures.beside ready.change step) (c.finish-effect.ensures.effect ready.change step) in
     keeper_after c.book.invariant c.keeper.invariant c.agree.ensures.idle c.args.ready.step done c.add.new.keeper.0 c.add.new.keeper.1
     (ap (λ h. h.0) c.add.ensures.keeper ∙ ap (λ h. h.0) c.agree.ensures.keeper)
     (ap (λ h. h.1) c.add.ensures.keeper ∙ ap (λ r. r.1 ++ c.args.ready.step ∷ []) c.agree.ensures.roll ∙ ap (λ l. l ++ c.args.ready.step ∷ []) c.book.invariant.all)
@@ -76,7 +78,7 @@ returns-clause-effect g c =
     let s = g.Q.Quorums.system in
     let ready = ready_inside s _ _ _ _ c.args.ready c.book.view_is c.keeper.view_is c.requires in
     let step = half_here c.book.invariant c.keeper.invariant c.agree.ensures.idle c.args.ready.step c.keeper.inside.worker.room c.keeper.inside.tray.items c.keeper.inside.holder.1 c.args.ready.half ready c.make_room.new.letters.items c.make_room.ensures.same.1 in
-    let done = finished_here c.book.invariant c.keeper.invariant c.agree.ensures.idle c.args.ready.step c.keeper.inside.worker.room c.keeper.inside.tray.items c.keeper.inside.holder.1 c.args.ready.half ready c.make_room.new.letters.items c.make_room.ensures.same.1 c.finish-effect.new.worker.state c.finish-effect.result (c.finish-effect.ensures.node ready.change step) (c.finish-effect.ensures.effect ready.change step) in
+    let done = finished_here c.book.invariant c.keeper.invariant c.agree.ensures.idle c.args.ready.step c.keeper.inside.worker.room c.keeper.inside.tray.items c.keeper.inside.holder.1 c.args.ready.half ready c.make_room.new.letters.items c.make_room.ensures.same.1 c.finish-effect.new.worker c.finish-effect.result (c.finish-effect.ensures.node ready.change step) (c.finish-effect.ensures.beside ready.change step) (c.finish-effect.ensures.effect ready.change step) in
     done.effect ∙ ap (λ b. (turn (state s b) c.args.ready.step).effect) c.book.view_is
 
 pub returns-clause-book : goal.returns-clause-book
@@ -106,7 +108,7 @@ returns-clause-waiting g c =
     let posted = c.post.ensures (same_to p.to m.ready (sent_by c.args.ready.step) c.posting_of-posting.ensures c.in-Ok.ensures.ready) in
     let ready = ready_inside s _ _ _ _ c.args.ready c.book.view_is c.keeper.view_is c.requires in
     let step = half_here c.book.invariant c.keeper.invariant c.agree.ensures.idle c.args.ready.step c.keeper.inside.worker.room c.keeper.inside.tray.items c.keeper.inside.holder.1 c.args.ready.half ready c.make_room.new.letters.items c.make_room.ensures.same.1 in
-    let done = finished_here c.book.invariant c.keeper.invariant c.agree.ensures.idle c.args.ready.step c.keeper.inside.worker.room c.keeper.inside.tray.items c.keeper.inside.holder.1 c.args.ready.half ready c.make_room.new.letters.items c.make_room.ensures.same.1 c.finish-effect.new.worker.state c.finish-effect.result (c.finish-effect.ensures.node ready.change step) (c.finish-effect.ensures.effect ready.change step) in
+    let done = finished_here c.book.invariant c.keeper.invariant c.agree.ensures.idle c.args.ready.step c.keeper.inside.worker.room c.keeper.inside.tray.items c.keeper.inside.holder.1 c.args.ready.half ready c.make_room.new.letters.items c.make_room.ensures.same.1 c.finish-effect.new.worker c.finish-effect.result (c.finish-effect.ensures.node ready.change step) (c.finish-effect.ensures.beside ready.change step) (c.finish-effect.ensures.effect ready.change step) in
     let letters = c.leave_out_copies.ensures ∙ ap (λ ls. lightened ls c.delivered-came.result) (c.finish-effect.ensures.letters ∙ ap (λ ls. with_letter ls (letter_of c.args.ready.half)) c.make_room.ensures.same.1) in
     let steps = c.push_reserved.ensures.items ∙ ap (λ l. l ++ c.args.ready.step ∷ []) c.make_room.ensures.same.0 in
     let count = c.len-2.ensures ∙ c.leave_out_copies.new.letters.ok.0 ∙ ap length letters ∙ counted_light done c.delivered-came.result ∙ ap (λ l. length (run s c.book.inside.founders l).letters) (sym steps) in
@@ -118,14 +120,14 @@ returns-clause-waiting g c =
 pub returns-clause-keeper : goal.returns-clause-keeper
 returns-clause-keeper g c =
     let seen = ap (λ h. h.1) c.add.ensures.keeper ∙ ap (λ r. r.1 ++ c.args.ready.step ∷ []) c.agree.ensures.roll ∙ ap (λ l. l ++ c.args.ready.step ∷ []) c.book.invariant.all ∙ ap (λ (b : BookView _). b.steps ++ c.args.ready.step ∷ []) c.book.view_is in
-    λ i. record { name = (c.keeper.view_is i).name; node = c.finish-effect.new.worker.state; room = c.finish-effect.new.worker.room; tray = (c.keeper.view_is i).tray; seen = seen i }
+    λ i. record { name = (c.keeper.view_is i).name; node = c.finish-effect.new.worker.state; room = c.finish-effect.new.worker.room; beside = c.finish-effect.new.worker.beside; tray = (c.keeper.view_is i).tray; seen = seen i }
 
 pub returns-clause-node : goal.returns-clause-node
 returns-clause-node g c =
     let s = g.Q.Quorums.system in
     let ready = ready_inside s _ _ _ _ c.args.ready c.book.view_is c.keeper.view_is c.requires in
     let step = half_here c.book.invariant c.keeper.invariant c.agree.ensures.idle c.args.ready.step c.keeper.inside.worker.room c.keeper.inside.tray.items c.keeper.inside.holder.1 c.args.ready.half ready c.make_room.new.letters.items c.make_room.ensures.same.1 in
-    let done = finished_here c.book.invariant c.keeper.invariant c.agree.ensures.idle c.args.ready.step c.keeper.inside.worker.room c.keeper.inside.tray.items c.keeper.inside.holder.1 c.args.ready.half ready c.make_room.new.letters.items c.make_room.ensures.same.1 c.finish-effect.new.worker.state c.finish-effect.result (c.finish-effect.ensures.node ready.change step) (c.finish-effect.ensures.effect ready.change step) in
+    let done = finished_here c.book.invariant c.keeper.invariant c.agree.ensures.idle c.args.ready.step c.keeper.inside.worker.room c.keeper.inside.tray.items c.keeper.inside.holder.1 c.args.ready.half ready c.make_room.new.letters.items c.make_room.ensures.same.1 c.finish-effect.new.worker c.finish-effect.result (c.finish-effect.ensures.node ready.change step) (c.finish-effect.ensures.beside ready.change step) (c.finish-effect.ensures.effect ready.change step) in
     (λ i. node_at (state s (record { founders = c.book.inside.founders; steps = (c.push_reserved.ensures.items ∙ ap (λ l. l ++ c.args.ready.step ∷ []) c.make_room.ensures.same.0) i; capacity = c.book.inside.capacity; waiting = c.post.new.self.waiting; lose = c.post.new.self.lose; twice = c.post.new.self.twice })) (sym c.keeper.view_is i).name) ∙ done.node
 
 pub posting_of-posting-requires : goal.posting_of-posting-requires

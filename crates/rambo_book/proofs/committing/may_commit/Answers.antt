@@ -10,7 +10,7 @@ use Rattle.rambo_book.proofs.committing.may_commit.Goals as goal
 
 pub returns-in-Err-clause-same : goal.returns-in-Err-clause-same
 returns-in-Err-clause-same g c =
-    (c.book.view_is, (λ i. record { name = c.keeper.inside.name; node = c.keeper.inside.worker.state; room = c.keeper.inside.worker.room; tray = c.keeper.inside.tray.items; seen = (c.agree.ensures.keeper i).1 }) ∙ c.keeper.view_is)
+    (c.book.view_is, (λ i. record { name = c.keeper.inside.name; node = c.keeper.inside.worker.state; room = c.keeper.inside.worker.room; beside = c.keeper.inside.worker.beside; tray = c.keeper.inside.tray.items; seen = (c.agree.ensures.keeper i).1 }) ∙ c.keeper.view_is)
 
 pub returns-in-Err-clause-told : goal.returns-in-Err-clause-told
 returns-in-Err-clause-told g c =
@@ -21,7 +21,7 @@ returns-in-Err-clause-told g c =
 
 pub returns-then-len-book-clause-same : goal.returns-then-len-book-clause-same
 returns-then-len-book-clause-same g c =
-    (c.book.view_is, (λ i. record { name = c.keeper.inside.name; node = c.keeper.inside.worker.state; room = c.keeper.inside.worker.room; tray = c.keeper.inside.tray.items; seen = (c.agree.ensures.keeper i).1 }) ∙ c.keeper.view_is)
+    (c.book.view_is, (λ i. record { name = c.keeper.inside.name; node = c.keeper.inside.worker.state; room = c.keeper.inside.worker.room; beside = c.keeper.inside.worker.beside; tray = c.keeper.inside.tray.items; seen = (c.agree.ensures.keeper i).1 }) ∙ c.keeper.view_is)
 
 pub returns-then-len-book-clause-told : goal.returns-then-len-book-clause-told
 returns-then-len-book-clause-told g c =
@@ -36,7 +36,7 @@ judge-requires g c = back_fits _ _ _ (up_fits _ _ _ c.requires-raw.1.1.1.0)
 
 pub returns-clause-same : goal.returns-clause-same
 returns-clause-same g c =
-    (c.book.view_is, (λ i. record { name = c.keeper.inside.name; node = c.keeper.inside.worker.state; room = c.keeper.inside.worker.room; tray = c.keeper.inside.tray.items; seen = (c.agree.ensures.keeper i).1 }) ∙ c.keeper.view_is)
+    (c.book.view_is, (λ i. record { name = c.keeper.inside.name; node = c.keeper.inside.worker.state; room = c.keeper.inside.worker.room; beside = c.keeper.inside.worker.beside; tray = c.keeper.inside.tray.items; seen = (c.agree.ensures.keeper i).1 }) ∙ c.keeper.view_is)
 
 pub returns-clause-legal : goal.returns-clause-legal
 returns-clause-legal g c =

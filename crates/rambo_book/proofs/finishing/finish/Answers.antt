@@ -1,9 +1,10 @@
 use Rattle.std.proofs.Common.{sym, ap, ◌∙◌, subst}
 use Rattle.rambo_node.specs.Changes.{made_by, refusal_of}
+use Rattle.rambo_node.specs.FullNodes.{beside_after}
 use Rattle.rambo_node.specs.Prepared.{IsPrepared}
 use Rattle.rambo_node.specs.declared.prepared.Prepared.{Prepared}
 use Rattle.rambo_deeds.specs.Deeds.{IsReadyDelivery, IsReadyStep, event_of, letter_in, outline_of}
-use Rattle.rambo_book.proofs.Halves.{send_stays, send_tells, told_alone, hear_tells, call_moves, call_tells}
+use Rattle.rambo_book.proofs.Halves.{none_goes, send_stays, send_keeps, send_tells, told_alone, hear_tells, call_moves, call_keeps, call_tells}
 use Rattle.rambo_book.proofs.finishing.finish.Goals as goal
 
 pub returns-in-Send-clause-node : goal.returns-in-Send-clause-node
@@ -12,6 +13,13 @@ returns-in-Send-clause-node g c = λ ch given.
     let v = c.args.worker.now in
     let o = outline_of (letter_in c.args.letters.now.items c.args.step.now) in
     send_stays v o ch s c.in-Send.letter (subst (IsReadyStep s v o ch) c.in-Send.is given)
+
+pub returns-in-Send-clause-beside : goal.returns-in-Send-clause-beside
+returns-in-Send-clause-beside g c = λ ch given.
+    let s = g.Q.Quorums.system in
+    let v = c.args.worker.now in
+    let o = outline_of (letter_in c.args.letters.now.items c.args.step.now) in
+    send_keeps v o ch s c.in-Send.letter (subst (IsReadyStep s v o ch) c.in-Send.is given)
 
 pub returns-in-Send-clause-effect : goal.returns-in-Send-clause-effect
 returns-in-Send-clause-effect g c = λ ch given.
@@ -36,7 +44,15 @@ returns-in-Hear-clause-node g c = λ ch given.
     let v = c.args.worker.now in
     let same = ap (λ ls. outline_of (letter_in ls c.args.step.now)) (sym c.as_slice.ensures.value) in
     let ready = subst (IsReadyStep s v (outline_of (letter_in c.args.letters.now.items c.args.step.now)) ch) c.in-Hear.is given in
-    c.hear.ensures ch (subst (λ o. IsReadyDelivery v o ch c.in-Hear.hearing) same ready.half)
+    c.hear.ensures.node ch (subst (λ o. IsReadyDelivery v o ch c.in-Hear.hearing) same ready.half)
+
+pub returns-in-Hear-clause-beside : goal.returns-in-Hear-clause-beside
+returns-in-Hear-clause-beside g c = λ ch given.
+    let s = g.Q.Quorums.system in
+    let v = c.args.worker.now in
+    let same = ap (λ ls. outline_of (letter_in ls c.args.step.now)) (sym c.as_slice.ensures.value) in
+    let ready = subst (IsReadyStep s v (outline_of (letter_in c.args.letters.now.items c.args.step.now)) ch) c.in-Hear.is given in
+    c.hear.ensures.beside ch (subst (λ o. IsReadyDelivery v o ch c.in-Hear.hearing) same ready.half)
 
 pub returns-in-Hear-clause-effect : goal.returns-in-Hear-clause-effect
 returns-in-Hear-clause-effect g c = λ ch given.
@@ -45,7 +61,7 @@ returns-in-Hear-clause-effect g c = λ ch given.
     let ls = c.args.letters.now.items in
     let o = outline_of (letter_in ls c.args.step.now) in
     let ready = subst (IsReadyStep s v o ch) c.in-Hear.is given in
-    told_alone v o ch ls _ (hear_tells v o ch c.in-Hear.hearing ready.half) ready.letter
+    told_alone v o ch ls _ (hear_tells v o ch c.in-Hear.hearing ready.half) (none_goes v _ ready.letter)
 
 pub finish_call-requires : goal.finish_call-requires
 finish_call-requires g c =
@@ -65,6 +81,13 @@ returns-in-Call-clause-node g c = λ ch given.
     let o = outline_of (letter_in c.args.letters.now.items c.args.step.now) in
     c.finish_call.ensures.node ∙ call_moves v o ch s c.in-Call.prepared c.into_inner.result c.into_inner.ensures (subst (IsReadyStep s v o ch) c.in-Call.is given)
 
+pub returns-in-Call-clause-beside : goal.returns-in-Call-clause-beside
+returns-in-Call-clause-beside g c = λ ch given.
+    let s = g.Q.Quorums.system in
+    let v = c.args.worker.now in
+    let o = outline_of (letter_in c.args.letters.now.items c.args.step.now) in
+    c.finish_call.ensures.beside ∙ call_keeps v o ch s c.in-Call.prepared c.into_inner.result c.into_inner.ensures (subst (IsReadyStep s v o ch) c.in-Call.is given)
+
 pub returns-in-Call-clause-effect : goal.returns-in-Call-clause-effect
 returns-in-Call-clause-effect g c = λ ch given.
     let s = g.Q.Quorums.system in
@@ -72,7 +95,7 @@ returns-in-Call-clause-effect g c = λ ch given.
     let ls = c.args.letters.now.items in
     let o = outline_of (letter_in ls c.args.step.now) in
     let ready = subst (IsReadyStep s v o ch) c.in-Call.is given in
-    told_alone v o ch ls _ (c.finish_call.ensures.effect ∙ call_tells v o ch s c.in-Call.prepared c.into_inner.result c.into_inner.ensures ready) ready.letter
+    told_alone v o ch ls _ (c.finish_call.ensures.effect ∙ call_tells v o ch s c.in-Call.prepared c.into_inner.result c.into_inner.ensures ready) (none_goes v _ ready.letter)
 
 pub finish_quick-requires : goal.finish_quick-requires
 finish_quick-requires g c =
@@ -90,6 +113,14 @@ returns-in-Quick-clause-node g c = λ ch given.
     let ready = subst (IsReadyStep s v o ch) c.in-Quick.is given in
     c.finish_quick.ensures.node ∙ ap (λ ch. (made_by v.state ch).node) (sym ready.half)
 
+pub returns-in-Quick-clause-beside : goal.returns-in-Quick-clause-beside
+returns-in-Quick-clause-beside g c = λ ch given.
+    let s = g.Q.Quorums.system in
+    let v = c.args.worker.now in
+    let o = outline_of (letter_in c.args.letters.now.items c.args.step.now) in
+    let ready = subst (IsReadyStep s v o ch) c.in-Quick.is given in
+    c.finish_quick.ensures.beside ∙ ap (beside_after v.state v.beside) (sym ready.half)
+
 pub returns-in-Quick-clause-effect : goal.returns-in-Quick-clause-effect
 returns-in-Quick-clause-effect g c = λ ch given.
     let s = g.Q.Quorums.system in
@@ -97,4 +128,4 @@ returns-in-Quick-clause-effect g c = λ ch given.
     let ls = c.args.letters.now.items in
     let o = outline_of (letter_in ls c.args.step.now) in
     let ready = subst (IsReadyStep s v o ch) c.in-Quick.is given in
-    told_alone v o ch ls _ (c.finish_quick.ensures.effect ∙ ap (λ ch. (made_by v.state ch).deed.effect) (sym ready.half)) ready.letter
+    told_alone v o ch ls _ (c.finish_quick.ensures.effect ∙ ap (λ ch. (made_by v.state ch).deed.effect) (sym ready.half)) (none_goes v _ ready.letter)

@@ -17,11 +17,11 @@ pub prepare-requires : goal.prepare-requires
 prepare-requires g c = (back_fits _ _ _ (up_fits _ _ _ c.requires-raw.1.1.1.0), c.in_ok-judge.ensures.ok)
 
 pub invariant_of-keeper : goal.invariant_of-keeper
-invariant_of-keeper g c = keeper_roomy c.keeper.invariant refl refl c.prepare.ensures.same
+invariant_of-keeper g c = keeper_roomy c.keeper.invariant refl refl (λ i. record { state = c.prepare.ensures.same i; stamps = (c.prepare.ensures.beside i).stamps; bases = (c.prepare.ensures.beside i).bases })
 
 pub returns-clause-same : goal.returns-clause-same
 returns-clause-same g c =
-    (λ i. record { name = c.keeper.inside.name; node = c.prepare.ensures.same i; room = c.prepare.new.self.room; tray = c.keeper.inside.tray.items; seen = c.keeper.inside.holder.1 })
+    (λ i. record { name = c.keeper.inside.name; node = c.prepare.ensures.same i; room = c.prepare.new.self.room; beside = c.prepare.ensures.beside i; tray = c.keeper.inside.tray.items; seen = c.keeper.inside.holder.1 })
     ∙ ap (λ (k : KeeperView _). record k { room = c.prepare.new.self.room }) c.keeper.view_is
 
 pub returns-clause-ready : goal.returns-clause-ready

@@ -2,7 +2,9 @@ use Rattle.std.proofs.Common.{◌≡◌, sym, ap, ◌∙◌, subst}
 use mathlib.Core.List.{IsPrefix}
 use Rattle.rambo_run.specs.Runs.{run}
 use Rattle.rambo_run.specs.Worlds.{node_at}
-use Rattle.rambo_book.proofs.Judging.{still, begun, kept_on}
+use Rattle.rambo_node.specs.FullNodes.{FullNode}
+use Rattle.rambo_deltas.specs.Deltas.{full_at}
+use Rattle.rambo_book.proofs.Judging.{still, still_full, begun, kept_on}
 use Rattle.rambo_book.proofs.mail.see_all.Goals as goal
 
 pub invariant_of-keeper : goal.invariant_of-keeper
@@ -12,7 +14,10 @@ invariant_of-keeper g c =
     let k = c.keeper.invariant in
     let idle = c.agree.ensures.idle in
     let all : c.catch_up.new.keeper.1 ≡ c.book.inside.steps.items = ap (λ h. h.1) c.catch_up.ensures.keeper ∙ ap (λ r. r.1) c.agree.ensures.roll ∙ b.all in
-    kept_on s g.J.Terms.founders c.book.inside.founders c.keeper.inside.holder.0 c.catch_up.new.keeper.0 c.keeper.inside.name c.keeper.inside.worker.state c.keeper.inside.worker.state c.keeper.inside.tray.items c.keeper.inside.holder.1 c.catch_up.new.keeper.1
+    let w = c.keeper.inside.worker in
+    let node : FullNode _ = record { state = w.state; stamps = w.beside.stamps; bases = w.beside.bases } in
+    kept_on s g.J.Terms.founders c.book.inside.founders c.keeper.inside.holder.0 c.catch_up.new.keeper.0 c.keeper.inside.name node node c.keeper.inside.tray.items c.keeper.inside.holder.1 c.catch_up.new.keeper.1
     b.founded k (ap (λ h. h.0) c.catch_up.ensures.keeper ∙ ap (λ h. h.0) c.agree.ensures.keeper)
     (subst (IsPrefix c.keeper.inside.holder.1) (sym all) (begun _ _ _ _ _ _ _ _ _ _ _ _ _ _ _ b k idle))
     (ap (λ l. node_at (run s c.book.inside.founders l) c.keeper.inside.name) all ∙ still _ _ _ _ _ _ _ _ _ _ _ _ _ _ _ b k idle)
+    (ap (λ l. full_at s c.book.inside.founders l c.keeper.inside.name) all ∙ still_full _ _ _ _ _ _ _ _ _ _ _ _ _ _ _ b k idle)

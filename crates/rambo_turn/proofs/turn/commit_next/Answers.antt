@@ -21,6 +21,7 @@ returns-clause-keeper g c =
       name = (done.keeper i).name;
       node = sym (ap (λ (k : KeeperView _). k.node) later) i;
       room = sym (ap (λ (k : KeeperView _). k.room) later) i;
+      beside = sym (ap (λ (k : KeeperView _). k.beside) later) i;
       tray = cleared (done.keeper i).tray (c.in-Ok.ensures.same i);
       seen = (ap (λ (k : KeeperView _). k.seen) done.keeper ∙ sym (ap (λ (b : BookView _). b.steps) done.book)) i;
     })

@@ -5,10 +5,10 @@ use Rattle.rambo_world.proofs.Turns.{err_alone}
 use Rattle.rambo_world.proofs.runs.run.Goals as goal
 
 pub new-requires-2 : goal.new-requires-2
-new-requires-2 g c = running_fits g.row.Q g.Q.Quorums g.Q.PartialEq (record { copies = λ r. r.copies; spare = λ r. r.spare }) g.met.Q.Quorums.small
+new-requires-2 g c = running_fits g.row.Q g.Q.Quorums g.Q.PartialEq (record { copies = λ r. r.copies; stamps = λ r. r.stamps; spare = λ r. r.spare }) g.met.Q.Quorums.small
 
 pub finish-requires : goal.finish-requires
-finish-requires g c = running_fits g.row.Q g.Q.Quorums g.Q.PartialEq (record { copies = λ r. r.copies; spare = λ r. r.spare }) g.met.Q.Quorums.small
+finish-requires g c = running_fits g.row.Q g.Q.Quorums g.Q.PartialEq (record { copies = λ r. r.copies; stamps = λ r. r.stamps; spare = λ r. r.spare }) g.met.Q.Quorums.small
 
 pub returns-clause-outcome : goal.returns-clause-outcome
 returns-clause-outcome g c = run_outcome g.Q.Quorums.system c.args.founders c.args.steps.now c.in_ok-new.field-0 c.finish.result c.in_ok-new.ensures.made c.finish.ensures.outcome

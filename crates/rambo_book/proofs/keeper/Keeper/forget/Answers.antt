@@ -12,6 +12,7 @@ invariant_of-self g c =
     record {
       named = k.named;
       replays = k.replays;
+      full = k.full;
       mail = λ f e.
           let P = λ (m : Mail _). IsMailOf (run s f c.self.inside.holder.1) c.self.inside.name m in
           subst (λ (l : List (Mail _)). All P l) (sym c.remove-mail.ensures.items) (all_remove P c.self.inside.tray.items c.in-Some.at (k.mail f e));

@@ -5,7 +5,7 @@ use Rattle.rambo_book.proofs.Firsts.{first_keeper}
 use Rattle.rambo_book.proofs.keeper.Keeper.new.Goals as goal
 
 pub new-requires : goal.new-requires
-new-requires g c = (back_fits _ _ _ (up_fits _ _ _ (back_fits _ _ _ (up_fits _ _ _ c.requires-raw.1.1.1.0))), c.requires.copies)
+new-requires g c = (back_fits _ _ _ (up_fits _ _ _ (back_fits _ _ _ (up_fits _ _ _ c.requires-raw.1.1.1.0))), (c.requires.copies, c.requires.stamps))
 
 pub new-requires-2 : goal.new-requires-2
 new-requires-2 g c =
@@ -14,5 +14,8 @@ new-requires-2 g c =
 
 pub invariant_of-result : goal.invariant_of-result
 invariant_of-result g c =
-    first_keeper g.Q.Quorums.system g.J.Terms.founders c.args.founders c.args.holder.0 c.args.name c.new-2.result.state c.new-3.result.items c.args.holder.1
-    c.requires.founders c.requires.named (ap (λ h. h.0) c.requires.holder) (ap (λ (v : RoomyNode _). v.state) c.new-2.ensures ∙ c.new.ensures) c.new-3.ensures.items (ap (λ h. h.1) c.requires.holder)
+    let worker = c.new-2.result in
+    let state = ap (λ (v : RoomyNode _). v.state) c.new-2.ensures ∙ c.new.ensures.state in
+    let beside = ap (λ (v : RoomyNode _). v.beside) c.new-2.ensures ∙ c.new.ensures.beside in
+    first_keeper g.Q.Quorums.system g.J.Terms.founders c.args.founders c.args.holder.0 c.args.name (record { state = worker.state; stamps = worker.beside.stamps; bases = worker.beside.bases }) c.new-3.result.items c.args.holder.1
+    c.requires.founders c.requires.named (ap (λ h. h.0) c.requires.holder) (λ i. record { state = state i; stamps = (beside i).stamps; bases = (beside i).bases }) c.new-3.ensures.items (ap (λ h. h.1) c.requires.holder)

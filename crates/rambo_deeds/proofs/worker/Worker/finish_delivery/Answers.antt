@@ -3,6 +3,8 @@ use Rattle.std.specs.FinMap as map
 use Rattle.rambo_tag.specs.Copies.{Copies}
 use Rattle.rambo_gossip.specs.declared.letter.Letter.{Letter}
 use Rattle.rambo_gossip.specs.Letters.{letter_with}
+use Rattle.rambo_node.specs.declared.change.Change.TheVariants as change
+use Rattle.rambo_node.specs.FullNodes.{beside_after}
 use Rattle.rambo_node.specs.Hearing.{heard_letter}
 use Rattle.rambo_node.specs.Nodes.{NodeState, RoomyNode}
 use Rattle.rambo_node.specs.Prepared.{IsReadyKind}
@@ -23,8 +25,17 @@ finish_outlined-requires g c =
 told_heard : {Q : Type 0} (x y : NodeState Q) (l o : Letter Q) (newer : Copies) → x ≡ y → o ≡ letter_with l map.empty → heard_letter x (letter_with o newer) ≡ heard_letter y (letter_with l newer)
 told_heard x y l o newer same outline = (λ i. heard_letter (same i) (letter_with (outline i) newer)) ∙ ap (heard_letter y) (letter_twice l map.empty newer)
 
-pub returns : goal.returns
-returns g c =
+told_beside : {Q : Type 0} (v w : RoomyNode Q) (l o : Letter Q) (newer : Copies) → v ≡ w → o ≡ letter_with l map.empty
+    → beside_after v.state v.beside (change.Deliver (letter_with o newer)) ≡ beside_after w.state w.beside (change.Deliver (letter_with l newer))
+told_beside v w l o newer same outline =
+    (λ i. beside_after (same i).state (same i).beside (change.Deliver (letter_with (outline i) newer))) ∙ ap (λ l. beside_after w.state w.beside (change.Deliver l)) (letter_twice l map.empty newer)
+
+pub returns-clause-node : goal.returns-clause-node
+returns-clause-node g c =
     let l = c.args.letter.now in
     let newer = c.args.hearing.newer in
-    c.finish_outlined.ensures ∙ told_heard c.self.inside.node.state c.args.self.now.state l _ newer (ap (λ (v : RoomyNode _). v.state) c.self.view_is) c.outline.ensures
+    c.finish_outlined.ensures.state ∙ told_heard c.self.inside.node.state c.args.self.now.state l _ newer (ap (λ (v : RoomyNode _). v.state) c.self.view_is) c.outline.ensures
+
+pub returns-clause-beside : goal.returns-clause-beside
+returns-clause-beside g c =
+    c.finish_outlined.ensures.beside ∙ told_beside c.self.inside.node c.args.self.now c.args.letter.now _ c.args.hearing.newer c.self.view_is c.outline.ensures

@@ -7,6 +7,8 @@ use Rattle.rambo_node.specs.declared.change.Change.TheVariants as change
 use Rattle.rambo_node.proofs.Advances.{quiet_again, quiet_rebid}
 use Rattle.rambo_node.proofs.Memory.{join_from_no_gossip}
 use Rattle.rambo_node.proofs.Sizes.{deliver_fits}
+use Rattle.rambo_node.specs.FullNodes.{beside_after}
+use Rattle.std.proofs.lemmas.Result.{on_ok_weaker}
 use Rattle.rambo_node.proofs.node.Node.act.Goals as goal
 
 pub do_hear-requires : goal.do_hear-requires
@@ -81,3 +83,45 @@ do_join-requires g c = assumption
 
 pub do_stop-requires : goal.do_stop-requires
 do_stop-requires g c = assumption
+
+pub returns-in-Join-clause-beside : goal.returns-in-Join-clause-beside
+returns-in-Join-clause-beside g c = let v = c.args.self.now in c.do_join.ensures.beside ∙ sym (ap (beside_after v.state v.beside) c.in-Join.is)
+
+pub returns-in-Again-clause-beside : goal.returns-in-Again-clause-beside
+returns-in-Again-clause-beside g c = let v = c.args.self.now in c.do_again.ensures.beside ∙ sym (ap (beside_after v.state v.beside) c.in-Again.is)
+
+pub returns-in-Collect-clause-beside : goal.returns-in-Collect-clause-beside
+returns-in-Collect-clause-beside g c = let v = c.args.self.now in c.do_collect.ensures.beside ∙ sym (ap (beside_after v.state v.beside) c.in-Collect.is)
+
+pub returns-in-AdvanceCollect-clause-beside : goal.returns-in-AdvanceCollect-clause-beside
+returns-in-AdvanceCollect-clause-beside g c = let v = c.args.self.now in c.do_advance_collect.ensures.beside ∙ sym (ap (beside_after v.state v.beside) c.in-AdvanceCollect.is)
+
+pub returns-in-Recon-clause-beside : goal.returns-in-Recon-clause-beside
+returns-in-Recon-clause-beside g c = let v = c.args.self.now in c.do_recon.ensures.beside ∙ sym (ap (beside_after v.state v.beside) c.in-Recon.is)
+
+pub returns-in-Rebid-clause-beside : goal.returns-in-Rebid-clause-beside
+returns-in-Rebid-clause-beside g c = let v = c.args.self.now in c.do_rebid.ensures.beside ∙ sym (ap (beside_after v.state v.beside) c.in-Rebid.is)
+
+pub returns-in-AdvanceRecon-clause-beside : goal.returns-in-AdvanceRecon-clause-beside
+returns-in-AdvanceRecon-clause-beside g c = let v = c.args.self.now in c.do_advance_recon.ensures.beside ∙ sym (ap (beside_after v.state v.beside) c.in-AdvanceRecon.is)
+
+pub returns-in-Stop-clause-beside : goal.returns-in-Stop-clause-beside
+returns-in-Stop-clause-beside g c = let v = c.args.self.now in c.do_stop.ensures.beside ∙ sym (ap (beside_after v.state v.beside) c.in-Stop.is)
+
+pub returns-in-Send-clause-beside : goal.returns-in-Send-clause-beside
+returns-in-Send-clause-beside g c = let v = c.args.self.now in sym (ap (beside_after v.state v.beside) c.in-Send.is)
+
+pub returns-in_ok-clone-in-Call-clause-beside : goal.returns-in_ok-clone-in-Call-clause-beside
+returns-in_ok-clone-in-Call-clause-beside g c =
+    let v = c.args.self.now in
+    on_ok_weaker c.do_call.result (λ e. e ∙ sym (ap (beside_after v.state v.beside) c.in-Call.is)) c.do_call.ensures.beside
+
+pub returns-in_ok-do_hear-in-Deliver-clause-beside : goal.returns-in_ok-do_hear-in-Deliver-clause-beside
+returns-in_ok-do_hear-in-Deliver-clause-beside g c =
+    let v = c.args.self.now in
+    c.in_ok-do_hear-in-Deliver.ensures.beside ∙ sym (ap (beside_after v.state v.beside) c.in-Deliver.is)
+
+pub returns-in_ok-go_on-in-Advance-clause-beside : goal.returns-in_ok-go_on-in-Advance-clause-beside
+returns-in_ok-go_on-in-Advance-clause-beside g c =
+    let v = c.args.self.now in
+    c.in_ok-go_on-in-Advance.ensures.beside ∙ sym (ap (beside_after v.state v.beside) c.in-Advance.is)

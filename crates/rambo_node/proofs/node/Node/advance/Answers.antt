@@ -28,3 +28,9 @@ returns-in_err-may_advance-clause-err g c = on_err c.from_residual.result refl
 
 pub go_on-requires : goal.go_on-requires
 go_on-requires g c = (c.requires-raw.1.1, (c.in_ok-may_advance.ensures.ok, c.quiet-deed.ensures))
+
+pub returns-in_err-may_advance-clause-beside : goal.returns-in_err-may_advance-clause-beside
+returns-in_err-may_advance-clause-beside g c = err_ok c.from_residual.result _ _ c.from_residual.ensures.1
+
+pub returns-in_err-may_advance-clause-kept : goal.returns-in_err-may_advance-clause-kept
+returns-in_err-may_advance-clause-kept g c = on_err c.from_residual.result refl

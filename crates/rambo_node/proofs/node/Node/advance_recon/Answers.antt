@@ -39,3 +39,12 @@ returns-clause-judged g c = c.in_ok-may_advance_recon.ensures.ok
 pub returns-clause-node : goal.returns-clause-node
 unfolding made_by
 returns-clause-node g c = c.do_advance_recon-deed.ensures.node
+
+pub returns-in_err-may_advance_recon-clause-beside : goal.returns-in_err-may_advance_recon-clause-beside
+returns-in_err-may_advance_recon-clause-beside g c = err_ok c.from_residual.result _ _ c.from_residual.ensures.1
+
+pub returns-in_err-may_advance_recon-clause-kept : goal.returns-in_err-may_advance_recon-clause-kept
+returns-in_err-may_advance_recon-clause-kept g c = on_err c.from_residual.result refl
+
+pub returns-clause-beside : goal.returns-clause-beside
+returns-clause-beside g c = c.do_advance_recon-deed.ensures.beside

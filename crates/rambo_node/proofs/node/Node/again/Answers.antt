@@ -26,4 +26,13 @@ returns-clause-judged g c = c.in_ok-may_restart.ensures.ok
 
 pub returns-clause-node : goal.returns-clause-node
 unfolding made_by
-returns-clause-node g c = c.do_again.ensures
+returns-clause-node g c = c.do_again.ensures.state
+
+pub returns-in_err-may_restart-clause-beside : goal.returns-in_err-may_restart-clause-beside
+returns-in_err-may_restart-clause-beside g c = err_ok c.from_residual.result _ _ c.from_residual.ensures.1
+
+pub returns-in_err-may_restart-clause-kept : goal.returns-in_err-may_restart-clause-kept
+returns-in_err-may_restart-clause-kept g c = on_err c.from_residual.result refl
+
+pub returns-clause-beside : goal.returns-clause-beside
+returns-clause-beside g c = c.do_again.ensures.beside

@@ -20,3 +20,6 @@ returns-clause-node g c = c.finish_call.ensures.node ∙ ap (λ x. called x c.ar
 
 pub returns-clause-id : goal.returns-clause-id
 returns-clause-id g c = c.finish_call.ensures.id ∙ ap (λ x. record { name = x.name; number = x.made + 1 }) c.in_ok-room_for_call.ensures.same
+
+pub returns-clause-beside : goal.returns-clause-beside
+returns-clause-beside g c = c.finish_call.ensures.beside ∙ c.in_ok-room_for_call.ensures.beside

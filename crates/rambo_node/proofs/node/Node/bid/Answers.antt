@@ -24,14 +24,14 @@ learning m v x = record x { map = m; attempt = None; vote = v }
 pub invariant_of-self : goal.invariant_of-self
 invariant_of-self g c =
     let m = c.self.inside.map in
-    subst (λ a. AttemptFits m (Some a)) (sym c.go_on.ensures.attempt)
-    (fits_advanced m c.args.attempt _ (subst (AttemptFits m) (ap (λ v. v.state.attempt) c.self.view_is ∙ c.requires.held) c.self.invariant))
+    let gone = fits_advanced m c.args.attempt _ (subst (AttemptFits m) (ap (λ v. v.state.attempt) c.self.view_is ∙ c.requires.held) c.self.invariant.0) in
+    (subst (λ a. AttemptFits m (Some a)) (sym c.go_on.ensures.attempt) gone, c.self.invariant.1)
 
 pub learn-requires : goal.learn-requires
 learn-requires g c =
     let m = c.self.inside.map in
     let a = c.args.attempt in
-    let fits = subst (AttemptFits m) (ap (λ v. v.state.attempt) c.self.view_is ∙ c.requires.held) c.self.invariant in
+    let fits = subst (AttemptFits m) (ap (λ v. v.state.attempt) c.self.view_is ∙ c.requires.held) c.self.invariant.0 in
     let unknown : end_of m ≤ a.place = subst (λ n. end_of n.map ≤ a.place) (sym (ap (λ v. v.state) c.self.view_is)) c.requires.unknown in
     let within : Fits w64 c.place-place.result = assumption in
     let same = c.place-place.ensures in

@@ -16,12 +16,12 @@ rebid-requires g c = ap (λ v. is_spent v.state.vote) c.self.view_is ∙ c.requi
 pub invariant_of-self : goal.invariant_of-self
 invariant_of-self g c =
     let m = c.self.inside.map in
-    subst (λ a. AttemptFits m (Some a)) (sym c.rebid.ensures.attempt)
-    (fits_rebid m c.args.attempt _ (subst (AttemptFits m) (ap (λ v. v.state.attempt) c.self.view_is ∙ c.requires.held) c.self.invariant))
+    let again = fits_rebid m c.args.attempt _ (subst (AttemptFits m) (ap (λ v. v.state.attempt) c.self.view_is ∙ c.requires.held) c.self.invariant.0) in
+    (subst (λ a. AttemptFits m (Some a)) (sym c.rebid.ensures.attempt) again, c.self.invariant.1)
 
-pub returns : goal.returns
+pub returns-clause-state : goal.returns-clause-state
 unfolding attempt_rebid
-returns g c =
+returns-clause-state g c =
     let a = c.args.attempt in
     let x = c.args.self.now.state in
     ap (bidding c.rebid.result c.rebid.new.vote) (ap (λ v. v.state) c.self.view_is)

@@ -22,3 +22,9 @@ returns-in_err-may_call-clause-err g c = on_err c.from_residual.result refl
 
 pub begin-requires : goal.begin-requires
 begin-requires g c = (c.requires-raw.1.1, c.in_ok-may_call.ensures.ok)
+
+pub returns-in_err-may_call-clause-beside : goal.returns-in_err-may_call-clause-beside
+returns-in_err-may_call-clause-beside g c = err_ok c.from_residual.result _ _ c.from_residual.ensures.1
+
+pub returns-in_err-may_call-clause-kept : goal.returns-in_err-may_call-clause-kept
+returns-in_err-may_call-clause-kept g c = on_err c.from_residual.result refl

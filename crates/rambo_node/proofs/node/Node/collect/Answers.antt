@@ -26,4 +26,13 @@ returns-clause-judged g c = c.in_ok-may_collect.ensures.ok
 
 pub returns-clause-node : goal.returns-clause-node
 unfolding made_by
-returns-clause-node g c = c.do_collect.ensures
+returns-clause-node g c = c.do_collect.ensures.state
+
+pub returns-in_err-may_collect-clause-beside : goal.returns-in_err-may_collect-clause-beside
+returns-in_err-may_collect-clause-beside g c = err_ok c.from_residual.result _ _ c.from_residual.ensures.1
+
+pub returns-in_err-may_collect-clause-kept : goal.returns-in_err-may_collect-clause-kept
+returns-in_err-may_collect-clause-kept g c = on_err c.from_residual.result refl
+
+pub returns-clause-beside : goal.returns-clause-beside
+returns-clause-beside g c = c.do_collect.ensures.beside

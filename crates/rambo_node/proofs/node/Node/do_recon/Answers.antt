@@ -22,8 +22,8 @@ attempt_of-requires g c = ap (λ v. is_spent v.state.vote) c.self.view_is ∙ (r
 pub invariant_of-self : goal.invariant_of-self
 invariant_of-self g c =
     let m = c.self.inside.map in
-    subst (λ a. AttemptFits m (Some a)) (sym c.attempt_of.ensures.attempt)
-    (fits_opened m _ _ _ _ (sym c.top_of-place.ensures.next) (ap (λ v. nat_le 8 (length v.state.map.configs)) c.self.view_is ∙ (recon_next c.args.self.now.state g.Q.Quorums.system c.args.wish c.requires).0))
+    let opened = fits_opened m _ _ _ _ (sym c.top_of-place.ensures.next) (ap (λ v. nat_le 8 (length v.state.map.configs)) c.self.view_is ∙ (recon_next c.args.self.now.state g.Q.Quorums.system c.args.wish c.requires).0) in
+    (subst (λ a. AttemptFits m (Some a)) (sym c.attempt_of.ensures.attempt) opened, c.self.invariant.1)
 
 pub top_of-place-requires : goal.top_of-place-requires
 top_of-place-requires g c = back_fits _ _ _ (up_fits _ _ _ c.requires-raw.1.1.0)

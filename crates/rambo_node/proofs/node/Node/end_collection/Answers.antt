@@ -26,7 +26,8 @@ invariant_of-self g c =
     let met = ap (λ v. move_of g.Q.Quorums.system v.state.map c.args.collection.now) c.self.view_is ∙ c.requires in
     let there : nat_lt p m.floor ≡ false → nat_le (length m.configs) 1 ≡ false = λ kept.
     has_next_place g.Q.Quorums.system m c.args.collection.now met (sym (ap (λ q. nat_lt q m.floor) c.place-place.ensures) ∙ kept) in
-    subst (λ n. AttemptFits n c.self.inside.attempt) (sym c.remove.ensures) (fits_removed m c.self.inside.attempt (nat_lt p m.floor) c.self.invariant there)
+    let fits = fits_removed m c.self.inside.attempt (nat_lt p m.floor) c.self.invariant.0 there in
+    (subst (λ n. AttemptFits n c.self.inside.attempt) (sym c.remove.ensures) fits, c.self.invariant.1)
 
 pub returns-clause-node : goal.returns-clause-node
 unfolding collection_ended

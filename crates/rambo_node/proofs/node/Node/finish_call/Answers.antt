@@ -2,6 +2,7 @@ use Rattle.std.proofs.Common.{◌<◌, sym, ap, ◌∙◌, subst}
 use Rattle.rambo_node.specs.Refusals.{is_last}
 use Rattle.rambo_node.proofs.Judged.{next_small}
 use Rattle.rambo_names.proofs.Sizes.{up_fits, back_fits, next}
+use Rattle.rambo_node.proofs.Late.{late_next}
 use Rattle.rambo_node.proofs.node.Node.finish_call.Goals as goal
 
 pub next_id-id-requires : goal.next_id-id-requires
@@ -18,3 +19,6 @@ open_reserved-requires g c = (
   back_fits _ _ _ (next _ _ _ _ (up_fits _ _ _ c.requires-raw.1.1.0)),
   (back_fits _ _ _ (up_fits _ _ _ c.requires-raw.1.1.0), subst (λ v. 0 < v.room.calls.room) (sym c.self.view_is) c.requires.room),
 )
+
+pub invariant_of-self : goal.invariant_of-self
+invariant_of-self g c = (c.self.invariant.0, late_next (g.S.Replica.stamps c.self.inside.registers) c.self.inside.number c.self.invariant.1)

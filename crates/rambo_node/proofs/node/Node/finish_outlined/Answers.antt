@@ -3,14 +3,17 @@ use Rattle.rambo_gossip.specs.Letters.{kind_with}
 use Rattle.rambo_gossip.specs.Outlines.{outlined}
 use Rattle.rambo_node.specs.Hearing.{heard_kind, heard_letter}
 use Rattle.rambo_gossip.specs.Letters.{letter_with}
+use Rattle.rambo_node.specs.FullNodes.{beside_after, beside_heard}
 use Rattle.rambo_node.specs.Prepared.{IsReadyKind}
+use Rattle.rambo_node.specs.declared.change.Change.TheVariants as change
+use Rattle.rambo_node.proofs.Besides.{join_beside}
 use Rattle.rambo_node.proofs.node.Node.finish_outlined.Goals as goal
 
-pub returns-in-None : goal.returns-in-None
-returns-in-None g c =
+pub returns-in-None-clause-state : goal.returns-in-None-clause-state
+returns-in-None-clause-state g c =
     let o = c.outline.inside in
     let x = c.args.self.now.state in
-    c.meet.ensures
+    c.meet.ensures.state
     ∙ sym (ap (λ k. heard_kind x o.sender (kind_with (outlined k) c.args.hearing.newer)) c.in-None.is)
     ∙ ap (λ l. heard_letter x (letter_with l c.args.hearing.newer)) c.outline.view_is
 
@@ -20,10 +23,28 @@ finish_gossip-requires g c =
     let kind_is = sym (ap (λ l. l.kind) c.outline.view_is) ∙ ap outlined c.in-Some.is in
     (c.requires-raw.1.1.0, subst (λ k. IsReadyKind c.args.self.now k h.newer h.number) kind_is c.requires)
 
-pub returns-in-Some : goal.returns-in-Some
-returns-in-Some g c =
+pub returns-in-Some-clause-state : goal.returns-in-Some-clause-state
+returns-in-Some-clause-state g c =
     let o = c.outline.inside in
     let x = c.args.self.now.state in
-    c.finish_gossip.ensures
+    c.finish_gossip.ensures.state
     ∙ sym (ap (λ k. heard_kind x o.sender (kind_with (outlined k) c.args.hearing.newer)) c.in-Some.is)
     ∙ ap (λ l. heard_letter x (letter_with l c.args.hearing.newer)) c.outline.view_is
+
+pub returns-in-None-clause-beside : goal.returns-in-None-clause-beside
+returns-in-None-clause-beside g c =
+    let v = c.args.self.now in
+    let j = c.outline.inside.sender in
+    let newer = c.args.hearing.newer in
+    c.meet.ensures.beside ∙ sym (join_beside v.state v.beside j)
+    ∙ sym (ap (λ k. beside_heard v.state v.beside j (kind_with (outlined k) newer)) c.in-None.is)
+    ∙ ap (λ l. beside_after v.state v.beside (change.Deliver (letter_with l newer))) c.outline.view_is
+
+pub returns-in-Some-clause-beside : goal.returns-in-Some-clause-beside
+returns-in-Some-clause-beside g c =
+    let v = c.args.self.now in
+    let j = c.outline.inside.sender in
+    let newer = c.args.hearing.newer in
+    c.finish_gossip.ensures.beside
+    ∙ sym (ap (λ k. beside_heard v.state v.beside j (kind_with (outlined k) newer)) c.in-Some.is)
+    ∙ ap (λ l. beside_after v.state v.beside (change.Deliver (letter_with l newer))) c.outline.view_is

@@ -3,6 +3,7 @@ use Rattle.rambo_node.specs.Changes.{refusal_of, made_by}
 use Rattle.rambo_node.specs.Prepared.{quick_change}
 use Rattle.rambo_node.specs.Nodes.{open_call}
 use Rattle.rambo_node.proofs.Advances.{quiet_again, quiet_rebid}
+use Rattle.rambo_node.proofs.Besides.{quick_beside}
 use Rattle.rambo_node.proofs.node.Node.finish_quick.Goals as goal
 
 pub do_again-requires : goal.do_again-requires
@@ -34,3 +35,30 @@ unfolding made_by
 returns-in-Rebid-clause-effect g c =
     let x = c.args.self.now.state in
     ap (λ d. d.effect) (quiet_rebid x x.attempt) ∙ sym (ap (λ q. (made_by x (quick_change q)).deed.effect) c.in-Rebid.is)
+
+pub returns-in-Join-clause-beside : goal.returns-in-Join-clause-beside
+returns-in-Join-clause-beside g c = let v = c.args.self.now in c.do_join.ensures.beside ∙ sym (quick_beside v.state v.beside c.args.quick)
+
+pub returns-in-Again-clause-beside : goal.returns-in-Again-clause-beside
+returns-in-Again-clause-beside g c = let v = c.args.self.now in c.do_again.ensures.beside ∙ sym (quick_beside v.state v.beside c.args.quick)
+
+pub returns-in-Collect-clause-beside : goal.returns-in-Collect-clause-beside
+returns-in-Collect-clause-beside g c = let v = c.args.self.now in c.do_collect.ensures.beside ∙ sym (quick_beside v.state v.beside c.args.quick)
+
+pub returns-in-AdvanceCollect-clause-beside : goal.returns-in-AdvanceCollect-clause-beside
+returns-in-AdvanceCollect-clause-beside g c = let v = c.args.self.now in c.do_advance_collect.ensures.beside ∙ sym (quick_beside v.state v.beside c.args.quick)
+
+pub returns-in-Recon-clause-beside : goal.returns-in-Recon-clause-beside
+returns-in-Recon-clause-beside g c = let v = c.args.self.now in c.do_recon.ensures.beside ∙ sym (quick_beside v.state v.beside c.args.quick)
+
+pub returns-in-Rebid-clause-beside : goal.returns-in-Rebid-clause-beside
+returns-in-Rebid-clause-beside g c = let v = c.args.self.now in c.do_rebid.ensures.beside ∙ sym (quick_beside v.state v.beside c.args.quick)
+
+pub returns-in-AdvanceRecon-clause-beside : goal.returns-in-AdvanceRecon-clause-beside
+returns-in-AdvanceRecon-clause-beside g c = let v = c.args.self.now in c.do_advance_recon.ensures.beside ∙ sym (quick_beside v.state v.beside c.args.quick)
+
+pub returns-in-Stop-clause-beside : goal.returns-in-Stop-clause-beside
+returns-in-Stop-clause-beside g c = let v = c.args.self.now in c.do_stop.ensures.beside ∙ sym (quick_beside v.state v.beside c.args.quick)
+
+pub returns-in-Send-clause-beside : goal.returns-in-Send-clause-beside
+returns-in-Send-clause-beside g c = let v = c.args.self.now in sym (quick_beside v.state v.beside c.args.quick)

@@ -23,3 +23,6 @@ do_hear-requires g c = (c.requires-raw.1.1.0, (c.requires-raw.1.1.1, c.in_ok-may
 
 pub may_hear-requires : goal.may_hear-requires
 may_hear-requires g c = assumption
+
+pub returns-clause-beside : goal.returns-clause-beside
+returns-clause-beside g c = c.do_hear.ensures.beside

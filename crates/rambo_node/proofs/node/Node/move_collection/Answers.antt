@@ -3,6 +3,7 @@ use Rattle.std.proofs.Common.{ap, ◌∙◌}
 use Rattle.rambo_node.specs.Refusals.{is_last}
 use Rattle.rambo_node.proofs.Judged.{next_small}
 use Rattle.rambo_gc.specs.Collections.{move_of}
+use Rattle.rambo_node.proofs.Late.{late_next}
 use Rattle.rambo_node.proofs.node.Node.move_collection.Goals as goal
 
 pub overflow_add-self : goal.overflow_add-self
@@ -10,3 +11,6 @@ overflow_add-self g c = next_small c.self.inside.number c.self.ranges.1.1.1.0.1 
 
 pub moved-requires : goal.moved-requires
 moved-requires g c = (back_fits _ _ _ (up_fits _ _ _ c.requires-raw.1.1.0), ap (λ v. move_of g.Q.Quorums.system v.state.map c.args.collection) c.self.view_is ∙ c.requires.met)
+
+pub invariant_of-self : goal.invariant_of-self
+invariant_of-self g c = (c.self.invariant.0, late_next (g.S.Replica.stamps c.self.inside.registers) c.self.inside.number c.self.invariant.1)

@@ -4,6 +4,7 @@ use Rattle.rambo_names.specs.Refusals.{IsRefusal}
 use Rattle.rambo_node.specs.Changes.{made_by}
 use Rattle.rambo_node.specs.Prepared.{change_of}
 use Rattle.rambo_node.proofs.Memory.{IfErr-from_ok, OnOk-always}
+use Rattle.rambo_node.specs.FullNodes.{beside_after}
 use Rattle.rambo_node.proofs.node.Node.ready.Goals as goal
 
 pub prepare-requires : goal.prepare-requires
@@ -33,3 +34,10 @@ returns-clause-refused g c = IfErr-weaker c.prepare.result _ _ (λ r e. subst (�
 
 pub returns-clause-no_memory : goal.returns-clause-no_memory
 returns-clause-no_memory g c = λ none. IfErr-from_ok c.prepare.result _ (c.prepare.ensures.no_memory none)
+
+pub returns-clause-after : goal.returns-clause-after
+returns-clause-after g c =
+    let now = c.args.change.now in
+    IfOk-weaker c.prepare.result _ _
+    (λ p e. sym (λ i. beside_after (c.prepare.ensures.same i) (c.prepare.ensures.beside i) (change_of p)) ∙ e.beside ∙ λ i. beside_after (c.prepare.ensures.same i) (c.prepare.ensures.beside i) now)
+    c.prepare.ensures.prepares

@@ -1,8 +1,10 @@
 use Rattle.std.proofs.Common.{◌≡◌, sym, ap, ◌∙◌, subst}
 use Rattle.rambo_tag.specs.Copies.{joined}
+use Rattle.rambo_tag.specs.Stamps.{AreStampedAlike}
 use Rattle.rambo_calls.specs.Hearing.{number_after}
 use Rattle.rambo_calls.specs.Kept.{IsRoomy}
 use Rattle.rambo_names.proofs.Sizes.{up_fits, back_fits}
+use Rattle.rambo_node.proofs.Late.{late_same}
 use Rattle.rambo_node.proofs.node.Node.ready_gossip.Goals as goal
 
 pub number_after-number-requires : goal.number_after-number-requires
@@ -25,3 +27,14 @@ returns-clause-ready g c =
       keys = c.in_ok-room.ensures.ok;
       phases = subst (λ n. IsRoomy gossip.map.now n.room.calls.list) (sym c.self.view_is) c.in_ok-room_for.ensures.room;
     }
+
+pub returns-clause-stamped : goal.returns-clause-stamped
+returns-clause-stamped g c =
+    let v = ap (λ n. n.state) c.self.view_is ∙ c.in_ok-room_for.ensures.same in
+    subst (λ x. AreStampedAlike x.registers c.in_ok-newer.newer c.args.copies.now) v c.in_ok-newer.ensures.stamped
+
+pub invariant_of-self : goal.invariant_of-self
+invariant_of-self g c = (c.self.invariant.0, late_same (g.S.Replica.stamps c.self.inside.registers) _ c.self.inside.number c.room.ensures.stamped c.self.invariant.1)
+
+pub invariant_of-self-2 : goal.invariant_of-self-2
+invariant_of-self-2 g c = (c.self.invariant.0, late_same (g.S.Replica.stamps c.self.inside.registers) _ c.self.inside.number c.room.ensures.stamped c.self.invariant.1)

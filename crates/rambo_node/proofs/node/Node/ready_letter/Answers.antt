@@ -1,9 +1,15 @@
-use Rattle.std.proofs.Common.{◌&&◌, sym, ap, ◌∙◌}
+use Rattle.std.proofs.Common.{◌&&◌, sym, ap, ◌∙◌, subst}
 use Rattle.std.specs.FinMap as map
-use Rattle.rambo_gossip.specs.Letters.{kind_with}
+use Rattle.rambo_tag.specs.Copies.{joined}
+use Rattle.rambo_tag.specs.Stamps.{stamps_merged}
+use Rattle.rambo_gossip.specs.declared.letter.Kind.TheVariants as kind
+use Rattle.rambo_gossip.specs.Letters.{gossip_with, kind_with}
+use Rattle.rambo_gossip.specs.Short.{copies_in}
 use Rattle.rambo_calls.specs.Hearing.{any_gap}
+use Rattle.rambo_node.specs.Prepared.{IsReadyKind}
 use Rattle.rambo_node.specs.Refusals.{restarts, is_last}
 use Rattle.rambo_node.proofs.Judged.{hear_next}
+use Rattle.rambo_node.proofs.Readiness.{gossip_hearing}
 use Rattle.rambo_names.proofs.Sizes.{up_fits, back_fits, variant_fits}
 use Rattle.rambo_node.proofs.Sizes.{gossip_fits}
 use Rattle.rambo_node.proofs.node.Node.ready_letter.Goals as goal
@@ -22,3 +28,21 @@ ready_gossip-requires g c =
 
 pub boxed-requires : goal.boxed-requires
 boxed-requires g c = (c.requires-raw.1.1.0, gossip_fits 0 g.row.Q g.Q.Quorums g.Q.PartialEq g.met.Q.Quorums.small)
+
+pub returns-in-Join-clause-hearing : goal.returns-in-Join-clause-hearing
+returns-in-Join-clause-hearing g c =
+    let v = c.args.self.now in
+    let h = c.ready_join.result in
+    let none = c.ready_join.ensures.newer ∙ sym (ap copies_in c.in-Join.is) in
+    record {
+      ready = subst (λ k. IsReadyKind v k h.newer h.number) (sym c.in-Join.is) tt;
+      newer = ap (joined v.state.registers) none;
+      stamped = λ now s. ap (stamps_merged now v.state.registers s) none;
+    }
+
+pub returns-in_ok-boxed-in-Gossip-clause-hearing : goal.returns-in_ok-boxed-in-Gossip-clause-hearing
+returns-in_ok-boxed-in-Gossip-clause-hearing g c =
+    let copies = c.in-Gossip.gossip.copies in
+    let found = c.in_ok-hearing-in-Gossip in
+    let is = c.in-Gossip.is ∙ sym (ap (λ o. kind.Gossip (gossip_with o copies)) c.outline-outline.ensures) in
+    gossip_hearing c.ready_gossip.new.self c.args.self.now.state c.args.letter.now _ copies found.hearing found.ensures.same is found.ensures.ready found.ensures.newer found.ensures.stamped

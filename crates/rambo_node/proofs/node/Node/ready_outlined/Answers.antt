@@ -2,6 +2,7 @@ use Rattle.std.proofs.lemmas.Grind.{common_steps}
 use Rattle.std.proofs.Common.{◌≡◌, ◌&&◌, sym, ap, ◌∙◌, subst, arith}
 use Rattle.std.proofs.lemmas.Result.{IfOk-weaker}
 use Rattle.rambo_tag.specs.Copies.{joined}
+use Rattle.rambo_tag.specs.Stamps.{AreStampedAlike, stamps_merged}
 use Rattle.rambo_gossip.specs.Letters.{kind_with, letter_with}
 use Rattle.rambo_gossip.specs.Outlines.{outlined, gossip_outlined}
 use Rattle.rambo_gossip.specs.Short.{copies_in}
@@ -18,7 +19,8 @@ returns-in-None-clause-hearing g c =
     let copies = c.args.copies.now in
     let h = c.ready_join.result in
     let kind_is = sym (ap (λ l. kind_with l.kind copies) c.outline.view_is) ∙ ap (λ o. kind_with (outlined o) copies) c.in-None.is in
-    record { ready = subst (λ k. IsReadyKind v k h.newer h.number) (sym kind_is) tt; newer = ap (joined v.state.registers) (c.ready_join.ensures.newer ∙ sym (ap copies_in kind_is)) }
+    let none = c.ready_join.ensures.newer ∙ sym (ap copies_in kind_is) in
+    record { ready = subst (λ k. IsReadyKind v k h.newer h.number) (sym kind_is) tt; newer = ap (joined v.state.registers) none; stamped = λ now s. ap (stamps_merged now v.state.registers s) none }
 
 pub ready_gossip-requires : goal.ready_gossip-requires
 ready_gossip-requires g c =
@@ -32,9 +34,10 @@ returns-in-Some-clause-hearing g c =
     let v = c.ready_gossip.new.self in
     let kind_is = sym (ap (λ l. l.kind) c.outline.view_is) ∙ ap outlined c.in-Some.is in
     let r = c.ready_gossip in
-    IfOk-weaker r.result (λ h. IsReadyGossip v (gossip_outlined c.in-Some.gossip) h.newer h.number × (joined c.args.self.now.state.registers h.newer ≡ joined c.args.self.now.state.registers copies)) _
-    (λ h e. gossip_hearing v c.args.self.now.state (letter_with c.args.outline.now copies) (gossip_outlined c.in-Some.gossip) copies h r.ensures.same (ap (λ k. kind_with k copies) kind_is) e.0 e.1)
-    (IfOk-both r.result _ _ r.ensures.ready r.ensures.newer)
+    let held = c.args.self.now.state.registers in
+    IfOk-weaker r.result (λ h. IsReadyGossip v (gossip_outlined c.in-Some.gossip) h.newer h.number × ((joined held h.newer ≡ joined held copies) × AreStampedAlike held h.newer copies)) _
+    (λ h e. gossip_hearing v c.args.self.now.state (letter_with c.args.outline.now copies) (gossip_outlined c.in-Some.gossip) copies h r.ensures.same (ap (λ k. kind_with k copies) kind_is) e.0 e.1.0 e.1.1)
+    (IfOk-both r.result _ _ r.ensures.ready (IfOk-both r.result _ _ r.ensures.newer r.ensures.stamped))
 
 pub returns-in-Some-clause-join : goal.returns-in-Some-clause-join
 returns-in-Some-clause-join g c = grind (arith, common_steps)

@@ -1,4 +1,4 @@
-use Rattle.std.proofs.Common.{map, sym, ap, ◌∙◌, subst}
+use Rattle.std.proofs.Common.{◌≤◌, map, sym, ap, ◌∙◌, subst}
 use Rattle.std.specs.FinSet as set
 use Rattle.rambo_config_map.specs.Maps.{merged_map}
 use Rattle.rambo_joiner.specs.Statuses.{woken}
@@ -8,12 +8,14 @@ use Rattle.rambo_calls.specs.Hearing.{heard_call}
 use Rattle.rambo_calls.specs.Kept.{IsRoomy}
 use Rattle.rambo_bids.specs.Fitting.{AttemptFits}
 use Rattle.rambo_node.specs.Nodes.{raised}
+use Rattle.rambo_tag.proofs.StampLaws.{AreAtMost-later}
+use Rattle.rambo_node.proofs.Late.{never_lower}
 use Rattle.rambo_names.proofs.Sizes.{up_fits, back_fits, next}
 use Rattle.rambo_node.proofs.node.Node.settle.Goals as goal
 
-pub returns : goal.returns
+pub returns-clause-state : goal.returns-clause-state
 unfolding heard_gossip
-returns g c =
+returns-clause-state g c =
     let v = ap (λ n. n.state) c.self.view_is in
     let from = c.args.from in
     let gossip = c.args.gossip.now in
@@ -44,7 +46,12 @@ hear-requires g c = (
 )
 
 pub invariant_of-self : goal.invariant_of-self
-invariant_of-self g c = subst (λ m. AttemptFits m c.hear_vote.new.attempt) (sym c.merge.ensures) (c.hear_vote.ensures.fits c.self.invariant)
+invariant_of-self g c =
+    let x = c.args.self.now.state in
+    let above : x.number ≤ c.args.number = subst (λ n. x.number ≤ n) (sym c.requires.number) (never_lower x (gossip_outlined c.args.gossip.now)) in (
+      subst (λ m. AttemptFits m c.hear_vote.new.attempt) (sym c.merge.ensures) (c.hear_vote.ensures.fits c.self.invariant.0),
+      AreAtMost-later c.self.inside.number c.args.number (g.S.Replica.stamps c.self.inside.registers) (subst (λ v. v.state.number ≤ c.args.number) (sym c.self.view_is) above) c.self.invariant.1,
+    )
 
 pub merge-requires : goal.merge-requires
 merge-requires g c = back_fits _ _ _ (up_fits _ _ _ c.requires-raw.1.1.0)

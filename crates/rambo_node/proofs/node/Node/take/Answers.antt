@@ -1,6 +1,7 @@
 use Rattle.std.proofs.Common.{ap, ◌∙◌}
 use Rattle.rambo_node.specs.Changes.{made_by}
 use Rattle.rambo_node.specs.Prepared.{change_of}
+use Rattle.rambo_node.specs.FullNodes.{beside_after}
 use Rattle.rambo_node.proofs.node.Node.take.Goals as goal
 
 pub returns-in-Ok-clause-node : goal.returns-in-Ok-clause-node
@@ -19,3 +20,8 @@ ready-requires g c = (c.requires-raw.1.1.0, c.requires-raw.1.1.1)
 
 pub carry_out-requires : goal.carry_out-requires
 carry_out-requires g c = (c.requires-raw.1.1.0, c.in-Ok.ensures.prepared)
+
+pub returns-in-Ok-clause-beside : goal.returns-in-Ok-clause-beside
+returns-in-Ok-clause-beside g c =
+    let p = c.in-Ok.prepared in
+    c.carry_out.ensures.beside ∙ (λ i. beside_after (c.ready.ensures.same i) (c.ready.ensures.beside i) (change_of p)) ∙ c.in-Ok.ensures.after

@@ -27,7 +27,7 @@ pub new-keeper-requires : goal.new-keeper-requires
 new-keeper-requires g c =
     let made = c.in_ok-name.ensures.made in
     let holder = c.keeper-in-loop-place.ensures.keeper ∙ (λ i. ((ap (λ r. r.0) c.loop-place.invariant.made ∙ sym made.0) i, [])) in
-    (back_fits _ _ _ (up_fits _ _ _ (back_fits _ _ _ (up_fits _ _ _ (variant_fits _ _ _ _ (back_fits _ _ _ (up_fits _ _ _ c.requires-raw.1.1.1.0)))))), (subst IsName (sym made.0) made.1, (c.in-Ok.ensures.empty, (holder, c.requires.founders))))
+    (back_fits _ _ _ (up_fits _ _ _ (back_fits _ _ _ (up_fits _ _ _ (variant_fits _ _ _ _ (back_fits _ _ _ (up_fits _ _ _ c.requires-raw.1.1.1.0)))))), (subst IsName (sym made.0) made.1, (c.in-Ok.ensures.empty, (c.in-Ok.ensures.unstamped, (holder, c.requires.founders)))))
 
 pub loop-place-preserved : goal.loop-place-preserved
 loop-place-preserved g c = record {

@@ -1,10 +1,16 @@
 use Rattle.std.proofs.Common.{sym, ap, ◌∙◌}
 use Rattle.std.specs.FinMap.{get}
-use Rattle.rambo_tag.proofs.Tables.{get-copies_in}
+use Rattle.rambo_tag.proofs.Slots.{version_of, get-copies_of}
 use Rattle.rambo_tag.proofs.registers.RegistersReplica.copy.Goals as goal
 
-pub returns : goal.returns
-returns g c =
-    c.get.ensures.value
-    ∙ sym (get-copies_in c.self.inside.table.entries c.args.key.now)
-    ∙ ap (λ m. get m c.args.key.now) (ap (λ r. r.copies) c.self.view_is)
+pub returns-in-Some : goal.returns-in-Some
+returns-in-Some g c =
+    ap version_of c.in-Some.ensures.value
+    ∙ sym (get-copies_of c.self.inside.table.entries c.args.key.now)
+    ∙ ap (λ r. get r.copies c.args.key.now) c.self.view_is
+
+pub returns-in-None : goal.returns-in-None
+returns-in-None g c =
+    ap version_of c.in-None.ensures.value
+    ∙ sym (get-copies_of c.self.inside.table.entries c.args.key.now)
+    ∙ ap (λ r. get r.copies c.args.key.now) c.self.view_is

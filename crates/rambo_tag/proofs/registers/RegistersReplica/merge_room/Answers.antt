@@ -1,17 +1,25 @@
-use Rattle.std.proofs.Common.{sym, ap, ◌∙◌, subst}
-use Rattle.indexmap.specs.IndexMap.{spare}
-use Rattle.rambo_tag.specs.Copies.{joined, HasRoom}
-use Rattle.rambo_tag.specs.Tables.{copies_in}
+use Rattle.std.proofs.Common.{◌≡◌, sym, ap, ◌∙◌}
+use Rattle.rambo_tag.specs.Copies.{joined}
+use Rattle.rambo_tag.specs.Logs.{greatest_after}
+use Rattle.rambo_tag.specs.Rows.{stamps_after}
 use Rattle.rambo_tag.proofs.Logged.{joined-greatest_of}
+use Rattle.rambo_tag.proofs.Stampings.{stamps_after-merged}
 use Rattle.rambo_tag.proofs.registers.RegistersReplica.merge_room.Goals as goal
 
-pub put_newer-requires : goal.put_newer-requires
-put_newer-requires g c =
-    let t = c.self.inside.table in
-    let fits = subst (λ r. HasRoom r.spare r.copies c.args.pack) (sym c.self.view_is) c.requires in
-    record { room = subst (HasRoom (spare t) (copies_in t.entries)) (sym c.into_copies.ensures) fits }
+pub returns-clause-copies : goal.returns-clause-copies
+returns-clause-copies g c =
+    let held = c.args.self.now.copies in
+    let cs = c.into_copies.result.items in
+    c.write_newer.ensures.copies
+    ∙ ap (λ r. greatest_after r.copies cs) c.self.view_is
+    ∙ sym (joined-greatest_of held cs)
+    ∙ ap (joined held) c.into_copies.ensures
 
-pub returns : goal.returns
-returns g c =
-    let m = copies_in c.self.inside.table.entries in
-    c.put_newer.ensures ∙ sym (joined-greatest_of m c.into_copies.result.items) ∙ ap (joined m) c.into_copies.ensures ∙ ap (λ r. joined r.copies c.args.pack) c.self.view_is
+pub returns-clause-stamped : goal.returns-clause-stamped
+returns-clause-stamped g c =
+    let held = c.args.self.now.copies in
+    let cs = c.into_copies.result.items in
+    let merged : greatest_after held cs ≡ joined held c.args.pack = sym (joined-greatest_of held cs) ∙ ap (joined held) c.into_copies.ensures in
+    c.write_newer.ensures.stamps
+    ∙ ap (λ r. stamps_after c.args.now r.copies r.stamps cs) c.self.view_is
+    ∙ stamps_after-merged c.args.now held c.args.self.now.stamps cs c.args.pack merged

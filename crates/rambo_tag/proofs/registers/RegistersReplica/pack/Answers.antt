@@ -1,26 +1,13 @@
-use Rattle.std.proofs.Common.{ap, ◌∙◌}
-use Rattle.rambo_tag.proofs.Tables.{Packs-start, Packs-next, Packs-end}
+use Rattle.std.proofs.Common.{◌≡◌, Result, Ok, Err}
+use Rattle.std.specs.Prelude.{IfOk}
+use Rattle.rambo_tag.specs.Copies.{Copies}
+use Rattle.rambo_tag.specs.Stamps.{Stamps, IsSince}
+use Rattle.rambo_tag.proofs.StampLaws.{all_since_zero}
 use Rattle.rambo_tag.proofs.registers.RegistersReplica.pack.Goals as goal
 
-pub loop-key-init : goal.loop-key-init
-loop-key-init g c = (
-  tt,
-  tt,
-  Packs-start c.args.self.now.copies c.self.inside.table.entries c.in_ok-copies.copies.items c.into_iter-key-iterator.result
-      c.len.ensures.unique (ap (λ r. r.copies) c.self.view_is)
-      c.in_ok-copies.ensures.items (c.into_iter-key-iterator.ensures.into_iter_gives ∙ c.iter-key-items.ensures.rest),
-)
-
-pub loop-key-preserved : goal.loop-key-preserved
-loop-key-preserved g c = (
-  tt,
-  tt,
-  Packs-next c.args.self.now.copies c.loop-key.copies.items c.push.new.self.items c.loop-key.key-iterator c.next.new.self (c.in-Some.key.now, c.in-Some.version.now)
-      (record { key = c.in_ok-clone.field-0; version = c.in_ok-clone-2.field-0 })
-      c.loop-key.invariant.2 c.in-Some.ensures.steps c.in_ok-clone.ensures.cases c.in_ok-clone-2.ensures.cases c.in_ok-push.ensures.items,
-)
+all : {E : Type 0} (held : Copies) (s : Stamps) (r : Result Copies E) → IfOk r (λ p. IsSince held s 0 p) → IfOk r (λ p. p ≡ held)
+all held s (Ok p) since = all_since_zero held p s since
+all held s (Err e) since = tt
 
 pub returns-clause-all : goal.returns-clause-all
-returns-clause-all g c =
-    c.new.ensures
-    ∙ Packs-end c.args.self.now.copies c.loop-key.copies.items c.loop-key.key-iterator c.loop-key.invariant.2 c.in-None.ensures.steps.0
+returns-clause-all g c = all c.args.self.now.copies c.args.self.now.stamps c.pack_since.result c.pack_since.ensures.since

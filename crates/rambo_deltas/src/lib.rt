@@ -1,0 +1,9 @@
+//! Letters that tell only what is new: why they may stand for whole ones.
+#![tactic(auto)]
+
+mod laws;
+
+pub use laws::{
+    bases_are_carried, deltas_are_short, old_copies_are_held, short_letters_are_replayed_alike,
+    stamps_are_numbers,
+};
