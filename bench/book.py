@@ -7,7 +7,7 @@ A client sends SETs and GETs in turn, over 16 keys, to `rambo serve` with founde
 the one before. That takes eleven steps a command.
 
 - Once so many commands are served under valgrind. Then `rambo replay` takes the trace, under valgrind too. Printed are the
-  instructions a step that the server spends in `commit`, with all that it calls, those that the replay spends in its world,
+  instructions a step that the server spends in its two halves, with all that they call, those that the replay spends in its world,
   and their ratio; and which functions they go to, of either.
 - Then, without valgrind, so many commands that a book of --steps steps is nearly full. Printed is how far the resident
   memory grew, a step of the trace.
@@ -24,7 +24,8 @@ import tempfile
 KEYS = 16
 STEPS_A_COMMAND = 11
 PATIENCE = 60
-COMMIT = r"rambo_book::committing::commit\b"
+# The two halves of a step.
+HALVES = r"rambo_book::(first_half::ready|committing::enter)\b"
 WORLD = r"rambo_world::state::State::(advance|call|change|deliver|send)\b"
 
 
@@ -138,12 +139,12 @@ def count_instructions(program, count, folder):
     with open(trace, "rb") as reader:
         subprocess.run(words, stdin=reader, stdout=subprocess.DEVNULL, stderr=subprocess.DEVNULL, check=True)
     replayed = Profile(path)
-    for profile, pattern in ((served, COMMIT), (replayed, WORLD)):
-        if profile.total(pattern, profile.calls) != steps:
+    for profile, pattern, calls in ((served, HALVES, 2 * steps), (replayed, WORLD, steps)):
+        if profile.total(pattern, profile.calls) != calls:
             sys.exit("%d steps, but %d calls of %s" % (steps, profile.total(pattern, profile.calls), pattern))
-    commit, world = served.total(COMMIT, served.costs) / steps, replayed.total(WORLD, replayed.costs) / steps
-    print("%d steps: %.0f instructions a commit, %.0f a step of the replay's world, ratio %.2f" % (steps, commit, world, commit / world))
-    for what, profile, pattern in (("commit", served, COMMIT), ("world", replayed, WORLD)):
+    halves, world = served.total(HALVES, served.costs) / steps, replayed.total(WORLD, replayed.costs) / steps
+    print("%d steps: %.0f instructions a step, %.0f a step of the replay's world, ratio %.2f" % (steps, halves, world, halves / world))
+    for what, profile, pattern in (("halves", served, HALVES), ("world", replayed, WORLD)):
         for name, cost in profile.parts(pattern):
             print("    %-6s %6.0f  %s" % (what, cost / steps, name))
 
