@@ -2,10 +2,13 @@
 """Times gets and sets of a store that holds few keys and many.
 
     bench/keys.py RAMBO [--operations 20000] [--runs 3]
+    bench/keys.py RAMBO --count
 
 Prints for `local` with 100 to 100,000 keys held how many microseconds a set of one of them takes, of keys picked at random,
 and how that compares with 100 keys; and the same for `serve` of three founders with 100 to 10,000 keys, at 1 and at 8
 clients, of sets and of gets, as redis-benchmark has them. Each figure is the best of so many runs. It asserts nothing.
+
+With --count it prints how many instructions a set takes in `local`, by valgrind: these grow by no cache that is too small.
 """
 import argparse
 import os
@@ -22,6 +25,8 @@ LOCAL_KEYS = (100, 1000, 10000, 100000)
 SERVED_KEYS = (100, 1000, 10000)
 CLIENTS = (1, 8)
 STEPS = 1000000
+# So many sets are counted.
+COUNTED = 2000
 
 
 def command(*words):
@@ -34,6 +39,12 @@ def key(number):
 
 def filled(keys):
     return b"".join(command(b"SET", key(number), b"xxx") for number in range(keys))
+
+
+def picked(keys, operations):
+    """Sets of keys among those that are held."""
+    picks = random.Random(keys)
+    return b"".join(command(b"SET", key(picks.randrange(keys)), b"yyy") for _ in range(operations))
 
 
 def spent_by_local(rambo, text):
@@ -50,9 +61,7 @@ def spent_by_local(rambo, text):
 
 def local(rambo, keys, operations, runs):
     """Microseconds that a set takes where so many keys are held."""
-    held = filled(keys)
-    picks = random.Random(keys)
-    sets = b"".join(command(b"SET", key(picks.randrange(keys)), b"yyy") for _ in range(operations))
+    held, sets = filled(keys), picked(keys, operations)
     before = min(spent_by_local(rambo, held) for _ in range(runs))
     after = min(spent_by_local(rambo, held + sets) for _ in range(runs))
     return (after - before) / operations * 1e6
@@ -81,12 +90,38 @@ def served(rambo, keys, clients, operations):
         server.kill()
 
 
+def watched(*words):
+    return ["valgrind", "--tool=callgrind", "--callgrind-out-file=/dev/null", *words]
+
+
+def spent_by_counted(rambo, text):
+    ran = subprocess.run(watched(rambo, "local"), input=text, stdout=subprocess.DEVNULL, stderr=subprocess.PIPE)
+    if ran.returncode:
+        sys.exit("rambo local ended with status %d" % ran.returncode)
+    return int(re.search(rb"Collected : (\d+)", ran.stderr).group(1))
+
+
+def count(rambo):
+    print("| local, keys held | instructions a set | to 100 keys |")
+    print("|---:|---:|---:|")
+    first = None
+    for keys in LOCAL_KEYS:
+        held = filled(keys)
+        took = (spent_by_counted(rambo, held + picked(keys, COUNTED)) - spent_by_counted(rambo, held)) / COUNTED
+        first = first or took
+        print("| %d | %.0f | %.2f |" % (keys, took, took / first), flush=True)
+
+
 def main():
     parser = argparse.ArgumentParser()
     parser.add_argument("rambo")
     parser.add_argument("--operations", type=int, default=20000)
     parser.add_argument("--runs", type=int, default=3)
+    parser.add_argument("--count", action="store_true")
     asked = parser.parse_args()
+    if asked.count:
+        count(asked.rambo)
+        return
     print("| local, keys held | microseconds a set | to 100 keys |")
     print("|---:|---:|---:|")
     first = None

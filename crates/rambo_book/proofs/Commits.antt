@@ -9,8 +9,8 @@ use Rattle.rambo_history.specs.declared.event.Event.{Event}
 use Rattle.rambo_gossip.specs.declared.letter.Letter.{Letter}
 use Rattle.rambo_node.specs.declared.effect.Effect.{Effect}
 use Rattle.rambo_node.specs.Changes.{made_by}
-use Rattle.rambo_node.specs.FullNodes.{FullNode, beside_after, full, full_after}
-use Rattle.rambo_node.specs.Nodes.{NodeState, Room, Beside, RoomyNode}
+use Rattle.rambo_node.specs.FullNodes.{FullNode, beside_after, full}
+use Rattle.rambo_node.specs.Nodes.{Room, RoomyNode}
 use Rattle.rambo_node.proofs.Besides.{full_after_is}
 use Rattle.rambo_run.specs.declared.step.Step.{Step}
 use Rattle.rambo_run.specs.declared.step.Step.TheVariants as step

@@ -3,9 +3,7 @@ use Rattle.std.proofs.Common.{◌≡◌, ◌⊎◌, ℕ, zero, suc, Bool, true, 
 use Rattle.std.proofs.lemmas.Bool.{eqb-false, eq-eqb, ne_eqb, true≢false}
 use mathlib.Core.List.{IsPrefix}
 use Rattle.rambo_names.specs.Quorums.{QuorumSystem}
-use Rattle.rambo_names.specs.Refusals.{IsRefusal, least}
-use Rattle.rambo_names.specs.declared.refusal.Refusal.{Refusal}
-use Rattle.rambo_names.specs.declared.refusal.Refusal.TheVariants.{OutOfMemory}
+use Rattle.rambo_names.specs.Refusals.{least}
 use Rattle.rambo_gossip.specs.declared.letter.Letter.{Letter}
 use Rattle.rambo_gossip.specs.Short.{copies_in, IsShort}
 use Rattle.rambo_tag.specs.Copies.{joined}
@@ -309,10 +307,3 @@ module _ {Q : Type 0} {s : QuorumSystem Q} {agreed : Option Q} {holds name : ℕ
       let alike : Alike s x (meant_by o st) (meant w st) = subst (λ x. Alike s x (meant_by o st) (meant w st)) (sym same) (subst (λ o. Alike s node.state (meant_by o st) (meant w st)) (sym is) t.1) in
       let ok : judged s x (meant_by o st) ≡ None = ap (λ x. judged s x (meant_by o st)) same ∙ none in
       ready_alike s w st (record { name = name; node = x; room = v.room; beside = v.beside; tray = tray; seen = seen }) (meant_by o st) (outline_of o) half alike (ap outline_of is ∙ tray_outline w name tray (k.mail f e) st there) t.0 (tray_judged o is f e ∙ none) ok ready
-
--- which refusal is told
-pub refused_as_judged : {o p : Option Refusal} {r : Refusal} → o ≡ p → p ≡ Some r → IsRefusal o r
-refused_as_judged {r = r} e is = subst (λ o. IsRefusal o r) (sym (e ∙ is)) refl
-
-pub refused_for_memory : {o p : Option Refusal} {r : Refusal} → o ≡ p → p ≡ None → r ≡ OutOfMemory → IsRefusal o r
-refused_for_memory {r = r} e none is = subst (λ o. IsRefusal o r) (sym (e ∙ none)) is

@@ -3,6 +3,7 @@ use Rattle.std.proofs.Common.{◌≡◌, ◌⊎◌, ℕ, zero, suc, ◌+◌, ◌
 use Rattle.std.proofs.lemmas.List.{length-append, length-set}
 use Rattle.std.proofs.lemmas.Bool.{cases_eq}
 use mathlib.Core.List.{IsPrefix}
+use Rattle.std.specs.Option.{option_and_then}
 use Rattle.std.specs.FinMap as map
 use Rattle.rambo_names.specs.Names.{IsName}
 use Rattle.rambo_names.specs.Quorums.{QuorumSystem}
@@ -23,7 +24,8 @@ use Rattle.rambo_node.specs.Changes.{Made, made_by, refusal_of}
 use Rattle.rambo_node.specs.FullNodes.{FullNode, IsDelta, delta_letter, full}
 use Rattle.rambo_node.specs.Letters.{letter_for}
 use Rattle.rambo_node.specs.Nodes.{NodeState, RoomyNode}
-use Rattle.rambo_node.proofs.Short.{heard_as_whole, whole_is_short}
+use Rattle.rambo_node.proofs.Short.{heard_as_whole}
+use Rattle.rambo_run.specs.Kinds.{delivered_by}
 use Rattle.rambo_run.specs.declared.step.Step.{Step}
 use Rattle.rambo_run.specs.declared.step.Step.TheVariants as step
 use Rattle.rambo_run.specs.Worlds.{WorldState, node_at, copies_of, held_by, letter_at}
@@ -148,19 +150,13 @@ outline_at w letters n sent = elim (letters_paired w letters sent n) [
   | inr p ↦ ap outline_of p.2 ∙ ap Some (outline_alike p.0 p.1 _ p.4) ∙ sym (ap outline_of p.3)
 ]
 
+outlines_by : {Q : Type 0} (w : WorldState Q) (letters : List (Letter Q)) (o : Option ℕ) → AreSent w letters
+    → outline_of (option_and_then (letter_at letters) o) ≡ outline_of (option_and_then (letter_at w.letters) o)
+outlines_by w letters None sent = refl
+outlines_by w letters (Some n) sent = outline_at w letters n sent
+
 pub outlines_alike : {Q : Type 0} (w : WorldState Q) (letters : List (Letter Q)) (st : Step Q) → AreSent w letters → outline_of (letter_in letters st) ≡ outline_of (letter_in w.letters st)
-outlines_alike w letters (step.Deliver n) sent = outline_at w letters n sent
-outlines_alike w letters (step.Join n contacts) sent = refl
-outlines_alike w letters (step.Call n o) sent = refl
-outlines_alike w letters (step.Send n to) sent = refl
-outlines_alike w letters (step.Advance id) sent = refl
-outlines_alike w letters (step.Again id) sent = refl
-outlines_alike w letters (step.Collect n) sent = refl
-outlines_alike w letters (step.AdvanceCollect n) sent = refl
-outlines_alike w letters (step.Recon n wish) sent = refl
-outlines_alike w letters (step.Rebid n) sent = refl
-outlines_alike w letters (step.AdvanceRecon n) sent = refl
-outlines_alike w letters (step.Stop n) sent = refl
+outlines_alike w letters st sent = outlines_by w letters (delivered_by st) sent
 
 -- whose step it is
 names_alike : {Q : Type 0} (w : WorldState Q) (letters : List (Letter Q)) (n : ℕ) → AreSent w letters → name_in (delivery (letter_at letters n)) ≡ name_in (delivery (letter_at w.letters n))

@@ -1,11 +1,12 @@
 -- Steps whose first half is made
 use Rattle.std.specs.Prelude.{◌≡◌, ℕ, nat_eq, if◌then◌else◌, List, [], ◌∷◌, slice_get, Option, None, Some}
+use Rattle.std.specs.Option.{option_and_then}
 use Rattle.rambo_names.specs.Quorums.{QuorumSystem}
 use Rattle.rambo_gossip.specs.declared.letter.Letter.{Letter}
 use Rattle.rambo_node.specs.declared.change.Change.{Change}
 use Rattle.rambo_node.specs.Nodes.{RoomyNode}
 use Rattle.rambo_run.specs.declared.step.Step.{Step}
-use Rattle.rambo_run.specs.declared.step.Step.TheVariants as step
+use Rattle.rambo_run.specs.Kinds.{delivered_by}
 use Rattle.rambo_run.specs.Worlds.{WorldState}
 use Rattle.rambo_run.specs.Steps.{meant, refusal}
 use Rattle.rambo_run.specs.Runs.{run}
@@ -25,18 +26,7 @@ mail_in (m ∷ ms) number = if nat_eq m.number number then Some m.letter else ma
 
 -- the letter of a tray that a step lets come, if it lets one come
 abbrev pub came_in : {Q : Type 0} → List (Mail Q) → Step Q → Option (Letter Q)
-came_in tray (step.Deliver number) = mail_in tray number
-came_in tray (step.Join n contacts) = None
-came_in tray (step.Call n o) = None
-came_in tray (step.Send n to) = None
-came_in tray (step.Advance id) = None
-came_in tray (step.Again id) = None
-came_in tray (step.Collect n) = None
-came_in tray (step.AdvanceCollect n) = None
-came_in tray (step.Recon n wish) = None
-came_in tray (step.Rebid n) = None
-came_in tray (step.AdvanceRecon n) = None
-came_in tray (step.Stop n) = None
+came_in tray st = option_and_then (mail_in tray) (delivered_by st)
 
 -- the node of a keeper, with the room that is in it
 abbrev pub roomy : {Q : Type 0} → KeeperView Q → RoomyNode Q

@@ -1,11 +1,12 @@
 //! A step goes into the book, and its node takes it.
 ghost use Rattle.std.specs.Prelude.{◌≡◌, ◌≢◌, ◌<◌, ℕ, ◌++◌, ◌∷◌, [], None, Some, length, option_to_list, OnOk, OnErr, IfOk, IfErr};
 ghost use Rattle.std.specs.Vec.{vec_len, vec_capacity};
+ghost use Rattle.rambo_names.specs.Refusals.{IsRefusal};
 ghost use Rattle.rambo_run.specs.Actors.{sent_by};
 ghost use Rattle.rambo_run.specs.Runs.{run};
 ghost use Rattle.rambo_run.specs.Steps.{refusal, turn};
 ghost use Rattle.rambo_run.specs.Worlds.{node_at};
-ghost use Rattle.rambo_book.specs.Kept.{KeeperView, IsServedBy, Told, lightened, state};
+ghost use Rattle.rambo_book.specs.Kept.{IsServedBy, Told, lightened, state};
 ghost use Rattle.rambo_book.specs.Readying.{IsReadyIn, IsReadyFor};
 ghost use Rattle.rambo_book.specs.Mailing.{waiting_after};
 
@@ -70,8 +71,10 @@ pub fn commit<J: Terms<Q>, Q: Quorums, S: Replica>(
     ensures same { OnErr result ((book.new ≡ book.old) × (keeper.new ≡ record keeper.old { room = keeper.new.room })) }
     ensures told { IfErr result (λ r. Told (refusal Q.system (state Q.system book.old) step) (length book.old.steps) book.old.capacity r) }
 {
-    may_commit(book, keeper, &step)?;
-    let ready = ready_by_book(book, keeper, step)?;
+    let ready = match ready_by_book(book, keeper, step) {
+        Ok(ready) => ready,
+        Err(cause) => return Err(unready(book, cause)),
+    };
     enter(book, keeper, ready)
 }
 
@@ -99,23 +102,35 @@ pub fn commit_ready<J: Terms<Q>, Q: Quorums, S: Replica>(
     enter(book, keeper, ready)
 }
 
-// The first half of a step of the keeper's node that isn't refused, with the letter from the book.
+// Why a step is refused whose first half was refused for this cause: 23 where that was want of memory, and the book is full.
+fn unready<J: Terms<Q>, Q: Quorums>(book: &Book<J, Q>, cause: Refusal) -> Refusal
+    ensures rule { cause ≢ Refusal.OutOfMemory → result ≡ cause }
+    ensures memory { cause ≡ Refusal.OutOfMemory → Told None (length book.now.steps) book.now.capacity result }
+{
+    match cause {
+        Refusal::OutOfMemory => book.no_room(),
+        _ => cause,
+    }
+}
+
+// The first half of a step of the keeper's node, with the letter from the book.
 fn ready_by_book<J: Terms<Q>, Q: Quorums, S: Replica>(
     book: &mut Book<J, Q>,
     keeper: &mut Keeper<J, Q, S>,
     step: Step<Q>,
 ) -> Result<Ready<Q>, Refusal>
-    requires served { IsServedBy (state Q.system book.old) step keeper.old.name }
-    requires legal { refusal Q.system (state Q.system book.old) step ≡ None }
+    requires { IsServedBy (state Q.system book.old) step keeper.old.name }
+    ensures legal { OnOk result (refusal Q.system (state Q.system book.old) step ≡ None) }
     ensures same { (book.new ≡ book.old) × (keeper.new ≡ record keeper.old { room = keeper.new.room }) }
     ensures step { IfOk result (λ r. r.step ≡ step) }
     ensures ready { IfOk result (IsReadyIn Q.system (state Q.system book.old) keeper.new) }
-    ensures refused { IfErr result (λ r. r ≡ Refusal.OutOfMemory) }
+    ensures refused { IfErr result (IsRefusal (refusal Q.system (state Q.system book.old) step)) }
+    ensures memory { IfErr result (λ r. r ≡ Refusal.OutOfMemory → refusal Q.system (state Q.system book.old) step ≡ None) }
 {
     book.roll.agree(&mut keeper.holder);
     let alloc = *book.steps.allocator();
     let letter = letter_named(book.letters.as_slice(), &step);
-    let half = keeper.worker.prepare(alloc, letter, &step)?;
+    let half = keeper.worker.ready(alloc, letter, &step)?;
     Ok(Ready { step, half })
 }
 

@@ -33,8 +33,7 @@ pub fn ready<J: Terms<Q>, Q: Quorums, S: Replica>(
     ensures refused { (f : Q) → J.founders ≡ Some f → IfErr result (IsRefusal (refusal Q.system (run Q.system f keeper.old.seen) step)) }
 {
     let letter = letter_in(keeper.tray.as_slice(), &step);
-    keeper.worker.judge(letter, &step)?;
-    let half = keeper.worker.prepare(alloc, letter, &step)?;
+    let half = keeper.worker.ready(alloc, letter, &step)?;
     Ok(Ready { step, half })
 }
 

@@ -131,9 +131,10 @@ impl<J: Terms<Q>, Q: Quorums, S: Replica> Keeper<J, Q, S> {
         self.worker.map()
     }
 
-    /// Whether the last letter that it made carries more than 32 copies.
-    pub fn is_long(&self) -> bool {
-        self.worker.is_long()
+    /// Whether its letters carried so many copies since its node's phase number last rose that a call, by which that rises,
+    /// would have cost less.
+    pub fn carries_much(&self) -> bool {
+        self.worker.carries_much()
     }
 
     /// Whether its node is joining, or has a call, a collection or an attempt open.

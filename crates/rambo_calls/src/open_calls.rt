@@ -1,7 +1,7 @@
 //! The open calls of a node, the oldest first.
-ghost use Rattle.std.specs.Prelude.{◌≡◌, ◌<◌, ◌≤◌, ◌-◌, ◌^◌, ◌++◌, ◌∷◌, [], length, min, IsOk, OnOk, OnErr, IfErr, remove, slice_get, map as list_map};
+ghost use Rattle.std.specs.Prelude.{◌≡◌, ◌<◌, ◌≤◌, ◌-◌, ◌^◌, ◌++◌, ◌∷◌, [], length, min, IsOk, OnOk, IfErr, remove, slice_get, map as list_map};
 ghost use Rattle.std.specs.Option.{option_copied};
-ghost use Rattle.rambo_calls.specs.Calls.{place_of, find_call, number_in};
+ghost use Rattle.rambo_calls.specs.Calls.{place_of};
 ghost use Rattle.rambo_calls.specs.Hearing.{any_gap, number_after, restarted, heard_call};
 ghost use Rattle.rambo_calls.specs.Kept.{calls_of, call_found, with_call, propagating, IsRoomy};
 ghost use Rattle.rambo_phase.specs.Phases.{started};
@@ -84,29 +84,8 @@ impl<Q: Quorums> OpenCalls<Q> {
         Ok(())
     }
 
-    /// Opens a call of this number in its query, under a phase number: its phase begins with this map, and with the
-    /// node itself as a replier.
-    ///
-    /// `OutOfMemory` where there is no room for it; the calls are then as they were.
-    pub fn open(
-        &mut self,
-        number: u64,
-        op: Op,
-        phase_number: u64,
-        map: &ConfigMap<Q>,
-        me: Name,
-    ) -> Result<(), Refusal>
-        ensures ok { OnOk result (calls_of self.new.list ≡ calls_of self.old.list ++ record { number = number; op = op; stage = Query; phase = started phase_number map.now me } ∷ []) }
-        ensures err { OnErr result (self.new.list ≡ self.old.list) }
-        ensures refused { IfErr result (λ r. r ≡ Refusal.OutOfMemory) }
-    {
-        self.reserve()?;
-        self.open_reserved(number, op, phase_number, map, me);
-        Ok(())
-    }
-
-    /// Opens a call of this number in its query, where there is room for one call more: what `open` does. It takes no
-    /// memory and can't fail.
+    /// Opens a call of this number in its query, where there is room for one call more, under a phase number: its phase
+    /// begins with this map, and with the node itself as a replier. It takes no memory and can't fail.
     pub fn open_reserved(
         &mut self,
         number: u64,
@@ -223,20 +202,6 @@ impl<Q: Quorums> OpenCalls<Q> {
         call_at(self.list.as_slice(), place)
     }
 
-    /// The call of a number, if there is one.
-    pub fn find(&self, number: u64) -> Option<&OpenCall<Q>>
-        ensures { call_found (option_copied result) ≡ find_call number (calls_of self.now.list) }
-    {
-        self.get(self.place_of(number))
-    }
-
-    /// The number of the call at a place, if there is one.
-    pub fn number_at(&self, place: usize) -> Option<u64>
-        ensures { result ≡ number_in (slice_get (calls_of self.now.list) place) }
-    {
-        number_at(self.list.as_slice(), place)
-    }
-
     /// Whether a letter with this heard number and map restarts a phase: whether it is a reply whose map leaves a gap.
     pub fn any_gap(&self, heard: u64, map: &ConfigMap<Q>) -> bool
         ensures { result ≡ any_gap heard map.now (calls_of self.now.list) }
@@ -275,15 +240,6 @@ fn call_at<Q: Quorums>(calls: &[OpenCall<Q>], place: usize) -> Option<&OpenCall<
     ensures { call_found (option_copied result) ≡ slice_get (calls_of calls.now) place }
 {
     calls.get(place)
-}
-
-fn number_at<Q: Quorums>(calls: &[OpenCall<Q>], place: usize) -> Option<u64>
-    ensures { result ≡ number_in (slice_get (calls_of calls.now) place) }
-{
-    match call_at(calls, place) {
-        Some(call) => Some(call.number),
-        None => None,
-    }
 }
 
 fn any_gap<Q: Quorums>(calls: &[OpenCall<Q>], heard: u64, map: &ConfigMap<Q>) -> bool

@@ -1,9 +1,10 @@
 //! What a client has the nodes do.
+ghost use Rattle.std.specs.Prelude.{◌≡◌, []};
 
 use crate::hub::Hub;
 use crate::visits::names_in;
 use rambo_history::{Answer, CallId, Op};
-use rambo_names::{Name, Refusal, Weighted};
+use rambo_names::{Bytes, Name, Refusal, Weighted};
 use rambo_post::{Gate, Pass, Terms};
 use rambo_rooms::Bell;
 use rambo_run::Step;
@@ -22,7 +23,7 @@ impl<J: Terms<Weighted>> Hub<J> {
         name: Name,
         op: Op,
     ) -> Result<Option<Answer>, Refusal> {
-        self.shorten(rt, pass, place, &op);
+        self.unload(rt, pass, place);
         let number = self.call(rt, pass, place, name, op)?;
         let answer = self.wait_at(rt, gate, pass, place, name, number);
         self.forget(rt, name, number);
@@ -30,20 +31,26 @@ impl<J: Terms<Weighted>> Hub<J> {
         answer
     }
 
-    // Has each node whose letters grew long get the key of an operation too. By its own calls a node's phase number rises, and
-    // what changed before that it needn't tell again to who heard of the rise; a node that no client asks makes none, and
-    // would tell all that it holds in each letter. Nobody waits for the answer.
-    fn shorten<R: Wait>(&self, rt: &R, pass: &mut Pass<J, Weighted>, place: usize, op: &Op) {
-        let long = self.long.swap(0, Ordering::SeqCst);
-        if long == 0 {
+    // Has each node whose letters carried much, and at which nobody waits, get the value of the empty key. By its own calls a
+    // node's phase number rises, and what changed before that it needn't tell again to who heard of the rise; a node that no
+    // client asks makes none, and would tell all that it holds in each letter. Nobody waits for the answer, and its worker
+    // sees to it: in a trace these calls are the gets of the empty key that no client asked for.
+    fn unload<R: Wait>(&self, rt: &R, pass: &mut Pass<J, Weighted>, place: usize) {
+        let laden = self.laden.swap(0, Ordering::SeqCst);
+        if laden == 0 {
             return;
         }
-        for name in names_in(long).iter() {
-            if let Ok(key) = op.key().clone() {
-                let _ = self.call(rt, pass, place, name, Op::Get(key));
-                self.point_at(name);
+        for name in names_in(laden).iter() {
+            if !self.is_asked(rt, name) {
+                let _ = self.call(rt, pass, place, name, Op::Get(empty_key()));
+                self.rooms.of(name).bell.ring(rt);
             }
         }
+    }
+
+    // Whether a call is open at a node that somebody waits for, or that its worker sees to.
+    fn is_asked<R: Wait>(&self, rt: &R, name: Name) -> bool {
+        !self.rooms.of(name).desk.lock(rt).is_empty()
     }
 
     // Calls, and notes who waits. The desk is held meanwhile, so that no advance of the call is noted before.
@@ -140,4 +147,10 @@ impl<J: Terms<Weighted>> Hub<J> {
         self.ring_waiting(rt, name);
         Ok(())
     }
+}
+
+fn empty_key() -> Bytes
+    ensures { result ≡ [] }
+{
+    Bytes::short([0; Bytes::SHORT], 0)
 }

@@ -28,8 +28,8 @@ pub(crate) struct Hub<J: Terms<Weighted>> {
     pub(crate) pending: AtomicU64,
     /// The names at whose nodes somebody is.
     pub(crate) visited: AtomicU64,
-    /// The names whose letters grew long, by bits.
-    pub(crate) long: AtomicU64,
+    /// The names at whose nodes a call would make letters cheaper, by bits.
+    pub(crate) laden: AtomicU64,
     pub(crate) is_closing: AtomicBool,
     pub(crate) is_full: AtomicBool,
 }
@@ -59,7 +59,7 @@ impl<J: Terms<Weighted>> Hub<J> {
             doors: Doors::new(alloc, clients)?,
             pending: AtomicU64::new(0),
             visited: AtomicU64::new(0),
-            long: AtomicU64::new(0),
+            laden: AtomicU64::new(0),
             is_closing: AtomicBool::new(false),
             is_full: AtomicBool::new(false),
         })

@@ -66,14 +66,14 @@ impl<J: Terms<Weighted>> Hub<J> {
                 done = self.leave_letter(rt, name, to, refusal);
             }
         }
-        self.note_long(rt, name);
+        self.note_laden(rt, name);
         done
     }
 
-    // Notes it where the letters of a node grew long.
-    fn note_long<R: Wait>(&self, rt: &R, name: Name) {
-        if self.post.is_long(rt, name) {
-            self.long.fetch_or(bit(name), Ordering::SeqCst);
+    // Notes it where the letters of a node carried much.
+    fn note_laden<R: Wait>(&self, rt: &R, name: Name) {
+        if self.post.carries_much(rt, name) {
+            self.laden.fetch_or(bit(name), Ordering::SeqCst);
         }
     }
 

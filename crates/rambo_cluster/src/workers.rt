@@ -8,7 +8,8 @@ use std::time::Clock;
 
 impl<J: Terms<Weighted>> Hub<J> {
     /// The work of the worker of a node, by its number: it sleeps while there is nothing to do, and else sees to it that
-    /// letters are sent again while the node waits.
+    /// letters are sent again while the node waits. Where memory was refused it only tries that again: further letters would
+    /// take what is left.
     pub(crate) fn run_worker<R: Wait + Clock, G: Gate>(&self, rt: &R, gate: &G, number: u64) {
         if let Ok(name) = Name::new(number) {
             self.run_worker_of(rt, gate, name);
@@ -16,18 +17,18 @@ impl<J: Terms<Weighted>> Hub<J> {
     }
 
     fn run_worker_of<R: Wait + Clock, G: Gate>(&self, rt: &R, gate: &G, name: Name) {
-        let mut is_waiting = false;
+        let (mut is_waiting, mut lacks_memory) = (false, false);
         for _ in rt.forever() {
             let rang = self.sleep(rt, name, is_waiting);
             if self.is_closing() {
                 return;
             }
-            if !rang {
+            if !rang && !lacks_memory {
                 self.rooms.of(name).desk.lock(rt).remind();
             }
             self.point_at(name);
-            let worked = self.work(rt, gate, || self.is_closing());
-            is_waiting = worked.is_err() || self.has_wishes(rt, name);
+            lacks_memory = self.work(rt, gate, || self.is_closing()).is_err();
+            is_waiting = lacks_memory || self.has_wishes(rt, name);
         }
     }
 

@@ -1,14 +1,21 @@
 -- What is said of a change holds of the step that means it
-use Rattle.std.proofs.Common.{◌≡◌, ℕ, Option, None, Some, Result, Ok, Err, OnOk, IfOk, IfErr, sym, ap, ◌∙◌, subst}
+use Rattle.std.proofs.Common.{◌≡◌, ℕ, false, [], Option, None, Some, Result, Ok, Err, OnOk, IfOk, IfErr, sym, ap, ◌∙◌, subst}
+use Rattle.std.specs.Option.{option_map_or}
 use Rattle.rambo_names.specs.declared.refusal.Refusal.{Refusal}
 use Rattle.rambo_names.specs.Quorums.{QuorumSystem}
+use Rattle.rambo_names.specs.Refusals.{IsRefusal}
 use Rattle.rambo_gossip.specs.declared.letter.Letter.{Letter}
 use Rattle.rambo_node.specs.declared.change.Change.{Change}
+use Rattle.rambo_node.specs.declared.prepared.Quick.{Quick}
 use Rattle.rambo_node.specs.Changes.{refusal_of}
 use Rattle.rambo_node.specs.Nodes.{NodeState, RoomyNode}
+use Rattle.rambo_node.specs.Prepared.{quick_change}
 use Rattle.rambo_run.specs.declared.step.Step.{Step}
-use Rattle.rambo_run.specs.Steps.{Meant}
+use Rattle.rambo_run.specs.Kinds.{quick_of}
+use Rattle.rambo_run.specs.Steps.{Meant, delivery, meant_in, sends}
+use Rattle.rambo_run.specs.Worlds.{WorldState}
 use Rattle.rambo_run.proofs.Lists.{some_inj}
+use Rattle.rambo_run.proofs.QuickSteps.{quick_means}
 use Rattle.rambo_deeds.specs.declared.half.Half.{Half}
 use Rattle.rambo_deeds.specs.Deeds.{judged, meant_by, outline_of, IsReadyStep}
 use Rattle.rambo_deeds.proofs.Halves.{ready_apart}
@@ -28,8 +35,8 @@ module _ {Q : Type 0} (s : QuorumSystem Q) (x y : NodeState Q) (same : x ≡ y) 
   pub refused : {A : Type 0} (c : Change Q) (r : Result A Refusal) → Means o st c → IfErr r (λ f. refusal_of s x c ≡ Some f) → IfErr r (λ f. judged s y (meant_by o st) ≡ Some f)
   refused c r m h = subst (λ o. IfErr r (λ f. o ≡ Some f)) (sym (verdict c m)) h
 
-  pub accepted : (c : Change Q) → Means o st c → judged s y (meant_by o st) ≡ None → refusal_of s x c ≡ None
-  accepted c m e = sym (verdict c m) ∙ e
+  pub told : {A : Type 0} (c : Change Q) (r : Result A Refusal) → Means o st c → IfErr r (IsRefusal (refusal_of s x c)) → IfErr r (IsRefusal (judged s y (meant_by o st)))
+  told c r m h = subst (λ o. IfErr r (IsRefusal o)) (sym (verdict c m)) h
 
 -- of one that is ready
 module _ {Q : Type 0} (s : QuorumSystem Q) (v : RoomyNode Q) (o : Option (Letter Q)) (st : Step Q) where
@@ -51,9 +58,27 @@ module _ {Q : Type 0} (s : QuorumSystem Q) (x y : NodeState Q) (same : x ≡ y) 
   pub refused_as : {A : Type 0} (r : Result A Refusal) → IfErr r (λ f. judged s x (meant_by o new) ≡ Some f) → IfErr r (λ f. judged s y (meant_by o st) ≡ Some f)
   refused_as r h = subst (λ x. IfErr r (λ f. judged s x (meant_by o st) ≡ Some f)) same (subst (λ st. IfErr r (λ f. judged s x (meant_by o st) ≡ Some f)) (sym is) h)
 
-  pub accepted_as : judged s y (meant_by o st) ≡ None → judged s x (meant_by o new) ≡ None
-  accepted_as e = subst (λ st. judged s x (meant_by o st) ≡ None) is (subst (λ x. judged s x (meant_by o st) ≡ None) (sym same) e)
+  pub told_as : {A : Type 0} (r : Result A Refusal) → IfErr r (IsRefusal (judged s x (meant_by o new))) → IfErr r (IsRefusal (judged s y (meant_by o st)))
+  told_as r h = subst (λ x. IfErr r (IsRefusal (judged s x (meant_by o st)))) same (subst (λ st. IfErr r (IsRefusal (judged s x (meant_by o st)))) (sym is) h)
 
 pub ready_as : {Q B : Type 0} (s : QuorumSystem Q) (v : RoomyNode Q) (o : Option (Letter Q)) (st new : Step Q) (r : Result (Half Q) B) → st ≡ new
     → IfOk r (λ h. (m : Meant Q) → meant_by o new ≡ Some m → IsReadyStep s v (outline_of o) m.change h) → IfOk r (λ h. (m : Meant Q) → meant_by o st ≡ Some m → IsReadyStep s v (outline_of o) m.change h)
 ready_as s v o st new r is e = subst (λ st. IfOk r (λ h. (m : Meant _) → meant_by o st ≡ Some m → IsReadyStep s v (outline_of o) m.change h)) (sym is) e
+
+-- no letter was sent
+abbrev lone : {Q : Type 0} → WorldState Q
+lone = record { nodes = []; letters = []; history = []; marks = [] }
+
+-- a step that means a quick change means it whichever letter comes
+pub quick_by : {Q : Type 0} (o : Option (Letter Q)) (st : Step Q) (p : ℕ × Quick Q) → quick_of st ≡ Some p → Means o st (quick_change p.1)
+quick_by o st p e =
+    let is = quick_means lone st p e in
+    (p.0, ap (λ n. option_map_or (λ number. delivery o) n (meant_in [] st)) is.stays ∙ is.means)
+
+-- sends no letter
+pub quick_silent : {Q : Type 0} (st : Step Q) (p : ℕ × Quick Q) → quick_of st ≡ Some p → sends (quick_change p.1) ≡ false
+quick_silent st p e = (quick_means lone st p e).silent
+
+-- which refusal is told
+pub refused_alike : (o p : Option Refusal) (r : Refusal) → o ≡ p → IsRefusal p r → IsRefusal o r
+refused_alike o p r same told = subst (λ o. IsRefusal o r) (sym same) told

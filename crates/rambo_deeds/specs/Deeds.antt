@@ -1,5 +1,6 @@
 -- What a step does that a node takes, where this is the letter that it lets come
 use Rattle.std.specs.Prelude.{◌≡◌, ℕ, Option, None, Some, List, []}
+use Rattle.std.specs.Option.{option_and_then, option_map_or}
 use Rattle.rambo_names.specs.declared.refusal.Refusal.{Refusal}
 use Rattle.rambo_names.specs.declared.refusal.Refusal.TheVariants.{NoSuchLetter}
 use Rattle.rambo_names.specs.Names.{IsName}
@@ -17,7 +18,7 @@ use Rattle.rambo_node.specs.FullNodes.{IsDeltaLetter, full}
 use Rattle.rambo_node.specs.Nodes.{NodeState, RoomyNode}
 use Rattle.rambo_node.specs.Prepared.{IsHearing, Prepares, quick_change}
 use Rattle.rambo_run.specs.declared.step.Step.{Step}
-use Rattle.rambo_run.specs.declared.step.Step.TheVariants as step
+use Rattle.rambo_run.specs.Kinds.{delivered_by}
 use Rattle.rambo_run.specs.Worlds.{letter_at}
 use Rattle.rambo_run.specs.Steps.{Meant, meant_in, delivery, effect_in}
 use Rattle.rambo_sequence.specs.declared.mark.Mark.{Mark}
@@ -26,18 +27,7 @@ use Rattle.rambo_deeds.specs.declared.half.Half.TheVariants as half
 
 -- what a step means where this is the letter that it lets come, if it was sent
 abbrev pub meant_by : {Q : Type 0} → Option (Letter Q) → Step Q → Option (Meant Q)
-meant_by o (step.Deliver n) = delivery o
-meant_by o (step.Join n contacts) = meant_in [] (step.Join n contacts)
-meant_by o (step.Call n asked) = meant_in [] (step.Call n asked)
-meant_by o (step.Send n to) = meant_in [] (step.Send n to)
-meant_by o (step.Advance id) = meant_in [] (step.Advance id)
-meant_by o (step.Again id) = meant_in [] (step.Again id)
-meant_by o (step.Collect n) = meant_in [] (step.Collect n)
-meant_by o (step.AdvanceCollect n) = meant_in [] (step.AdvanceCollect n)
-meant_by o (step.Recon n wish) = meant_in [] (step.Recon n wish)
-meant_by o (step.Rebid n) = meant_in [] (step.Rebid n)
-meant_by o (step.AdvanceRecon n) = meant_in [] (step.AdvanceRecon n)
-meant_by o (step.Stop n) = meant_in [] (step.Stop n)
+meant_by o st = option_map_or (λ number. delivery o) (delivered_by st) (meant_in [] st)
 
 -- why the node that is meant refuses it
 abbrev pub judged : {Q : Type 0} → QuorumSystem Q → NodeState Q → Option (Meant Q) → Option Refusal
@@ -46,18 +36,7 @@ judged s x (Some m) = refusal_of s x m.change
 
 -- the letter that a step lets come, if it lets one come that was sent
 abbrev pub letter_in : {Q : Type 0} → List (Letter Q) → Step Q → Option (Letter Q)
-letter_in ls (step.Deliver number) = letter_at ls number
-letter_in ls (step.Join n contacts) = None
-letter_in ls (step.Call n o) = None
-letter_in ls (step.Send n to) = None
-letter_in ls (step.Advance id) = None
-letter_in ls (step.Again id) = None
-letter_in ls (step.Collect n) = None
-letter_in ls (step.AdvanceCollect n) = None
-letter_in ls (step.Recon n wish) = None
-letter_in ls (step.Rebid n) = None
-letter_in ls (step.AdvanceRecon n) = None
-letter_in ls (step.Stop n) = None
+letter_in ls st = option_and_then (letter_at ls) (delivered_by st)
 
 -- a letter without its copies, if there is one
 abbrev pub outline_of : {Q : Type 0} → Option (Letter Q) → Option (Letter Q)

@@ -1,16 +1,18 @@
 //! What the node that a step means makes of it.
-ghost use Rattle.std.specs.Prelude.{◌≡◌, None, Some, OnOk, IfOk, IfErr};
+ghost use Rattle.std.specs.Prelude.{◌≡◌, None, Some, false, OnOk, IfOk, IfErr};
 ghost use Rattle.std.specs.Option.{option_copied};
+ghost use Rattle.rambo_names.specs.Refusals.{IsRefusal};
 ghost use Rattle.rambo_node.specs.Changes.{refusal_of, made_by};
 ghost use Rattle.rambo_gossip.specs.Letters.{letter_with};
 ghost use Rattle.rambo_node.specs.FullNodes.{beside_after};
 ghost use Rattle.rambo_node.specs.Hearing.{heard_letter};
 ghost use Rattle.rambo_node.specs.Prepared.{IsPrepared, IsReadyKind, change_of, quick_change};
-ghost use Rattle.rambo_run.specs.Steps.{Meant, meant_in, delivery};
+ghost use Rattle.rambo_run.specs.Steps.{Meant, meant_in, delivery, sends};
 ghost use Rattle.rambo_run.specs.Worlds.{letter_at};
 ghost use Rattle.rambo_node.specs.declared.change.Change.TheVariants as change;
 ghost use Rattle.rambo_deeds.specs.Deeds.{judged, letter_in, meant_by, name_in, outline_of, IsReadyStep};
 
+use crate::carried::Carried;
 use crate::half::Half;
 use crate::letter::{SharedLetter, may_hear, ready_letter};
 use crate::worker::Worker;
@@ -18,7 +20,7 @@ use rambo_history::{CallId, Op};
 use rambo_letters::Standing;
 use rambo_names::{Name, Quorums, Refusal};
 use rambo_node::{Effect, Hearing, Node, Prepared, Quick};
-use rambo_run::Step;
+use rambo_run::{Step, quick_of};
 use rambo_tag::Replica;
 use std::alloc::Global;
 use std::sync::Arc;
@@ -85,56 +87,46 @@ impl<Q: Quorums, S: Replica> Worker<Q, S> {
         ensures ok { OnOk result (judged Q.system self.now.state (meant_by (option_copied letter.entry) step.now) ≡ None) }
         ensures refused { IfErr result (λ r. judged Q.system self.now.state (meant_by (option_copied letter.entry) step.now) ≡ Some r) }
     {
-        let quick = match step {
-            Step::Call(_, op) => return self.node.may_call(op),
-            Step::Send(_, to) => return self.node.may_send(*to),
-            Step::Advance(id) => return self.node.may_advance(id),
-            Step::Deliver(_) => return may_deliver(&self.node, letter),
-            Step::Join(_, contacts) => Quick::Join(*contacts),
-            Step::Again(id) => Quick::Again(*id),
-            Step::Collect(_) => Quick::Collect,
-            Step::AdvanceCollect(_) => Quick::AdvanceCollect,
-            Step::Recon(_, wish) => Quick::Recon(*wish),
-            Step::Rebid(_) => Quick::Rebid,
-            Step::AdvanceRecon(_) => Quick::AdvanceRecon,
-            Step::Stop(_) => Quick::Stop,
-        };
-        self.node.judge_quick(&quick)
+        match step {
+            Step::Call(_, op) => self.node.may_call(op),
+            Step::Send(_, to) => self.node.may_send(*to),
+            Step::Advance(id) => may_advance(&self.node, id),
+            Step::Deliver(_) => may_deliver(&self.node, letter),
+            _ => match quick_of(step) {
+                Some(meant) => self.node.judge_quick(&meant.1),
+                None => unreachable!(),
+            },
+        }
     }
 
-    /// The first half of what the step means, which the node doesn't refuse: room is made for it, and what it will do is
-    /// found. The node stays, whatever the answer.
+    /// The first half of what the step means: it is judged, room is made for it, and what it will do is found. The node stays,
+    /// whatever the answer.
     ///
-    /// `OutOfMemory` where there is no room for it.
-    pub fn prepare(
+    /// Refused is what `judge` says, else 22, where there is no room for it.
+    pub fn ready(
         &mut self,
         alloc: Global,
         letter: Option<&SharedLetter<Q>>,
         step: &Step<Q>,
     ) -> Result<Half<Q>, Refusal>
-        requires { judged Q.system self.old.state (meant_by (option_copied letter) step.now) ≡ None }
+        ensures judged { OnOk result (judged Q.system self.old.state (meant_by (option_copied letter.entry) step.now) ≡ None) }
         ensures same { self.new.state ≡ self.old.state }
         ensures beside { self.new.beside ≡ self.old.beside }
         ensures ready { IfOk result (λ h. (m : Meant _) → meant_by (option_copied letter.entry) step.now ≡ Some m → IsReadyStep Q.system self.new (outline_of (option_copied letter.entry)) m.change h) }
-        ensures refused { IfErr result (λ r. r ≡ Refusal.OutOfMemory) }
+        ensures refused { IfErr result (IsRefusal (judged Q.system self.old.state (meant_by (option_copied letter.entry) step.now))) }
     {
-        let quick = match step {
+        match step {
+            Step::Call(_, op) => ready_call(alloc, &mut self.node, op),
             Step::Send(_, to) => {
-                return prepare_send(alloc, &self.node, &mut self.told, &mut self.long, *to);
+                ready_send(alloc, &self.node, &mut self.told, &mut self.carried, *to)
             }
-            Step::Deliver(_) => return prepare_delivery(alloc, &mut self.node, letter),
-            Step::Call(_, op) => return prepare_call(alloc, &mut self.node, op),
-            Step::Advance(id) => return prepare_advance(alloc, &mut self.node, id),
-            Step::Join(_, contacts) => Quick::Join(*contacts),
-            Step::Again(id) => Quick::Again(*id),
-            Step::Collect(_) => Quick::Collect,
-            Step::AdvanceCollect(_) => Quick::AdvanceCollect,
-            Step::Recon(_, wish) => Quick::Recon(*wish),
-            Step::Rebid(_) => Quick::Rebid,
-            Step::AdvanceRecon(_) => Quick::AdvanceRecon,
-            Step::Stop(_) => Quick::Stop,
-        };
-        Ok(Half::Quick(quick))
+            Step::Advance(id) => ready_advance(alloc, &mut self.node, id),
+            Step::Deliver(_) => ready_delivery(alloc, &mut self.node, letter),
+            _ => match quick_of(step) {
+                Some(meant) => ready_quick(&self.node, meant.1),
+                None => unreachable!(),
+            },
+        }
     }
 
     /// The second half of a call, or of its advance: the node changes. What is told of it.
@@ -171,6 +163,15 @@ impl<Q: Quorums, S: Replica> Worker<Q, S> {
     }
 }
 
+// Why a call of the node may not go on, if it may not.
+fn may_advance<Q: Quorums, S: Replica>(node: &Node<Q, S>, id: &CallId) -> Result<(), Refusal>
+    ensures ok { OnOk result (refusal_of Q.system node.now.state (change.Advance id.now) ≡ None) }
+    ensures refused { IfErr result (λ r. refusal_of Q.system node.now.state (change.Advance id.now) ≡ Some r) }
+{
+    let _place = node.may_advance(id)?;
+    Ok(())
+}
+
 // Why the node doesn't hear a letter, if it doesn't, or it wasn't sent.
 fn may_deliver<Q: Quorums, S: Replica>(
     node: &Node<Q, S>,
@@ -185,77 +186,92 @@ fn may_deliver<Q: Quorums, S: Replica>(
     }
 }
 
-// The first half of a call that isn't refused.
-fn prepare_call<Q: Quorums, S: Replica>(
+// The first half of a call.
+fn ready_call<Q: Quorums, S: Replica>(
     alloc: Global,
     node: &mut Node<Q, S>,
     op: &Op,
 ) -> Result<Half<Q>, Refusal>
-    requires { refusal_of Q.system node.old.state (change.Call op.now) ≡ None }
+    ensures judged { OnOk result (refusal_of Q.system node.old.state (change.Call op.now) ≡ None) }
     ensures same { node.new.state ≡ node.old.state }
     ensures beside { node.new.beside ≡ node.old.beside }
     ensures ready { IfOk result (IsReadyStep Q.system node.new None (change.Call op.now)) }
-    ensures refused { IfErr result (λ r. r ≡ Refusal.OutOfMemory) }
+    ensures refused { IfErr result (IsRefusal (refusal_of Q.system node.old.state (change.Call op.now))) }
 {
+    node.may_call(op)?;
     let prepared = node.prepare_call(op)?;
     Ok(Half::Call(Box::new(alloc, prepared)?))
 }
 
 // That of the advance of one.
-fn prepare_advance<Q: Quorums, S: Replica>(
+fn ready_advance<Q: Quorums, S: Replica>(
     alloc: Global,
     node: &mut Node<Q, S>,
     id: &CallId,
 ) -> Result<Half<Q>, Refusal>
-    requires { refusal_of Q.system node.old.state (change.Advance id.now) ≡ None }
+    ensures judged { OnOk result (refusal_of Q.system node.old.state (change.Advance id.now) ≡ None) }
     ensures same { node.new.state ≡ node.old.state }
     ensures beside { node.new.beside ≡ node.old.beside }
     ensures ready { IfOk result (IsReadyStep Q.system node.new None (change.Advance id.now)) }
-    ensures refused { IfErr result (λ r. r ≡ Refusal.OutOfMemory) }
+    ensures refused { IfErr result (IsRefusal (refusal_of Q.system node.old.state (change.Advance id.now))) }
 {
-    let prepared = node.prepare_advance(*id)?;
+    let place = node.may_advance(id)?;
+    let prepared = node.prepare_advance(*id, place)?;
     Ok(Half::Call(Box::new(alloc, prepared)?))
 }
 
-// A letter is long that has more copies.
-const LONG: usize = 32;
-
 // That of the node's letter, with those copies that its addressee may lack. It shares what it tells of configurations with
-// the node's last one, if that told the same. Whether it is long is noted.
-fn prepare_send<Q: Quorums, S: Replica>(
+// the node's last one, if that told the same. How many copies it carries is noted.
+fn ready_send<Q: Quorums, S: Replica>(
     alloc: Global,
     node: &Node<Q, S>,
     told: &mut Option<Arc<Standing<Q>, Global>>,
-    long: &mut bool,
+    carried: &mut Carried,
     to: Name,
 ) -> Result<Half<Q>, Refusal>
-    requires { refusal_of Q.system node.now.state (change.Send to) ≡ None }
+    ensures judged { OnOk result (refusal_of Q.system node.now.state (change.Send to) ≡ None) }
     ensures ready { IfOk result (IsReadyStep Q.system node.now None (change.Send to)) }
-    ensures refused { IfErr result (λ r. r ≡ Refusal.OutOfMemory) }
+    ensures refused { IfErr result (IsRefusal (refusal_of Q.system node.now.state (change.Send to))) }
 {
+    node.may_send(to)?;
     // (whom it is for has a number in range)
     let _number = to.number();
     let copies = node.pack_for(to)?;
-    *long = copies.copies().len() > LONG;
-    let letter = SharedLetter::new(alloc, &node.outline_for(to), copies, told)?;
+    let outline = node.outline_for(to);
+    carried.add(&outline, copies.copies().len());
+    let letter = SharedLetter::new(alloc, &outline, copies, told)?;
     Ok(Half::Send(letter))
 }
 
 // That of a delivery.
-fn prepare_delivery<Q: Quorums, S: Replica>(
+fn ready_delivery<Q: Quorums, S: Replica>(
     alloc: Global,
     node: &mut Node<Q, S>,
     letter: Option<&SharedLetter<Q>>,
 ) -> Result<Half<Q>, Refusal>
-    requires { judged Q.system node.old.state (delivery (option_copied letter)) ≡ None }
+    ensures judged { OnOk result (judged Q.system node.old.state (delivery (option_copied letter.entry)) ≡ None) }
     ensures same { node.new.state ≡ node.old.state }
     ensures beside { node.new.beside ≡ node.old.beside }
     ensures ready { IfOk result (λ h. (m : Meant _) → delivery (option_copied letter.entry) ≡ Some m → IsReadyStep Q.system node.new (outline_of (option_copied letter.entry)) m.change h) }
-    ensures refused { IfErr result (λ r. r ≡ Refusal.OutOfMemory) }
+    ensures refused { IfErr result (IsRefusal (judged Q.system node.old.state (delivery (option_copied letter.entry)))) }
 {
     let Some(letter) = letter else {
-        return Err(Refusal::OutOfMemory);
+        return Err(Refusal::NoSuchLetter);
     };
     let hearing = ready_letter(alloc, node, letter)?;
     Ok(Half::Hear(hearing))
+}
+
+// That of a change that needs no memory and sends no letter.
+fn ready_quick<Q: Quorums, S: Replica>(
+    node: &Node<Q, S>,
+    quick: Quick<Q>,
+) -> Result<Half<Q>, Refusal>
+    requires { sends (quick_change quick) ≡ false }
+    ensures judged { OnOk result (refusal_of Q.system node.now.state (quick_change quick) ≡ None) }
+    ensures ready { IfOk result (IsReadyStep Q.system node.now None (quick_change quick)) }
+    ensures refused { IfErr result (IsRefusal (refusal_of Q.system node.now.state (quick_change quick))) }
+{
+    node.judge_quick(&quick)?;
+    Ok(Half::Quick(quick))
 }

@@ -3,6 +3,7 @@ ghost use Rattle.std.specs.Prelude.{◌≡◌, None, Some, unwrap_or, option_cop
 ghost use Rattle.std.specs.FinMap as map;
 ghost use Rattle.rambo_gossip.specs.Letters.{letter_with};
 ghost use Rattle.rambo_gossip.specs.Short.{copies_in};
+ghost use Rattle.rambo_names.specs.Refusals.{IsRefusal};
 ghost use Rattle.rambo_node.specs.Changes.{refusal_of};
 ghost use Rattle.rambo_node.specs.Prepared.{IsHearing};
 ghost use Rattle.rambo_node.specs.declared.change.Change.TheVariants as change;
@@ -154,19 +155,20 @@ pub fn may_hear<Q: Quorums, S: Replica>(
     node.may_hear_outlined(&letter.outline())
 }
 
-// The first half of hearing a letter that isn't refused.
+// The first half of hearing a letter: it is judged, and room is made for it. The node stays, whatever the answer.
 pub(crate) fn ready_letter<Q: Quorums, S: Replica>(
     alloc: Global,
     node: &mut Node<Q, S>,
     letter: &SharedLetter<Q>,
 ) -> Result<Hearing, Refusal>
-    requires { refusal_of Q.system node.old.state (change.Deliver letter.now) ≡ None }
+    ensures judged { OnOk result (refusal_of Q.system node.old.state (change.Deliver letter.now) ≡ None) }
     ensures same { node.new.state ≡ node.old.state }
     ensures beside { node.new.beside ≡ node.old.beside }
     ensures hearing { IfOk result (IsHearing node.new letter.now) }
-    ensures refused { IfErr result (λ r. r ≡ Refusal.OutOfMemory) }
+    ensures refused { IfErr result (IsRefusal (refusal_of Q.system node.old.state (change.Deliver letter.now))) }
 {
     let outline = letter.outline();
+    node.may_hear_outlined(&outline)?;
     match letter.copies() {
         Some(copies) => node.ready_outlined(&outline, copies),
         None => node.ready_outlined(&outline, NoCopies::new(alloc).pack()),

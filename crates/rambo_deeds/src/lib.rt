@@ -6,6 +6,7 @@
 //!   step lets come; `named_by`: whose step a step is.
 #![tactic(auto)]
 
+mod carried;
 mod deeds;
 mod gossip;
 mod half;

@@ -2,6 +2,7 @@
 ghost use Rattle.std.specs.Prelude.{◌≡◌};
 ghost use Rattle.rambo_joiner.specs.Statuses.{is_stopped};
 
+use crate::carried::Carried;
 use rambo_config_map::ConfigMap;
 use rambo_letters::Standing;
 use rambo_names::{Members, Name, Quorums, Refusal};
@@ -15,8 +16,8 @@ use std::sync::Arc;
 pub struct Worker<Q: Quorums, S: Replica> {
     // What it told of configurations in its last letter, for the next ones that tell the same.
     pub(crate) told: Option<Arc<Standing<Q>, Global>>,
-    // Whether its last letter was long.
-    pub(crate) long: bool,
+    // What its letters carried lately.
+    pub(crate) carried: Carried,
     pub(crate) node: Node<Q, S>,
 }
 
@@ -25,7 +26,7 @@ impl<Q: Quorums, S: Replica> Drop for Worker<Q, S> {
     fn drop(self) {
         let Worker {
             told: _told,
-            long: _,
+            carried: _,
             node: _node,
         } = self;
     }
@@ -52,7 +53,7 @@ impl<Q: Quorums, S: Replica> Worker<Q, S> {
     {
         Worker {
             told: None,
-            long: false,
+            carried: Carried::new(),
             node,
         }
     }
@@ -91,9 +92,10 @@ impl<Q: Quorums, S: Replica> Worker<Q, S> {
         self.node.status().is_stopped()
     }
 
-    /// Whether the last letter that it made carries more than 32 copies.
-    pub fn is_long(&self) -> bool {
-        self.long
+    /// Whether its letters carried so many copies since its node's phase number last rose that a call, by which that rises,
+    /// would have cost less.
+    pub fn carries_much(&self) -> bool {
+        self.carried.are_many()
     }
 
     /// Whether its node is joining, or has a call, a collection or an attempt open.

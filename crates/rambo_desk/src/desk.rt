@@ -1,5 +1,5 @@
 //! What a node waits for, and when it asks.
-ghost use Rattle.std.specs.Prelude.{◌≡◌, [], true, false, find, OnOk, OnErr, IfErr};
+ghost use Rattle.std.specs.Prelude.{◌≡◌, [], true, false, find, length, nat_eq, OnOk, OnErr, IfErr};
 ghost use Rattle.std.specs.List.{list_any};
 ghost use Rattle.rambo_desk.specs.Entries.{is_of, is_client, is_first, awaited, forgotten, advanced, told};
 ghost use Rattle.rambo_desk.specs.Desks.{asks_of, asked_by, is_new, reminded};
@@ -97,6 +97,13 @@ impl Desk {
     {
         self.again = true;
         self.missed = self.missed.wrapping_add(1);
+    }
+
+    /// Whether no call is waited for.
+    pub fn is_empty(&self) -> bool
+        ensures { result ≡ nat_eq (length self.now.entries) 0 }
+    {
+        self.entries.is_empty()
     }
 
     /// Whether a call is the oldest that is waited for.

@@ -4,6 +4,7 @@ use Rattle.std.proofs.lemmas.Bool.{eq-eqb, true≢false}
 use Rattle.std.proofs.lemmas.Option.{none-some, same_Some}
 use Rattle.std.proofs.lemmas.List.Elements.{All-nil, All-cons}
 use Rattle.rambo_names.specs.declared.refusal.Refusal.{Refusal}
+use Rattle.rambo_names.specs.declared.refusal.Refusal.TheVariants.{NotActive, Stopped, NoSuchCall, NotYet, NumbersSpent}
 use Rattle.rambo_names.specs.Quorums.{QuorumSystem}
 use Rattle.rambo_names.specs.Refusals.{Cause, cause, least, number_of}
 use Rattle.rambo_history.specs.declared.event.CallId.{CallId}
@@ -13,12 +14,13 @@ use Rattle.rambo_gc.specs.declared.stage.Stage.{Stage}
 use Rattle.rambo_gc.specs.declared.gc_move.GcMove.{GcMove}
 use Rattle.rambo_gc.specs.declared.gc_move.GcMove.TheVariants.{Propagating, Done}
 use Rattle.rambo_gc.specs.Collections.{CollectionState, has_quorum, is_met, move_of, next_move}
+use Rattle.rambo_joiner.specs.Statuses.{is_early, is_stopped}
 use Rattle.rambo_gossip.specs.declared.letter.Kind.{Kind}
 use Rattle.rambo_paxos.specs.Attempts.{AttemptState}
 use Rattle.rambo_paxos.specs.Votes.{is_spent}
 use Rattle.rambo_node.specs.Claims.{RisesFrom, FirstIsLeast}
 use Rattle.rambo_node.specs.Nodes.{NodeState, open_call}
-use Rattle.rambo_calls.specs.Calls.{query_in, is_missing}
+use Rattle.rambo_calls.specs.Calls.{query_in, is_missing, is_unmet}
 use Rattle.rambo_node.specs.Refusals.{is_last, call_causes, hear_causes, advance_causes, again_causes, collect_causes, advance_collect_causes, recon_causes, rebid_causes, advance_recon_causes, collection_turn, needs_number, query_spent, tags_spent, restarts}
 use Rattle.rambo_bids.specs.Wishes.{is_for, attempt_waits}
 use Rattle.rambo_node.specs.Reconfigurations.{collection_move}
@@ -123,6 +125,13 @@ module _ {Q : Type 0} (x : NodeState Q) where
 
   pub advance_next : (s : QuorumSystem Q) (id : CallId) → least (advance_causes s x id) ≡ None → (is_missing (open_call x id) ≡ false) × (query_spent x (query_in (open_call x id)) ≡ false)
   advance_next s id e = (none_holds (advance_causes s x id) 2 e, none_holds (advance_causes s x id) 4 e)
+
+  -- where no cause holds, a call may go on
+  pub advance_passes : (s : QuorumSystem Q) (id : CallId) → is_early x.status ≡ false → is_stopped x.status ≡ false → is_missing (open_call x id) ≡ false
+      → is_unmet s (open_call x id) ≡ false → query_spent x (query_in (open_call x id)) ≡ false → least (advance_causes s x id) ≡ None
+  advance_passes s id early over missing unmet spent = λ i. least (
+      cause NotActive (early i) ∷ cause Stopped (over i) ∷ cause NoSuchCall (missing i) ∷ cause NotYet (unmet i) ∷ cause NumbersSpent (spent i) ∷ []
+      )
 
   -- an answered query that can go on has a next number, and a set a next tag
   pub asked_next : (o : Op) → query_spent x (Some o) ≡ false → (is_last x.number ≡ false) × (tags_spent x o ≡ false)

@@ -1,6 +1,7 @@
 -- What is ready tells what the change will do
 use Rattle.std.proofs.Common.{◌≡◌, ℕ, ◌+◌, ◌<◌, Bool, true, false, nat_lt, Option, None, Some, slice_get, refl, sym, ap, ◌∙◌, subst}
 use Rattle.std.specs.Prelude.{if◌then◌else◌}
+use Rattle.std.proofs.lemmas.Option.{none-some, same_Some}
 use Rattle.std.specs.FinMap as map
 use Rattle.std.specs.List.{remove}
 use Rattle.rambo_names.specs.Quorums.{QuorumSystem}
@@ -32,14 +33,15 @@ use Rattle.rambo_node.specs.declared.prepared.Quick.{Quick}
 use Rattle.rambo_node.specs.declared.prepared.Quick.TheVariants as quick
 use Rattle.rambo_node.specs.declared.prepared.HearTurn.{HearTurn}
 use Rattle.rambo_node.specs.declared.prepared.Hearing.{Hearing}
+use Rattle.rambo_node.specs.declared.prepared.Moving.{Moving}
 use Rattle.rambo_node.specs.declared.prepared.Taken.{Taken}
-use Rattle.rambo_node.specs.FullNodes.{beside_after}
+use Rattle.rambo_node.specs.FullNodes.{beside_after, beside_heard}
 use Rattle.rambo_node.specs.Changes.{refusal_of, made_by, told, quiet, bid_made, decided, collection_turned, collection_advanced, attempt_advanced, rebid_made, begun_again}
-use Rattle.rambo_node.specs.Hearing.{heard_letter, heard_gossip, heard_rest}
+use Rattle.rambo_node.specs.Hearing.{heard_letter, heard_kind, heard_gossip, heard_rest}
 use Rattle.rambo_node.specs.Kept.{answered_from, move_deed, propagation_begun}
-use Rattle.rambo_node.specs.Nodes.{NodeState, RoomyNode, open_call}
+use Rattle.rambo_node.specs.Nodes.{NodeState, Beside, RoomyNode, open_call}
 use Rattle.rambo_node.specs.Operations.{taken, with_copy}
-use Rattle.rambo_node.specs.Prepared.{quick_change, put_by, with_put, HasRoomFor, query_done, IsFound, IsHearing, IsReadyGossip, IsReadyKind, Prepares, heard_by}
+use Rattle.rambo_node.specs.Prepared.{quick_change, put_by, taken_by, with_put, query_done, IsFound, IsMoving, IsHearing, IsReadyGossip, IsReadyKind, Prepares, heard_by}
 use Rattle.rambo_node.specs.Reconfigurations.{collection_move, attempt_ended}
 use Rattle.rambo_node.specs.Refusals.{hear_causes, is_last, query_spent, tags_spent}
 use Rattle.rambo_node.proofs.Advances.{query_moves, call_closes}
@@ -88,6 +90,20 @@ module _ {Q : Type 0} (s : QuorumSystem Q) (x : NodeState Q) (id : CallId) (plac
   -- a query that goes on has a next number, and a set a next tag
   pub found_next : (o : Op) → query_in (open_call x id) ≡ Some o → (is_last x.number ≡ false) × (tags_spent x o ≡ false)
   found_next o asked = asked_next x o (sym (ap (query_spent x) asked) ∙ (advance_next x s id f.accepted).1)
+
+-- what a met query takes along
+pub takes_along : {Q : Type 0} (x : NodeState Q) (o : Op) (t : Taken) → t.kept ≡ taken x o → t.put ≡ put_by x (Some o) → Some t ≡ taken_by x (Some o)
+takes_along x o t kept put = λ i. Some (record { kept = kept i; put = put i })
+
+-- who takes something along asked for something in its query
+pub took_along : {Q : Type 0} (x : NodeState Q) (asked : Option Op) (t : Taken) → Some t ≡ taken_by x asked → (o : Op) × ((asked ≡ Some o) × (t.kept ≡ taken x o) × (t.put ≡ put_by x (Some o)))
+took_along x None t e = absurd (none-some t (sym e))
+took_along x (Some o) t e = let same = same_Some t (record { kept = taken x o; put = put_by x (Some o) }) e in (o, (refl, ap (λ u. u.kept) same, ap (λ u. u.put) same))
+
+-- and who takes nothing along was in its propagation
+pub went_alone : {Q : Type 0} (x : NodeState Q) (asked : Option Op) → None ≡ taken_by x asked → asked ≡ None
+went_alone x None e = refl
+went_alone x (Some o) e = absurd (none-some (record { kept = taken x o; put = put_by x (Some o) }) e)
 
 -- gossip whose copies were merged first
 pub gossip_ends : {Q : Type 0} (x : NodeState Q) (j : ℕ) (g : Gossip Q) (copies : Copies)
@@ -145,6 +161,18 @@ gossip_hearing v x l o copies h same is ready newer stamped = record {
   newer = subst (λ y. joined y.registers h.newer ≡ joined y.registers (copies_in l.kind)) (sym same) (newer ∙ sym (ap (λ k. joined x.registers (copies_in k)) is));
   stamped = subst (λ y. AreStampedAlike y.registers h.newer (copies_in l.kind)) (sym same) (subst (λ k. AreStampedAlike x.registers h.newer (copies_in k)) (sym is) stamped);
 }
+
+-- gossip with those of its copies that are newer comes to the letter that has all of them
+module _ {Q : Type 0} (x : NodeState Q) (l : Letter Q) (o : Gossip Q) (copies newer : Copies) (is : l.kind ≡ kind.Gossip (gossip_with o copies)) where
+  pub gossip_heard : joined x.registers newer ≡ joined x.registers copies → heard_gossip x l.sender (gossip_with o newer) ≡ heard_letter x l
+  gossip_heard same =
+      sym (ap (λ k. heard_kind x l.sender (kind_with k newer)) is)
+      ∙ (heard_alike x l newer (copies_in l.kind) (same ∙ sym (ap (λ k. joined x.registers (copies_in k)) is))).0 ∙ ap (heard_letter x) (own_copies l)
+
+  pub gossip_beside : (b : Beside) → AreStampedAlike x.registers newer copies → beside_heard x b l.sender (kind.Gossip (gossip_with o newer)) ≡ beside_after x b (change.Deliver l)
+  gossip_beside b stamped =
+      sym (ap (λ k. beside_heard x b l.sender (kind_with (kind_with k map.empty) newer)) is)
+      ∙ alike_beside x b l.sender l.kind newer (subst (λ k. AreStampedAlike x.registers newer (copies_in k)) (sym is) stamped)
 
 -- other copies are refused alike
 pub copies_judged : {Q : Type 0} (s : QuorumSystem Q) (x : NodeState Q) (l : Letter Q) (copies : Copies) → refusal_of s x (change.Deliver (letter_with l copies)) ≡ refusal_of s x (change.Deliver l)
@@ -214,38 +242,19 @@ module _ {Q : Type 0} (s : QuorumSystem Q) (v : RoomyNode Q) where
     copy = refl;
   }
 
-  pub query_prepares : (id : CallId) (o : Op) (place : ℕ) (t : Taken) (d : Deed Q) → refusal_of s v.state (change.Advance id) ≡ None
-      → query_in (open_call v.state id) ≡ Some o → place ≡ place_of id.number v.state.calls → t.kept ≡ taken v.state o → t.put ≡ put_by v.state (Some o)
-      → HasRoomFor v.room (put_by v.state (Some o)) → d ≡ move_deed id o (taken v.state o)
-      → Prepares s v (change.Advance id) (record { event = d.event; mark = d.mark; copy = d.copy; turn = turn.Query (record { id = id; place = place; taken = t }) })
-  query_prepares id o place t d ok asked own kept put room does =
-      let told = does ∙ query_tells v.state id o asked in
-      record {
-        prepared = record {
-          accepted = ok;
-          ready = (o, record { asked = asked; place = own; kept = kept; put = put; room = subst (HasRoomFor v.room) (sym put) room });
-        };
-        same = refl;
-        beside = refl;
-        event = ap (λ e. e.event) told;
-        mark = ap (λ e. e.mark) told;
-        copy = ap (λ e. e.copy) told;
-      }
-
-  pub answer_prepares : (id : CallId) (place : ℕ) (d : Deed Q) → refusal_of s v.state (change.Advance id) ≡ None
-      → is_missing (open_call v.state id) ≡ false → query_in (open_call v.state id) ≡ None → place ≡ place_of id.number v.state.calls
-      → d ≡ answered_from id (find_call id.number v.state.calls)
-      → Prepares s v (change.Advance id) (record { event = d.event; mark = d.mark; copy = d.copy; turn = turn.Answer (record { id = id; place = place; effect = d.effect }) })
-  answer_prepares id place d ok there asked own does =
-      let told = does ∙ answer_tells v.state id there asked in
-      record {
-        prepared = record { accepted = ok; ready = record { told = asked; place = own; effect = ap (λ e. e.effect) told } };
-        same = refl;
-        beside = refl;
-        event = ap (λ e. e.event) told;
-        mark = ap (λ e. e.mark) told;
-        copy = ap (λ e. e.copy) told;
-      }
+  pub advance_prepares : (id : CallId) (m : Moving) (d : Deed Q) → m.id ≡ id → IsMoving s v m → d ≡ (made_by v.state (change.Advance id)).deed
+      → Prepares s v (change.Advance id) (record { event = d.event; mark = d.mark; copy = d.copy; turn = turn.Advance (record { moving = m; effect = d.effect }) })
+  advance_prepares id m d named moving told = record {
+    prepared = record {
+      accepted = moving.found.accepted;
+      ready = (moving, ap (λ e. e.effect) told ∙ sym (ap (λ n. (made_by v.state (change.Advance n)).deed.effect) named));
+    };
+    same = ap (λ n. made_by v.state (change.Advance n)) named;
+    beside = ap (λ n. beside_after v.state v.beside (change.Advance n)) named;
+    event = ap (λ e. e.event) told;
+    mark = ap (λ e. e.mark) told;
+    copy = ap (λ e. e.copy) told;
+  }
 
   pub hear_prepares : (l : Letter Q) (t : HearTurn Q) → refusal_of s v.state (change.Deliver l) ≡ None → heard_by t ≡ letter_with l map.empty → IsHearing v l t.hearing
       → Prepares s v (change.Deliver l) (record { event = None; mark = None; copy = None; turn = turn.Hear t })

@@ -25,8 +25,8 @@ use Rattle.rambo_node.specs.declared.prepared.Quick.{Quick}
 use Rattle.rambo_node.specs.declared.prepared.Quick.TheVariants as quick
 use Rattle.rambo_node.specs.declared.prepared.HearTurn.{HearTurn}
 use Rattle.rambo_node.specs.declared.prepared.Hearing.{Hearing}
-use Rattle.rambo_node.specs.declared.prepared.QueryTurn.{QueryTurn}
-use Rattle.rambo_node.specs.declared.prepared.AnswerTurn.{AnswerTurn}
+use Rattle.rambo_node.specs.declared.prepared.Moving.{Moving}
+use Rattle.rambo_node.specs.declared.prepared.Taken.{Taken}
 use Rattle.rambo_node.specs.Changes.{refusal_of, made_by, copy_put}
 use Rattle.rambo_node.specs.FullNodes.{beside_after}
 use Rattle.rambo_node.specs.Hearing.{number_after}
@@ -56,8 +56,7 @@ heard_by t = record { sender = t.sender; addressee = t.addressee; kind = kind_of
 
 abbrev pub turn_change : {Q : Type 0} → Turn Q → Change Q
 turn_change (turn.Call o) = change.Call o
-turn_change (turn.Query t) = change.Advance t.id
-turn_change (turn.Answer t) = change.Advance t.id
+turn_change (turn.Advance t) = change.Advance t.moving.id
 turn_change (turn.Hear t) = change.Deliver (letter_with (heard_by t) t.hearing.newer)
 turn_change (turn.Quick q) = quick_change q
 
@@ -88,19 +87,16 @@ pub record IsFound {Q : Type 0} (s : QuorumSystem Q) (x : NodeState Q) (id : Cal
   pub own : place ≡ place_of id.number x.calls
   pub at : slice_get x.calls place ≡ open_call x id
 
--- a met query that asked for this may go on
-pub record IsReadyQuery {Q : Type 0} (v : RoomyNode Q) (o : Op) (t : QueryTurn) : Type 0 where
-  pub asked : query_in (open_call v.state t.id) ≡ Some o
-  pub place : t.place ≡ place_of t.id.number v.state.calls
-  pub kept : t.taken.kept ≡ taken v.state o
-  pub put : t.taken.put ≡ put_by v.state (Some o)
-  pub room : HasRoomFor v.room t.taken.put
+-- what a met query takes to its propagation; a met propagation takes nothing
+abbrev pub taken_by : {Q : Type 0} → NodeState Q → Option Op → Option Taken
+taken_by x None = None
+taken_by x (Some o) = Some (record { kept = taken x o; put = put_by x (Some o) })
 
--- a met propagation may be answered
-pub record IsReadyAnswer {Q : Type 0} (v : RoomyNode Q) (t : AnswerTurn Q) : Type 0 where
-  pub told : query_in (open_call v.state t.id) ≡ None
-  pub place : t.place ≡ place_of t.id.number v.state.calls
-  pub effect : t.effect ≡ (made_by v.state (change.Advance t.id)).deed.effect
+-- a call may go on with what it takes, and there is room for the copy that it puts
+pub record IsMoving {Q : Type 0} (s : QuorumSystem Q) (v : RoomyNode Q) (m : Moving) : Type 0 where
+  pub found : IsFound s v.state m.id m.place
+  pub takes : m.taken ≡ taken_by v.state (query_in (open_call v.state m.id))
+  pub room : HasRoomFor v.room (put_by v.state (query_in (open_call v.state m.id)))
 
 -- gossip may be heard with these copies, after which the phase number is this
 pub record IsReadyGossip {Q : Type 0} (v : RoomyNode Q) (g : Gossip Q) (newer : Copies) (number : ℕ) : Type 0 where
@@ -120,17 +116,16 @@ pub record IsHearing {Q : Type 0} (v : RoomyNode Q) (l : Letter Q) (h : Hearing)
   pub stamped : AreStampedAlike v.state.registers h.newer (copies_in l.kind)
 
 -- there is room for a turn, and what it has is right
-abbrev pub IsReady : {Q : Type 0} → RoomyNode Q → Turn Q → Type 0
-IsReady v (turn.Call o) = 0 < v.room.calls.room
-IsReady v (turn.Query t) = (o : Op) × IsReadyQuery v o t
-IsReady v (turn.Answer t) = IsReadyAnswer v t
-IsReady v (turn.Hear t) = IsReadyKind v (heard_by t).kind t.hearing.newer t.hearing.number
-IsReady v (turn.Quick q) = Unit {0}
+abbrev pub IsReady : {Q : Type 0} → QuorumSystem Q → RoomyNode Q → Turn Q → Type 0
+IsReady s v (turn.Call o) = 0 < v.room.calls.room
+IsReady s v (turn.Advance t) = IsMoving s v t.moving × (t.effect ≡ (made_by v.state (change.Advance t.moving.id)).deed.effect)
+IsReady s v (turn.Hear t) = IsReadyKind v (heard_by t).kind t.hearing.newer t.hearing.number
+IsReady s v (turn.Quick q) = Unit {0}
 
 -- and its change isn't refused
 pub record IsReadyTurn {Q : Type 0} (s : QuorumSystem Q) (v : RoomyNode Q) (t : Turn Q) : Type 0 where
   pub accepted : refusal_of s v.state (turn_change t) ≡ None
-  pub ready : IsReady v t
+  pub ready : IsReady s v t
 
 -- a change is prepared, whatever became of what will be told of it
 abbrev pub IsPrepared : {Q : Type 0} → QuorumSystem Q → RoomyNode Q → Prepared Q → Type 0

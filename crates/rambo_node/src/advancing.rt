@@ -1,50 +1,27 @@
 //! How open calls begin and go on: each in two halves, of which the first makes room and finds what is new, and the second
-//! (in `finishing`) changes the node.
+//! (in `finishing`) changes the node; and how a phase begins anew.
 ghost use Rattle.std.specs.Prelude.{◌≡◌, ◌+◌, ◌<◌, None, Some, false, slice_get, IfOk, IfErr, OnOk, OnErr};
 ghost use Rattle.std.specs.Option.{option_copied};
 ghost use Rattle.rambo_tag.specs.Tags.{tag_of};
 ghost use Rattle.rambo_history.specs.declared.operation.Op.TheVariants as asked;
 ghost use Rattle.rambo_node.specs.Changes.{refusal_of, made_by, quiet_deed};
-ghost use Rattle.rambo_node.specs.FullNodes.{beside_after};
 ghost use Rattle.rambo_node.specs.Kept.{answered_from, move_deed};
 ghost use Rattle.rambo_calls.specs.Calls.{query_in};
 ghost use Rattle.rambo_node.specs.Operations.{new_copy, taken};
-ghost use Rattle.rambo_node.specs.Prepared.{IsFound, HasRoomFor, put_by};
+ghost use Rattle.rambo_node.specs.Prepared.{IsFound, IsMoving, HasRoomFor, put_by};
 ghost use Rattle.rambo_node.specs.Refusals.{is_last, tags_spent};
 ghost use Rattle.rambo_node.specs.declared.change.Change.TheVariants as change;
 
 use crate::deed::{Deed, clone_of, tell_answered};
 use crate::effect::Effect;
 use crate::node::Node;
-use crate::prepared::Taken;
-use rambo_history::{CallId, Event, Op};
+use crate::prepared::{Moving, Taken};
+use rambo_history::{CallId, Op};
 use rambo_names::{Bytes, Quorums, Refusal};
 use rambo_sequence::Mark;
 use rambo_tag::{KeyedVersion, Replica, Tag, Version};
 
 impl<Q: Quorums, S: Replica> Node<Q, S> {
-    // A call that isn't refused begins.
-    #[tactic(auto, unfolding(crate::specs::Changes::made_by, crate::specs::Operations::called))]
-    pub(crate) fn do_call(&mut self, op: Op) -> Result<Deed<Q>, Refusal>
-        requires { refusal_of Q.system self.old.state (change.Call op) ≡ None }
-        ensures node { OnOk result (self.new.state ≡ (made_by self.old.state (change.Call op)).node) }
-        ensures beside { OnOk result (self.new.beside ≡ beside_after self.old.state self.old.beside (change.Call op)) }
-        ensures deed { IfOk result (λ d. d ≡ (made_by self.old.state (change.Call op)).deed) }
-        ensures refused { IfErr result (λ r. r ≡ Refusal.OutOfMemory) }
-        ensures err { OnErr result (self.new.state ≡ self.old.state) }
-        ensures kept { OnErr result (self.new.beside ≡ self.old.beside) }
-    {
-        let id = self.next_id();
-        let event = Event::Call(id, op.clone()?);
-        self.begin(op)?;
-        Ok(Deed {
-            effect: Effect::Called(id),
-            event: Some(event),
-            mark: None,
-            copy: None,
-        })
-    }
-
     // The id of the next call.
     pub(crate) fn next_id(&self) -> CallId
         requires { is_last self.now.state.made ≡ false }
@@ -56,26 +33,10 @@ impl<Q: Quorums, S: Replica> Node<Q, S> {
         }
     }
 
-    /// A call that isn't refused begins: what `call` does where `may_call` finds no cause. The answer is the id of the
-    /// call.
+    /// The first half of a call: room is made for it. The node stays, whatever the answer.
     ///
-    /// `OutOfMemory` where there is no room for the call; the node is then as it was.
-    #[tactic(auto, unfolding(crate::specs::Changes::made_by))]
-    pub fn begin(&mut self, op: Op) -> Result<CallId, Refusal>
-        requires { refusal_of Q.system self.old.state (change.Call op) ≡ None }
-        ensures node { OnOk result (self.new.state ≡ (made_by self.old.state (change.Call op)).node) }
-        ensures beside { OnOk result (self.new.beside ≡ beside_after self.old.state self.old.beside (change.Call op)) }
-        ensures id { IfOk result (λ id. id ≡ record { name = self.old.state.name; number = self.old.state.made + 1 }) }
-        ensures refused { IfErr result (λ r. r ≡ Refusal.OutOfMemory) }
-        ensures err { OnErr result (self.new.state ≡ self.old.state) }
-        ensures kept { OnErr result (self.new.beside ≡ self.old.beside) }
-    {
-        self.room_for_call()?;
-        Ok(self.finish_call(op))
-    }
-
-    // Makes room for one call more.
-    pub(crate) fn room_for_call(&mut self) -> Result<(), Refusal>
+    /// `OutOfMemory` where there is no room for it.
+    pub fn ready_call(&mut self) -> Result<(), Refusal>
         ensures same { self.new.state ≡ self.old.state }
         ensures beside { self.new.beside ≡ self.old.beside }
         ensures ok { OnOk result (0 < self.new.room.calls.room) }
@@ -96,48 +57,43 @@ impl<Q: Quorums, S: Replica> Node<Q, S> {
         self.calls.restart(place, self.number, &self.map, self.name);
     }
 
-    /// A call that isn't refused goes on: what `act` does of an advance. What it did is told in this deed, which told of
-    /// nothing before: so a large deed is written where its owner has it, and isn't handed on from one to another.
+    /// The first half of the advance of a call that may go on, which stands at this place: room is made for the copy that it
+    /// puts, and what it takes to its propagation, if its query is met, is found. The node stays, whatever the answer.
     ///
-    /// `OutOfMemory` where there is no room for what is new; the node and the deed are then as they were.
-    #[tactic(auto, unfolding(crate::specs::Changes::made_by))]
-    pub fn go_on(&mut self, id: CallId, deed: &mut Deed<Q>) -> Result<(), Refusal>
-        requires accepted { refusal_of Q.system self.old.state (change.Advance id) ≡ None }
+    /// What it will do is told in this deed, which told of nothing before: so a large deed is written where its owner has it,
+    /// and isn't handed on from one to another. `OutOfMemory` where there is no room for what is new; the deed is then as it
+    /// was.
+    pub fn ready_advance(
+        &mut self,
+        id: CallId,
+        place: usize,
+        deed: &mut Deed<Q>,
+    ) -> Result<Moving, Refusal>
+        requires found { IsFound Q.system self.old.state id place }
         requires quiet { deed.old ≡ quiet_deed }
-        ensures node { OnOk result (self.new.state ≡ (made_by self.old.state (change.Advance id)).node) }
-        ensures beside { OnOk result (self.new.beside ≡ beside_after self.old.state self.old.beside (change.Advance id)) }
+        ensures same { self.new.state ≡ self.old.state }
+        ensures beside { self.new.beside ≡ self.old.beside }
+        ensures id { IfOk result (λ m. m.id ≡ id) }
+        ensures moving { IfOk result (IsMoving Q.system self.new) }
         ensures deed { OnOk result (deed.new ≡ (made_by self.old.state (change.Advance id)).deed) }
         ensures refused { IfErr result (λ r. r ≡ Refusal.OutOfMemory) }
-        ensures err { OnErr result ((self.new.state ≡ self.old.state) × (deed.new ≡ deed.old)) }
-        ensures kept { OnErr result (self.new.beside ≡ self.old.beside) }
+        ensures err { OnErr result (deed.new ≡ deed.old) }
     {
-        let place = self.ready_place(&id)?;
+        self.room_at(place)?;
         match self.query_at(place) {
             Some(asked) => {
-                let taken = self.tell_query(id, asked, deed)?;
-                self.finish_query(place, taken);
-                Ok(())
+                let taken = Some(self.tell_query(id, asked, deed)?);
+                Ok(Moving { id, place, taken })
             }
             None => {
                 self.tell_answer(id, place, deed)?;
-                self.finish_answer(place);
-                Ok(())
+                Ok(Moving {
+                    id,
+                    place,
+                    taken: None,
+                })
             }
         }
-    }
-
-    // The place of a call that may go on. There is room for the copy that it will put.
-    pub(crate) fn ready_place(&mut self, id: &CallId) -> Result<usize, Refusal>
-        requires { refusal_of Q.system self.old.state (change.Advance id.now) ≡ None }
-        ensures same { self.new.state ≡ self.old.state }
-        ensures beside { self.new.beside ≡ self.old.beside }
-        ensures found { IfOk result (IsFound Q.system self.new.state id.now) }
-        ensures room { IfOk result (λ place. HasRoomFor self.new.room (put_by self.new.state (query_in (slice_get self.new.state.calls place)))) }
-        ensures refused { IfErr result (λ r. r ≡ Refusal.OutOfMemory) }
-    {
-        let place = self.place_of(id);
-        self.room_at(place)?;
-        Ok(place)
     }
 
     // Makes room for the copy that the call at a place will put, if it is a set in its query.
@@ -155,12 +111,7 @@ impl<Q: Quorums, S: Replica> Node<Q, S> {
 
     // What a met query that asked for this does is told in this deed, which told of nothing before. The answer is what its
     // second half needs.
-    pub(crate) fn tell_query(
-        &self,
-        id: CallId,
-        asked: &Op,
-        deed: &mut Deed<Q>,
-    ) -> Result<Taken, Refusal>
+    fn tell_query(&self, id: CallId, asked: &Op, deed: &mut Deed<Q>) -> Result<Taken, Refusal>
         requires tags { tags_spent self.now.state asked.now ≡ false }
         requires quiet { deed.old ≡ quiet_deed }
         ensures kept { IfOk result (λ t. t.kept ≡ taken self.now.state asked.now) }
@@ -183,12 +134,7 @@ impl<Q: Quorums, S: Replica> Node<Q, S> {
     }
 
     // What a met propagation at this place does is told in this deed, which told of nothing before.
-    pub(crate) fn tell_answer(
-        &self,
-        id: CallId,
-        place: usize,
-        deed: &mut Deed<Q>,
-    ) -> Result<(), Refusal>
+    fn tell_answer(&self, id: CallId, place: usize, deed: &mut Deed<Q>) -> Result<(), Refusal>
         requires { deed.old ≡ quiet_deed }
         ensures deed { OnOk result (deed.new ≡ answered_from id (slice_get self.now.state.calls place)) }
         ensures refused { IfErr result (λ r. r ≡ Refusal.OutOfMemory) }

@@ -1,7 +1,7 @@
 //! What a change did.
 ghost use Rattle.std.specs.Prelude.{◌≡◌, None, IfOk, IfErr, OnOk, OnErr};
 ghost use Rattle.rambo_calls.specs.Kept.{call_found};
-ghost use Rattle.rambo_node.specs.Changes.{told, quiet_deed, get_mark};
+ghost use Rattle.rambo_node.specs.Changes.{quiet_deed, get_mark};
 ghost use Rattle.rambo_node.specs.Kept.{answer_deed, answered_from};
 ghost use Rattle.rambo_node.specs.Operations.{answer_of};
 ghost use Rattle.std.specs.Option.{option_copied};
@@ -27,23 +27,16 @@ pub struct Deed<Q> {
 }
 
 impl<Q: Copy> Deed<Q> {
-    // That of a change of the node alone, of which this is told.
-    pub(crate) fn told(effect: Effect<Q>) -> Deed<Q>
-        ensures { result ≡ told effect }
-    {
-        Deed {
-            effect,
-            event: None,
-            mark: None,
-            copy: None,
-        }
-    }
-
     /// That of a change that only changed its node.
     pub fn quiet() -> Deed<Q>
         ensures { result ≡ quiet_deed }
     {
-        Deed::told(Effect::Done)
+        Deed {
+            effect: Effect::Done,
+            event: None,
+            mark: None,
+            copy: None,
+        }
     }
 
     // Tells of a met propagation, which sent a copy round.

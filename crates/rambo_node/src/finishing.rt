@@ -1,28 +1,30 @@
 //! The second half of a call and of its advance: what was found is done.
 //!
 //! Nothing here takes memory, and nothing fails.
-ghost use Rattle.std.specs.Prelude.{◌≡◌, ◌+◌, ◌<◌, false, remove};
-ghost use Rattle.rambo_node.specs.FullNodes.{stamp_put};
+ghost use Rattle.std.specs.Prelude.{◌≡◌, ◌+◌, ◌<◌, None, false, remove};
+ghost use Rattle.rambo_node.specs.Changes.{refusal_of, made_by};
+ghost use Rattle.rambo_node.specs.FullNodes.{beside_after, stamp_put};
 ghost use Rattle.rambo_node.specs.Kept.{propagation_begun};
-ghost use Rattle.rambo_node.specs.Operations.{called};
-ghost use Rattle.rambo_node.specs.Prepared.{HasRoomFor, with_put, query_done};
+ghost use Rattle.rambo_node.specs.Prepared.{HasRoomFor, IsMoving, with_put, query_done};
 ghost use Rattle.rambo_node.specs.Refusals.{is_last};
+ghost use Rattle.rambo_node.specs.declared.change.Change.TheVariants as change;
 
 use crate::node::Node;
-use crate::prepared::Taken;
+use crate::prepared::{Moving, Taken};
 use rambo_history::{CallId, Op};
 use rambo_names::Quorums;
 use rambo_tag::{KeyedVersion, Replica, Version};
 
 impl<Q: Quorums, S: Replica> Node<Q, S> {
-    // A call begins, for which there is room. The answer is its id.
-    #[tactic(auto, unfolding(crate::specs::Operations::called))]
-    pub(crate) fn finish_call(&mut self, op: Op) -> CallId
-        requires next { is_last self.old.state.number ≡ false }
-        requires made { is_last self.old.state.made ≡ false }
+    /// The second half of a call that isn't refused, for which there is room: it begins. The answer is its id.
+    ///
+    /// It takes no memory and can't fail.
+    #[tactic(auto, unfolding(crate::specs::Changes::made_by, crate::specs::Operations::called))]
+    pub fn finish_call(&mut self, op: Op) -> CallId
+        requires accepted { refusal_of Q.system self.old.state (change.Call op) ≡ None }
         requires room { 0 < self.old.room.calls.room }
-        ensures node { self.new.state ≡ called self.old.state op }
-        ensures beside { self.new.beside ≡ self.old.beside }
+        ensures node { self.new.state ≡ (made_by self.old.state (change.Call op)).node }
+        ensures beside { self.new.beside ≡ beside_after self.old.state self.old.beside (change.Call op) }
         ensures id { result ≡ record { name = self.old.state.name; number = self.old.state.made + 1 } }
     {
         let id = self.next_id();
@@ -33,8 +35,27 @@ impl<Q: Quorums, S: Replica> Node<Q, S> {
         id
     }
 
+    /// The second half of the advance of a call that is ready: it goes on with what it takes along, or is answered.
+    ///
+    /// It takes no memory and can't fail.
+    pub fn finish_advance(&mut self, moving: Moving)
+        requires { IsMoving Q.system self.old moving }
+        ensures node { self.new.state ≡ (made_by self.old.state (change.Advance moving.id)).node }
+        ensures beside { self.new.beside ≡ beside_after self.old.state self.old.beside (change.Advance moving.id) }
+    {
+        let Moving {
+            id: _,
+            place,
+            taken,
+        } = moving;
+        match taken {
+            Some(taken) => self.finish_query(place, taken),
+            None => self.finish_answer(place),
+        }
+    }
+
     // A met query at a place goes on: the copy of a set is put, for which there is room, and a copy goes round.
-    pub(crate) fn finish_query(&mut self, place: usize, taken: Taken)
+    fn finish_query(&mut self, place: usize, taken: Taken)
         requires next { is_last self.old.state.number ≡ false }
         requires room { HasRoomFor self.old.room taken.put }
         ensures state { self.new.state ≡ query_done self.old.state place taken.kept taken.put }
@@ -68,7 +89,7 @@ impl<Q: Quorums, S: Replica> Node<Q, S> {
     }
 
     // A met propagation at a place is answered: its call is taken out.
-    pub(crate) fn finish_answer(&mut self, place: usize)
+    fn finish_answer(&mut self, place: usize)
         ensures state { self.new.state ≡ record self.old.state { calls = remove self.old.state.calls place } }
         ensures beside { self.new.beside ≡ self.old.beside }
     {

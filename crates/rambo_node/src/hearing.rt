@@ -38,7 +38,7 @@ impl<Q: Quorums, S: Replica> Node<Q, S> {
         ensures refused { IfErr result (IsRefusal (refusal_of Q.system self.now.state (change.Send to))) }
     {
         self.may_send(to)?;
-        let copies = self.pack()?;
+        let copies = self.registers.pack()?;
         Ok(self.outline_for(to).with_copies(copies))
     }
 
@@ -69,16 +69,6 @@ impl<Q: Quorums, S: Replica> Node<Q, S> {
         ensures refused { IfErr result (λ r. r ≡ Refusal.OutOfMemory) }
     {
         self.registers.pack_since(self.bases.of(to))
-    }
-
-    /// All its copies, to be sent. No key and no value is copied.
-    ///
-    /// `OutOfMemory` where there is no room for the list of them.
-    pub fn pack(&self) -> Result<Pack, Refusal>
-        ensures all { IfOk result (λ p. p ≡ self.now.state.registers) }
-        ensures refused { IfErr result (λ r. r ≡ Refusal.OutOfMemory) }
-    {
-        self.registers.pack()
     }
 
     /// The letter for a name, without its copies. It takes no memory.
@@ -112,58 +102,19 @@ impl<Q: Quorums, S: Replica> Node<Q, S> {
         ensures kept { OnErr result (self.new.beside ≡ self.old.beside) }
     {
         self.may_hear(letter)?;
-        self.do_hear(letter)
-    }
-
-    /// Hears a letter that isn't refused, which is told by its outline and its copies.
-    ///
-    /// `OutOfMemory` where there is no room for what is new; the node is then as it was. The wish of a node to join
-    /// needs none.
-    #[tactic(auto, unfolding(crate::specs::Changes::made_by))]
-    pub fn hear_outlined(
-        &mut self,
-        outline: &LetterOutline<'_, Q>,
-        copies: &Pack,
-    ) -> Result<(), Refusal>
-        requires { refusal_of Q.system self.old.state (change.Deliver outline.now) ≡ None }
-        ensures node { OnOk result (self.new.state ≡ (made_by self.old.state (change.Deliver (letter_with outline.now copies.now))).node) }
-        ensures beside { OnOk result (self.new.beside ≡ beside_after self.old.state self.old.beside (change.Deliver (letter_with outline.now copies.now))) }
-        ensures refused { IfErr result (λ r. r ≡ Refusal.OutOfMemory) }
-        ensures join { outline.now.kind ≡ Kind.Join → IsOk result }
-        ensures err { OnErr result (self.new.state ≡ self.old.state) }
-        ensures kept { OnErr result (self.new.beside ≡ self.old.beside) }
-    {
-        match &outline.gossip {
-            None => {
-                self.meet(outline.sender);
-                Ok(())
+        match &letter.kind {
+            Kind::Join => self.meet(letter.sender),
+            Kind::Gossip(gossip) => {
+                let outline = gossip.outline();
+                let hearing = self.ready_gossip(&outline, &gossip.copies)?;
+                self.finish_gossip(letter.sender, &outline, hearing);
             }
-            Some(gossip) => self.merge(outline.sender, gossip, copies),
         }
+        Ok(())
     }
 }
 
 impl<Q: Quorums, S: Replica> Node<Q, S> {
-    // Hears a letter that isn't refused.
-    #[tactic(auto, unfolding(crate::specs::Changes::made_by))]
-    pub(crate) fn do_hear(&mut self, letter: &Letter<Q>) -> Result<(), Refusal>
-        requires { refusal_of Q.system self.old.state (change.Deliver letter.now) ≡ None }
-        ensures node { OnOk result (self.new.state ≡ heard_letter self.old.state letter.now) }
-        ensures beside { OnOk result (self.new.beside ≡ beside_after self.old.state self.old.beside (change.Deliver letter.now)) }
-        ensures refused { IfErr result (λ r. r ≡ Refusal.OutOfMemory) }
-        ensures join { letter.now.kind ≡ Kind.Join → IsOk result }
-        ensures err { OnErr result (self.new.state ≡ self.old.state) }
-        ensures kept { OnErr result (self.new.beside ≡ self.old.beside) }
-    {
-        match &letter.kind {
-            Kind::Join => {
-                self.meet(letter.sender);
-                Ok(())
-            }
-            Kind::Gossip(gossip) => self.merge(letter.sender, &gossip.outline(), &gossip.copies),
-        }
-    }
-
     // What the node tells a name besides copies, if it is active.
     fn gossip_outline(&self, to: Name) -> Option<GossipOutline<'_, Q>>
         ensures { outlined result ≡ kind_with (letter_for self.now.state to).kind map.empty }
@@ -196,27 +147,6 @@ impl<Q: Quorums, S: Replica> Node<Q, S> {
         ensures beside { self.new.beside ≡ self.old.beside }
     {
         self.known = self.known.with(from);
-    }
-
-    // Merges gossip and copies, for which there is a phase number.
-    fn merge(
-        &mut self,
-        from: Name,
-        gossip: &GossipOutline<'_, Q>,
-        copies: &Pack,
-    ) -> Result<(), Refusal>
-        requires { (any_gap gossip.now.heard gossip.now.map.now self.old.state.calls && is_last self.old.state.number) ≡ false }
-        ensures ok { OnOk result (self.new.state ≡ heard_gossip self.old.state from (gossip_with (gossip_outlined gossip.now) copies.now)) }
-        ensures beside { OnOk result (self.new.beside ≡ beside_heard self.old.state self.old.beside from (Kind.Gossip (gossip_with (gossip_outlined gossip.now) copies.now))) }
-        ensures refused { IfErr result (λ r. r ≡ Refusal.OutOfMemory) }
-        ensures err { OnErr result (self.new.state ≡ self.old.state) }
-        ensures kept { OnErr result (self.new.beside ≡ self.old.beside) }
-    {
-        let number = self.number_after(gossip.heard, gossip.map);
-        self.room_for(gossip.map)?;
-        self.registers.merge(copies, self.number)?;
-        self.settle(from, gossip, number);
-        Ok(())
     }
 
     // Makes room in the open calls to hear gossip with this map.

@@ -1,5 +1,5 @@
 //! Why a node refuses a change.
-ghost use Rattle.std.specs.Prelude.{◌≡◌, ◌&&◌, ◌||◌, not, nat_eq, nat_le, nat_lt, length, OnOk, IfErr, None, Some};
+ghost use Rattle.std.specs.Prelude.{◌≡◌, ◌&&◌, ◌||◌, not, nat_eq, nat_le, nat_lt, length, OnOk, IfOk, IfErr, None, Some};
 ghost use Rattle.std.specs.FinSet as set;
 ghost use Rattle.rambo_names.specs.Names.{count_of};
 ghost use Rattle.rambo_history.specs.Calls.{key_of};
@@ -10,10 +10,9 @@ ghost use Rattle.std.specs.Option.{option_copied};
 ghost use Rattle.rambo_calls.specs.Calls.{is_missing, is_unmet};
 ghost use Rattle.rambo_calls.specs.Kept.{call_found};
 ghost use Rattle.rambo_node.specs.Changes.{refusal_of};
-ghost use Rattle.rambo_node.specs.Prepared.{quick_change};
+ghost use Rattle.rambo_node.specs.Prepared.{IsFound, quick_change};
 ghost use Rattle.rambo_node.specs.declared.change.Change.TheVariants as change;
 
-use crate::change::Change;
 use crate::node::{Node, query_of};
 use crate::prepared::Quick;
 use rambo_calls::OpenCall;
@@ -32,56 +31,7 @@ const VALUE_LIMIT: usize = 4096;
 const CALL_LIMIT: usize = 64;
 
 impl<Q: Quorums, S: Replica> Node<Q, S> {
-    /// Why a change is refused, if it is: the least number of the causes that hold.
-    ///
-    /// - `Join`: 2 where the node isn't idle, 18 where there is no contact.
-    /// - `Call`: 3 where it is idle or joining, 4 where it has stopped, 9 where it has 64 open calls, 19 where
-    ///   the key has over 256 bytes, 20 where the value has over 4,096 bytes, 21 where its phase number or its
-    ///   last call number is the greatest one.
-    /// - `Send`: 3 where it is idle, 4 where it has stopped, 5 where the name is its own or one that it
-    ///   doesn't know.
-    /// - `Deliver`: 3 where it is idle, 4 where it has stopped, 21 where a phase would begin anew and the phase
-    ///   number is the greatest one.
-    /// - `Advance`: 3 where it is idle or joining, 4 where it has stopped, 7 where there is no such open call,
-    ///   8 where its phase isn't met, 21 where it is in its query and the phase number, or for a set the
-    ///   sequence number of the key's tag, is the greatest one.
-    /// - `Again`: 3 where it is idle or joining, 4 where it has stopped, 7 where there is no such open call, 21
-    ///   where the phase number is the greatest one.
-    /// - `Collect`: 3 where it is idle or joining, 4 where it has stopped, 10 where only one place is active, 11
-    ///   where a collection is open, 21 where the phase number is the greatest one.
-    /// - `AdvanceCollect`: 3 where it is idle or joining, 4 where it has stopped, 8 where a collection is open
-    ///   whose place isn't removed and whose quorum isn't there, 12 where no collection is open, 21 where its first
-    ///   quorum is there, its place isn't removed and the phase number is the greatest one.
-    /// - `Recon`: 3 where it is idle or joining, 4 where it has stopped, 13 where it is no member of the
-    ///   configuration at its top, 14 where an attempt is open, 16 where eight places are active, 17 where the wish
-    ///   has a member that it doesn't know, 18 where the wish has no member, 21 where the round that its vote promised,
-    ///   or the top, is the greatest one.
-    /// - `Rebid`: 3 where it is idle or joining, 4 where it has stopped, 15 where no attempt is open for the first
-    ///   unknown place, 21 where the round that its vote promised is the greatest one.
-    /// - `AdvanceRecon`: 3 where it is idle or joining, 4 where it has stopped, 8 where an attempt is open whose place
-    ///   is unknown and whose quorum isn't there, 15 where no attempt is open.
-    /// - `Stop`: 3 where it is idle, 4 where it has stopped.
-    pub fn judge(&self, change: &Change<Q>) -> Result<(), Refusal>
-        ensures ok { OnOk result (refusal_of Q.system self.now.state change.now ≡ None) }
-        ensures refused { IfErr result (λ r. refusal_of Q.system self.now.state change.now ≡ Some r) }
-    {
-        match change {
-            Change::Join(contacts) => self.may_join(*contacts),
-            Change::Call(op) => self.may_call(op),
-            Change::Send(to) => self.may_send(*to),
-            Change::Deliver(letter) => self.may_hear(letter),
-            Change::Advance(id) => self.may_advance(id),
-            Change::Again(id) => self.may_restart(id),
-            Change::Collect => self.may_collect(),
-            Change::AdvanceCollect => self.may_advance_collect(),
-            Change::Recon(wish) => self.may_recon(wish),
-            Change::Rebid => self.may_rebid(),
-            Change::AdvanceRecon => self.may_advance_recon(),
-            Change::Stop => self.may_stop(),
-        }
-    }
-
-    /// Why a change that needs no memory is refused, if it is: what `judge` says of it.
+    /// Why a change that needs no memory is refused, if it is: what `ready` says of it.
     pub fn judge_quick(&self, quick: &Quick<Q>) -> Result<(), Refusal>
         ensures ok { OnOk result (refusal_of Q.system self.now.state (quick_change quick.now) ≡ None) }
         ensures refused { IfErr result (λ r. refusal_of Q.system self.now.state (quick_change quick.now) ≡ Some r) }
@@ -99,9 +49,9 @@ impl<Q: Quorums, S: Replica> Node<Q, S> {
         }
     }
 
-    /// Why a letter is refused, if it is: 3 where the node is idle, 4 where it has stopped, 21 where a phase
-    /// would begin anew and the phase number is the greatest one.
-    pub fn may_hear(&self, letter: &Letter<Q>) -> Result<(), Refusal>
+    // Why a letter is refused, if it is: 3 where the node is idle, 4 where it has stopped, 21 where a phase
+    // would begin anew and the phase number is the greatest one.
+    pub(crate) fn may_hear(&self, letter: &Letter<Q>) -> Result<(), Refusal>
         ensures ok { OnOk result (refusal_of Q.system self.now.state (change.Deliver letter.now) ≡ None) }
         ensures refused { IfErr result (λ r. refusal_of Q.system self.now.state (change.Deliver letter.now) ≡ Some r) }
     {
@@ -117,7 +67,7 @@ impl<Q: Quorums, S: Replica> Node<Q, S> {
         Ok(())
     }
 
-    /// Why a letter is refused, if it is: what `may_hear` says, of its outline, since its copies don't matter.
+    /// Why a letter is refused, if it is: what `ready` says, of its outline, since its copies don't matter.
     pub fn may_hear_outlined(&self, outline: &LetterOutline<'_, Q>) -> Result<(), Refusal>
         ensures ok { OnOk result (refusal_of Q.system self.now.state (change.Deliver outline.now) ≡ None) }
         ensures refused { IfErr result (λ r. refusal_of Q.system self.now.state (change.Deliver outline.now) ≡ Some r) }
@@ -197,7 +147,7 @@ impl<Q: Quorums, S: Replica> Node<Q, S> {
         self.calls.len() >= CALL_LIMIT
     }
 
-    /// Why a client may not ask this of the node, if it may not: what `judge` says of a call, where none is made yet.
+    /// Why a client may not ask this of the node, if it may not: what `ready` says of a call.
     pub fn may_call(&self, op: &Op) -> Result<(), Refusal>
         ensures ok { OnOk result (least (call_causes self.now.state op.now) ≡ None) }
         ensures refused { IfErr result (λ r. least (call_causes self.now.state op.now) ≡ Some r) }
@@ -254,11 +204,11 @@ impl<Q: Quorums, S: Replica> Node<Q, S> {
         }
     }
 
-    /// Why the open call of an id may not go on, if it may not: 3 where the node is idle or joining, 4 where it has
-    /// stopped, 7 where there is no such open call, 8 where its phase isn't met, 21 where it is in its query and the
-    /// phase number, or for a set the sequence number of the key's tag, is the greatest one.
-    pub fn may_advance(&self, id: &CallId) -> Result<(), Refusal>
-        ensures ok { OnOk result (least (advance_causes Q.system self.now.state id.now) ≡ None) }
+    /// At `Ok` the place of the open call of an id, which may go on. Else why it may not: 3 where the node is idle or joining,
+    /// 4 where it has stopped, 7 where there is no such open call, 8 where its phase isn't met, 21 where it is in its query
+    /// and the phase number, or for a set the sequence number of the key's tag, is the greatest one.
+    pub fn may_advance(&self, id: &CallId) -> Result<usize, Refusal>
+        ensures ok { IfOk result (IsFound Q.system self.now.state id.now) }
         ensures refused { IfErr result (λ r. least (advance_causes Q.system self.now.state id.now) ≡ Some r) }
     {
         if self.status.is_early() {
@@ -267,7 +217,8 @@ impl<Q: Quorums, S: Replica> Node<Q, S> {
         if self.status.is_stopped() {
             return Err(Refusal::Stopped);
         }
-        let call = self.find(id);
+        let place = self.place_of(id);
+        let call = self.calls.get(place);
         if is_missing(call) {
             return Err(Refusal::NoSuchCall);
         }
@@ -277,7 +228,7 @@ impl<Q: Quorums, S: Replica> Node<Q, S> {
         if self.query_is_spent(query_of(call)) {
             return Err(Refusal::NumbersSpent);
         }
-        Ok(())
+        Ok(place)
     }
 
     // Whether the phase of the open call of an id may begin anew.
@@ -291,7 +242,7 @@ impl<Q: Quorums, S: Replica> Node<Q, S> {
         if self.status.is_stopped() {
             return Err(Refusal::Stopped);
         }
-        if is_missing(self.find(id)) {
+        if is_missing(self.calls.get(self.place_of(id))) {
             return Err(Refusal::NoSuchCall);
         }
         if is_last(self.number) {

@@ -25,5 +25,5 @@ pub use deed::Deed;
 pub use effect::Effect;
 pub use laws::{causes_rise, short_letters_are_heard_alike};
 pub use node::Node;
-pub use prepared::{Hearing, Prepared, Quick};
+pub use prepared::{Hearing, Moving, Prepared, Quick};
 pub use rambo_calls::Stage;

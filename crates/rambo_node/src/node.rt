@@ -161,34 +161,19 @@ impl<Q: Quorums, S: Replica> Node<Q, S> {
         self.status
     }
 
-    // The open call of an id, if there is one.
-    pub(crate) fn find(&self, id: &CallId) -> Option<&OpenCall<Q>>
-        ensures { call_found (option_copied result) ≡ open_call self.now.state id.now }
+    // The place of the open call of an id, or how many are open where there is no such call.
+    pub(crate) fn place_of(&self, id: &CallId) -> usize
+        ensures found { slice_get self.now.state.calls result ≡ open_call self.now.state id.now }
+        ensures own { is_missing (open_call self.now.state id.now) ≡ false → result ≡ place_of id.now.number self.now.state.calls }
     {
         if id.name != self.name {
-            return None;
+            return self.calls.len();
         }
-        self.calls.find(id.number)
-    }
-
-    /// What the open call of an id asks for, if there is one that is in its query.
-    pub fn query(&self, id: &CallId) -> Option<&Op>
-        ensures { option_copied result ≡ query_in (open_call self.now.state id.now) }
-    {
-        query_of(self.find(id))
-    }
-
-    // The place of the open call of an id, which there is.
-    pub(crate) fn place_of(&self, id: &CallId) -> usize
-        requires { is_missing (open_call self.now.state id.now) ≡ false }
-        ensures place { result ≡ place_of id.now.number self.now.state.calls }
-        ensures found { slice_get self.now.state.calls result ≡ open_call self.now.state id.now }
-    {
         self.calls.place_of(id.number)
     }
 
-    // What the open call at a place asks for, if there is one that is in its query.
-    pub(crate) fn query_at(&self, place: usize) -> Option<&Op>
+    /// What the open call at a place asks for, if there is one that is in its query.
+    pub fn query_at(&self, place: usize) -> Option<&Op>
         ensures { option_copied result ≡ query_in (slice_get self.now.state.calls place) }
     {
         query_of(self.calls.get(place))
@@ -205,10 +190,10 @@ impl<Q: Quorums, S: Replica> Node<Q, S> {
     pub fn call_at(&self, place: usize) -> Option<CallId>
         ensures { result ≡ id_of self.now.state.name (number_in (slice_get self.now.state.calls place)) }
     {
-        match self.calls.number_at(place) {
-            Some(number) => Some(CallId {
+        match self.calls.get(place) {
+            Some(call) => Some(CallId {
                 name: self.name,
-                number,
+                number: call.number,
             }),
             None => None,
         }

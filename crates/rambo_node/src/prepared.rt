@@ -28,10 +28,8 @@ pub struct Prepared<Q: Quorums> {
 pub(crate) enum Turn<Q: Quorums> {
     // A call begins that asks for this.
     Call(Op),
-    // A call goes on from its query.
-    Query(QueryTurn),
-    // A call is answered.
-    Answer(AnswerTurn<Q>),
+    // A call goes on.
+    Advance(AdvanceTurn<Q>),
     // A letter is heard.
     Hear(HearTurn<Q>),
     // Any other change.
@@ -61,13 +59,22 @@ pub enum Quick<Q> {
     Stop,
 }
 
-// A call whose query is met.
+// A call whose phase is met.
 #[derive(Drop)]
-pub(crate) struct QueryTurn {
+pub(crate) struct AdvanceTurn<Q> {
+    pub(crate) moving: Moving,
+    // What will be told: of a met propagation the answer.
+    pub(crate) effect: Effect<Q>,
+}
+
+/// What the second half of the advance of a call needs.
+#[derive(Drop)]
+pub struct Moving {
     pub(crate) id: CallId,
-    // Where it stands among the open calls.
+    // Where the call stands among the open ones.
     pub(crate) place: usize,
-    pub(crate) taken: Taken,
+    // What it takes to its propagation, where its query is met.
+    pub(crate) taken: Option<Taken>,
 }
 
 // What a met query takes to its propagation.
@@ -77,16 +84,6 @@ pub(crate) struct Taken {
     pub(crate) kept: Option<Version>,
     // The copy that a set will put.
     pub(crate) put: Option<KeyedVersion>,
-}
-
-// A call whose propagation is met.
-#[derive(Drop)]
-pub(crate) struct AnswerTurn<Q> {
-    pub(crate) id: CallId,
-    // Where it stands among the open calls.
-    pub(crate) place: usize,
-    // What will be told: the answer.
-    pub(crate) effect: Effect<Q>,
 }
 
 // A letter that may be heard.
@@ -121,27 +118,9 @@ impl<Q: Quorums> Prepared<Q> {
         }
     }
 
-    // The advance of a met query that does this.
-    pub(crate) fn moved(deed: Deed<Q>, turn: QueryTurn) -> Prepared<Q>
-        ensures { result ≡ record { event = deed.event; mark = deed.mark; copy = deed.copy; turn = Turn.Query turn } }
-    {
-        let Deed {
-            effect: _effect,
-            event,
-            mark,
-            copy,
-        } = deed;
-        Prepared {
-            event,
-            mark,
-            copy,
-            turn: Turn::Query(turn),
-        }
-    }
-
-    // The advance of a met propagation that does this.
-    pub(crate) fn answered(deed: Deed<Q>, id: CallId, place: usize) -> Prepared<Q>
-        ensures { result ≡ record { event = deed.event; mark = deed.mark; copy = deed.copy; turn = Turn.Answer (record { id = id; place = place; effect = deed.effect }) } }
+    // The advance of a call that does this.
+    pub(crate) fn advanced(deed: Deed<Q>, moving: Moving) -> Prepared<Q>
+        ensures { result ≡ record { event = deed.event; mark = deed.mark; copy = deed.copy; turn = Turn.Advance (record { moving = moving; effect = deed.effect }) } }
     {
         let Deed {
             effect,
@@ -153,7 +132,7 @@ impl<Q: Quorums> Prepared<Q> {
             event,
             mark,
             copy,
-            turn: Turn::Answer(AnswerTurn { id, place, effect }),
+            turn: Turn::Advance(AdvanceTurn { moving, effect }),
         }
     }
 }

@@ -4,14 +4,14 @@ ghost use Rattle.rambo_names.specs.Refusals.{IsRefusal};
 ghost use Rattle.rambo_node.specs.Changes.{refusal_of, made_by};
 ghost use Rattle.rambo_node.specs.FullNodes.{beside_after};
 ghost use Rattle.rambo_node.specs.Memory.{needs_memory};
-ghost use Rattle.rambo_node.specs.Prepared.{IsPrepared, IsReadyTurn, Prepares, change_of, turn_change, quick_change};
+ghost use Rattle.rambo_node.specs.Prepared.{IsFound, IsPrepared, IsReadyTurn, Prepares, change_of, turn_change, quick_change};
 ghost use Rattle.rambo_node.specs.declared.change.Change.TheVariants as change;
 
 use crate::change::Change;
 use crate::deed::Deed;
 use crate::effect::Effect;
 use crate::node::Node;
-use crate::prepared::{AnswerTurn, Prepared, QueryTurn, Quick, Turn};
+use crate::prepared::{AdvanceTurn, Prepared, Quick, Turn};
 use rambo_gossip::Letter;
 use rambo_history::{CallId, Event, Op};
 use rambo_names::{Quorums, Refusal};
@@ -21,8 +21,38 @@ impl<Q: Quorums, S: Replica> Node<Q, S> {
     /// The first half of a change: it is judged, room is made for all that is new, and what it will do is found. Nothing of
     /// what the node is changes, whatever the answer.
     ///
-    /// Refused are those of `judge`, and 22 where there is no room for what is new, which only a call, its advance and a
-    /// letter of an active node may need.
+    /// Refused is the least number of the causes that hold:
+    ///
+    /// - `Join`: 2 where the node isn't idle, 18 where there is no contact.
+    /// - `Call`: 3 where it is idle or joining, 4 where it has stopped, 9 where it has 64 open calls, 19 where
+    ///   the key has over 256 bytes, 20 where the value has over 4,096 bytes, 21 where its phase number or its
+    ///   last call number is the greatest one.
+    /// - `Send`: 3 where it is idle, 4 where it has stopped, 5 where the name is its own or one that it
+    ///   doesn't know.
+    /// - `Deliver`: 3 where it is idle, 4 where it has stopped, 21 where a phase would begin anew and the phase
+    ///   number is the greatest one.
+    /// - `Advance`: 3 where it is idle or joining, 4 where it has stopped, 7 where there is no such open call,
+    ///   8 where its phase isn't met, 21 where it is in its query and the phase number, or for a set the
+    ///   sequence number of the key's tag, is the greatest one.
+    /// - `Again`: 3 where it is idle or joining, 4 where it has stopped, 7 where there is no such open call, 21
+    ///   where the phase number is the greatest one.
+    /// - `Collect`: 3 where it is idle or joining, 4 where it has stopped, 10 where only one place is active, 11
+    ///   where a collection is open, 21 where the phase number is the greatest one.
+    /// - `AdvanceCollect`: 3 where it is idle or joining, 4 where it has stopped, 8 where a collection is open
+    ///   whose place isn't removed and whose quorum isn't there, 12 where no collection is open, 21 where its first
+    ///   quorum is there, its place isn't removed and the phase number is the greatest one.
+    /// - `Recon`: 3 where it is idle or joining, 4 where it has stopped, 13 where it is no member of the
+    ///   configuration at its top, 14 where an attempt is open, 16 where eight places are active, 17 where the wish
+    ///   has a member that it doesn't know, 18 where the wish has no member, 21 where the round that its vote promised,
+    ///   or the top, is the greatest one.
+    /// - `Rebid`: 3 where it is idle or joining, 4 where it has stopped, 15 where no attempt is open for the first
+    ///   unknown place, 21 where the round that its vote promised is the greatest one.
+    /// - `AdvanceRecon`: 3 where it is idle or joining, 4 where it has stopped, 8 where an attempt is open whose place
+    ///   is unknown and whose quorum isn't there, 15 where no attempt is open.
+    /// - `Stop`: 3 where it is idle, 4 where it has stopped.
+    ///
+    /// else 22, where there is no room for what is new, which only a call, its advance and a letter of an active node may
+    /// need.
     pub fn ready(&mut self, change: &Change<Q>) -> Result<Prepared<Q>, Refusal>
         ensures judged { OnOk result (refusal_of Q.system self.old.state change.now ≡ None) }
         ensures same { self.new.state ≡ self.old.state }
@@ -36,8 +66,29 @@ impl<Q: Quorums, S: Replica> Node<Q, S> {
         ensures refused { IfErr result (IsRefusal (refusal_of Q.system self.old.state change.now)) }
         ensures no_memory { needs_memory change.now ≡ false → IfErr result (λ r. refusal_of Q.system self.old.state change.now ≡ Some r) }
     {
-        self.judge(change)?;
-        self.prepare(change)
+        match change {
+            Change::Join(contacts) => self.ready_quick(Quick::Join(*contacts)),
+            Change::Call(op) => {
+                self.may_call(op)?;
+                self.prepare_call(op)
+            }
+            Change::Send(to) => self.ready_quick(Quick::Send(*to)),
+            Change::Deliver(letter) => {
+                self.may_hear(letter)?;
+                self.prepare_letter(letter)
+            }
+            Change::Advance(id) => {
+                let place = self.may_advance(id)?;
+                self.prepare_advance(*id, place)
+            }
+            Change::Again(id) => self.ready_quick(Quick::Again(*id)),
+            Change::Collect => self.ready_quick(Quick::Collect),
+            Change::AdvanceCollect => self.ready_quick(Quick::AdvanceCollect),
+            Change::Recon(wish) => self.ready_quick(Quick::Recon(*wish)),
+            Change::Rebid => self.ready_quick(Quick::Rebid),
+            Change::AdvanceRecon => self.ready_quick(Quick::AdvanceRecon),
+            Change::Stop => self.ready_quick(Quick::Stop),
+        }
     }
 
     /// The second half of a change that is ready: the node changes. What is told of it is answered.
@@ -81,39 +132,16 @@ impl<Q: Quorums, S: Replica> Node<Q, S> {
     }
 }
 
-// The first half of a change that isn't refused.
+// The first half of a change of one kind.
 impl<Q: Quorums, S: Replica> Node<Q, S> {
-    // Of any.
-    fn prepare(&mut self, change: &Change<Q>) -> Result<Prepared<Q>, Refusal>
-        requires { refusal_of Q.system self.old.state change.now ≡ None }
-        ensures same { self.new.state ≡ self.old.state }
-        ensures beside { self.new.beside ≡ self.old.beside }
-        ensures prepares { IfOk result (Prepares Q.system self.new change.now) }
-        ensures refused { IfErr result (λ r. r ≡ Refusal.OutOfMemory) }
-        ensures no_memory { needs_memory change.now ≡ false → IsOk result }
+    // Of one that needs no memory: it is judged.
+    fn ready_quick(&self, quick: Quick<Q>) -> Result<Prepared<Q>, Refusal>
+        ensures judged { OnOk result (refusal_of Q.system self.now.state (quick_change quick) ≡ None) }
+        ensures prepares { IfOk result (Prepares Q.system self.now (quick_change quick)) }
+        ensures refused { IfErr result (λ r. refusal_of Q.system self.now.state (quick_change quick) ≡ Some r) }
     {
-        match change {
-            Change::Join(contacts) => Ok(self.prepare_quick(Quick::Join(*contacts))),
-            Change::Call(op) => self.prepare_call(op),
-            Change::Send(to) => Ok(self.prepare_quick(Quick::Send(*to))),
-            Change::Deliver(letter) => self.prepare_letter(letter),
-            Change::Advance(id) => self.prepare_advance(*id),
-            Change::Again(id) => Ok(self.prepare_quick(Quick::Again(*id))),
-            Change::Collect => Ok(self.prepare_quick(Quick::Collect)),
-            Change::AdvanceCollect => Ok(self.prepare_quick(Quick::AdvanceCollect)),
-            Change::Recon(wish) => Ok(self.prepare_quick(Quick::Recon(*wish))),
-            Change::Rebid => Ok(self.prepare_quick(Quick::Rebid)),
-            Change::AdvanceRecon => Ok(self.prepare_quick(Quick::AdvanceRecon)),
-            Change::Stop => Ok(self.prepare_quick(Quick::Stop)),
-        }
-    }
-
-    // Of one that needs no memory.
-    fn prepare_quick(&self, quick: Quick<Q>) -> Prepared<Q>
-        requires { refusal_of Q.system self.now.state (quick_change quick) ≡ None }
-        ensures { Prepares Q.system self.now (quick_change quick) result }
-    {
-        Prepared::quiet(Turn::Quick(quick))
+        self.judge_quick(&quick)?;
+        Ok(Prepared::quiet(Turn::Quick(quick)))
     }
 
     /// The first half of a call that isn't refused: room is made for it. The node stays, whatever the answer.
@@ -130,7 +158,7 @@ impl<Q: Quorums, S: Replica> Node<Q, S> {
     {
         let asked = op.clone()?;
         let told = op.clone()?;
-        self.room_for_call()?;
+        self.ready_call()?;
         let event = Event::Call(self.next_id(), told);
         Ok(Prepared {
             event: Some(event),
@@ -140,7 +168,7 @@ impl<Q: Quorums, S: Replica> Node<Q, S> {
         })
     }
 
-    // Of a letter.
+    // Of a letter that isn't refused.
     fn prepare_letter(&mut self, letter: &Letter<Q>) -> Result<Prepared<Q>, Refusal>
         requires { refusal_of Q.system self.old.state (change.Deliver letter.now) ≡ None }
         ensures same { self.new.state ≡ self.old.state }
@@ -153,31 +181,22 @@ impl<Q: Quorums, S: Replica> Node<Q, S> {
         Ok(Prepared::quiet(Turn::Hear(turn)))
     }
 
-    /// The first half of the advance of a call that isn't refused: room is made for the copy that it puts, and what it will
-    /// do is found. The node stays, whatever the answer.
+    /// The first half of the advance of a call that may go on, which stands at this place: room is made for the copy that it
+    /// puts, and what it will do is found. The node stays, whatever the answer.
     ///
     /// `OutOfMemory` where there is no room for it.
     // (as above)
     #[inline(never)]
-    pub fn prepare_advance(&mut self, id: CallId) -> Result<Prepared<Q>, Refusal>
-        requires { refusal_of Q.system self.old.state (change.Advance id) ≡ None }
+    pub fn prepare_advance(&mut self, id: CallId, place: usize) -> Result<Prepared<Q>, Refusal>
+        requires { IsFound Q.system self.old.state id place }
         ensures same { self.new.state ≡ self.old.state }
         ensures beside { self.new.beside ≡ self.old.beside }
         ensures prepares { IfOk result (Prepares Q.system self.new (change.Advance id)) }
         ensures refused { IfErr result (λ r. r ≡ Refusal.OutOfMemory) }
     {
         let mut deed = Deed::quiet();
-        let place = self.ready_place(&id)?;
-        match self.query_at(place) {
-            Some(asked) => {
-                let taken = self.tell_query(id, asked, &mut deed)?;
-                Ok(Prepared::moved(deed, QueryTurn { id, place, taken }))
-            }
-            None => {
-                self.tell_answer(id, place, &mut deed)?;
-                Ok(Prepared::answered(deed, id, place))
-            }
-        }
+        let moving = self.ready_advance(id, place, &mut deed)?;
+        Ok(Prepared::advanced(deed, moving))
     }
 }
 
@@ -193,22 +212,9 @@ impl<Q: Quorums, S: Replica> Node<Q, S> {
     {
         match turn {
             Turn::Call(op) => Effect::Called(self.finish_call(op)),
-            Turn::Query(query) => {
-                let QueryTurn {
-                    id: _,
-                    place,
-                    taken,
-                } = query;
-                self.finish_query(place, taken);
-                Effect::Moved
-            }
-            Turn::Answer(answer) => {
-                let AnswerTurn {
-                    id: _,
-                    place,
-                    effect,
-                } = answer;
-                self.finish_answer(place);
+            Turn::Advance(advance) => {
+                let AdvanceTurn { moving, effect } = advance;
+                self.finish_advance(moving);
                 effect
             }
             Turn::Hear(letter) => {
@@ -241,7 +247,7 @@ impl<Q: Quorums, S: Replica> Node<Q, S> {
                 self.do_collect();
                 Effect::Done
             }
-            Quick::AdvanceCollect => self.do_advance_collect().effect,
+            Quick::AdvanceCollect => self.do_advance_collect(),
             Quick::Recon(wish) => {
                 self.do_recon(wish);
                 Effect::Done
@@ -250,7 +256,7 @@ impl<Q: Quorums, S: Replica> Node<Q, S> {
                 self.do_rebid();
                 Effect::Done
             }
-            Quick::AdvanceRecon => self.do_advance_recon().effect,
+            Quick::AdvanceRecon => self.do_advance_recon(),
             Quick::Stop => {
                 self.do_stop();
                 Effect::Done

@@ -4,13 +4,12 @@ ghost use Rattle.rambo_config_map.specs.Maps.{active_at, end_of, top_of};
 ghost use Rattle.rambo_gc.specs.Collections.{has_quorum, move_of};
 ghost use Rattle.rambo_paxos.specs.Attempts.{bid_of};
 ghost use Rattle.rambo_paxos.specs.Votes.{is_spent};
-ghost use Rattle.rambo_node.specs.Changes.{refusal_of, told, collection_advanced, rebid_made, attempt_advanced, bid_made};
+ghost use Rattle.rambo_node.specs.Changes.{refusal_of, collection_advanced, rebid_made, attempt_advanced, bid_made};
 ghost use Rattle.rambo_node.specs.Reconfigurations.{attempt_opened, attempt_rebid, attempt_ended, collection_opened, collection_moved, collection_ended};
 ghost use Rattle.rambo_node.specs.Refusals.{is_last};
 ghost use Rattle.rambo_node.specs.declared.change.Change.TheVariants as change;
 
 use crate::decided::Decided;
-use crate::deed::Deed;
 use crate::effect::Effect;
 use crate::node::Node;
 use crate::turns::{attempt_of, collection_of, go_on, learn, moved, rebid, remove};
@@ -33,11 +32,11 @@ impl<Q: Quorums, S: Replica> Node<Q, S> {
     }
 
     // A collection that isn't refused goes on.
-    pub(crate) fn do_advance_collect(&mut self) -> Deed<Q>
+    pub(crate) fn do_advance_collect(&mut self) -> Effect<Q>
         requires { refusal_of Q.system self.old.state change.AdvanceCollect ≡ None }
         ensures node { self.new.state ≡ (collection_advanced self.old.state self.old.state.collection).node }
         ensures beside { self.new.beside ≡ self.old.beside }
-        ensures deed { result ≡ (collection_advanced self.old.state self.old.state.collection).deed }
+        ensures effect { result ≡ (collection_advanced self.old.state self.old.state.collection).deed.effect }
     {
         match self.collection {
             Some(collection) => self.turn_collection(collection),
@@ -46,12 +45,12 @@ impl<Q: Quorums, S: Replica> Node<Q, S> {
     }
 
     // What its collection does that isn't refused.
-    fn turn_collection(&mut self, collection: Collection) -> Deed<Q>
+    fn turn_collection(&mut self, collection: Collection) -> Effect<Q>
         requires held { self.old.state.collection ≡ Some collection }
         requires judged { refusal_of Q.system self.old.state change.AdvanceCollect ≡ None }
         ensures node { self.new.state ≡ (collection_advanced self.old.state (Some collection)).node }
         ensures beside { self.new.beside ≡ self.old.beside }
-        ensures deed { result ≡ (collection_advanced self.old.state (Some collection)).deed }
+        ensures effect { result ≡ (collection_advanced self.old.state (Some collection)).deed.effect }
     {
         match collection.would_advance(&self.map) {
             Some(GcMove::Propagating) => self.move_collection(collection),
@@ -62,30 +61,30 @@ impl<Q: Quorums, S: Replica> Node<Q, S> {
 
     // The first quorum of its collection is there: the second one is asked for, under a new number.
     #[tactic(auto, unfolding(crate::specs::Reconfigurations::collection_moved))]
-    fn move_collection(&mut self, collection: Collection) -> Deed<Q>
+    fn move_collection(&mut self, collection: Collection) -> Effect<Q>
         requires met { move_of Q.system self.old.state.map collection ≡ Some GcMove.Propagating }
         requires next { is_last self.old.state.number ≡ false }
         ensures node { self.new.state ≡ collection_moved self.old.state collection }
         ensures beside { self.new.beside ≡ self.old.beside }
-        ensures deed { result ≡ told Effect.Moved }
+        ensures effect { result ≡ Effect.Moved }
     {
         self.number += 1;
         self.collection = Some(moved(collection, &self.map, self.number));
-        Deed::told(Effect::Moved)
+        Effect::Moved
     }
 
     // Its collection is done: the place is removed, unless it is so already.
     #[tactic(auto, unfolding(crate::specs::Reconfigurations::collection_ended))]
-    fn end_collection(&mut self, collection: &Collection) -> Deed<Q>
+    fn end_collection(&mut self, collection: &Collection) -> Effect<Q>
         requires { move_of Q.system self.old.state.map collection.now ≡ Some GcMove.Done }
         ensures node { self.new.state ≡ collection_ended self.old.state collection.now }
         ensures beside { self.new.beside ≡ self.old.beside }
-        ensures deed { result ≡ told (Effect.Collected self.old.state.name collection.now.place) }
+        ensures effect { result ≡ Effect.Collected self.old.state.name collection.now.place }
     {
         let place = collection.place();
         remove(&mut self.map, place);
         self.collection = None;
-        Deed::told(Effect::Collected(self.name, place))
+        Effect::Collected(self.name, place)
     }
 
     // An attempt that isn't refused begins.
@@ -123,11 +122,11 @@ impl<Q: Quorums, S: Replica> Node<Q, S> {
     }
 
     // An attempt that isn't refused goes on.
-    pub(crate) fn do_advance_recon(&mut self) -> Deed<Q>
+    pub(crate) fn do_advance_recon(&mut self) -> Effect<Q>
         requires { refusal_of Q.system self.old.state change.AdvanceRecon ≡ None }
         ensures node { self.new.state ≡ (attempt_advanced self.old.state self.old.state.attempt).node }
         ensures beside { self.new.beside ≡ self.old.beside }
-        ensures deed { result ≡ (attempt_advanced self.old.state self.old.state.attempt).deed }
+        ensures effect { result ≡ (attempt_advanced self.old.state self.old.state.attempt).deed.effect }
     {
         match self.attempt {
             Some(attempt) => self.turn_attempt(attempt),
@@ -136,12 +135,12 @@ impl<Q: Quorums, S: Replica> Node<Q, S> {
     }
 
     // What its attempt does that isn't refused.
-    fn turn_attempt(&mut self, attempt: Attempt<Q>) -> Deed<Q>
+    fn turn_attempt(&mut self, attempt: Attempt<Q>) -> Effect<Q>
         requires held { self.old.state.attempt ≡ Some attempt }
         requires judged { refusal_of Q.system self.old.state change.AdvanceRecon ≡ None }
         ensures node { self.new.state ≡ (attempt_advanced self.old.state (Some attempt)).node }
         ensures beside { self.new.beside ≡ self.old.beside }
-        ensures deed { result ≡ (attempt_advanced self.old.state (Some attempt)).deed }
+        ensures effect { result ≡ (attempt_advanced self.old.state (Some attempt)).deed.effect }
     {
         if is_known(&self.map, attempt.place()) {
             return self.end_attempt(attempt.place());
@@ -151,37 +150,37 @@ impl<Q: Quorums, S: Replica> Node<Q, S> {
 
     // Its attempt for a place that has come to be known ends: what stands there is told.
     #[tactic(auto, unfolding(crate::specs::Reconfigurations::attempt_ended))]
-    fn end_attempt(&mut self, place: u64) -> Deed<Q>
+    fn end_attempt(&mut self, place: u64) -> Effect<Q>
         ensures node { self.new.state ≡ attempt_ended self.old.state }
         ensures beside { self.new.beside ≡ self.old.beside }
-        ensures deed { result ≡ told (Effect.Decided self.old.state.name (record { place = place; config = active_at self.old.state.map place })) }
+        ensures effect { result ≡ Effect.Decided self.old.state.name (record { place = place; config = active_at self.old.state.map place }) }
     {
         self.attempt = None;
         let config = active_at(&self.map, place);
-        Deed::told(Effect::Decided(self.name, Decided { place, config }))
+        Effect::Decided(self.name, Decided { place, config })
     }
 
     // Its attempt, whose quorum is there, proposes, or its configuration is chosen and learnt.
-    fn bid(&mut self, attempt: Attempt<Q>) -> Deed<Q>
+    fn bid(&mut self, attempt: Attempt<Q>) -> Effect<Q>
         requires held { self.old.state.attempt ≡ Some attempt }
         requires unknown { end_of self.old.state.map ≤ attempt.place }
         requires met { has_quorum Q.system (active_at self.old.state.map (top_of self.old.state.map)) attempt.repliers ≡ true }
         ensures node { self.new.state ≡ (bid_made self.old.state attempt (bid_of attempt)).node }
         ensures beside { self.new.beside ≡ self.old.beside }
-        ensures deed { result ≡ (bid_made self.old.state attempt (bid_of attempt)).deed }
+        ensures effect { result ≡ (bid_made self.old.state attempt (bid_of attempt)).deed.effect }
     {
         let place = attempt.place();
         let mut next = attempt;
         match go_on(&mut next, &mut self.vote, &self.map) {
             Bid::Propose => {
                 self.attempt = Some(next);
-                Deed::told(Effect::Moved)
+                Effect::Moved
             }
             Bid::Chosen(config) => {
                 self.attempt = None;
                 learn(&mut self.map, config);
                 let config = Some(config);
-                Deed::told(Effect::Decided(self.name, Decided { place, config }))
+                Effect::Decided(self.name, Decided { place, config })
             }
         }
     }

@@ -1,5 +1,5 @@
 //! The changes that a node takes.
-ghost use Rattle.std.specs.Prelude.{◌≡◌, ◌+◌, None, Some, false, OnOk, OnErr, IsOk, IfOk, IfErr};
+ghost use Rattle.std.specs.Prelude.{◌≡◌, ◌+◌, None, Some, false, OnOk, OnErr, IfOk, IfErr};
 ghost use Rattle.rambo_names.specs.Refusals.{IsRefusal};
 ghost use Rattle.rambo_node.specs.Changes.{refusal_of, made_by, answer_in, collected_in, decided_in};
 ghost use Rattle.rambo_node.specs.FullNodes.{beside_after};
@@ -19,8 +19,7 @@ use rambo_tag::Replica;
 impl<Q: Quorums, S: Replica> Node<Q, S> {
     /// Takes a change, and tells what it did.
     ///
-    /// Refused are those of `judge`, and 22 where there is no room for what is new. Only a call, its advance and a
-    /// letter of an active node may need room.
+    /// Refused is what `ready` says.
     #[tactic(auto, unfolding(crate::specs::Changes::made_by))]
     pub fn take(&mut self, change: Change<Q>) -> Result<Deed<Q>, Refusal>
         ensures judged { OnOk result (refusal_of Q.system self.old.state change ≡ None) }
@@ -36,64 +35,6 @@ impl<Q: Quorums, S: Replica> Node<Q, S> {
         match self.ready(&change) {
             Ok(prepared) => Ok(self.carry_out(prepared)),
             Err(refusal) => Err(refusal),
-        }
-    }
-
-    /// Takes a change that isn't refused, and tells what it did.
-    ///
-    /// `OutOfMemory` where there is no room for what is new; the node is then as it was. Only a call, its advance and
-    /// a letter of an active node may need room.
-    // (a deed is large, and where this is inlined it is moved piece by piece)
-    #[inline(never)]
-    #[tactic(auto, unfolding(crate::specs::Changes::made_by))]
-    pub fn act(&mut self, change: &Change<Q>) -> Result<Deed<Q>, Refusal>
-        requires { refusal_of Q.system self.old.state change.now ≡ None }
-        ensures node { OnOk result (self.new.state ≡ (made_by self.old.state change.now).node) }
-        ensures beside { OnOk result (self.new.beside ≡ beside_after self.old.state self.old.beside change.now) }
-        ensures deed { IfOk result (λ d. d ≡ (made_by self.old.state change.now).deed) }
-        ensures refused { IfErr result (λ r. r ≡ Refusal.OutOfMemory) }
-        ensures no_memory { needs_memory change.now ≡ false → IsOk result }
-        ensures err { OnErr result (self.new.state ≡ self.old.state) }
-        ensures kept { OnErr result (self.new.beside ≡ self.old.beside) }
-    {
-        match change {
-            Change::Join(contacts) => {
-                self.do_join(*contacts);
-                Ok(Deed::quiet())
-            }
-            Change::Call(op) => self.do_call(op.clone()?),
-            Change::Send(_) => Ok(Deed::quiet()),
-            Change::Deliver(letter) => {
-                self.do_hear(letter)?;
-                Ok(Deed::quiet())
-            }
-            Change::Advance(id) => {
-                let mut deed = Deed::quiet();
-                self.go_on(*id, &mut deed)?;
-                Ok(deed)
-            }
-            Change::Again(id) => {
-                self.do_again(*id);
-                Ok(Deed::quiet())
-            }
-            Change::Collect => {
-                self.do_collect();
-                Ok(Deed::quiet())
-            }
-            Change::AdvanceCollect => Ok(self.do_advance_collect()),
-            Change::Recon(wish) => {
-                self.do_recon(*wish);
-                Ok(Deed::quiet())
-            }
-            Change::Rebid => {
-                self.do_rebid();
-                Ok(Deed::quiet())
-            }
-            Change::AdvanceRecon => Ok(self.do_advance_recon()),
-            Change::Stop => {
-                self.do_stop();
-                Ok(Deed::quiet())
-            }
         }
     }
 
@@ -129,8 +70,8 @@ impl<Q: Quorums, S: Replica> Node<Q, S> {
         ensures kept { OnErr result (self.new.beside ≡ self.old.beside) }
     {
         self.may_call(&op)?;
-        let id = self.begin(op)?;
-        Ok(id)
+        self.ready_call()?;
+        Ok(self.finish_call(op))
     }
 
     /// The open call of this id goes on, whose phase is met. In its query a get finds the copy that it will
@@ -149,9 +90,10 @@ impl<Q: Quorums, S: Replica> Node<Q, S> {
         ensures err { OnErr result (self.new.state ≡ self.old.state) }
         ensures kept { OnErr result (self.new.beside ≡ self.old.beside) }
     {
-        self.may_advance(&id)?;
+        let place = self.may_advance(&id)?;
         let mut deed = Deed::quiet();
-        self.go_on(id, &mut deed)?;
+        let moving = self.ready_advance(id, place, &mut deed)?;
+        self.finish_advance(moving);
         Ok(deed.effect.into_answer())
     }
 
@@ -211,8 +153,8 @@ impl<Q: Quorums, S: Replica> Node<Q, S> {
         ensures kept { OnErr result (self.new.beside ≡ self.old.beside) }
     {
         self.may_advance_collect()?;
-        let deed = self.do_advance_collect();
-        Ok(deed.effect.collected())
+        let effect = self.do_advance_collect();
+        Ok(effect.collected())
     }
 
     /// An attempt begins to have this configuration chosen for the first unknown place, with a ballot of the round
@@ -273,8 +215,8 @@ impl<Q: Quorums, S: Replica> Node<Q, S> {
         ensures kept { OnErr result (self.new.beside ≡ self.old.beside) }
     {
         self.may_advance_recon()?;
-        let deed = self.do_advance_recon();
-        Ok(deed.effect.decided())
+        let effect = self.do_advance_recon();
+        Ok(effect.decided())
     }
 
     /// The node stops for ever. It takes no memory.

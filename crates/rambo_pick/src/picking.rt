@@ -27,7 +27,7 @@ fn unmoved<Q: Quorums, S: Replica>(node: &Node<Q, S>, id: &CallId) -> Option<Ref
     ensures { result ≡ refusal_of Q.system node.now.state (change.Advance id.now) }
 {
     match node.may_advance(id) {
-        Ok(()) => None,
+        Ok(_) => None,
         Err(refusal) => Some(refusal),
     }
 }

@@ -282,9 +282,10 @@ impl<J: Terms<Q>, Q: Quorums, S: Replica> Post<J, Q, S> {
         begin_in(&mut self.book.lock(rt), keeper)
     }
 
-    /// Whether the last letter of the node of this name carries more than 32 copies.
-    pub fn is_long<R: Wait>(&self, rt: &R, name: Name) -> bool {
-        self.keeper_of(rt, name).is_long()
+    /// Whether the letters of the node of this name carried so many copies since its phase number last rose that a call, by
+    /// which that rises, would have cost less.
+    pub fn carries_much<R: Wait>(&self, rt: &R, name: Name) -> bool {
+        self.keeper_of(rt, name).carries_much()
     }
 
     /// The map of the node of this name. It takes no memory.

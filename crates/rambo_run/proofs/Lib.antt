@@ -46,6 +46,7 @@ pub mod Legal
 pub mod Actors
 pub mod Growing
 pub mod Quiet
+pub mod QuickSteps
 pub mod Causes
 mod Rows
 mod ChangeRows

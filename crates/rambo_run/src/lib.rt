@@ -4,6 +4,7 @@
 mod founding;
 mod laws;
 mod outcome;
+mod quick;
 mod run;
 mod step;
 
@@ -16,5 +17,6 @@ pub use laws::{
     told_collections_are_whole,
 };
 pub use outcome::{NodeMap, Outcome};
+pub use quick::quick_of;
 pub use run::Run;
 pub use step::Step;

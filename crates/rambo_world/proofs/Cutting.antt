@@ -1,6 +1,6 @@
 -- A list that is cut in two
-use Rattle.std.proofs.Common.{◌≡◌, ℕ, ◌+◌, ◌-◌, ◌≤◌, ◌<◌, List, ◌++◌, map, length, take, drop, get_or, Some, slice_get, slice_set, sym, ap, ◌∙◌, arith}
-use Rattle.std.proofs.lemmas.List.{length-append, take_all, take-append-le, get_or_append_left, get_or-append-add, set-append_left, set-append_right, set-get_or, map-set}
+use Rattle.std.proofs.Common.{◌≡◌, ℕ, ◌+◌, ◌-◌, ◌≤◌, ◌<◌, List, ◌++◌, length, take, drop, get_or, Some, slice_get, slice_set, sym, ap, ◌∙◌, arith}
+use Rattle.std.proofs.lemmas.List.{length-append, take_all, take-append-le, get_or_append_left, get_or-append-add, set-append_left, set-append_right}
 use Rattle.std.proofs.lemmas.Option.{slice_get_read}
 
 module _ {A : Type 0} (list front back : List A) (i : ℕ) (cut : list ≡ front ++ back) where
@@ -13,14 +13,6 @@ module _ {A : Type 0} (list front back : List A) (i : ℕ) (cut : list ≡ front
 
   pub set_front : (v : A) → i < length front → slice_set list i v ≡ slice_set front i v ++ back
   set_front v below = ap (λ l. slice_set l i v) cut ∙ set-append_left front back i v below
-
-  kept_front : (x : A) → x ≡ get_or front i x → slice_set front i x ++ back ≡ list
-  kept_front x is = ap (λ l. l ++ back) (ap (slice_set front i) is ∙ set-get_or front i x) ∙ sym cut
-
-  -- of which something stays as it is
-  pub like_front : {B : Type 0} (f : A → B) (x v : A) → i < length front → x ≡ get_or front i x → f v ≡ f x → map f (slice_set front i v ++ back) ≡ map f list
-  like_front f x v below is same =
-      ap (map f) (sym (set_front v below)) ∙ map-set f list i v ∙ ap (slice_set (map f list) i) same ∙ sym (map-set f list i x) ∙ ap (map f) (set_front x below ∙ kept_front x is)
 
   -- the first item of the second part
   pub at_back : (x : A) → length front ≡ i → 0 < length back → x ≡ get_or back 0 x → slice_get list i ≡ Some x
@@ -35,13 +27,6 @@ module _ {A : Type 0} (list front back : List A) (i : ℕ) (cut : list ≡ front
   set_back v here =
       let none : i - i ≡ 0 = omega arith in
       ap (λ l. slice_set l i v) cut ∙ set-append_right front back i i v here (omega arith) ∙ ap (λ n. front ++ slice_set back n v) none
-
-  kept_back : (x : A) → x ≡ get_or back 0 x → front ++ slice_set back 0 x ≡ list
-  kept_back x is = ap (λ l. front ++ l) (ap (slice_set back 0) is ∙ set-get_or back 0 x) ∙ sym cut
-
-  pub like_back : {B : Type 0} (f : A → B) (x v : A) → length front ≡ i → x ≡ get_or back 0 x → f v ≡ f x → map f (front ++ slice_set back 0 v) ≡ map f list
-  like_back f x v here is same =
-      ap (map f) (sym (set_back v here)) ∙ map-set f list i v ∙ ap (slice_set (map f list) i) same ∙ sym (map-set f list i x) ∙ ap (map f) (set_back x here ∙ kept_back x is)
 
 -- a list that is written over whole
 pub written_over : {A : Type 0} (items new : List A) (n : ℕ) → n ≡ length items → length new ≡ length items → take n (new ++ drop (length new) items) ≡ new

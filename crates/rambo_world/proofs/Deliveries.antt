@@ -21,7 +21,7 @@ use Rattle.rambo_node.specs.Nodes.{NodeState}
 use Rattle.rambo_sequence.specs.declared.mark.Mark.{Mark}
 use Rattle.rambo_run.specs.declared.step.Step.TheVariants as step
 use Rattle.rambo_run.specs.Worlds.{WorldState, letter_at}
-use Rattle.rambo_run.specs.Steps.{causes_at, causes_of, delivery, turn, turn_at, turn_of}
+use Rattle.rambo_run.specs.Steps.{causes_at, causes_of, delivery, turn, turn_at}
 use Rattle.rambo_letters.specs.Kept.{SentState, sent_at}
 use Rattle.rambo_logs.specs.Merged.{merged_at, merged_raised}
 use Rattle.rambo_world.specs.Kept.{KeptNode, state_of, states_of, moved_in, kept_at, state_at, log_at, whole_letter, whole_letters, moved, AllGrow, IsSent, HasMerged, IsKept}
@@ -47,10 +47,6 @@ module _ {Q : Type 0} (ks : List (KeptNode Q)) (ss : List (SentState Q)) (h : Li
 
   pub no_causes : (s : QuorumSystem Q) → sent_at ss number ≡ None → causes_of s (world_of ks ss h ms) (delivery (letter_at (whole_letters ks ss) number)) ≡ causes_of s (world_of ks ss h ms) None
   no_causes s found = ap (λ l. causes_of s (world_of ks ss h ms) (delivery l)) (no_letter found)
-
-  pub no_delivery : sent_at ss number ≡ None → turn (world_of ks ss h ms) (step.Deliver number) ≡ record { world = world_of ks ss h ms; effect = effect.Done }
-  unfolding turn
-  no_delivery found = ap (λ l. turn_of (world_of ks ss h ms) (delivery l)) (no_letter found)
 
 -- the letter of a number stands one place before it
 pub sent_before : {Q : Type 0} (ss : List (SentState Q)) (number : ℕ) (s : SentState Q) → sent_at ss number ≡ Some s → slice_get ss (number - 1) ≡ Some s

@@ -1,5 +1,5 @@
 -- Worlds without their letters: steps go the same way there
-use Rattle.std.proofs.Common.{◌≡◌, ℕ, zero, suc, ◌+◌, ◌-◌, false, List, [], ◌∷◌, ◌++◌, length, Option, None, Some, slice_get, slice_set, refl, sym, ap, ◌∙◌, subst, append-nil, arith}
+use Rattle.std.proofs.Common.{◌≡◌, ℕ, zero, suc, ◌+◌, ◌-◌, false, List, [], ◌∷◌, ◌++◌, length, Option, None, Some, slice_get, slice_set, Result, Ok, Err, IfOk, OnOk, OnErr, refl, sym, ap, ◌∙◌, subst, append-nil, arith}
 use Rattle.std.proofs.lemmas.Bool.{false≢true}
 use Rattle.std.proofs.lemmas.List.{set-get_or, length_push}
 use Rattle.std.proofs.lemmas.Option.{get_or_from_slice_get}
@@ -21,8 +21,9 @@ use Rattle.rambo_run.specs.declared.step.Step.{Step}
 use Rattle.rambo_run.specs.declared.step.Step.TheVariants as step
 use Rattle.rambo_run.specs.Worlds.{WorldState, first_world, node_at, letter_at}
 use Rattle.rambo_run.proofs.NodeLists.{node_named}
-use Rattle.rambo_run.specs.Steps.{Turn, Meant, meant, causes, causes_at, causes_of, delivery, refusal, turn, turn_at, turn_of, with_letter}
-use Rattle.rambo_run.specs.Runs.{after, run, run_from, unless_refused}
+use Rattle.rambo_run.specs.Steps.{Meant, meant, causes, causes_at, causes_of, delivery, refusal, turn, turn_at, turn_of, with_letter}
+use Rattle.rambo_run.specs.Runs.{after, result_of, run, run_from, unless_refused}
+use Rattle.rambo_run.specs.Told.{called}
 use Rattle.rambo_run.specs.Steps.{sends}
 use Rattle.rambo_world.specs.Worlds.{EventFits}
 use Rattle.rambo_world.specs.Direct.{without_letters, passed, pass_refusal, first_of, IsReachedBarLetters}
@@ -30,6 +31,7 @@ use Rattle.rambo_run.proofs.Quiet.{quiet_made}
 use Rattle.rambo_run.proofs.GoingOn.{after-refused, run_none}
 use Rattle.rambo_run.proofs.Legal.{events_fit_run}
 use Rattle.rambo_run.proofs.GoingOn.{run-after}
+use Rattle.rambo_world.proofs.Single.{told_done}
 use Rattle.rambo_world.proofs.Turns.{step_turn, step_refusal, step_fits, deliver_refusal}
 
 -- the first item behind a list
@@ -105,6 +107,11 @@ module _ {Q : Type 0} (s : QuorumSystem Q) where
       bar_next w new reached quiet e =
           let v = run s founders reached.0 in
           (reached.0 ++ st ∷ [], e ∙ ap (λ w. after s w st) reached.1 ∙ bare_after v st n c means quiet ∙ ap without_letters (sym (run-after s founders reached.0 st)))
+
+      -- whether or not there was room for it
+      pub bar_on : {A B : Type 0} (w new : WorldState Q) (r : Result A B) → IsReachedBarLetters s founders w → sends c ≡ false → OnOk r (new ≡ after s w st) → OnErr r (new ≡ w) → IsReachedBarLetters s founders new
+      bar_on w new (Ok x) reached quiet done same = bar_next w new reached quiet done
+      bar_on w new (Err e) reached quiet done same = subst (IsReachedBarLetters s founders) (sym same) reached
 
       -- its event can stand at the history's end
       pub bar_fits : (w : WorldState Q) → IsReachedBarLetters s founders w → refusal s w st ≡ None → EventFits w n c
@@ -193,6 +200,11 @@ module _ {Q : Type 0} (s : QuorumSystem Q) where
             ∙ ap without_letters (ap (λ w. after s w two) (sym (run-after s founders reached.0 one)) ∙ sym (run-after s founders (reached.0 ++ one ∷ []) two)),
       )
 
+  -- whether or not there was room for it
+  pub bar_passed_on : {A B : Type 0} (founders : Q) (w new : WorldState Q) (from to : ℕ) (r : Result A B) → IsReachedBarLetters s founders w → OnOk r (new ≡ passed s w from to) → OnErr r (new ≡ w) → IsReachedBarLetters s founders new
+  bar_passed_on founders w new from to (Ok x) reached done same = bar_passed founders w new from to reached done
+  bar_passed_on founders w new from to (Err e) reached done same = subst (IsReachedBarLetters s founders) (sym same) reached
+
   -- no letter comes where there is none
   no_letter : (w : WorldState Q) → w.letters ≡ [] → refusal s w (step.Deliver 1) ≡ Some NoSuchLetter
   no_letter w none = deliver_refusal s w 1 ∙ ap (λ ls. least (causes_of s w (delivery (letter_at ls 1)))) none
@@ -240,6 +252,8 @@ called_by w n o id (Some x) at named e =
     let same : record { name = x.name; number = x.made + 1 } ≡ id = cc in
     ap (λ (i : CallId). i.name) (sym same) ∙ named x at
 
-pub call_named : {Q : Type 0} (w new : WorldState Q) (n : ℕ) (o : Op) (id : CallId) → ((y : NodeState Q) → node_at w n ≡ Some y → y.name ≡ n)
-    → turn_at w n (node_at w n) (change.Call o) ≡ record { world = new; effect = effect.Called id } → id.name ≡ n
-call_named w new n o id named e = called_by w n o id (node_at w n) refl named (ap (λ (t : Turn _). t.effect) e)
+pub call_named : {Q : Type 0} (s : QuorumSystem Q) (w : WorldState Q) (n : ℕ) (o : Op) → ((y : NodeState Q) → node_at w n ≡ Some y → y.name ≡ n)
+    → (r : Result CallId Refusal) → called r ≡ result_of (refusal s w (step.Call n o)) w (step.Call n o) → IfOk r (λ id. id.name ≡ n)
+call_named s w n o named (Ok id) told =
+    called_by w n o id (node_at w n) refl named (sym (ap (λ t. t.effect) (step_turn w (step.Call n o) n (change.Call o) refl)) ∙ (told_done (refusal s w (step.Call n o)) w (step.Call n o) (effect.Called id) told).1)
+call_named s w n o named (Err r) told = tt

@@ -10,7 +10,6 @@ mod Changing
 mod Sendings
 mod Deliveries
 mod Asked
-mod Offsets
 pub mod Longer
 mod Starting
 mod Reached
@@ -20,3 +19,7 @@ mod Meeting
 pub mod Letterless
 mod Passing
 mod Fitting
+mod Lent
+mod Quiet
+mod Heard
+mod Coming

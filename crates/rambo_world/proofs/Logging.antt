@@ -1,7 +1,7 @@
 -- The logs of nodes: what a change puts into a log, and what stays of logs, letters and counts as logs grow
-use Rattle.std.proofs.Common.{◌≡◌, ℕ, ◌+◌, ◌<◌, true, false, List, ◌++◌, Option, Some, None, refl, sym, ap, ◌∙◌, inl, arith}
+use Rattle.std.proofs.Common.{◌≡◌, ℕ, ◌+◌, ◌<◌, true, List, ◌++◌, Option, Some, None, refl, sym, ap, ◌∙◌, inl, arith}
 use Rattle.std.proofs.Common.{append-nil}
-use Rattle.std.proofs.lemmas.Bool.{false≢true, true≢false}
+use Rattle.std.proofs.lemmas.Bool.{false≢true}
 use Rattle.std.specs.Option.{is_some}
 use Rattle.std.specs.Prelude.{if◌then◌else◌}
 use Rattle.std.specs.FinMap as copies
@@ -20,9 +20,6 @@ use Rattle.rambo_history.specs.declared.operation.Op.TheVariants as op
 use Rattle.rambo_gossip.specs.declared.letter.Letter.{Letter}
 use Rattle.rambo_gossip.specs.declared.letter.Kind.{Kind}
 use Rattle.rambo_gossip.specs.declared.letter.Kind.TheVariants as kind
-use Rattle.rambo_gossip.specs.declared.outline.GossipOutline.{GossipOutline}
-use Rattle.rambo_gossip.specs.Letters.{kind_with}
-use Rattle.rambo_gossip.specs.Outlines.{outlined}
 use Rattle.rambo_node.specs.declared.change.Change.{Change}
 use Rattle.rambo_node.specs.declared.change.Change.TheVariants as change
 use Rattle.rambo_calls.specs.declared.stage.Stage.{Stage}
@@ -35,7 +32,7 @@ use Rattle.rambo_node.specs.Changes.{Made, made_by, quiet, stage_met, advanced, 
 use Rattle.rambo_node.specs.Reconfigurations.{collection_opened, attempt_opened}
 use Rattle.rambo_letters.proofs.Lists.{some_is}
 use Rattle.rambo_world.proofs.Members.{Keeps, opened_keeps, collection_keeps, wish_keeps, rebid_keeps, attempt_keeps}
-use Rattle.rambo_world.specs.Logging.{copies_in, copies_brought, listed, keeps_copies}
+use Rattle.rambo_world.specs.Logging.{copies_in, copies_brought, listed}
 
 -- the copy that a set makes is newer than the present one
 newer_tag : (held : Option Version) (name : ℕ) (value : Option (List ℕ)) → is_newer held (record { tag = record { sequence = (tag_of held).sequence + 1; name = name }; value = value }) ≡ true
@@ -76,11 +73,6 @@ module _ {Q : Type 0} (x : NodeState Q) where
   unfolding called_again
   again_logged None = refl
   again_logged (Some c) = refl
-
-  pub again_copies : (c : Option (CallState Q)) → (begun_again x c).node.registers ≡ x.registers
-  unfolding called_again
-  again_copies None = refl
-  again_copies (Some c) = refl
 
   heard_name : (j : ℕ) (k : Kind Q) → (heard_kind x j k).name ≡ x.name
   unfolding heard_join heard_gossip
@@ -150,22 +142,6 @@ pub put_key : {Q : Type 0} (x : NodeState Q) (id : CallId) (cp : KeyedVersion) �
 unfolding made_by
 put_key x id cp e = advanced_key x id (open_call x id) cp e
 
--- a change that keeps its node's copies
-pub kept_copies : {Q : Type 0} (x : NodeState Q) (c : Change Q) → keeps_copies c ≡ true → (made_by x c).node.registers ≡ x.registers
-unfolding made_by joined_by called stopped
-kept_copies x (change.Join contacts) e = refl
-kept_copies x (change.Call o) e = refl
-kept_copies x (change.Send to) e = refl
-kept_copies x (change.Deliver l) e = absurd (false≢true e)
-kept_copies x (change.Advance id) e = absurd (false≢true e)
-kept_copies x (change.Again id) e = again_copies x (open_call x id)
-kept_copies x change.Collect e = (opened_keeps x).registers
-kept_copies x change.AdvanceCollect e = (collection_keeps x x.collection).registers
-kept_copies x (change.Recon wish) e = (wish_keeps x wish).registers
-kept_copies x change.Rebid e = (rebid_keeps x x.attempt).registers
-kept_copies x change.AdvanceRecon e = (attempt_keeps x x.attempt).registers
-kept_copies x change.Stop e = refl
-
 greatest_of-more : (log more : List KeyedVersion) → greatest_of (log ++ more) ≡ greatest_after (greatest_of log) more
 greatest_of-more log more = greatest_of-append log more ∙ joined-greatest_of (greatest_of log) more
 
@@ -181,23 +157,9 @@ made_recorded x log more c recorded brought =
     ∙ ap (λ r. greatest_after r (more ++ own)) recorded
     ∙ sym (greatest_of-more log (more ++ own))
 
--- a letter that is told by its outline brings the copies that it is given, if it gossips
-pub told_copies : {Q : Type 0} (o : Option (GossipOutline Q)) (k : Kind Q) (c : Copies) → outlined o ≡ k → is_some o ≡ true → copies_in (kind_with k c) ≡ c
-told_copies None k c e gossips = absurd (false≢true gossips)
-told_copies (Some g) k c e gossips = ap (λ k. copies_in (kind_with k c)) (sym e)
-
-pub untold_copies : {Q : Type 0} (o : Option (GossipOutline Q)) (k : Kind Q) (c : Copies) → outlined o ≡ k → is_some o ≡ false → copies_in (kind_with k c) ≡ copies.empty
-untold_copies None k c e joins = ap (λ k. copies_in (kind_with k c)) (sym e)
-untold_copies (Some g) k c e joins = absurd (true≢false joins)
-
 -- what is logged with a letter
 pub heard_recorded : {Q : Type 0} (x : NodeState Q) (log more : List KeyedVersion) (l : Letter Q)
     → x.registers ≡ greatest_of log → joined x.registers (greatest_of more) ≡ joined x.registers (copies_in l.kind)
     → (made_by x (change.Deliver l)).node.registers ≡ greatest_of (log ++ more)
 unfolding made_by
 heard_recorded x log more l recorded brought = made_recorded x log more (change.Deliver l) recorded brought ∙ ap (λ m. greatest_of (log ++ m)) (append-nil more)
-
--- a letter that brings no copies
-pub untold_registers : {Q : Type 0} (x : NodeState Q) (l : Letter Q) → copies_in l.kind ≡ copies.empty → (made_by x (change.Deliver l)).node.registers ≡ x.registers
-unfolding made_by
-untold_registers x l none = heard_joined x l.sender l.kind ∙ ap (joined x.registers) none ∙ joined-empty x.registers

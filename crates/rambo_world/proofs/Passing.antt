@@ -1,5 +1,5 @@
 -- A letter that comes from one node to another as it is sent
-use Rattle.std.proofs.Common.{◌≡◌, ◌≢◌, ℕ, ◌-◌, max, Bool, true, false, not, ◌||◌, nat_eq, if◌then◌else◌, List, [], ◌∷◌, map, drop, take, Option, None, Some, refl, sym, ap, ◌∙◌, subst}
+use Rattle.std.proofs.Common.{◌≡◌, ◌≢◌, ℕ, ◌-◌, max, Bool, true, false, not, ◌||◌, nat_eq, if◌then◌else◌, List, [], ◌∷◌, map, Option, None, Some, refl, sym, ap, ◌∙◌, subst}
 use Rattle.std.specs.FinSet as set
 use Rattle.std.proofs.lemmas.Bool.{eq-eqb, false≢true, true≢false}
 use Rattle.std.specs.Option.{is_some}
@@ -10,13 +10,8 @@ use Rattle.rambo_names.specs.Quorums.{QuorumSystem}
 use Rattle.rambo_names.specs.Refusals.{least}
 use Rattle.rambo_history.specs.declared.event.Event.{Event}
 use Rattle.rambo_joiner.specs.Statuses.{is_idle, is_stopped}
-use Rattle.rambo_tag.specs.Copies.{Copies, joined}
-use Rattle.rambo_tag.specs.Logs.{greatest_of}
-use Rattle.rambo_gossip.specs.Letters.{letter_with}
 use Rattle.rambo_node.specs.declared.change.Change.TheVariants as change
 use Rattle.rambo_node.specs.declared.effect.Effect.TheVariants as effect
-use Rattle.rambo_node.specs.Changes.{made_by}
-use Rattle.rambo_node.specs.Hearing.{heard_letter}
 use Rattle.rambo_node.specs.Nodes.{NodeState}
 use Rattle.rambo_node.specs.Refusals.{send_causes}
 use Rattle.rambo_sequence.specs.declared.mark.Mark.{Mark}
@@ -25,16 +20,19 @@ use Rattle.rambo_run.specs.Steps.{Turn, causes_at, refusal, turn}
 use Rattle.rambo_run.specs.Runs.{after}
 use Rattle.rambo_letters.specs.Kept.{SentState}
 use Rattle.rambo_logs.specs.Merged.{merged_at, merged_raised}
-use Rattle.rambo_logs.specs.NodeLogs.{part}
-use Rattle.rambo_world.specs.Kept.{KeptNode, states_of, kept_at, state_at, log_in, log_at, moved, outline, AllGrow, IsRecorded, IsSent, IsKept}
-use Rattle.rambo_world.specs.Deliveries.{world_of, IsDelivered}
-use Rattle.rambo_world.specs.Direct.{without_letters, passed, first_of, brought_from}
-use Rattle.rambo_world.proofs.Deliveries.{sent_causes, delivered_moved, moved_state, kept_raised, deliver_world}
+use Rattle.rambo_world.specs.Hearing.{hear_refusal, IsHeard}
+use Rattle.rambo_world.specs.Kept.{KeptNode, kept_at, state_at, whole_letter, outline, AllGrow, IsRecorded, IsSent, IsKept}
+use Rattle.rambo_world.specs.Deliveries.{world_of}
+use Rattle.rambo_world.specs.Direct.{without_letters, passed, first_of, pass_refusal}
+use Rattle.rambo_world.proofs.Coming.{kept_after, came}
+use Rattle.rambo_world.proofs.Deliveries.{sent_causes}
+use Rattle.rambo_world.proofs.Meeting.{named_there}
 use Rattle.rambo_world.proofs.Letterless.{run_two}
 use Rattle.rambo_run.proofs.GoingOn.{after-taken}
 use Rattle.rambo_world.proofs.Sendings.{name_of, outline_sent, kept_sent, send_world}
-use Rattle.rambo_world.proofs.Stepping.{kept_stays, letters_stay}
-use Rattle.rambo_world.proofs.Turns.{there, kept_there, deliver_refusal}
+use Rattle.rambo_world.proofs.Turns.{kept_there, deliver_refusal, step_refusal}
+use Rattle.rambo_run.specs.Worlds.{WorldState}
+use Rattle.rambo_letters.proofs.Lists.{some_is}
 
 -- no node sends a letter to itself
 unless_none : (holds : Bool) (r : Refusal) (rest : Option Refusal) → (if holds then Some r else rest) ≡ None → (holds ≡ false) × (rest ≡ None)
@@ -54,11 +52,6 @@ apart x to e =
 pub sends_away : {Q : Type 0} (x : NodeState Q) (from to : ℕ) → x.name ≡ from → least (send_causes x to) ≡ None → from ≢ to
 sends_away x from to name e own = absurd (true≢false (sym (eq-eqb to x.name (sym (name ∙ own))) ∙ apart x to e))
 
--- neither of two refusals
-pub neither_refused : (o p : Option Refusal) → first_of o p ≡ None → (o ≡ None) × (p ≡ None)
-neither_refused None p e = (refl, e)
-neither_refused (Some r) p e = absurd (false≢true (ap is_some (sym e)))
-
 module _ {Q : Type 0} (s : QuorumSystem Q) (ks : List (KeptNode Q)) (h : List Event) (ms : List Mark) (from to : ℕ) (k : KeptNode Q)
     (found : kept_at ks from ≡ Some k) (there : state_at ks from ≡ Some k.node.state) (name : k.node.state.name ≡ from) (recorded : IsRecorded k)
     (sent : refusal s (world_of ks [] h ms) (step.Send from to) ≡ None) where
@@ -75,64 +68,97 @@ module _ {Q : Type 0} (s : QuorumSystem Q) (ks : List (KeptNode Q)) (h : List Ev
       ∙ ap least (sent_causes ks (outline k to ∷ []) h ms 1 s (outline k to) refl)
 
   -- and it comes
-  pub passed_alone : (new : List (KeptNode Q)) → refusal s (after s (world_of ks [] h ms) (step.Send from to)) (step.Deliver 1) ≡ None → IsDelivered ks new (outline k to ∷ []) 1
+  pub passed_alone : (new : List (KeptNode Q)) → refusal s (after s (world_of ks [] h ms) (step.Send from to)) (step.Deliver 1) ≡ None
+      → turn (world_of ks (outline k to ∷ []) h ms) (step.Deliver 1) ≡ record { world = world_of new (outline k to ∷ []) h ms; effect = effect.Done }
       → passed s (world_of ks [] h ms) from to ≡ world_of new [] h ms
   passed_alone new accepted comes =
       let w = world_of ks (outline k to ∷ []) h ms in
       let heard : refusal s w (step.Deliver 1) ≡ None = ap (λ w. refusal s w (step.Deliver 1)) (sym sent_alone) ∙ accepted in
       ap without_letters (run_two s (world_of ks [] h ms) (step.Send from to) (step.Deliver 1) ∙ ap (λ w. after s w (step.Deliver 1)) sent_alone
-      ∙ after-taken s w (step.Deliver 1) heard ∙ ap (λ (t : Turn Q). t.world) (comes h ms))
-
--- the nodes after a letter passed
-module _ {Q : Type 0} (s : QuorumSystem Q) (ks new : List (KeptNode Q)) (counts : List ℕ) (kept : IsKept ks [] counts) (grow : AllGrow ks new)
-    (from to before : ℕ) (named_to : IsName to) (named_from : IsName from) (count : before ≡ merged_at counts to from) (k : KeptNode Q) (found : kept_at ks from ≡ Some k)
-    (accepted : least (causes_at s (state_at ks to) (change.Deliver (outline k to).letter)) ≡ None)
-    (enough : joined (greatest_of (log_at ks to)) (brought_from ks to from before (max before (outline k to).told)) ≡ joined (greatest_of (log_at ks to)) (greatest_of (part (log_at ks from) before (max before (outline k to).told))))
-    (nodes : states_of new ≡ moved ks to (λ x. (made_by x (change.Deliver (letter_with (outline k to).letter (brought_from ks to from before (max before (outline k to).told))))).node)) where
-  -- the letter, under its sender's name
-  abbrev letter : SentState Q
-  letter = record (outline k to) { letter = record (outline k to).letter { sender = from } }
-
-  named : k.node.state.name ≡ from
-  named = name_of ks from k (kept.names (from - 1) k found) named_from.0
-
-  same : outline k to ≡ letter
-  same = λ i. record (outline k to) { letter = record (outline k to).letter { sender = named i } }
-
-  sent : IsSent ks letter
-  sent = subst (IsSent ks) same (outline_sent ks k from to found named)
-
-  own : (y : KeptNode Q) × (kept_at ks to ≡ Some y) × (state_at ks to ≡ Some y.node.state)
-  own =
-      let x = there s (state_at ks to) (change.Deliver (outline k to).letter) accepted in
-      let y = kept_there ks to x.0 x.1 in
-      (y.0, y.1, x.1 ∙ ap Some (sym y.2))
-
-  abbrev pack : Copies
-  pack = brought_from ks to from before (max before (outline k to).told)
-
-  packed : joined own.0.node.state.registers pack ≡ joined own.0.node.state.registers (greatest_of (drop (merged_at counts to from) (take (max (merged_at counts to from) (outline k to).told) (log_at ks from))))
-  packed =
-      let mine : own.0.node.state.registers ≡ greatest_of (log_at ks to) = kept.recorded (to - 1) own.0 own.1 ∙ ap greatest_of (sym (ap log_in own.1)) in
-      ap (λ r. joined r pack) mine ∙ enough ∙ ap (λ r. joined r (greatest_of (part (log_at ks from) before (max before (outline k to).told)))) (sym mine)
-      ∙ ap (λ n. joined own.0.node.state.registers (greatest_of (drop n (take (max n (outline k to).told) (log_at ks from))))) count
-
-  heard : states_of new ≡ moved ks to (λ y. heard_letter y (letter_with letter.letter pack))
-  heard = nodes ∙ delivered_moved ks to (letter_with (outline k to).letter pack) (letter_with letter.letter pack) (ap (λ l. letter_with l.letter pack) same)
-
-  pub kept_passed : IsKept new [] (merged_raised counts to from (outline k to).told)
-  kept_passed =
-      kept_raised ks new [] counts kept grow letter sent own.0 pack named_to named_from own.1 packed (kept_stays ks new grow [] counts kept)
-      (λ y there. moved_state ks new to (λ x. heard_letter x (letter_with letter.letter pack)) own.0.node.state y heard own.2 there)
-
-  pub is_passed : IsDelivered ks new (outline k to ∷ []) 1
-  is_passed = λ h ms.
-      let with_it = kept_sent ks [] letter counts kept sent in
-      subst (λ l. turn (world_of ks (l ∷ []) h ms) (step.Deliver 1) ≡ record { world = world_of new (l ∷ []) h ms; effect = effect.Done }) (sym same)
-      (deliver_world ks new (letter ∷ []) counts with_it grow letter sent own.0 pack named_to named_from own.1 packed
-      h ms 1 refl own.2 heard (letters_stay ks new grow (letter ∷ []) with_it.sent))
+      ∙ after-taken s w (step.Deliver 1) heard ∙ ap (λ (t : Turn Q). t.world) comes)
 
 -- letters that are kept whole are none where none is kept
 pub none_kept : {A B : Type 0} (f : A → B) (xs : List A) → map f xs ≡ [] → xs ≡ []
 none_kept f [] e = refl
 none_kept f (x ∷ xs) e = cc
+
+-- a letter between two nodes of a world that keeps none
+module _ {Q : Type 0} (s : QuorumSystem Q) (ks : List (KeptNode Q)) (ss : List (SentState Q)) (counts : List ℕ) (kept : IsKept ks ss counts) (h : List Event) (ms : List Mark)
+    (now : WorldState Q) (view : world_of ks ss h ms ≡ now) (bare : now.letters ≡ []) (from to : ℕ) (x : NodeState Q) (at : state_at ks from ≡ Some x) where
+  none : ss ≡ []
+  none = none_kept (whole_letter ks) ss (ap (λ (w : WorldState Q). w.letters) view ∙ bare)
+
+  is : world_of ks [] h ms ≡ now
+  is = (λ i. world_of ks (sym none i) h ms) ∙ view
+
+  sending : refusal s (world_of ks [] h ms) (step.Send from to) ≡ least (send_causes x to)
+  sending = step_refusal (world_of ks [] h ms) (step.Send from to) from (change.Send to) refl s ∙ ap (λ o. least (causes_at s o (change.Send to))) at
+
+  abbrev coming : Option Refusal
+  coming = refusal s (after s (world_of ks [] h ms) (step.Send from to)) (step.Deliver 1)
+
+  pub all_named : (k : KeptNode Q) → kept_at ks from ≡ Some k → k.node.state.name ≡ from
+  all_named k found = name_of ks from k (kept.names (from - 1) k found) (named_there ks from x at)
+
+  -- where its sender refuses it
+  pub not_sent : (r : Refusal) → least (send_causes x to) ≡ Some r → pass_refusal s now from to ≡ Some r
+  not_sent r e = ap (λ w. pass_refusal s w from to) (sym is) ∙ ap (λ o. first_of o coming) (sending ∙ e)
+
+  -- and where it doesn't
+  module _ (may : least (send_causes x to) ≡ None) where
+    own : (k : KeptNode Q) × (kept_at ks from ≡ Some k) × (k.node.state ≡ x)
+    own = kept_there ks from x at
+
+    sent_off : refusal s (world_of ks [] h ms) (step.Send from to) ≡ None
+    sent_off = sending ∙ may
+
+    there_is : (k : KeptNode Q) → kept_at ks from ≡ Some k → state_at ks from ≡ Some k.node.state
+    there_is k found = at ∙ ap Some (sym own.2 ∙ ap (λ k. k.node.state) (some_is own.0 k (sym own.1 ∙ found)))
+
+    pub away : from ≢ to
+    away = sends_away own.0.node.state from to (all_named own.0 own.1) (ap (λ x. least (send_causes x to)) own.2 ∙ may)
+
+    pub judged_passing : (k : KeptNode Q) → kept_at ks from ≡ Some k → pass_refusal s now from to ≡ hear_refusal s ks (outline k to).letter
+    judged_passing k found =
+        ap (λ w. pass_refusal s w from to) (sym is) ∙ ap (λ o. first_of o coming) sent_off
+        ∙ judged_alone s ks h ms from to k found (there_is k found) (all_named k found) (kept.recorded (from - 1) k found) sent_off
+
+    pub own_kept : (k : KeptNode Q) × (kept_at ks from ≡ Some k)
+    own_kept = (own.0, own.1)
+
+    -- its addressee hears it
+    module _ (new : List (KeptNode Q)) (grow : AllGrow ks new) (before told : ℕ) (named_to : IsName to) (named_from : IsName from) (count : before ≡ merged_at counts to from)
+        (accepted : (k : KeptNode Q) → kept_at ks from ≡ Some k → hear_refusal s ks (outline k to).letter ≡ None) (told_is : (k : KeptNode Q) → kept_at ks from ≡ Some k → told ≡ (outline k to).told)
+        (heard : (k : KeptNode Q) → kept_at ks from ≡ Some k → IsHeard ks new (outline k to).letter before (max before told)) where
+      abbrev k : KeptNode Q
+      k = own.0
+
+      name : k.node.state.name ≡ from
+      name = all_named k own.1
+
+      is_sent : IsSent ks (outline k to)
+      is_sent = outline_sent ks k from to own.1 name
+
+      has : IsHeard ks new (outline k to).letter before (max before (outline k to).told)
+      has = subst (λ n. IsHeard ks new (outline k to).letter before (max before n)) (told_is k own.1) (heard k own.1)
+
+      sender : IsName k.node.state.name
+      sender = subst IsName (sym name) named_from
+
+      counted : before ≡ merged_at counts to k.node.state.name
+      counted = count ∙ ap (merged_at counts to) (sym name)
+
+      pub kept_passed : IsKept new ss (merged_raised counts to from told)
+      kept_passed =
+          subst (IsKept new ss) (λ i. merged_raised counts to (name i) (sym (told_is k own.1) i))
+          (kept_after s ks new ss counts kept grow (outline k to) is_sent before named_to sender counted (accepted k own.1) has)
+
+      pub has_passed : world_of new ss h ms ≡ passed s now from to
+      has_passed =
+          let alone : IsKept ks [] counts = subst (λ ss. IsKept ks ss counts) none kept in
+          let with_it = kept_sent ks [] (outline k to) counts alone is_sent in
+          (λ i. world_of new (none i) h ms)
+          ∙ sym (passed_alone s ks h ms from to k own.1 (there_is k own.1) name (kept.recorded (from - 1) k own.1) sent_off new
+          (judged_alone s ks h ms from to k own.1 (there_is k own.1) name (kept.recorded (from - 1) k own.1) sent_off ∙ accepted k own.1)
+          (came s ks new (outline k to ∷ []) counts with_it grow (outline k to) is_sent before named_to sender counted (accepted k own.1) has h ms 1 refl))
+          ∙ ap (λ w. passed s w from to) is

@@ -51,7 +51,7 @@ abbrev is_join : {Q : Type 0} → Kind Q → Bool
 is_join kind.Join = true
 is_join (kind.Gossip g) = false
 
-told_of : {Q : Type 0} (active : Bool) (n : ℕ) (g : Gossip Q) → kind_with (if active then kind.Gossip g else kind.Join) copies.empty ≡ kind.Join → (if active then n else 0) ≡ 0
+pub told_of : {Q : Type 0} (active : Bool) (n : ℕ) (g : Gossip Q) → kind_with (if active then kind.Gossip g else kind.Join) copies.empty ≡ kind.Join → (if active then n else 0) ≡ 0
 told_of true n g e = absurd (false≢true (ap is_join e))
 told_of false n g e = refl
 

@@ -1,5 +1,5 @@
 -- What steps of one kind do, and what is told of them
-use Rattle.std.proofs.Common.{◌≡◌, false, Option, None, Some, Ok, Err, refl, sym, ap, ◌∙◌, true≢false}
+use Rattle.std.proofs.Common.{◌≡◌, false, Option, None, Some, Result, Ok, Err, refl, sym, ap, ◌∙◌, true≢false}
 use Rattle.rambo_names.specs.declared.refusal.Refusal.{Refusal}
 use Rattle.rambo_names.specs.Quorums.{QuorumSystem}
 use Rattle.rambo_names.specs.Refusals.{least}
@@ -19,8 +19,9 @@ use Rattle.rambo_run.specs.Runs.{after, result_of}
 use Rattle.rambo_run.specs.Steps.{Turn, causes_at, refusal, turn, turn_at, turn_by}
 use Rattle.rambo_run.specs.Worlds.{WorldState, node_at}
 use Rattle.rambo_run.specs.Told.{went_on}
-use Rattle.rambo_run.specs.Ongoing.{RunningOf}
-use Rattle.rambo_run.proofs.GoingOn.{after-taken, after-refused}
+use Rattle.rambo_run.specs.Told as told
+use Rattle.rambo_world.specs.Worlds.{answer_got}
+use Rattle.rambo_run.proofs.GoingOn.{after-taken}
 use Rattle.rambo_world.proofs.Turns.{there, step_refusal, step_turn}
 
 module _ {Q : Type 0} (s : QuorumSystem Q) (w : WorldState Q) (st : Step Q) where
@@ -34,15 +35,6 @@ module _ {Q : Type 0} (s : QuorumSystem Q) (w : WorldState Q) (st : Step Q) wher
 
   pub taken_after : (new : WorldState Q) (e : Effect Q) → refusal s w st ≡ None → turn w st ≡ record { world = new; effect = e } → new ≡ after s w st
   taken_after new e accepted is = sym (after-taken s w st accepted ∙ ap (λ (t : Turn Q). t.world) is)
-
--- a refused step leaves a run as it is
-pub stands : {Q : Type 0} (s : QuorumSystem Q) (v : RunningOf Q) (st : Step Q) (r : Refusal) → refusal s v.state st ≡ Some r → v ≡ record v { state = after s v.state st }
-stands s v st r e = λ i. record { founders = v.founders; state = sym (after-refused s v.state st r e) i }
-
--- what another makes of it
-pub moves_on : {Q : Type 0} (s : QuorumSystem Q) (founders : Q) (w new : WorldState Q) (v : RunningOf Q) (st : Step Q) → record { founders = founders; state = w } ≡ v
-    → new ≡ after s w st → record { founders = founders; state = new } ≡ record v { state = after s v.state st }
-moves_on s founders w new v st is e = λ i. record { founders = (is i).founders; state = (e ∙ ap (λ (v : RunningOf _). after s v.state st) is) i }
 
 stage_told : {Q : Type 0} (x : NodeState Q) (id : CallId) (c : CallState Q) (stage : Stage) → went_on id (answer_in (stage_met x id c stage).deed.effect) ≡ (stage_met x id c stage).deed.effect
 stage_told x id c Query = refl
@@ -76,3 +68,21 @@ advancing s w new id e accepted is =
     ap (λ (t : Turn _). t.effect) (sym is ∙ step_turn w st id.name (change.Advance id) refl ∙ ap (λ o. turn_at w id.name o (change.Advance id)) x.1) ∙ went w x.0 id in
     let found = (advance_next x.0 s id (sym (ap (λ o. least (causes_at s o (change.Advance id))) x.1) ∙ allowed)).0 in
     ap (λ e. went_on id (answer_in e)) told ∙ call_told x.0 id (open_call x.0 id) found ∙ sym told
+
+-- what is told of a step that was taken
+pub told_done : {Q : Type 0} (o : Option Refusal) (w : WorldState Q) (st : Step Q) (e : Effect Q) → Ok e ≡ result_of o w st → (o ≡ None) × ((turn w st).effect ≡ e)
+told_done None w st e told = (refl, cc)
+told_done (Some r) w st e told = cc
+
+-- and of a call that went on, by its answer
+pub advanced_told : {Q : Type 0} (s : QuorumSystem Q) (w : WorldState Q) (id : CallId) (t : Result (Effect Q) Refusal) → t ≡ result_of (refusal s w (step.Advance id)) w (step.Advance id)
+    → told.advanced id (answer_got t) ≡ result_of (refusal s w (step.Advance id)) w (step.Advance id)
+advanced_told s w id (Err r) is = is
+advanced_told s w id (Ok e) is =
+    let st = step.Advance id in
+    let done = told_done (refusal s w st) w st e is in
+    ap Ok (advancing s w (turn w st).world id e done.0 (λ i. record { world = (turn w st).world; effect = done.1 i })) ∙ is
+
+pub told_refused : {Q : Type 0} (o : Option Refusal) (w : WorldState Q) (st : Step Q) (r : Refusal) → Err r ≡ result_of o w st → o ≡ Some r
+told_refused None w st r told = cc
+told_refused (Some q) w st r told = cc

@@ -1,5 +1,5 @@
 -- What a step that isn't refused does
-use Rattle.std.proofs.Common.{◌≡◌, ℕ, zero, suc, arith, List, Option, None, Some, Result, Ok, Err, IfErr, refl, sym, ap, ◌∙◌}
+use Rattle.std.proofs.Common.{◌≡◌, ℕ, zero, suc, arith, List, Option, None, Some, Result, Ok, Err, IfErr, refl, sym, ap, ◌∙◌, subst}
 use Rattle.std.proofs.lemmas.Bool.{false≢true, true≢false}
 use Rattle.std.specs.Option.{is_some, option_map}
 use Rattle.rambo_names.specs.declared.refusal.Refusal.{Refusal}
@@ -12,7 +12,7 @@ use Rattle.rambo_node.specs.Nodes.{NodeState}
 use Rattle.rambo_run.specs.declared.step.Step.{Step}
 use Rattle.rambo_run.specs.declared.step.Step.TheVariants as step
 use Rattle.rambo_run.specs.Worlds.{WorldState, node_at, letter_at}
-use Rattle.rambo_run.specs.Steps.{meant, causes, causes_at, causes_of, delivery, refusal, turn, turn_at, turn_of, with_event}
+use Rattle.rambo_run.specs.Steps.{Turn, meant, causes, causes_at, causes_of, delivery, refusal, turn, turn_at, turn_of, with_event}
 use Rattle.rambo_world.specs.Kept.{KeptNode, state_of, kept_at, state_at}
 use Rattle.rambo_run.specs.Legal.{EventsFit}
 use Rattle.rambo_world.specs.Worlds.{EventFits}
@@ -61,3 +61,12 @@ deliver_refusal s w number = refl
 pub judged_at : {Q : Type 0} (s : QuorumSystem Q) (w : WorldState Q) (st : Step Q) (n : ℕ) (c : Change Q) (x : NodeState Q)
     → meant w st ≡ Some (record { name = n; change = c }) → node_at w n ≡ Some x → refusal_of s x c ≡ refusal s w st
 judged_at s w st n c x means found = sym (step_refusal w st n c means s ∙ ap (λ o. least (causes_at s o c)) found)
+
+-- the same of a world by its parts
+pub judged_now : {Q : Type 0} (s : QuorumSystem Q) (w now : WorldState Q) → w ≡ now → (st : Step Q) (n : ℕ) (c : Change Q) (x : NodeState Q)
+    → meant w st ≡ Some (record { name = n; change = c }) → node_at w n ≡ Some x → (o : Option Refusal) → refusal_of s x c ≡ o → refusal s now st ≡ o
+judged_now s w now view st n c x means found o e = subst (λ w. refusal s w st ≡ o) view (sym (judged_at s w st n c x means found) ∙ e)
+
+pub turned_now : {Q : Type 0} (w now : WorldState Q) → w ≡ now → (st : Step Q) (n : ℕ) (c : Change Q) → meant w st ≡ Some (record { name = n; change = c })
+    → (t : Turn Q) → turn_at w n (node_at w n) c ≡ t → turn now st ≡ t
+turned_now w now view st n c means t done = ap (λ w. turn w st) (sym view) ∙ step_turn w st n c means ∙ done

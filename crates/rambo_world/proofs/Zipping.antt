@@ -1,5 +1,5 @@
 -- Nodes with their logs, and what a change of one of them makes of the list
-use Rattle.std.proofs.Common.{◌≡◌, ℕ, zero, suc, ◌-◌, ◌≤◌, ◌<◌, List, [], ◌∷◌, length, get_or, append-nil, Some, slice_get, slice_set, refl, sym, ap, ◌∙◌, subst, arith}
+use Rattle.std.proofs.Common.{◌≡◌, ℕ, zero, suc, ◌-◌, ◌≤◌, ◌<◌, List, [], ◌∷◌, length, get_or, Some, slice_get, slice_set, refl, sym, ap, ◌∙◌, subst, arith}
 use Rattle.std.specs.Prelude.{slice_index_or}
 use Rattle.std.proofs.lemmas.Bool.{false≢true}
 use Rattle.std.proofs.lemmas.List.{length-map}
@@ -11,7 +11,7 @@ use Rattle.rambo_tag.specs.Logs.{greatest_of}
 use Rattle.rambo_gossip.specs.declared.letter.Letter.{Letter}
 use Rattle.rambo_logs.specs.NodeLogs.{part, lacked}
 use Rattle.rambo_node.specs.Nodes.{NodeState, RoomyNode}
-use Rattle.rambo_world.specs.Kept.{KeptNode, kept_of, kept_at, log_in, log_at, brought, states_of, logs_of, node_state, node_states, state_at, moved, SameBarRoom, Grows, AllGrow}
+use Rattle.rambo_world.specs.Kept.{KeptNode, kept_of, kept_at, log_in, log_at, brought, states_of, logs_of, node_state, node_states, state_at, moved, with_node, SameBarRoom, Grows, AllGrow}
 use Rattle.rambo_letters.proofs.Lists.{some_is}
 use Rattle.rambo_world.proofs.Growth.{put, kept_here, state_here, unchanged, grow}
 
@@ -136,15 +136,9 @@ module _ {Q : Type 0} (xs : List (RoomyNode Q)) (ls : List (List KeyedVersion)) 
       subst (λ ms. SameBarRoom ks (kept_of (slice_set xs place y) ms)) (sym logs)
       (subst (SameBarRoom ks) (sym (kept_of-set xs ls place y)) (unchanged ks place name (with_log x log) (with_log y log) at named kept_below kept_is e refl))
 
-  -- a node that keeps its copies, and its log
-  pub node_grows : y.state.name ≡ x.state.name → y.state.registers ≡ x.state.registers → AllGrow ks (kept_of (slice_set xs place y) ls)
-  node_grows name_stays copies_stay =
-      subst (AllGrow ks) (sym (kept_of-set xs ls place y))
-      (grow ks place name (with_log x log) (with_log y log) at named kept_below kept_is (record {
-        name = name_stays;
-        extends = ([], sym (append-nil log));
-        recorded = λ before. copies_stay ∙ before;
-      }))
+  -- the node that is put keeps its log
+  pub kept_with : length xs ≡ length ls → kept_of (slice_set xs place y) ls ≡ with_node ks name y
+  kept_with same = kept_of-set xs ls place y ∙ λ i. slice_set ks (at i) (with_log y ((ap (λ p. slice_index_or ls p []) at ∙ sym (log_is xs ls same name)) i))
 
   -- a node that takes on copies, with these at the end of its log
   pub log_grows : (m : List KeyedVersion) → name - 1 < length ls → Grows (with_log x (slice_index_or ls (name - 1) [])) (with_log y m) → AllGrow ks (kept_of (slice_set xs place y) (slice_set ls (name - 1) m))

@@ -1,22 +1,12 @@
 -- Runs whose letters come as they are sent, and of which no letter is kept
 use Rattle.std.specs.Prelude.{◌≡◌, ℕ, List, [], ◌∷◌, Option, None, Some, Result, Ok, Err}
-use Rattle.std.specs.FinMap as copies
 use Rattle.rambo_names.specs.declared.refusal.Refusal.{Refusal}
 use Rattle.rambo_names.specs.Quorums.{QuorumSystem}
-use Rattle.rambo_tag.specs.Copies.{Copies}
-use Rattle.rambo_tag.specs.Logs.{greatest_of}
-use Rattle.rambo_gossip.specs.declared.letter.Letter.{Letter}
-use Rattle.rambo_gossip.specs.Letters.{letter_with}
-use Rattle.rambo_node.specs.Letters.{letter_for}
-use Rattle.rambo_node.specs.Nodes.{NodeState}
-use Rattle.rambo_logs.specs.NodeLogs.{part, lacked}
 use Rattle.rambo_run.specs.declared.step.Step.{Step}
 use Rattle.rambo_run.specs.declared.step.Step.TheVariants as step
 use Rattle.rambo_run.specs.Worlds.{WorldState}
 use Rattle.rambo_run.specs.Steps.{refusal}
 use Rattle.rambo_run.specs.Runs.{after, run, run_from}
-use Rattle.rambo_world.specs.Deliveries.{MayHear, IsDelivered}
-use Rattle.rambo_world.specs.Kept.{KeptNode, kept_at, log_at, outline}
 
 -- a world without its letters
 abbrev pub without_letters : {Q : Type 0} → WorldState Q → WorldState Q
@@ -47,19 +37,3 @@ pass_refusal s w from to = first_of (refusal s w (step.Send from to)) (refusal s
 abbrev pub told_refusal : {A : Type 0} → Result A Refusal → Option Refusal
 told_refusal (Ok x) = None
 told_refusal (Err r) = Some r
-
--- what a node tells another, without copies
-abbrev pub outlined_for : {Q : Type 0} → NodeState Q → ℕ → Letter Q
-outlined_for x to = letter_with (letter_for x to) copies.empty
-
--- of a part of one node's log, the copies that another lacks
-abbrev pub brought_from : {Q : Type 0} → List (KeptNode Q) → ℕ → ℕ → ℕ → ℕ → Copies
-brought_from ks to from start end = greatest_of (lacked (greatest_of (log_at ks to)) (part (log_at ks from) start end))
-
--- the letter of a node to another, were it the only one, isn't refused
-abbrev pub MayPass : {Q : Type 0} → QuorumSystem Q → List (KeptNode Q) → ℕ → ℕ → Type 0
-MayPass {Q} s ks from to = (k : KeptNode Q) → kept_at ks from ≡ Some k → MayHear s ks (outline k to ∷ []) 1
-
--- and the nodes are those after it came
-abbrev pub IsPassed : {Q : Type 0} → List (KeptNode Q) → List (KeptNode Q) → ℕ → ℕ → Type 0
-IsPassed {Q} ks new from to = (k : KeptNode Q) → kept_at ks from ≡ Some k → IsDelivered ks new (outline k to ∷ []) 1

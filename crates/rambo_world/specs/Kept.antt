@@ -79,9 +79,16 @@ whole_letter ks s = letter_with s.letter (greatest_of (take s.told (log_at ks s.
 abbrev pub whole_letters : {Q : Type 0} → List (KeptNode Q) → List (SentState Q) → List (Letter Q)
 whole_letters ks ss = map (whole_letter ks) ss
 
--- the letter of a node as it is kept
+-- the nodes with that of a name put as this, whose log stays
+abbrev pub with_node : {Q : Type 0} → List (KeptNode Q) → ℕ → RoomyNode Q → List (KeptNode Q)
+with_node ks name x = slice_set ks (name - 1) (record { node = x; log = log_at ks name })
+
+-- the letter of a node as it is kept, where the node's log has so many copies
+abbrev pub outline_by : {Q : Type 0} → NodeState Q → ℕ → ℕ → SentState Q
+outline_by x to logged = record { letter = letter_with (letter_for x to) copies.empty; told = if is_active x.status then logged else 0 }
+
 abbrev pub outline : {Q : Type 0} → KeptNode Q → ℕ → SentState Q
-outline k to = record { letter = letter_with (letter_for k.node.state to) copies.empty; told = if is_active k.node.state.status then length k.log else 0 }
+outline k to = outline_by k.node.state to (length k.log)
 
 -- the states with that of one name put in another way
 abbrev pub moved_in : {Q : Type 0} → ℕ → Option (NodeState Q) → (NodeState Q → NodeState Q) → List (NodeState Q) → List (NodeState Q)

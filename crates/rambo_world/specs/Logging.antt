@@ -1,5 +1,5 @@
 -- The copies that a change brings to a node from another
-use Rattle.std.specs.Prelude.{Bool, true, false, List, [], ◌∷◌, Option, None, Some}
+use Rattle.std.specs.Prelude.{List, [], ◌∷◌, Option, None, Some}
 use Rattle.std.specs.FinMap as copies
 use Rattle.rambo_tag.specs.declared.keyed_version.KeyedVersion.{KeyedVersion}
 use Rattle.rambo_tag.specs.Copies.{Copies}
@@ -32,18 +32,3 @@ copies_brought change.Stop = copies.empty
 abbrev pub listed : Option KeyedVersion → List KeyedVersion
 listed None = []
 listed (Some c) = c ∷ []
-
--- whether a change keeps its node's copies, whatever these are
-abbrev pub keeps_copies : {Q : Type 0} → Change Q → Bool
-keeps_copies (change.Join contacts) = true
-keeps_copies (change.Call o) = true
-keeps_copies (change.Send to) = true
-keeps_copies (change.Deliver l) = false
-keeps_copies (change.Advance id) = false
-keeps_copies (change.Again id) = true
-keeps_copies change.Collect = true
-keeps_copies change.AdvanceCollect = true
-keeps_copies (change.Recon wish) = true
-keeps_copies change.Rebid = true
-keeps_copies change.AdvanceRecon = true
-keeps_copies change.Stop = true

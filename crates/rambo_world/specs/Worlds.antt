@@ -1,10 +1,13 @@
 -- A world, by its founders and its steps
-use Rattle.std.specs.Prelude.{◌≡◌, ℕ, List, None, Some}
+use Rattle.std.specs.Prelude.{◌≡◌, ℕ, List, Option, None, Some, Result, Ok, Err}
+use Rattle.rambo_names.specs.declared.refusal.Refusal.{Refusal}
 use Rattle.rambo_names.specs.Quorums.{QuorumSystem}
 use Rattle.rambo_history.specs.declared.event.Event.{Event}
+use Rattle.rambo_history.specs.declared.operation.Answer.{Answer}
 use Rattle.rambo_history.specs.Faults.{fault_of}
 use Rattle.rambo_node.specs.declared.change.Change.{Change}
-use Rattle.rambo_node.specs.Changes.{made_by}
+use Rattle.rambo_node.specs.declared.effect.Effect.{Effect}
+use Rattle.rambo_node.specs.Changes.{made_by, answer_in}
 use Rattle.rambo_node.specs.Nodes.{NodeState}
 use Rattle.rambo_run.specs.declared.step.Step.{Step}
 use Rattle.rambo_run.specs.Worlds.{WorldState, node_at}
@@ -22,3 +25,8 @@ state s w = run s w.founders w.steps
 -- the event of a change of a node, if it has one, can stand at the history's end
 abbrev pub EventFits : {Q : Type 0} → WorldState Q → ℕ → Change Q → Type 0
 EventFits {Q} w n c = (x : NodeState Q) (e : Event) → node_at w n ≡ Some x → (made_by x c).deed.event ≡ Some e → fault_of w.history e ≡ None
+
+-- the answer that a call got as it went on, if it did and wasn't refused
+abbrev pub answer_got : {Q : Type 0} → Result (Effect Q) Refusal → Result (Option Answer) Refusal
+answer_got (Ok e) = Ok (answer_in e)
+answer_got (Err r) = Err r

@@ -70,11 +70,7 @@ impl<Q: Quorums, S: Replica> Direct<Q, S> {
         ensures err { OnErr result (self.new ≡ self.old) }
         ensures refused { IfErr result (λ r. r ≡ Refusal.OutOfMemory) }
     {
-        if let Err(refusal) = self.state.nodes.node(name).may_call(&op) {
-            return Ok(Err(refusal));
-        }
-        let id = self.state.call(name, op)?;
-        Ok(Ok(id))
+        self.state.call(name, op)
     }
 
     /// A node sends a letter to another, to which it comes at once; or why it isn't sent, or isn't heard. The run then
@@ -88,11 +84,7 @@ impl<Q: Quorums, S: Replica> Direct<Q, S> {
         ensures err { OnErr result (self.new ≡ self.old) }
         ensures refused { IfErr result (λ r. r ≡ Refusal.OutOfMemory) }
     {
-        if let Err(refusal) = self.state.may_pass(from, to) {
-            return Ok(Err(refusal));
-        }
-        self.state.pass(from, to)?;
-        Ok(Ok(()))
+        self.state.pass(from, to)
     }
 
     /// A call goes on: its answer, if it got one, or why that was refused, after which the run goes on.
@@ -106,11 +98,7 @@ impl<Q: Quorums, S: Replica> Direct<Q, S> {
         ensures err { OnErr result (self.new ≡ self.old) }
         ensures refused { IfErr result (λ r. r ≡ Refusal.OutOfMemory) }
     {
-        if let Err(refusal) = self.state.nodes.node(id.name).may_advance(&id) {
-            return Ok(Err(refusal));
-        }
-        let effect = self.state.advance(id)?;
-        Ok(Ok(answer_got(effect)))
+        Ok(answer_got(self.state.advance(id)?))
     }
 
     /// The calls and answers, in order: those of a run.

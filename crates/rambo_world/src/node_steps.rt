@@ -1,70 +1,103 @@
 //! Steps of one node.
-ghost use Rattle.std.specs.Prelude.{◌≡◌, ◌<◌, ◌++◌, ◌∷◌, [], false, true, None, Some, OnErr, IfOk, IfErr};
+ghost use Rattle.std.specs.Prelude.{◌≡◌, ◌<◌, ◌++◌, ◌∷◌, [], false, None, Some, OnOk, OnErr, IfOk, IfErr};
 ghost use Rattle.std.specs.Vec.{vec_capacity, vec_len};
 ghost use Rattle.rambo_names.specs.Refusals.{least};
 ghost use Rattle.rambo_history.specs.Faults.{fault_of};
-ghost use Rattle.rambo_run.specs.Steps.{causes_at, sends, turn_at, with_event, with_mark};
+ghost use Rattle.rambo_node.specs.Prepared.{quick_change};
+ghost use Rattle.rambo_run.specs.Runs.{after, result_of};
+ghost use Rattle.rambo_run.specs.Steps.{causes_at, refusal, sends, turn_at, with_event, with_mark};
+ghost use Rattle.rambo_run.specs.Told.{called};
 ghost use Rattle.rambo_run.specs.Worlds.{node_at};
-ghost use Rattle.rambo_world.specs.Logging.{keeps_copies};
+ghost use Rattle.rambo_run.specs.declared.step.Step.TheVariants as step;
 ghost use Rattle.rambo_world.specs.Worlds.{EventFits};
 
 use crate::state::State;
 use rambo_history::{CallId, Event, History, Op};
 use rambo_names::{Name, Quorums, Refusal};
-use rambo_node::{Change, Deed, Effect};
+use rambo_node::{Change, Deed, Effect, Quick};
 use rambo_sequence::Mark;
 use rambo_tag::Replica;
 
 impl<Q: Quorums, S: Replica> State<Q, S> {
-    // A node takes a change that isn't refused, sends no letter, and keeps the node's copies.
-    // (a deed is large, and where this is inlined it is moved piece by piece)
-    #[inline(never)]
-    pub(crate) fn change(&mut self, name: Name, change: &Change<Q>) -> Result<Effect<Q>, Refusal>
-        requires accepted { least (causes_at Q.system (node_at self.old name) change.now) ≡ None }
-        requires fits { EventFits self.old name change.now }
-        requires quiet { sends change.now ≡ false }
-        requires keeps { keeps_copies change.now ≡ true }
-        ensures ok { IfOk result (λ e. turn_at self.old name (node_at self.old name) change.now ≡ record { world = self.new; effect = e }) }
+    // A node takes a change that needs no memory, and sends no letter: what it did, or why it is refused.
+    pub(crate) fn quick(&mut self, name: Name, quick: Quick<Q>) -> Result<Effect<Q>, Refusal>
+        requires { sends (quick_change quick) ≡ false }
+        ensures ok { IfOk result (λ e. turn_at self.old name (node_at self.old name) (quick_change quick) ≡ record { world = self.new; effect = e }) }
+        ensures accepted { OnOk result (least (causes_at Q.system (node_at self.old name) (quick_change quick)) ≡ None) }
+        ensures refused { IfErr result (λ r. least (causes_at Q.system (node_at self.old name) (quick_change quick)) ≡ Some r) }
         ensures err { OnErr result (self.new ≡ self.old) }
-        ensures refused { IfErr result (λ r. r ≡ Refusal.OutOfMemory) }
     {
-        self.history.reserve(1)?;
-        self.marks.reserve(1)?;
-        let mut deed = self.nodes.act(name, change)?;
-        note(&mut self.history, &mut self.marks, &mut deed);
-        Ok(deed.effect)
+        let node = self.nodes.node_mut(name);
+        node.judge_quick(&quick)?;
+        Ok(node.finish_quick(quick))
     }
 
-    // A client asks a node for an operation, which isn't refused: the call.
-    pub(crate) fn call(&mut self, name: Name, op: Op) -> Result<CallId, Refusal>
-        requires accepted { least (causes_at Q.system (node_at self.old name) (Change.Call op)) ≡ None }
-        requires fits { EventFits self.old name (Change.Call op) }
-        ensures ok { IfOk result (λ id. turn_at self.old name (node_at self.old name) (Change.Call op) ≡ record { world = self.new; effect = Effect.Called id }) }
+    // A client asks a node for an operation: the call, or why it is refused.
+    pub(crate) fn call(&mut self, name: Name, op: Op) -> Result<Result<CallId, Refusal>, Refusal>
+        requires fits { refusal Q.system self.old (step.Call name op) ≡ None → EventFits self.old name (Change.Call op) }
+        ensures told { IfOk result (λ r. called r ≡ result_of (refusal Q.system self.old (step.Call name op)) self.old (step.Call name op)) }
+        ensures after { OnOk result (self.new ≡ after Q.system self.old (step.Call name op)) }
+        ensures accepted { OnErr result (refusal Q.system self.old (step.Call name op) ≡ None) }
         ensures err { OnErr result (self.new ≡ self.old) }
         ensures refused { IfErr result (λ r. r ≡ Refusal.OutOfMemory) }
     {
+        if let Err(refusal) = self.nodes.node(name).may_call(&op) {
+            return Ok(Err(refusal));
+        }
         self.history.reserve(1)?;
         let _ = self.history.prepare(name);
         let asked = op.clone()?;
-        let id = self.nodes.begin(name, op)?;
+        let node = self.nodes.node_mut(name);
+        node.ready_call()?;
+        let id = node.finish_call(op);
         push_call(&mut self.history, &id, asked);
-        Ok(id)
+        Ok(Ok(id))
     }
 
-    // A call goes on whose advance isn't refused.
-    pub(crate) fn advance(&mut self, id: CallId) -> Result<Effect<Q>, Refusal>
-        requires accepted { least (causes_at Q.system (node_at self.old id.name) (Change.Advance id)) ≡ None }
-        requires fits { EventFits self.old id.name (Change.Advance id) }
-        ensures ok { IfOk result (λ e. turn_at self.old id.name (node_at self.old id.name) (Change.Advance id) ≡ record { world = self.new; effect = e }) }
+    // The same where the operation is lent.
+    pub(crate) fn call_lent(
+        &mut self,
+        name: Name,
+        op: &Op,
+    ) -> Result<Result<CallId, Refusal>, Refusal>
+        requires fits { refusal Q.system self.old (step.Call name op.now) ≡ None → EventFits self.old name (Change.Call op.now) }
+        ensures told { IfOk result (λ r. called r ≡ result_of (refusal Q.system self.old (step.Call name op.now)) self.old (step.Call name op.now)) }
+        ensures after { OnOk result (self.new ≡ after Q.system self.old (step.Call name op.now)) }
+        ensures accepted { OnErr result (refusal Q.system self.old (step.Call name op.now) ≡ None) }
         ensures err { OnErr result (self.new ≡ self.old) }
         ensures refused { IfErr result (λ r. r ≡ Refusal.OutOfMemory) }
     {
+        match op.clone() {
+            Ok(op) => self.call(name, op),
+            Err(full) => {
+                // (a refusal needs no room)
+                if let Err(refusal) = self.nodes.node(name).may_call(op) {
+                    return Ok(Err(refusal));
+                }
+                Err(full)
+            }
+        }
+    }
+
+    // A call goes on: what it did, or why it is refused.
+    pub(crate) fn advance(&mut self, id: CallId) -> Result<Result<Effect<Q>, Refusal>, Refusal>
+        requires fits { refusal Q.system self.old (step.Advance id) ≡ None → EventFits self.old id.name (Change.Advance id) }
+        ensures told { IfOk result (λ r. r ≡ result_of (refusal Q.system self.old (step.Advance id)) self.old (step.Advance id)) }
+        ensures after { OnOk result (self.new ≡ after Q.system self.old (step.Advance id)) }
+        ensures accepted { OnErr result (refusal Q.system self.old (step.Advance id) ≡ None) }
+        ensures err { OnErr result (self.new ≡ self.old) }
+        ensures refused { IfErr result (λ r. r ≡ Refusal.OutOfMemory) }
+    {
+        let place = match self.nodes.node(id.name).may_advance(&id) {
+            Ok(place) => place,
+            Err(refusal) => return Ok(Err(refusal)),
+        };
         self.history.reserve(1)?;
         self.marks.reserve(1)?;
         let mut deed = Deed::quiet();
-        self.nodes.go_on(id, &mut deed)?;
+        self.nodes.advance(id, place, &mut deed)?;
         note(&mut self.history, &mut self.marks, &mut deed);
-        Ok(deed.effect)
+        Ok(Ok(deed.effect))
     }
 }
 

@@ -1,22 +1,23 @@
 //! The nodes of a world, and the logs of their copies.
-ghost use Rattle.std.specs.Prelude.{◌≡◌, ◌≢◌, ◌+◌, ◌-◌, ◌<◌, ◌≤◌, max, List, [], ℕ, None, Some, length, replicate, true, slice_get, slice_set, OnOk, OnErr, IfOk, IfErr};
+ghost use Rattle.std.specs.Prelude.{◌≡◌, ◌≢◌, ◌-◌, ◌<◌, ◌≤◌, max, List, [], ℕ, None, Some, length, replicate, slice_get, slice_set, OnOk, OnErr, IfOk, IfErr};
+ghost use Rattle.std.specs.Borrow.{sem};
 ghost use Rattle.rambo_names.specs.Names.{IsName, rising};
-ghost use Rattle.rambo_names.specs.Refusals.{least};
 ghost use Rattle.rambo_tag.specs.declared.keyed_version.KeyedVersion.{KeyedVersion};
-ghost use Rattle.rambo_tag.specs.Copies.{joined};
-ghost use Rattle.rambo_tag.specs.Logs.{greatest_of};
 ghost use Rattle.rambo_history.specs.declared.operation.Op.TheVariants as asked;
 ghost use Rattle.rambo_calls.specs.Calls.{query_in};
+ghost use Rattle.rambo_gossip.specs.declared.letter.Kind.TheVariants as kind;
 ghost use Rattle.rambo_gossip.specs.Letters.{letter_with};
-ghost use Rattle.rambo_logs.specs.NodeLogs.{part, extended};
+ghost use Rattle.rambo_logs.specs.NodeLogs.{extended};
 ghost use Rattle.rambo_node.specs.Changes.{refusal_of, made_by, quiet_deed};
-ghost use Rattle.rambo_node.specs.Nodes.{NodeState, first_node, open_call};
+ghost use Rattle.rambo_node.specs.Nodes.{NodeState, RoomyNode, first_node};
+ghost use Rattle.rambo_node.specs.Prepared.{IsFound};
 ghost use Rattle.rambo_run.specs.Runs.{maps_of};
-ghost use Rattle.rambo_run.specs.Steps.{causes_at};
 ghost use Rattle.rambo_run.specs.Worlds.{first_nodes};
-ghost use Rattle.rambo_world.specs.Kept.{KeptNode, states_of, logs_of, node_states, state_at, kept_at, log_at, moved, outline, AllGrow, SameBarRoom, brought};
-ghost use Rattle.rambo_world.specs.Logging.{listed, keeps_copies};
-ghost use Rattle.rambo_world.specs.Direct.{outlined_for, brought_from};
+ghost use Rattle.rambo_world.specs.Kept.{KeptNode, states_of, logs_of, node_states, state_at, kept_at, log_at, moved, outline, outline_by, AllGrow, SameBarRoom};
+ghost use Rattle.rambo_world.specs.Hearing.{hear_refusal, told_by, HasHeard, HasMet, IsHeard, IsUnheard};
+ghost use Rattle.rambo_world.specs.Pairs.{lends_both, AreBoth};
+ghost use Rattle.rambo_world.specs.Logging.{listed};
+ghost use Rattle.rambo_world.specs.Direct.{told_refusal};
 
 use rambo_config_map::Places;
 use rambo_gossip::LetterOutline;
@@ -69,6 +70,8 @@ impl<Q: Quorums, S: Replica> Model for Nodes<Q, S> {
 }
 
 impl<Q: Quorums, S: Replica> Nodes<Q, S> {
+    ghost use Rattle.rambo_world.specs.Lending.{lends_node};
+
     // The nodes of the names 1 to 64 before any step. The copies of each are made by `fresh` of a replica.
     pub(crate) fn new(alloc: Global, founders: Q, replica: &S) -> Result<Self, Refusal>
         ensures states { IfOk result (λ n. states_of n ≡ first_nodes Q.system founders (rising 64 1)) }
@@ -93,6 +96,15 @@ impl<Q: Quorums, S: Replica> Nodes<Q, S> {
         &self.list[place_of(name)]
     }
 
+    // The node of a name, to be changed: its log stays.
+    pub(crate) fn node_mut(&mut self, name: Name) -> &mut Node<Q, S>
+        ensures* lent { sem 𝓛 (lends_node Q.row S.row Q.Quorums.own Q.PartialEq S.Replica self.entry name result) }
+        ensures kept { kept_at self.old name ≡ Some (record { node = result.now; log = log_at self.old name }) }
+        ensures named { IsName name }
+    {
+        &mut self.list[place_of(name)]
+    }
+
     // The maps of the nodes that aren't idle.
     pub(crate) fn maps(&self, alloc: Global) -> Result<Vec<NodeMap<Q>>, Refusal>
         ensures maps { IfOk result (λ maps. maps.items ≡ maps_of (states_of self.now)) }
@@ -101,37 +113,15 @@ impl<Q: Quorums, S: Replica> Nodes<Q, S> {
         maps_of(alloc, self.list.as_slice())
     }
 
-    // Takes a change of a node that isn't refused, where that keeps the node's copies.
-    pub(crate) fn act(&mut self, name: Name, change: &Change<Q>) -> Result<Deed<Q>, Refusal>
-        requires accepted { least (causes_at Q.system (state_at self.old name) change.now) ≡ None }
-        requires keeps { keeps_copies change.now ≡ true }
-        ensures nodes { OnOk result (states_of self.new ≡ moved self.old name (λ x. (made_by x change.now).node)) }
-        ensures deed { IfOk result (λ d. (x : NodeState Q) → state_at self.old name ≡ Some x → d ≡ (made_by x change.now).deed) }
-        ensures refused { IfErr result (λ r. r ≡ Refusal.OutOfMemory) }
-        ensures err { OnErr result (SameBarRoom self.old self.new) }
-        ensures grow { AllGrow self.old self.new }
-    {
-        let deed = self.list[place_of(name)].act(change)?;
-        Ok(deed)
-    }
-
-    // A call of a node begins that isn't refused.
-    pub(crate) fn begin(&mut self, name: Name, op: Op) -> Result<CallId, Refusal>
-        requires { least (causes_at Q.system (state_at self.old name) (Change.Call op)) ≡ None }
-        ensures nodes { OnOk result (states_of self.new ≡ moved self.old name (λ x. (made_by x (Change.Call op)).node)) }
-        ensures id { IfOk result (λ id. (x : NodeState Q) → state_at self.old name ≡ Some x → id ≡ record { name = x.name; number = x.made + 1 }) }
-        ensures refused { IfErr result (λ r. r ≡ Refusal.OutOfMemory) }
-        ensures err { OnErr result (SameBarRoom self.old self.new) }
-        ensures grow { AllGrow self.old self.new }
-    {
-        let id = self.list[place_of(name)].begin(op)?;
-        Ok(id)
-    }
-
-    // A call goes on whose advance isn't refused, and the copy that it puts goes into the log of its node. The rest of what
+    // A call goes on that may, and stands at this place; the copy that it puts goes into the log of its node. The rest of what
     // it did is told in this deed, which told of nothing before.
-    pub(crate) fn go_on(&mut self, id: CallId, deed: &mut Deed<Q>) -> Result<(), Refusal>
-        requires accepted { least (causes_at Q.system (state_at self.old id.name) (Change.Advance id)) ≡ None }
+    pub(crate) fn advance(
+        &mut self,
+        id: CallId,
+        place: usize,
+        deed: &mut Deed<Q>,
+    ) -> Result<(), Refusal>
+        requires found { (x : NodeState Q) → state_at self.old id.name ≡ Some x → IsFound Q.system x id place }
         requires quiet { deed.old ≡ quiet_deed }
         ensures nodes { OnOk result (states_of self.new ≡ moved self.old id.name (λ x. (made_by x (Change.Advance id)).node)) }
         ensures deed { OnOk result ((x : NodeState Q) → state_at self.old id.name ≡ Some x → deed.new ≡ record (made_by x (Change.Advance id)).deed { copy = None }) }
@@ -139,119 +129,168 @@ impl<Q: Quorums, S: Replica> Nodes<Q, S> {
         ensures err { OnErr result (SameBarRoom self.old self.new × (deed.new ≡ deed.old)) }
         ensures grow { AllGrow self.old self.new }
     {
-        make_room(&self.list[place_of(id.name)], &id, &mut self.logs)?;
-        self.list[place_of(id.name)].go_on(id, deed)?;
-        log_copy(&mut self.logs, id.name, &mut deed.copy);
+        let name = id.name;
+        let node = &mut self.list[place_of(name)];
+        make_room(node, place, &mut self.logs, name)?;
+        let moving = node.ready_advance(id, place, deed)?;
+        node.finish_advance(moving);
+        log_copy(&mut self.logs, name, &mut deed.copy);
         Ok(())
     }
 
-    // The addressee of a letter that isn't refused hears it, with those copies of its sender's log from one place up to
-    // another, as far as there are any, that the addressee lacks: it makes the same of them as of all.
+    // The addressee of a letter hears it, unless it refuses it: with those copies of its sender's log from one place up to
+    // another, as far as there are any, that the addressee lacks. It makes the same of them as of all.
     pub(crate) fn hear(
         &mut self,
         letter: &LetterOutline<'_, Q>,
         start: usize,
         end: usize,
-    ) -> Result<(), Refusal>
-        requires { least (causes_at Q.system (state_at self.old letter.now.addressee) (Change.Deliver letter.now)) ≡ None }
-        ensures nodes { OnOk result (states_of self.new ≡ moved self.old letter.now.addressee (λ x. (made_by x (Change.Deliver (letter_with letter.now (brought self.old letter.now start end)))).node)) }
-        ensures enough { joined (greatest_of (log_at self.old letter.now.addressee)) (brought self.old letter.now start end) ≡ joined (greatest_of (log_at self.old letter.now.addressee)) (greatest_of (part (log_at self.old letter.now.sender) start end)) }
+    ) -> Result<Result<(), Refusal>, Refusal>
+        requires join { letter.now.kind ≡ kind.Join → end ≤ start }
+        ensures told { IfOk result (λ r. told_refusal r ≡ hear_refusal Q.system self.old letter.now) }
+        ensures heard { IfOk result (λ r. OnOk r (IsHeard self.old self.new letter.now start end)) }
+        ensures stays { IfOk result (λ r. OnErr r (SameBarRoom self.old self.new)) }
+        ensures accepted { OnErr result (hear_refusal Q.system self.old letter.now ≡ None) }
         ensures refused { IfErr result (λ r. r ≡ Refusal.OutOfMemory) }
         ensures err { OnErr result (SameBarRoom self.old self.new) }
         ensures grow { AllGrow self.old self.new }
     {
-        let (to, from) = (letter.addressee, letter.sender);
-        self.logs.bring(to, from, start, end)?;
-        let copies = self.logs.brought();
-        self.list[place_of(to)].hear_outlined(letter, copies)?;
-        if letter.gossip.is_some() {
-            self.logs.take_on(to);
-        }
-        Ok(())
+        let node = &mut self.list[place_of(letter.addressee)];
+        hear(node, &mut self.logs, &self.none, letter, start, end)
     }
 
-    // A node hears the letter that another has for it, which isn't refused: of the copies that it tells of, those from
-    // a place on that the node lacks. Tells how many the letter tells of.
-    pub(crate) fn pass(&mut self, from: Name, to: Name, start: usize) -> Result<usize, Refusal>
+    // A node hears the letter that another has for it, unless it refuses it: of the copies that it tells of, those from a
+    // place on that the node lacks. Tells how many the letter tells of.
+    pub(crate) fn pass(
+        &mut self,
+        from: Name,
+        to: Name,
+        start: usize,
+    ) -> Result<Result<usize, Refusal>, Refusal>
         requires apart { from ≢ to }
-        requires accepted { (k : KeptNode Q) → kept_at self.old from ≡ Some k → least (causes_at Q.system (state_at self.old to) (Change.Deliver (outline k to).letter)) ≡ None }
-        ensures told { IfOk result (λ told. (k : KeptNode Q) → kept_at self.old from ≡ Some k → told ≡ (outline k to).told) }
-        ensures nodes { OnOk result ((k : KeptNode Q) → kept_at self.old from ≡ Some k
-            → states_of self.new ≡ moved self.old to (λ x. (made_by x (Change.Deliver (letter_with (outline k to).letter (brought_from self.old to from start (max start (outline k to).told))))).node)) }
-        ensures enough { OnOk result ((k : KeptNode Q) → kept_at self.old from ≡ Some k
-            → joined (greatest_of (log_at self.old to)) (brought_from self.old to from start (max start (outline k to).told)) ≡ joined (greatest_of (log_at self.old to)) (greatest_of (part (log_at self.old from) start (max start (outline k to).told)))) }
+        requires named { (k : KeptNode Q) → kept_at self.old from ≡ Some k → k.node.state.name ≡ from }
+        ensures refusal { IfOk result (λ r. (k : KeptNode Q) → kept_at self.old from ≡ Some k → told_refusal r ≡ hear_refusal Q.system self.old (outline k to).letter) }
+        ensures told { IfOk result (λ r. IfOk r (λ told. (k : KeptNode Q) → kept_at self.old from ≡ Some k → told ≡ (outline k to).told)) }
+        ensures heard { IfOk result (λ r. IfOk r (λ told. (k : KeptNode Q) → kept_at self.old from ≡ Some k → IsHeard self.old self.new (outline k to).letter start (max start told))) }
+        ensures stays { IfOk result (λ r. OnErr r (SameBarRoom self.old self.new)) }
+        ensures accepted { OnErr result ((k : KeptNode Q) → kept_at self.old from ≡ Some k → hear_refusal Q.system self.old (outline k to).letter ≡ None) }
         ensures refused { IfErr result (λ r. r ≡ Refusal.OutOfMemory) }
         ensures err { OnErr result (SameBarRoom self.old self.new) }
         ensures grow { AllGrow self.old self.new }
     {
-        let told = self.outline(from, to).told;
-        if told <= start {
-            hear_of(self.list.as_mut_slice(), from, to, self.none.pack())?;
-            return Ok(told);
-        }
-        self.logs.bring(to, from, start, start.max(told))?;
-        hear_of(self.list.as_mut_slice(), from, to, self.logs.brought())?;
-        self.logs.take_on(to);
-        Ok(told)
+        let nodes = self.list.as_mut_slice();
+        meet(nodes, &mut self.logs, &self.none, from, to, start)
     }
 
-    // The letter of a node to another, as it is kept: a joining node tells of no copy.
+    // The letter of a node to another, as it is kept.
     pub(crate) fn outline(&self, from: Name, to: Name) -> Outline<'_, Q>
         ensures sent { (k : KeptNode Q) → kept_at self.now from ≡ Some k → result ≡ outline k to }
         ensures named { IsName from }
     {
-        let node = &self.list[place_of(from)];
-        let told = if node.status().is_active() {
-            self.logs.len(from)
-        } else {
-            0
-        };
-        Outline {
-            letter: node.outline_for(to),
-            told,
-        }
+        outline_of(&self.list[place_of(from)], to, self.logs.len(from))
     }
 }
 
-// The node of a name hears the letter that another has for it, which isn't refused, with these copies.
-fn hear_of<Q: Quorums, S: Replica>(
+// The node of a name hears the letter that another has for it, unless it refuses it: of the copies that it tells of, those from
+// a place on that its log lacks. Tells how many the letter tells of.
+fn meet<Q: Quorums, S: Replica>(
     nodes: &mut [Node<Q, S>],
+    logs: &mut Logs,
+    none: &NoCopies,
     from: Name,
     to: Name,
-    copies: &Pack,
-) -> Result<(), Refusal>
+    start: usize,
+) -> Result<Result<usize, Refusal>, Refusal>
     requires count { length nodes.old ≡ 64 }
     requires apart { from ≢ to }
-    requires accepted { (x y : NodeState Q) → slice_get (node_states nodes.old) (from - 1) ≡ Some x → slice_get (node_states nodes.old) (to - 1) ≡ Some y
-        → refusal_of Q.system y (Change.Deliver (outlined_for x to)) ≡ None }
-    ensures ok { (x y : NodeState Q) → slice_get (node_states nodes.old) (from - 1) ≡ Some x → slice_get (node_states nodes.old) (to - 1) ≡ Some y
-        → OnOk result (node_states nodes.new ≡ slice_set (node_states nodes.old) (to - 1) (made_by y (Change.Deliver (letter_with (outlined_for x to) copies.now))).node) }
+    requires named { (x : RoomyNode Q) → slice_get nodes.old (from - 1) ≡ Some x → x.state.name ≡ from }
+    ensures met { (x y : RoomyNode Q) → slice_get nodes.old (from - 1) ≡ Some x → slice_get nodes.old (to - 1) ≡ Some y → (z : RoomyNode Q) × (nodes.new ≡ slice_set nodes.old (to - 1) z) × HasMet Q.system y z logs.old.logs logs.new.logs (told_by x.state to logs.old.logs) start result }
+    ensures from { IsName from }
+    ensures to { IsName to }
     ensures refused { IfErr result (λ r. r ≡ Refusal.OutOfMemory) }
-    ensures err { OnErr result (node_states nodes.new ≡ node_states nodes.old) }
 {
-    let (sender, addressee) = (place_of(from), place_of(to));
-    if sender < addressee {
-        let (front, back) = nodes.split_at_mut(addressee);
-        hear(&mut back[0], &front[sender], to, copies)
-    } else {
-        let (front, back) = nodes.split_at_mut(sender);
-        hear(&mut front[addressee], &back[0], to, copies)
+    let (sender, addressee) = two_of(nodes, place_of(from), place_of(to));
+    let Outline { letter, told } = outline_of(sender, to, logs.len(from));
+    match hear(addressee, logs, none, &letter, start, start.max(told))? {
+        Ok(()) => Ok(Ok(told)),
+        Err(refusal) => Ok(Err(refusal)),
     }
 }
 
-// A node hears the letter that another has for it, which isn't refused, with these copies.
+// A node hears a letter for it, unless it refuses it: with those copies of its sender's log from one place up to another, as far
+// as there are any, that its own lacks.
 fn hear<Q: Quorums, S: Replica>(
     node: &mut Node<Q, S>,
-    sender: &Node<Q, S>,
-    to: Name,
+    logs: &mut Logs,
+    none: &NoCopies,
+    letter: &LetterOutline<'_, Q>,
+    start: usize,
+    end: usize,
+) -> Result<Result<(), Refusal>, Refusal>
+    requires join { letter.now.kind ≡ kind.Join → end ≤ start }
+    ensures told { IfOk result (λ r. told_refusal r ≡ refusal_of Q.system node.old.state (Change.Deliver letter.now)) }
+    ensures heard { IfOk result (λ r. OnOk r (HasHeard node.old node.new logs.old.logs logs.new.logs letter.now start end)) }
+    ensures stays { IfOk result (λ r. OnErr r (IsUnheard node.old node.new logs.old.logs logs.new.logs)) }
+    ensures accepted { OnErr result (refusal_of Q.system node.old.state (Change.Deliver letter.now) ≡ None) }
+    ensures refused { IfErr result (λ r. r ≡ Refusal.OutOfMemory) }
+    ensures err { OnErr result (IsUnheard node.old node.new logs.old.logs logs.new.logs) }
+{
+    if let Err(refusal) = node.may_hear_outlined(letter) {
+        return Ok(Err(refusal));
+    }
+    if end <= start {
+        hear_with(node, letter, none.pack())?;
+        return Ok(Ok(()));
+    }
+    let to = letter.addressee;
+    logs.bring(to, letter.sender, start, end)?;
+    hear_with(node, letter, logs.brought())?;
+    logs.take_on(to);
+    Ok(Ok(()))
+}
+
+// A node hears a letter that isn't refused, with these copies.
+fn hear_with<Q: Quorums, S: Replica>(
+    node: &mut Node<Q, S>,
+    letter: &LetterOutline<'_, Q>,
     copies: &Pack,
 ) -> Result<(), Refusal>
-    requires { refusal_of Q.system node.old.state (Change.Deliver (outlined_for sender.now.state to)) ≡ None }
-    ensures node { OnOk result (node.new.state ≡ (made_by node.old.state (Change.Deliver (letter_with (outlined_for sender.now.state to) copies.now))).node) }
+    requires { refusal_of Q.system node.old.state (Change.Deliver letter.now) ≡ None }
+    ensures node { OnOk result (node.new.state ≡ (made_by node.old.state (Change.Deliver (letter_with letter.now copies.now))).node) }
     ensures refused { IfErr result (λ r. r ≡ Refusal.OutOfMemory) }
     ensures err { OnErr result (node.new.state ≡ node.old.state) }
 {
-    node.hear_outlined(&sender.outline_for(to), copies)
+    let hearing = node.ready_outlined(letter, copies)?;
+    node.finish_outlined(letter, hearing);
+    Ok(())
+}
+
+// The letter of a node to another, as it is kept, where the node's log has so many copies: a joining node tells of none.
+fn outline_of<Q: Quorums, S: Replica>(node: &Node<Q, S>, to: Name, logged: usize) -> Outline<'_, Q>
+    ensures { result ≡ outline_by node.now.state to logged }
+{
+    let told = if node.status().is_active() { logged } else { 0 };
+    Outline {
+        letter: node.outline_for(to),
+        told,
+    }
+}
+
+// The items of two places of a list.
+fn two_of<T>(items: &mut [T], first: usize, second: usize) -> (&mut T, &mut T)
+    requires within { first < length items.old }
+    requires both { second < length items.old }
+    requires apart { first ≢ second }
+    ensures* lent { sem 𝓛 (lends_both T.row items.entry first second result) }
+    ensures items { AreBoth items.old first second result.0.now result.1.now }
+{
+    if first < second {
+        let (front, back) = items.split_at_mut(second);
+        (&mut front[first], &mut back[0])
+    } else {
+        let (front, back) = items.split_at_mut(first);
+        (&mut back[0], &mut front[second])
+    }
 }
 
 // The node of a number before any step.
@@ -285,19 +324,20 @@ fn first_nodes<Q: Quorums, S: Replica>(
     Ok(list)
 }
 
-// Makes room for the copy that the advance of a call will put into the log of its node, if it will put one.
+// Makes room in the log of a node's name for the copy that the advance of the call at a place will put, if it will put one.
 fn make_room<Q: Quorums, S: Replica>(
     node: &Node<Q, S>,
-    id: &CallId,
+    place: usize,
     logs: &mut Logs,
+    name: Name,
 ) -> Result<(), Refusal>
     ensures same { logs.new.logs ≡ logs.old.logs }
-    ensures room { OnOk result ((key value : List ℕ) → query_in (open_call node.now.state id.now) ≡ Some (asked.Set key value) → logs.new.room ≡ Some (record { name = id.now.name; key = key })) }
+    ensures room { OnOk result ((key value : List ℕ) → query_in (slice_get node.now.state.calls place) ≡ Some (asked.Set key value) → logs.new.room ≡ Some (record { name = name; key = key })) }
     ensures refused { IfErr result (λ r. r ≡ Refusal.OutOfMemory) }
 {
-    match node.query(id) {
+    match node.query_at(place) {
         Some(Op::Set(key, _)) => {
-            logs.reserve(id.name, key)?;
+            logs.reserve(name, key)?;
             Ok(())
         }
         Some(Op::Get(_)) => Ok(()),

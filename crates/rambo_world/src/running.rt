@@ -6,9 +6,9 @@ ghost use Rattle.rambo_sequence.specs.Sequences.{sequence_in};
 ghost use Rattle.rambo_sequence.specs.StoreOrders.{IsOrder};
 ghost use Rattle.rambo_run.specs.Runs.{results_from, run_from, outcome_at};
 ghost use Rattle.rambo_run.specs.Worlds.{first_world};
-ghost use Rattle.rambo_node.specs.Changes.{answer_in};
 ghost use Rattle.rambo_run.specs.Ongoing.{AgreesSoFar};
 ghost use Rattle.rambo_run.specs.Worlds.{founding_causes};
+ghost use Rattle.rambo_world.specs.Worlds.{answer_got};
 
 use crate::runs::outcome;
 use crate::state::State;
@@ -88,35 +88,19 @@ impl<Q: Quorums, S: Replica> Run<Q> for Running<Q, S> {
     }
 
     fn send(&mut self, from: Name, to: Name) -> Result<Result<u64, Refusal>, Refusal> {
-        if let Err(refusal) = self.state.nodes.node(from).may_send(to) {
-            return Ok(Err(refusal));
-        }
-        let number = self.state.send(from, to)?;
-        Ok(Ok(number))
+        self.state.send(from, to)
     }
 
     fn deliver(&mut self, number: u64) -> Result<Result<(), Refusal>, Refusal> {
-        if let Err(refusal) = self.state.may_deliver(number) {
-            return Ok(Err(refusal));
-        }
-        self.state.deliver(number)?;
-        Ok(Ok(()))
+        self.state.deliver(number)
     }
 
     fn call(&mut self, name: Name, op: Op) -> Result<Result<CallId, Refusal>, Refusal> {
-        if let Err(refusal) = self.state.nodes.node(name).may_call(&op) {
-            return Ok(Err(refusal));
-        }
-        let id = self.state.call(name, op)?;
-        Ok(Ok(id))
+        self.state.call(name, op)
     }
 
     fn advance(&mut self, id: CallId) -> Result<Result<Option<Answer>, Refusal>, Refusal> {
-        if let Err(refusal) = self.state.nodes.node(id.name).may_advance(&id) {
-            return Ok(Err(refusal));
-        }
-        let effect = self.state.advance(id)?;
-        Ok(Ok(answer_got(effect)))
+        Ok(answer_got(self.state.advance(id)?))
     }
 
     fn history(&self) -> &History {
@@ -132,12 +116,15 @@ impl<Q: Quorums, S: Replica> Run<Q> for Running<Q, S> {
     }
 }
 
-// The answer that a call got as it went on, if it did.
-pub(crate) fn answer_got<Q: Quorums>(effect: Effect<Q>) -> Option<Answer>
-    ensures { result ≡ answer_in effect }
+// The answer that a call got as it went on, if it did and wasn't refused.
+pub(crate) fn answer_got<Q: Quorums>(
+    told: Result<Effect<Q>, Refusal>,
+) -> Result<Option<Answer>, Refusal>
+    ensures { result ≡ answer_got told }
 {
-    match effect {
-        Effect::Answered(_, answer) => Some(answer),
-        _ => None,
+    match told {
+        Ok(Effect::Answered(_, answer)) => Ok(Some(answer)),
+        Ok(_) => Ok(None),
+        Err(refusal) => Err(refusal),
     }
 }

@@ -2,7 +2,7 @@
 ghost use Rattle.std.specs.Prelude.{◌≡◌, List, None, Some, OnOk, OnErr, IfOk, IfErr};
 ghost use Rattle.rambo_node.specs.Nodes.{NodeState};
 ghost use Rattle.rambo_run.specs.Runs.{after, result_of, results_from, run_from, maps_of};
-ghost use Rattle.rambo_run.specs.Steps.{refusal, turn};
+ghost use Rattle.rambo_run.specs.Steps.{refusal};
 ghost use Rattle.rambo_run.specs.Worlds.{first_world, node_at};
 ghost use Rattle.rambo_sequence.specs.Sequences.{sequence_of, sequences_of};
 ghost use Rattle.rambo_sequence.specs.StoreOrders.{NoTwice, all_calls, order_of};
@@ -14,8 +14,8 @@ use rambo_history::{CallId, History};
 use rambo_letters::Letters;
 use rambo_logs::MergedCounts;
 use rambo_names::{Name, Quorums, Refusal};
-use rambo_node::{Change, Effect};
-use rambo_run::{NodeMap, Step};
+use rambo_node::Effect;
+use rambo_run::{NodeMap, Step, quick_of};
 use rambo_sequence::{KeySequence, Mark};
 use rambo_tag::Replica;
 use std::alloc::Global;
@@ -29,8 +29,6 @@ pub(crate) struct State<Q: Quorums, S: Replica> {
     pub(crate) merged: MergedCounts,
     pub(crate) history: History,
     pub(crate) marks: Vec<Mark>,
-    // Never filled: it tells the prover that a change has a size.
-    spare: Option<Change<Q>>,
 }
 
 // By hand, so that those who drop a run needn't follow all that is in it.
@@ -42,7 +40,6 @@ impl<Q: Quorums, S: Replica> Drop for State<Q, S> {
             merged: _merged,
             history: _history,
             marks: _marks,
-            spare: _spare,
         } = self;
     }
 }
@@ -69,21 +66,25 @@ impl<Q: Quorums, S: Replica> State<Q, S> {
         ensures ok { OnOk result (refusal Q.system self.now step.now ≡ None) }
         ensures refused { IfErr result (λ r. refusal Q.system self.now step.now ≡ Some r) }
     {
-        let (name, change) = match step {
-            Step::Call(name, op) => return self.nodes.node(*name).may_call(op),
-            Step::Send(from, to) => return self.nodes.node(*from).may_send(*to),
-            Step::Advance(id) => return self.nodes.node(id.name).may_advance(id),
-            Step::Deliver(number) => return self.may_deliver(*number),
-            Step::Join(name, contacts) => (*name, Change::Join(*contacts)),
-            Step::Again(id) => (id.name, Change::Again(*id)),
-            Step::Collect(name) => (*name, Change::Collect),
-            Step::AdvanceCollect(name) => (*name, Change::AdvanceCollect),
-            Step::Recon(name, wish) => (*name, Change::Recon(*wish)),
-            Step::Rebid(name) => (*name, Change::Rebid),
-            Step::AdvanceRecon(name) => (*name, Change::AdvanceRecon),
-            Step::Stop(name) => (*name, Change::Stop),
-        };
-        self.nodes.node(name).judge(&change)
+        match step {
+            Step::Call(name, op) => self.nodes.node(*name).may_call(op),
+            Step::Send(from, to) => self.nodes.node(*from).may_send(*to),
+            Step::Advance(id) => {
+                self.nodes.node(id.name).may_advance(id)?;
+                Ok(())
+            }
+            Step::Deliver(number) => match self.letters.get(*number) {
+                Some(sent) => {
+                    let letter = &sent.letter;
+                    self.nodes.node(letter.addressee).may_hear_outlined(letter)
+                }
+                None => Err(Refusal::NoSuchLetter),
+            },
+            _ => match quick_of(step) {
+                Some(meant) => self.nodes.node(meant.0).judge_quick(&meant.1),
+                None => unreachable!(),
+            },
+        }
     }
 }
 
@@ -101,39 +102,10 @@ impl<Q: Quorums, S: Replica> State<Q, S> {
             merged,
             history: History::new(alloc),
             marks: Vec::new(alloc),
-            spare: None,
         })
     }
 
-    // Takes a step that isn't refused.
-    pub(crate) fn act(&mut self, step: &Step<Q>) -> Result<Effect<Q>, Refusal>
-        requires accepted { refusal Q.system self.old step.now ≡ None }
-        requires fits { EventsFit Q.system self.old }
-        ensures ok { IfOk result (λ e. turn self.old step.now ≡ record { world = self.new; effect = e }) }
-        ensures err { OnErr result (self.new ≡ self.old) }
-        ensures refused { IfErr result (λ r. r ≡ Refusal.OutOfMemory) }
-    {
-        let (name, change) = match step {
-            Step::Send(from, to) => return Ok(Effect::Sent(self.send(*from, *to)?)),
-            Step::Deliver(number) => {
-                self.deliver(*number)?;
-                return Ok(Effect::Done);
-            }
-            Step::Call(name, op) => return Ok(Effect::Called(self.call(*name, op.clone()?)?)),
-            Step::Advance(id) => return self.advance(*id),
-            Step::Join(name, contacts) => (*name, Change::Join(*contacts)),
-            Step::Again(id) => (id.name, Change::Again(*id)),
-            Step::Collect(name) => (*name, Change::Collect),
-            Step::AdvanceCollect(name) => (*name, Change::AdvanceCollect),
-            Step::Recon(name, wish) => (*name, Change::Recon(*wish)),
-            Step::Rebid(name) => (*name, Change::Rebid),
-            Step::AdvanceRecon(name) => (*name, Change::AdvanceRecon),
-            Step::Stop(name) => (*name, Change::Stop),
-        };
-        self.change(name, &change)
-    }
-
-    // Takes a step of a run: what it did, or why it was refused.
+    // Takes a step of a run: what it did, or why it is refused.
     pub(crate) fn take(&mut self, step: &Step<Q>) -> Result<Result<Effect<Q>, Refusal>, Refusal>
         requires fits { EventsFit Q.system self.old }
         ensures told { IfOk result (λ r. r ≡ result_of (refusal Q.system self.old step.now) self.old step.now) }
@@ -142,11 +114,25 @@ impl<Q: Quorums, S: Replica> State<Q, S> {
         ensures err { OnErr result (self.new ≡ self.old) }
         ensures refused { IfErr result (λ r. r ≡ Refusal.OutOfMemory) }
     {
-        if let Err(refusal) = self.judge(step) {
-            return Ok(Err(refusal));
+        match step {
+            Step::Call(name, op) => match self.call_lent(*name, op)? {
+                Ok(id) => Ok(Ok(Effect::Called(id))),
+                Err(refusal) => Ok(Err(refusal)),
+            },
+            Step::Send(from, to) => match self.send(*from, *to)? {
+                Ok(number) => Ok(Ok(Effect::Sent(number))),
+                Err(refusal) => Ok(Err(refusal)),
+            },
+            Step::Advance(id) => self.advance(*id),
+            Step::Deliver(number) => match self.deliver(*number)? {
+                Ok(()) => Ok(Ok(Effect::Done)),
+                Err(refusal) => Ok(Err(refusal)),
+            },
+            _ => match quick_of(step) {
+                Some(meant) => Ok(self.quick(meant.0, meant.1)),
+                None => unreachable!(),
+            },
         }
-        let effect = self.act(step)?;
-        Ok(Ok(effect))
     }
 
     // Takes all steps of a run.

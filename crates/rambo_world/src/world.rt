@@ -77,9 +77,12 @@ impl<Q: Quorums, S: Replica> World<Q, S> {
         ensures refused { IfErr result (IsRefusal (refusal Q.system (state Q.system self.old) step)) }
         ensures err { OnErr result (self.new ≡ self.old) }
     {
-        self.state.judge(&step)?;
-        self.steps.reserve(1)?;
-        let effect = self.state.act(&step)?;
+        if self.steps.reserve(1).is_err() {
+            // (a refusal needs no room)
+            self.state.judge(&step)?;
+            return Err(Refusal::OutOfMemory);
+        }
+        let effect = self.state.take(&step)??;
         self.steps.push_reserved(step);
         Ok(effect)
     }

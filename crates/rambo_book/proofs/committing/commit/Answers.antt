@@ -1,98 +1,83 @@
-use Rattle.std.proofs.Common.{◌≡◌, ◌++◌, ◌∷◌, [], None, Some, Result, Ok, Err, OnOk, IfOk, IfErr, length, refl, sym, ap, ◌∙◌, subst, inr}
-use Rattle.rambo_names.specs.declared.refusal.Refusal.TheVariants.{OutOfMemory}
-use Rattle.rambo_names.proofs.Errors.{err_kept, on_err}
+use Rattle.std.proofs.Common.{◌≡◌, ◌++◌, ◌∷◌, [], None, Some, Result, Ok, Err, OnOk, IfOk, IfErr, length, sym, subst}
 use Rattle.rambo_run.specs.Actors.{sent_by}
 use Rattle.rambo_run.specs.Steps.{refusal, turn}
 use Rattle.rambo_run.specs.Worlds.{node_at}
 use Rattle.rambo_book.specs.Kept.{BookView, KeeperView, Told, state}
 use Rattle.rambo_book.specs.Mailing.{waiting_after}
 use Rattle.rambo_book.specs.Readying.{IsReadyIn}
-use Rattle.rambo_book.proofs.Commits.{served_inside, with_room, same_before}
+use Rattle.rambo_book.proofs.Commits.{same_before}
+use Rattle.rambo_book.proofs.Refused.{told_half}
 use Rattle.rambo_book.proofs.committing.commit.Goals as goal
 
-pub may_commit-requires : goal.may_commit-requires
-may_commit-requires g c = (c.requires-raw.1.1.1.0, c.requires)
-
 pub ready_by_book-requires : goal.ready_by_book-requires
-ready_by_book-requires g c =
-    let s = g.Q.Quorums.system in
-    let same = c.may_commit.ensures.same in (
-      c.requires-raw.1.1.1.0,
-      (served_inside s _ _ _ _ c.args.step same.0 same.1 c.requires, ap (λ b. refusal s (state s b) c.args.step) same.0 ∙ c.in_ok-may_commit.ensures.legal),
-    )
+ready_by_book-requires g c = (c.requires-raw.1.1.1.0, c.requires)
 
 pub enter-requires : goal.enter-requires
 enter-requires g c =
     let s = g.Q.Quorums.system in
-    (c.requires-raw.1.1.1.0, subst (λ b. IsReadyIn s (state s b) c.ready_by_book.new.keeper c.in_ok-ready.ready) (sym c.ready_by_book.ensures.same.0) c.in_ok-ready.ensures.ready)
+    (c.requires-raw.1.1.1.0, subst (λ b. IsReadyIn s (state s b) c.ready_by_book.new.keeper c.in-Ok.ready) (sym c.ready_by_book.ensures.same.0) c.in-Ok.ensures.ready)
 
-pub returns-in_err-may_commit-clause-same : goal.returns-in_err-may_commit-clause-same
-returns-in_err-may_commit-clause-same g c = on_err c.from_residual.result (c.may_commit.ensures.same.0, with_room _ _ c.may_commit.ensures.same.1)
+pub returns-in-Err-clause-same : goal.returns-in-Err-clause-same
+returns-in-Err-clause-same g c = (c.ready_by_book.ensures.same.0, c.ready_by_book.ensures.same.1)
 
-pub returns-in_err-ready-clause-same : goal.returns-in_err-ready-clause-same
-returns-in_err-ready-clause-same g c =
-    let eb = c.ready_by_book.ensures.same.0 ∙ c.may_commit.ensures.same.0 in
-    let ek = c.ready_by_book.ensures.same.1 ∙ (λ i. record (c.may_commit.ensures.same.1 i) { room = c.ready_by_book.new.keeper.room }) in
-    on_err c.from_residual-in_err-ready.result (eb, ek)
-
-pub returns-in_err-ready-clause-told : goal.returns-in_err-ready-clause-told
-returns-in_err-ready-clause-told g c =
+pub returns-in-Err-clause-told : goal.returns-in-Err-clause-told
+returns-in-Err-clause-told g c =
     let s = g.Q.Quorums.system in
     let b = c.args.book.now in
-    let room = c.in_ok-may_commit.ensures.room in
-    let told = subst (λ o. Told o (length b.steps) b.capacity OutOfMemory) (sym c.in_ok-may_commit.ensures.legal) (inr (refl, room)) in
-    err_kept c.from_residual-in_err-ready.result (Told (refusal s (state s b) c.args.step) (length b.steps) b.capacity) _ c.from_residual-in_err-ready.ensures.1 (subst (Told (refusal s (state s b) c.args.step) (length b.steps) b.capacity) (sym c.in_err-ready.ensures.refused) told)
+    let cause = c.in-Err.cause in
+    told_half (refusal s (state s b) c.args.step) cause c.unready.result (length b.steps) b.capacity c.in-Err.ensures.refused c.in-Err.ensures.memory c.unready.ensures.rule
+    (λ short. subst (λ (b : BookView _). Told None (length b.steps) b.capacity c.unready.result) c.ready_by_book.ensures.same.0 (c.unready.ensures.memory short))
 
 always : {A B P : Type 0} (r : Result A B) → P → OnOk r P
 always (Ok a) p = p
 always (Err b) p = tt
 
 pub returns-clause-legal : goal.returns-clause-legal
-returns-clause-legal g c = always c.enter.result c.in_ok-may_commit.ensures.legal
+returns-clause-legal g c = always c.enter.result c.in-Ok.ensures.legal
 
 pub returns-clause-effect : goal.returns-clause-effect
 returns-clause-effect g c =
     let s = g.Q.Quorums.system in
-    let eb = c.ready_by_book.ensures.same.0 ∙ c.may_commit.ensures.same.0 in
-    subst (λ st. IfOk c.enter.result (λ e. e ≡ (turn (state s c.args.book.now) st).effect)) c.in_ok-ready.ensures.step
-    (subst (λ b. IfOk c.enter.result (λ e. e ≡ (turn (state s b) c.in_ok-ready.ready.step).effect)) eb c.enter.ensures.effect)
+    let eb = c.ready_by_book.ensures.same.0 in
+    subst (λ st. IfOk c.enter.result (λ e. e ≡ (turn (state s c.args.book.now) st).effect)) c.in-Ok.ensures.step
+    (subst (λ b. IfOk c.enter.result (λ e. e ≡ (turn (state s b) c.in-Ok.ready.step).effect)) eb c.enter.ensures.effect)
 
 pub returns-clause-book : goal.returns-clause-book
 returns-clause-book g c =
-    let eb = c.ready_by_book.ensures.same.0 ∙ c.may_commit.ensures.same.0 in
-    subst (λ st. OnOk c.enter.result (c.enter.new.book ≡ record c.args.book.now { steps = c.args.book.now.steps ++ st ∷ []; waiting = c.enter.new.book.waiting })) c.in_ok-ready.ensures.step
-    (subst (λ (b : BookView _). OnOk c.enter.result (c.enter.new.book ≡ record b { steps = b.steps ++ c.in_ok-ready.ready.step ∷ []; waiting = c.enter.new.book.waiting })) eb c.enter.ensures.book)
+    let eb = c.ready_by_book.ensures.same.0 in
+    subst (λ st. OnOk c.enter.result (c.enter.new.book ≡ record c.args.book.now { steps = c.args.book.now.steps ++ st ∷ []; waiting = c.enter.new.book.waiting })) c.in-Ok.ensures.step
+    (subst (λ (b : BookView _). OnOk c.enter.result (c.enter.new.book ≡ record b { steps = b.steps ++ c.in-Ok.ready.step ∷ []; waiting = c.enter.new.book.waiting })) eb c.enter.ensures.book)
 
 pub returns-clause-waiting : goal.returns-clause-waiting
 returns-clause-waiting g c =
     let s = g.Q.Quorums.system in
-    let eb = c.ready_by_book.ensures.same.0 ∙ c.may_commit.ensures.same.0 in
-    subst (λ st. OnOk c.enter.result (c.enter.new.book.waiting ≡ waiting_after c.args.book.now (sent_by st) (length (state s c.enter.new.book).letters))) c.in_ok-ready.ensures.step
-    (subst (λ b. OnOk c.enter.result (c.enter.new.book.waiting ≡ waiting_after b (sent_by c.in_ok-ready.ready.step) (length (state s c.enter.new.book).letters))) eb c.enter.ensures.waiting)
+    let eb = c.ready_by_book.ensures.same.0 in
+    subst (λ st. OnOk c.enter.result (c.enter.new.book.waiting ≡ waiting_after c.args.book.now (sent_by st) (length (state s c.enter.new.book).letters))) c.in-Ok.ensures.step
+    (subst (λ b. OnOk c.enter.result (c.enter.new.book.waiting ≡ waiting_after b (sent_by c.in-Ok.ready.step) (length (state s c.enter.new.book).letters))) eb c.enter.ensures.waiting)
 
 pub returns-clause-keeper : goal.returns-clause-keeper
 returns-clause-keeper g c =
-    let eb = c.ready_by_book.ensures.same.0 ∙ c.may_commit.ensures.same.0 in
-    let ek = c.ready_by_book.ensures.same.1 ∙ (λ i. record (c.may_commit.ensures.same.1 i) { room = c.ready_by_book.new.keeper.room }) in
+    let eb = c.ready_by_book.ensures.same.0 in
+    let ek = c.ready_by_book.ensures.same.1 in
     let new = c.enter.new.keeper in
-    subst (λ st. OnOk c.enter.result (new ≡ record c.args.keeper.now { node = new.node; room = new.room; beside = new.beside; seen = c.args.book.now.steps ++ st ∷ [] })) c.in_ok-ready.ensures.step
-    (subst (λ (b : BookView _). OnOk c.enter.result (new ≡ record c.args.keeper.now { node = new.node; room = new.room; beside = new.beside; seen = b.steps ++ c.in_ok-ready.ready.step ∷ [] })) eb
-    (subst (λ (k : KeeperView _). OnOk c.enter.result (new ≡ record k { node = new.node; room = new.room; beside = new.beside; seen = c.ready_by_book.new.book.steps ++ c.in_ok-ready.ready.step ∷ [] })) ek c.enter.ensures.keeper))
+    subst (λ st. OnOk c.enter.result (new ≡ record c.args.keeper.now { node = new.node; room = new.room; beside = new.beside; seen = c.args.book.now.steps ++ st ∷ [] })) c.in-Ok.ensures.step
+    (subst (λ (b : BookView _). OnOk c.enter.result (new ≡ record c.args.keeper.now { node = new.node; room = new.room; beside = new.beside; seen = b.steps ++ c.in-Ok.ready.step ∷ [] })) eb
+    (subst (λ (k : KeeperView _). OnOk c.enter.result (new ≡ record k { node = new.node; room = new.room; beside = new.beside; seen = c.ready_by_book.new.book.steps ++ c.in-Ok.ready.step ∷ [] })) ek c.enter.ensures.keeper))
 
 pub returns-clause-node : goal.returns-clause-node
 returns-clause-node g c =
-    let ek = c.ready_by_book.ensures.same.1 ∙ (λ i. record (c.may_commit.ensures.same.1 i) { room = c.ready_by_book.new.keeper.room }) in
+    let ek = c.ready_by_book.ensures.same.1 in
     subst (λ (k : KeeperView _). OnOk c.enter.result (node_at (state g.Q.Quorums.system c.enter.new.book) k.name ≡ Some c.enter.new.keeper.node)) ek c.enter.ensures.node
 
 pub returns-clause-same : goal.returns-clause-same
 returns-clause-same g c =
-    let eb = c.ready_by_book.ensures.same.0 ∙ c.may_commit.ensures.same.0 in
-    let ek = c.ready_by_book.ensures.same.1 ∙ (λ i. record (c.may_commit.ensures.same.1 i) { room = c.ready_by_book.new.keeper.room }) in
+    let eb = c.ready_by_book.ensures.same.0 in
+    let ek = c.ready_by_book.ensures.same.1 in
     same_before c.enter.result c.enter.new.book c.ready_by_book.new.book c.args.book.now c.enter.new.keeper c.ready_by_book.new.keeper c.args.keeper.now eb ek c.enter.ensures.same
 
 pub returns-clause-told : goal.returns-clause-told
 returns-clause-told g c =
     let b = c.args.book.now in
-    let eb = c.ready_by_book.ensures.same.0 ∙ c.may_commit.ensures.same.0 in
-    subst (λ o. IfErr c.enter.result (Told o (length b.steps) b.capacity)) (sym c.in_ok-may_commit.ensures.legal)
+    let eb = c.ready_by_book.ensures.same.0 in
+    subst (λ o. IfErr c.enter.result (Told o (length b.steps) b.capacity)) (sym c.in-Ok.ensures.legal)
     (subst (λ (b : BookView _). IfErr c.enter.result (Told None (length b.steps) b.capacity)) eb c.enter.ensures.told)

@@ -5,24 +5,22 @@ use Rattle.rambo_names.proofs.Errors.{err_kept}
 use Rattle.rambo_names.proofs.Sizes.{up_fits, back_fits}
 use Rattle.rambo_run.specs.Runs.{run}
 use Rattle.rambo_run.specs.Steps.{refusal}
+use Rattle.rambo_deeds.proofs.Means.{refused_alike}
 use Rattle.rambo_book.specs.Kept.{KeeperView}
 use Rattle.rambo_book.specs.Readying.{IsIn, came_in}
-use Rattle.rambo_book.proofs.Readying.{keeper_roomy, refused_as_judged, refused_for_memory, tray_judged, tray_ready}
+use Rattle.rambo_book.proofs.Readying.{keeper_roomy, tray_judged, tray_ready}
 use Rattle.rambo_book.proofs.first_half.ready.Goals as goal
 
-pub judge-requires : goal.judge-requires
-judge-requires g c = back_fits _ _ _ (up_fits _ _ _ c.requires-raw.1.1.1.0)
-
-pub prepare-requires : goal.prepare-requires
-prepare-requires g c = (back_fits _ _ _ (up_fits _ _ _ c.requires-raw.1.1.1.0), c.in_ok-judge.ensures.ok)
+pub ready-requires : goal.ready-requires
+ready-requires g c = back_fits _ _ _ (up_fits _ _ _ c.requires-raw.1.1.1.0)
 
 pub invariant_of-keeper : goal.invariant_of-keeper
-invariant_of-keeper g c = keeper_roomy c.keeper.invariant refl refl (λ i. record { state = c.prepare.ensures.same i; stamps = (c.prepare.ensures.beside i).stamps; bases = (c.prepare.ensures.beside i).bases })
+invariant_of-keeper g c = keeper_roomy c.keeper.invariant refl refl (λ i. record { state = c.ready.ensures.same i; stamps = (c.ready.ensures.beside i).stamps; bases = (c.ready.ensures.beside i).bases })
 
 pub returns-clause-same : goal.returns-clause-same
 returns-clause-same g c =
-    (λ i. record { name = c.keeper.inside.name; node = c.prepare.ensures.same i; room = c.prepare.new.self.room; beside = c.prepare.ensures.beside i; tray = c.keeper.inside.tray.items; seen = c.keeper.inside.holder.1 })
-    ∙ ap (λ (k : KeeperView _). record k { room = c.prepare.new.self.room }) c.keeper.view_is
+    (λ i. record { name = c.keeper.inside.name; node = c.ready.ensures.same i; room = c.ready.new.self.room; beside = c.ready.ensures.beside i; tray = c.keeper.inside.tray.items; seen = c.keeper.inside.holder.1 })
+    ∙ ap (λ (k : KeeperView _). record k { room = c.ready.new.self.room }) c.keeper.view_is
 
 pub returns-clause-ready : goal.returns-clause-ready
 returns-clause-ready g c =
@@ -32,19 +30,7 @@ returns-clause-ready g c =
     (λ f e m is. c.requires.own f e m is ∙ sym named)
     (λ n is. subst (λ tray. IsIn tray n) (sym trays) (c.requires.in_tray n is))
     (option_copied c.letter_in-letter.result) (c.letter_in-letter.ensures ∙ ap (λ tray. came_in tray c.args.step) c.as_slice.ensures.value)
-    c.in_ok-half.half c.prepare.new.self c.prepare.ensures.same c.in_ok-judge.ensures.ok c.in_ok-half.ensures.ready
-
-pub returns-in_err-judge-clause-refused : goal.returns-in_err-judge-clause-refused
-returns-in_err-judge-clause-refused g c = λ f e.
-    let s = g.Q.Quorums.system in
-    let st = c.args.step in
-    let named = ap (λ (k : KeeperView _). k.name) c.keeper.view_is in
-    let trays = ap (λ (k : KeeperView _). k.tray) c.keeper.view_is in
-    let saw = ap (λ (k : KeeperView _). k.seen) c.keeper.view_is in
-    let judged = ap (λ seen. refusal s (run s f seen) st) (sym saw)
-    ∙ tray_judged c.keeper.invariant st (λ f e m is. c.requires.own f e m is ∙ sym named) (λ n is. subst (λ tray. IsIn tray n) (sym trays) (c.requires.in_tray n is))
-    (option_copied c.letter_in-letter.result) (c.letter_in-letter.ensures ∙ ap (λ tray. came_in tray st) c.as_slice.ensures.value) f e in
-    err_kept c.from_residual.result (IsRefusal (refusal s (run s f c.args.keeper.now.seen) st)) _ c.from_residual.ensures.1 (refused_as_judged judged c.in_err-judge.ensures.refused)
+    c.in_ok-half.half c.ready.new.self c.ready.ensures.same c.in_ok-half.ensures.judged c.in_ok-half.ensures.ready
 
 pub returns-in_err-half-clause-refused : goal.returns-in_err-half-clause-refused
 returns-in_err-half-clause-refused g c = λ f e.
@@ -56,4 +42,4 @@ returns-in_err-half-clause-refused g c = λ f e.
     let judged = ap (λ seen. refusal s (run s f seen) st) (sym saw)
     ∙ tray_judged c.keeper.invariant st (λ f e m is. c.requires.own f e m is ∙ sym named) (λ n is. subst (λ tray. IsIn tray n) (sym trays) (c.requires.in_tray n is))
     (option_copied c.letter_in-letter.result) (c.letter_in-letter.ensures ∙ ap (λ tray. came_in tray st) c.as_slice.ensures.value) f e in
-    err_kept c.from_residual-in_err-half.result (IsRefusal (refusal s (run s f c.args.keeper.now.seen) st)) _ c.from_residual-in_err-half.ensures.1 (refused_for_memory judged c.in_ok-judge.ensures.ok c.in_err-half.ensures.refused)
+    err_kept c.from_residual.result (IsRefusal (refusal s (run s f c.args.keeper.now.seen) st)) _ c.from_residual.ensures.1 (refused_alike _ _ _ judged c.in_err-half.ensures.refused)

@@ -1,24 +1,62 @@
-use Rattle.std.proofs.Common.{IfOk, ap, ◌∙◌, subst}
+use Rattle.std.proofs.Common.{◌≡◌, Option, Some, IfOk, refl, sym, ap, ◌∙◌, subst}
+use Rattle.std.proofs.lemmas.Result.{IfErr-weaker}
+use Rattle.rambo_names.specs.declared.refusal.Refusal.{Refusal}
+use Rattle.rambo_names.specs.Quorums.{QuorumSystem}
+use Rattle.rambo_names.specs.Refusals.{IsRefusal}
+use Rattle.rambo_names.proofs.Errors.{err_kept}
+use Rattle.rambo_gossip.specs.declared.letter.Letter.{Letter}
 use Rattle.std.specs.FinMap as map
 use Rattle.rambo_gossip.specs.Letters.{letter_with}
 use Rattle.rambo_node.specs.Changes.{refusal_of}
+use Rattle.rambo_node.specs.Nodes.{NodeState}
 use Rattle.rambo_node.specs.Prepared.{IsHearing}
+use Rattle.rambo_node.proofs.Memory.{OnOk-always}
 use Rattle.rambo_node.specs.declared.change.Change.TheVariants as change
 use Rattle.rambo_node.proofs.Readiness.{copies_judged}
 use Rattle.rambo_deeds.proofs.Outlines.{letter_again}
 use Rattle.rambo_deeds.proofs.letter.ready_letter.Goals as goal
 
+pub may_hear_outlined-requires : goal.may_hear_outlined-requires
+may_hear_outlined-requires g c = c.requires-raw.1.1
+
 pub ready_outlined-requires : goal.ready_outlined-requires
-ready_outlined-requires g c =
-    let s = g.Q.Quorums.system in
-    let x = c.args.node.now.state in
-    (c.requires-raw.1.1.0, ap (λ l. refusal_of s x (change.Deliver l)) c.outline-outline.ensures ∙ copies_judged s x c.args.letter.now map.empty ∙ c.requires)
+ready_outlined-requires g c = (c.requires-raw.1.1, c.in_ok-may_hear_outlined.ensures.ok)
 
 pub ready_outlined-requires-in-None : goal.ready_outlined-requires-in-None
-ready_outlined-requires-in-None g c =
+ready_outlined-requires-in-None g c = (c.requires-raw.1.1, c.in_ok-may_hear_outlined.ensures.ok)
+
+-- a letter is refused as its outline is
+abbrev alike : {Q : Type 0} (s : QuorumSystem Q) (x : NodeState Q) (l o : Letter Q) → o ≡ letter_with l map.empty → refusal_of s x (change.Deliver o) ≡ refusal_of s x (change.Deliver l)
+alike s x l o is = ap (λ (n : Letter _). refusal_of s x (change.Deliver n)) is ∙ copies_judged s x l map.empty
+
+-- what is told of the one is told of the other
+told_as : {o p : Option Refusal} {r : Refusal} → o ≡ p → o ≡ Some r → IsRefusal p r
+told_as {r = r} same is = subst (λ p. IsRefusal p r) (sym (sym same ∙ is)) refl
+
+pub returns-in_err-may_hear_outlined-clause-refused : goal.returns-in_err-may_hear_outlined-clause-refused
+returns-in_err-may_hear_outlined-clause-refused g c =
     let s = g.Q.Quorums.system in
     let x = c.args.node.now.state in
-    (c.requires-raw.1.1.0, ap (λ l. refusal_of s x (change.Deliver l)) c.outline-outline.ensures ∙ copies_judged s x c.args.letter.now map.empty ∙ c.requires)
+    err_kept c.from_residual.result (IsRefusal (refusal_of s x (change.Deliver c.args.letter.now))) _ c.from_residual.ensures.1
+    (told_as (alike s x c.args.letter.now _ c.outline-outline.ensures) c.in_err-may_hear_outlined.ensures.refused)
+
+pub returns-in-Some-clause-judged : goal.returns-in-Some-clause-judged
+returns-in-Some-clause-judged g c =
+    OnOk-always c.ready_outlined.result _ (sym (alike g.Q.Quorums.system c.args.node.now.state c.args.letter.now _ c.outline-outline.ensures) ∙ c.in_ok-may_hear_outlined.ensures.ok)
+
+pub returns-in-None-clause-judged : goal.returns-in-None-clause-judged
+returns-in-None-clause-judged g c =
+    OnOk-always c.ready_outlined-in-None.result _ (sym (alike g.Q.Quorums.system c.args.node.now.state c.args.letter.now _ c.outline-outline.ensures) ∙ c.in_ok-may_hear_outlined.ensures.ok)
+
+pub returns-in-Some-clause-refused : goal.returns-in-Some-clause-refused
+returns-in-Some-clause-refused g c =
+    let none = sym (alike g.Q.Quorums.system c.args.node.now.state c.args.letter.now _ c.outline-outline.ensures) ∙ c.in_ok-may_hear_outlined.ensures.ok in
+    IfErr-weaker c.ready_outlined.result _ _ (λ r e. subst (λ o. IsRefusal o r) (sym none) e) c.ready_outlined.ensures.refused
+
+pub returns-in-None-clause-refused : goal.returns-in-None-clause-refused
+returns-in-None-clause-refused g c =
+    let none = sym (alike g.Q.Quorums.system c.args.node.now.state c.args.letter.now _ c.outline-outline.ensures) ∙ c.in_ok-may_hear_outlined.ensures.ok in
+    IfErr-weaker c.ready_outlined-in-None.result _ _ (λ r e. subst (λ o. IsRefusal o r) (sym none) e) c.ready_outlined-in-None.ensures.refused
 
 pub returns-in-Some-clause-hearing : goal.returns-in-Some-clause-hearing
 returns-in-Some-clause-hearing g c =

@@ -1,15 +1,32 @@
-use Rattle.std.proofs.Common.{◌≡◌, None, OnOk, sym, subst}
+use Rattle.std.proofs.Common.{◌≡◌, ◌∙◌, refl, sym, ap, subst}
+use Rattle.rambo_tag.specs.Logs.{greatest_of}
+use Rattle.rambo_tag.proofs.Logged.{greatest_of-nil}
+use Rattle.rambo_gossip.specs.declared.letter.Letter.{Letter}
 use Rattle.rambo_gossip.specs.Letters.{letter_with}
-use Rattle.rambo_node.specs.Changes.{refusal_of, made_by}
+use Rattle.rambo_gossip.specs.Outlines.{outlined}
+use Rattle.rambo_logs.specs.NodeLogs.{extended}
+use Rattle.rambo_node.specs.Changes.{made_by}
 use Rattle.rambo_node.specs.declared.change.Change.TheVariants as change
+use Rattle.rambo_world.specs.Hearing.{lacked_of, HasHeard}
+use Rattle.rambo_world.proofs.Heard.{heard_none}
 use Rattle.rambo_world.proofs.nodes.hear.Goals as goal
 
-pub hear_outlined-requires : goal.hear_outlined-requires
-hear_outlined-requires g c = (c.requires-raw.1.1.0, subst (λ l. refusal_of g.Q.Quorums.system c.args.node.now.state (change.Deliver l) ≡ None) (sym c.outline_for.ensures) c.requires)
+pub returns-then-end-start-clause-heard : goal.returns-then-end-start-clause-heard
+returns-then-end-start-clause-heard g c =
+    let ls = c.args.logs.now.logs in
+    heard_none c.args.node.now c.hear_with.new.node ls ls c.args.letter.now c.args.start c.args.end c.pack.result.now c.if-end-start.true (c.pack.ensures ∙ sym greatest_of-nil) refl c.in_ok-hear_with.ensures.node
 
-pub returns-clause-node : goal.returns-clause-node
-returns-clause-node g c =
-    subst (λ l. OnOk c.hear_outlined.result (c.hear_outlined.new.self.state ≡ (made_by c.args.node.now.state (change.Deliver (letter_with l c.args.copies.now))).node)) c.outline_for.ensures c.hear_outlined.ensures.node
-
-pub outline_for-requires : goal.outline_for-requires
-outline_for-requires g c = assumption
+pub returns-clause-heard : goal.returns-clause-heard
+returns-clause-heard g c =
+    let ls = c.args.logs.now.logs in
+    let li = c.letter.inside in
+    let l : Letter _ = record { sender = li.sender; addressee = li.addressee; kind = outlined li.gossip } in
+    let more = lacked_of ls l c.args.start c.args.end in
+    let pack : c.brought.result.now ≡ greatest_of more = c.brought.ensures (record { to = l.addressee; copies = more }) (ap (λ s. s.brought) c.in_ok-bring.ensures.ok) in
+    let put : c.take_on.new.self.logs ≡ extended ls l.addressee more =
+    ap (λ s. s.logs) (c.take_on.ensures (record { to = l.addressee; copies = more }) (ap (λ s. s.brought) c.in_ok-bring.ensures.ok)) ∙ ap (λ s. extended s.logs l.addressee more) c.in_ok-bring.ensures.ok in
+    subst (λ l. HasHeard c.args.node.now c.hear_with-2.new.node ls c.take_on.new.self.logs l c.args.start c.args.end) c.letter.view_is (record {
+      node = c.in_ok-hear_with-2.ensures.node ∙ λ i. (made_by c.args.node.now.state (change.Deliver (letter_with (sym c.letter.view_is i) (pack i)))).node;
+      logs = put;
+      enough = c.in_ok-bring.ensures.enough;
+    })

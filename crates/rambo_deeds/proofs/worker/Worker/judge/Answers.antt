@@ -1,14 +1,13 @@
-use Rattle.std.proofs.Common.{ap, ◌∙◌, Some, sym}
+use Rattle.std.proofs.Common.{ap, ◌∙◌, sym}
 use Rattle.rambo_node.specs.declared.change.Change.TheVariants as change
 use Rattle.std.specs.Option.{option_copied}
 use Rattle.rambo_node.specs.Nodes.{RoomyNode}
 use Rattle.rambo_node.specs.Prepared.{quick_change}
+use Rattle.rambo_run.proofs.QuickSteps.{quick_else}
 use Rattle.rambo_names.proofs.Sizes.{up_fits, back_fits}
 use Rattle.rambo_deeds.specs.Deeds.{meant_by}
-use Rattle.rambo_deeds.proofs.Means.{Means, cleared, refused, refused_as}
-use Rattle.rambo_deeds.proofs.worker.Worker.judge.Given.{Over}
+use Rattle.rambo_deeds.proofs.Means.{cleared, refused, refused_as, quick_by}
 use Rattle.rambo_deeds.proofs.worker.Worker.judge.Goals as goal
-use Rattle.rambo_deeds.proofs.worker.Worker.judge.Goals.{in-Join, in-Again, in-Collect, in-AdvanceCollect, in-Recon, in-Rebid, in-AdvanceRecon, in-Stop}
 
 pub may_call-requires : goal.may_call-requires
 may_call-requires g c = back_fits _ _ _ (up_fits _ _ _ c.requires-raw.1.1)
@@ -41,25 +40,23 @@ pub returns-in-Deliver-clause-refused : goal.returns-in-Deliver-clause-refused
 returns-in-Deliver-clause-refused g c =
     refused_as g.Q.Quorums.system c.self.inside.node.state c.args.self.now.state (ap (λ (v : RoomyNode _). v.state) c.self.view_is) (option_copied c.args.letter) c.args.step.now _ c.in-Deliver.is c.may_deliver.result c.may_deliver.ensures.refused
 
--- a step of each other kind means the change that is made of it
-means : (g : Over) (c : goal.After-judge_quick g) → Means (option_copied c.args.letter) c.args.step.now (quick_change c.match-step.quick)
-means g c =
+pub unreachable-requires : goal.unreachable-requires
+unreachable-requires g c =
+    let other = c.in_default in
+    quick_else c.args.step.now (sym c.quick_of.ensures ∙ c.in-None.is) other.not-Call other.not-Send other.not-Deliver other.not-Advance
+
+pub returns-in-Some-clause-ok : goal.returns-in-Some-clause-ok
+returns-in-Some-clause-ok g c =
+    let st = c.args.step.now in
     let o = option_copied c.args.letter in
-    elim c.match-step.branch [
-      | in-Join b ↦ (b.in-Join.field-0, ap (meant_by o) b.in-Join.is ∙ sym (ap (λ q. Some (record { name = b.in-Join.field-0; change = quick_change q })) b.quick-is))
-      | in-Again b ↦ (b.in-Again.id.name, ap (meant_by o) b.in-Again.is ∙ sym (ap (λ q. Some (record { name = b.in-Again.id.name; change = quick_change q })) b.quick-is))
-      | in-Collect b ↦ (b.in-Collect.field-0, ap (meant_by o) b.in-Collect.is ∙ sym (ap (λ q. Some (record { name = b.in-Collect.field-0; change = quick_change q })) b.quick-is))
-      | in-AdvanceCollect b ↦ (b.in-AdvanceCollect.field-0, ap (meant_by o) b.in-AdvanceCollect.is ∙ sym (ap (λ q. Some (record { name = b.in-AdvanceCollect.field-0; change = quick_change q })) b.quick-is))
-      | in-Recon b ↦ (b.in-Recon.field-0, ap (meant_by o) b.in-Recon.is ∙ sym (ap (λ q. Some (record { name = b.in-Recon.field-0; change = quick_change q })) b.quick-is))
-      | in-Rebid b ↦ (b.in-Rebid.field-0, ap (meant_by o) b.in-Rebid.is ∙ sym (ap (λ q. Some (record { name = b.in-Rebid.field-0; change = quick_change q })) b.quick-is))
-      | in-AdvanceRecon b ↦ (b.in-AdvanceRecon.field-0, ap (meant_by o) b.in-AdvanceRecon.is ∙ sym (ap (λ q. Some (record { name = b.in-AdvanceRecon.field-0; change = quick_change q })) b.quick-is))
-      | in-Stop b ↦ (b.in-Stop.field-0, ap (meant_by o) b.in-Stop.is ∙ sym (ap (λ q. Some (record { name = b.in-Stop.field-0; change = quick_change q })) b.quick-is))
-    ]
+    let meant = c.in-Some.meant in
+    let q = meant.1 in
+    cleared g.Q.Quorums.system c.self.inside.node.state c.args.self.now.state (ap (λ (v : RoomyNode _). v.state) c.self.view_is) o st (quick_change q) c.judge_quick.result (quick_by o st meant (sym c.quick_of.ensures ∙ c.in-Some.is)) c.judge_quick.ensures.ok
 
-pub returns-clause-ok : goal.returns-clause-ok
-returns-clause-ok g c =
-    cleared g.Q.Quorums.system c.self.inside.node.state c.args.self.now.state (ap (λ (v : RoomyNode _). v.state) c.self.view_is) (option_copied c.args.letter) c.args.step.now (quick_change c.match-step.quick) c.judge_quick.result (means g c) c.judge_quick.ensures.ok
-
-pub returns-clause-refused : goal.returns-clause-refused
-returns-clause-refused g c =
-    refused g.Q.Quorums.system c.self.inside.node.state c.args.self.now.state (ap (λ (v : RoomyNode _). v.state) c.self.view_is) (option_copied c.args.letter) c.args.step.now (quick_change c.match-step.quick) c.judge_quick.result (means g c) c.judge_quick.ensures.refused
+pub returns-in-Some-clause-refused : goal.returns-in-Some-clause-refused
+returns-in-Some-clause-refused g c =
+    let st = c.args.step.now in
+    let o = option_copied c.args.letter in
+    let meant = c.in-Some.meant in
+    let q = meant.1 in
+    refused g.Q.Quorums.system c.self.inside.node.state c.args.self.now.state (ap (λ (v : RoomyNode _). v.state) c.self.view_is) o st (quick_change q) c.judge_quick.result (quick_by o st meant (sym c.quick_of.ensures ∙ c.in-Some.is)) c.judge_quick.ensures.refused

@@ -1,4 +1,7 @@
-use Rattle.std.proofs.Common.{refl}
+use Rattle.std.proofs.Common.{refl, ◌∙◌}
+use Rattle.rambo_node.specs.Changes.{made_by}
+use Rattle.rambo_node.specs.FullNodes.{beside_after}
+use Rattle.rambo_node.specs.declared.change.Change.TheVariants as change
 use Rattle.rambo_names.proofs.Errors.{err_ok, err_if_ok, on_err}
 use Rattle.rambo_node.proofs.node.Node.advance.Goals as goal
 
@@ -14,23 +17,39 @@ into_answer-requires g c = assumption
 pub may_advance-requires : goal.may_advance-requires
 may_advance-requires g c = assumption
 
-pub returns-in_err-may_advance-clause-judged : goal.returns-in_err-may_advance-clause-judged
-returns-in_err-may_advance-clause-judged g c = err_ok c.from_residual.result _ _ c.from_residual.ensures.1
+pub returns-in_err-place-clause-judged : goal.returns-in_err-place-clause-judged
+returns-in_err-place-clause-judged g c = err_ok c.from_residual.result _ _ c.from_residual.ensures.1
 
-pub returns-in_err-may_advance-clause-node : goal.returns-in_err-may_advance-clause-node
-returns-in_err-may_advance-clause-node g c = err_ok c.from_residual.result _ _ c.from_residual.ensures.1
+pub returns-in_err-place-clause-node : goal.returns-in_err-place-clause-node
+returns-in_err-place-clause-node g c = err_ok c.from_residual.result _ _ c.from_residual.ensures.1
 
-pub returns-in_err-may_advance-clause-answer : goal.returns-in_err-may_advance-clause-answer
-returns-in_err-may_advance-clause-answer g c = err_if_ok c.from_residual.result _ _ c.from_residual.ensures.1
+pub returns-in_err-place-clause-answer : goal.returns-in_err-place-clause-answer
+returns-in_err-place-clause-answer g c = err_if_ok c.from_residual.result _ _ c.from_residual.ensures.1
 
-pub returns-in_err-may_advance-clause-err : goal.returns-in_err-may_advance-clause-err
-returns-in_err-may_advance-clause-err g c = on_err c.from_residual.result refl
+pub returns-in_err-place-clause-err : goal.returns-in_err-place-clause-err
+returns-in_err-place-clause-err g c = on_err c.from_residual.result refl
 
-pub go_on-requires : goal.go_on-requires
-go_on-requires g c = (c.requires-raw.1.1, (c.in_ok-may_advance.ensures.ok, c.quiet-deed.ensures))
+pub ready_advance-requires : goal.ready_advance-requires
+ready_advance-requires g c = (c.requires-raw.1.1, (c.in_ok-place.ensures.ok, c.quiet-deed.ensures))
 
-pub returns-in_err-may_advance-clause-beside : goal.returns-in_err-may_advance-clause-beside
-returns-in_err-may_advance-clause-beside g c = err_ok c.from_residual.result _ _ c.from_residual.ensures.1
+pub finish_advance-requires : goal.finish_advance-requires
+finish_advance-requires g c = (c.requires-raw.1.1, c.in_ok-moving.ensures.moving)
 
-pub returns-in_err-may_advance-clause-kept : goal.returns-in_err-may_advance-clause-kept
-returns-in_err-may_advance-clause-kept g c = on_err c.from_residual.result refl
+pub returns-clause-judged : goal.returns-clause-judged
+returns-clause-judged g c = c.in_ok-place.ensures.ok.accepted
+
+pub returns-clause-node : goal.returns-clause-node
+returns-clause-node g c =
+    let m = c.in_ok-moving.ensures in
+    c.finish_advance.ensures.node ∙ λ i. (made_by (m.same i) (change.Advance (m.id i))).node
+
+pub returns-clause-beside : goal.returns-clause-beside
+returns-clause-beside g c =
+    let m = c.in_ok-moving.ensures in
+    c.finish_advance.ensures.beside ∙ λ i. beside_after (m.same i) (m.beside i) (change.Advance (m.id i))
+
+pub returns-in_err-place-clause-beside : goal.returns-in_err-place-clause-beside
+returns-in_err-place-clause-beside g c = err_ok c.from_residual.result _ _ c.from_residual.ensures.1
+
+pub returns-in_err-place-clause-kept : goal.returns-in_err-place-clause-kept
+returns-in_err-place-clause-kept g c = on_err c.from_residual.result refl

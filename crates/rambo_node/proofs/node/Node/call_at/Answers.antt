@@ -1,5 +1,7 @@
-use Rattle.rambo_names.proofs.Sizes.{up_fits, back_fits, next}
+use Rattle.rambo_names.proofs.Sizes.{up_fits, back_fits, next, variant_fits}
 use Rattle.rambo_node.proofs.node.Node.call_at.Goals as goal
 
-pub number_at-requires : goal.number_at-requires
-number_at-requires g c = back_fits _ _ _ (next _ _ _ _ (up_fits _ _ _ c.requires-raw.1.1))
+pub get-requires : goal.get-requires
+get-requires g c =
+    let calls = back_fits _ _ _ (next _ _ _ _ (up_fits _ _ _ c.requires-raw.1.1)) in
+    (calls, variant_fits _ _ _ _ (back_fits _ _ _ (up_fits _ _ _ calls)))

@@ -1,28 +1,55 @@
-use Rattle.std.proofs.Common.{sym, subst}
-use Rattle.std.proofs.lemmas.Result.{on_ok_weaker, IfErr-weaker}
-use Rattle.rambo_names.specs.Refusals.{IsRefusal}
+use Rattle.std.proofs.Common.{◌&&◌, sym, ap, ◌∙◌}
+use Rattle.rambo_gossip.specs.declared.letter.Kind.TheVariants as kind
+use Rattle.rambo_gossip.specs.Letters.{gossip_with}
+use Rattle.rambo_gossip.specs.Outlines.{gossip_outlined}
+use Rattle.rambo_calls.specs.Hearing.{any_gap}
+use Rattle.rambo_names.proofs.Sizes.{up_fits, back_fits, variant_fits}
 use Rattle.rambo_node.specs.Changes.{made_by}
-use Rattle.rambo_node.proofs.Memory.{IfErr-from_ok}
+use Rattle.rambo_node.specs.FullNodes.{beside_heard}
+use Rattle.rambo_node.specs.Hearing.{heard_gossip}
+use Rattle.rambo_node.specs.Refusals.{restarts, is_last}
+use Rattle.rambo_node.proofs.Besides.{join_beside}
+use Rattle.rambo_node.proofs.Judged.{hear_next}
+use Rattle.rambo_node.proofs.Readiness.{gossip_heard, gossip_beside}
 use Rattle.rambo_node.proofs.node.Node.hear.Goals as goal
-
-pub returns-clause-judged : goal.returns-clause-judged
-returns-clause-judged g c = on_ok_weaker c.do_hear.result (λ _. c.in_ok-may_hear.ensures.ok) c.do_hear.ensures.node
-
-pub returns-clause-node : goal.returns-clause-node
-unfolding made_by
-returns-clause-node g c = c.do_hear.ensures.node
-
-pub returns-clause-refused : goal.returns-clause-refused
-returns-clause-refused g c = IfErr-weaker c.do_hear.result _ _ (λ r e. subst (λ o. IsRefusal o r) (sym c.in_ok-may_hear.ensures.ok) e) c.do_hear.ensures.refused
-
-pub returns-clause-join : goal.returns-clause-join
-returns-clause-join g c = λ wish. IfErr-from_ok c.do_hear.result _ (c.do_hear.ensures.join wish)
-
-pub do_hear-requires : goal.do_hear-requires
-do_hear-requires g c = (c.requires-raw.1.1.0, (c.requires-raw.1.1.1, c.in_ok-may_hear.ensures.ok))
 
 pub may_hear-requires : goal.may_hear-requires
 may_hear-requires g c = assumption
 
-pub returns-clause-beside : goal.returns-clause-beside
-returns-clause-beside g c = c.do_hear.ensures.beside
+pub outline-outline-requires : goal.outline-outline-requires
+outline-outline-requires g c = variant_fits _ _ _ _ (back_fits _ _ _ (up_fits _ _ _ c.requires-raw.1.1.1))
+
+pub ready_gossip-requires : goal.ready_gossip-requires
+ready_gossip-requires g c =
+    let x = c.args.self.now.state in
+    let gap = ap (λ o. any_gap o.heard o.map x.calls && is_last x.number) c.outline-outline.ensures in
+    (c.requires-raw.1.1.0, gap ∙ sym (ap (λ k. restarts x k && is_last x.number) c.in-Gossip.is) ∙ hear_next x c.args.letter.now.kind c.in_ok-may_hear.ensures.ok)
+
+pub returns-in-Join-clause-beside : goal.returns-in-Join-clause-beside
+returns-in-Join-clause-beside g c =
+    let v = c.args.self.now in
+    let j = c.args.letter.now.sender in
+    c.meet.ensures.beside ∙ sym (join_beside v.state v.beside j) ∙ sym (ap (beside_heard v.state v.beside j) c.in-Join.is)
+
+pub returns-in_ok-hearing-in-Gossip-clause-node : goal.returns-in_ok-hearing-in-Gossip-clause-node
+unfolding made_by
+returns-in_ok-hearing-in-Gossip-clause-node g c =
+    let x = c.args.self.now.state in
+    let l = c.args.letter.now in
+    let o = gossip_outlined c.outline-outline.result in
+    let copies = c.in-Gossip.gossip.copies in
+    let found = c.in_ok-hearing-in-Gossip in
+    let is = c.in-Gossip.is ∙ sym (ap (λ p. kind.Gossip (gossip_with p copies)) c.outline-outline.ensures) in
+    c.finish_gossip.ensures.state ∙ ap (λ y. heard_gossip y l.sender (gossip_with o found.hearing.newer)) found.ensures.same
+    ∙ gossip_heard x l o copies found.hearing.newer is found.ensures.newer
+
+pub returns-in_ok-hearing-in-Gossip-clause-beside : goal.returns-in_ok-hearing-in-Gossip-clause-beside
+returns-in_ok-hearing-in-Gossip-clause-beside g c =
+    let v = c.args.self.now in
+    let l = c.args.letter.now in
+    let o = gossip_outlined c.outline-outline.result in
+    let copies = c.in-Gossip.gossip.copies in
+    let found = c.in_ok-hearing-in-Gossip in
+    let is = c.in-Gossip.is ∙ sym (ap (λ p. kind.Gossip (gossip_with p copies)) c.outline-outline.ensures) in
+    c.finish_gossip.ensures.beside ∙ (λ i. beside_heard (found.ensures.same i) (found.ensures.beside i) l.sender (kind.Gossip (gossip_with o found.hearing.newer)))
+    ∙ gossip_beside v.state l o copies found.hearing.newer is v.beside found.ensures.stamped

@@ -13,7 +13,7 @@ returns-clause-letter g c =
     ap Some (sym (c.with_copies.ensures
     ∙ ap (λ outline. letter_with outline c.in_ok-copies.copies) c.outline_for.ensures
     ∙ ap (λ kind. record l { kind = kind }) (kind_twice l.kind map.empty c.in_ok-copies.copies)
-    ∙ ap (letter_with l) c.in_ok-copies.ensures.all
+    ∙ ap (letter_with l) (c.in_ok-copies.ensures.all ∙ ap (λ v. v.state.registers) c.self.view_is)
     ∙ with_own c.args.self.now.state c.args.to))
 
 pub may_send-requires : goal.may_send-requires

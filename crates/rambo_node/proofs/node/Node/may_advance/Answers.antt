@@ -1,3 +1,8 @@
+use Rattle.std.proofs.Common.{slice_get, sym, ap, ◌∙◌}
+use Rattle.rambo_joiner.specs.Statuses.{is_early, is_stopped}
+use Rattle.rambo_calls.specs.Calls.{is_missing, is_unmet, query_in}
+use Rattle.rambo_node.specs.Refusals.{query_spent}
+use Rattle.rambo_node.proofs.Judged.{advance_passes}
 use Rattle.rambo_names.proofs.Sizes.{up_fits, back_fits, next, variant_fits}
 use Rattle.rambo_node.proofs.node.Node.may_advance.Goals as goal
 
@@ -7,8 +12,13 @@ is_early-requires g c = assumption
 pub is_missing-requires : goal.is_missing-requires
 is_missing-requires g c = variant_fits _ _ _ _ (back_fits _ _ _ (up_fits _ _ _ (back_fits _ _ _ (next _ _ _ _ (up_fits _ _ _ c.requires-raw.1.1)))))
 
-pub find-call-requires : goal.find-call-requires
-find-call-requires g c = (c.requires-raw.1.1, variant_fits _ _ _ _ (back_fits _ _ _ (up_fits _ _ _ (back_fits _ _ _ (next _ _ _ _ (up_fits _ _ _ c.requires-raw.1.1))))))
+pub place_of-place-requires : goal.place_of-place-requires
+place_of-place-requires g c = assumption
+
+pub get-call-requires : goal.get-call-requires
+get-call-requires g c =
+    let calls = back_fits _ _ _ (next _ _ _ _ (up_fits _ _ _ c.requires-raw.1.1)) in
+    (calls, variant_fits _ _ _ _ (back_fits _ _ _ (up_fits _ _ _ calls)))
 
 pub query_of-requires : goal.query_of-requires
 query_of-requires g c = variant_fits _ _ _ _ (back_fits _ _ _ (up_fits _ _ _ (back_fits _ _ _ (next _ _ _ _ (up_fits _ _ _ c.requires-raw.1.1)))))
@@ -21,3 +31,17 @@ is_unmet-requires g c = variant_fits _ _ _ _ (back_fits _ _ _ (up_fits _ _ _ (ba
 
 pub query_is_spent-requires : goal.query_is_spent-requires
 query_is_spent-requires g c = assumption
+
+pub returns-clause-ok : goal.returns-clause-ok
+returns-clause-ok g c =
+    let s = g.Q.Quorums.system in
+    let x = c.args.self.now.state in
+    let id = c.args.id.now in
+    let place = c.place_of-place in
+    let found = c.get-call.ensures ∙ ap (λ v. slice_get v.state.calls place.result) c.self.view_is ∙ place.ensures.found in
+    let early = sym (c.is_early.ensures ∙ ap (λ v. is_early v.state.status) c.self.view_is) ∙ c.if-is_early.false in
+    let over = sym (c.is_stopped.ensures ∙ ap (λ v. is_stopped v.state.status) c.self.view_is) ∙ c.if-is_stopped.false in
+    let there = sym (c.is_missing.ensures ∙ ap is_missing found) ∙ c.if-is_missing.false in
+    let met = sym (c.is_unmet.ensures ∙ ap (is_unmet s) found) ∙ c.if-is_unmet.false in
+    let spent = sym (c.query_is_spent.ensures ∙ ap (query_spent x) (c.query_of.ensures ∙ ap query_in found)) ∙ c.if-query_is_spent.false in
+    record { accepted = advance_passes x s id early over there met spent; own = place.ensures.own there; at = place.ensures.found }

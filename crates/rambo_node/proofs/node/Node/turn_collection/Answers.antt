@@ -31,12 +31,12 @@ returns-in-Some-Propagating-clause-node g c =
     let met = sym (c.would_advance.ensures ∙ ap (λ v. move_of s v.state.map c.args.collection) c.self.view_is) ∙ c.in-Some-Propagating.is ∙ ap Some c.in-Some-Propagating.field-0-is in
     c.move_collection.ensures.node ∙ sym (ap (λ v. (collection_turned x c.args.collection v).node) (same_move s x.map c.args.collection Propagating met))
 
-pub returns-in-Some-Propagating-clause-deed : goal.returns-in-Some-Propagating-clause-deed
-returns-in-Some-Propagating-clause-deed g c =
+pub returns-in-Some-Propagating-clause-effect : goal.returns-in-Some-Propagating-clause-effect
+returns-in-Some-Propagating-clause-effect g c =
     let x = c.args.self.now.state in
     let s = g.Q.Quorums.system in
     let met = sym (c.would_advance.ensures ∙ ap (λ v. move_of s v.state.map c.args.collection) c.self.view_is) ∙ c.in-Some-Propagating.is ∙ ap Some c.in-Some-Propagating.field-0-is in
-    c.move_collection.ensures.deed ∙ sym (ap (λ v. (collection_turned x c.args.collection v).deed) (same_move s x.map c.args.collection Propagating met))
+    c.move_collection.ensures.effect ∙ sym (ap (λ v. (collection_turned x c.args.collection v).deed.effect) (same_move s x.map c.args.collection Propagating met))
 
 pub returns-in-Some-Done-clause-node : goal.returns-in-Some-Done-clause-node
 returns-in-Some-Done-clause-node g c =
@@ -45,12 +45,12 @@ returns-in-Some-Done-clause-node g c =
     let met = sym (c.would_advance.ensures ∙ ap (λ v. move_of s v.state.map c.args.collection) c.self.view_is) ∙ c.in-Some-Done.is ∙ ap Some c.in-Some-Done.field-0-is in
     c.end_collection.ensures.node ∙ sym (ap (λ v. (collection_turned x c.args.collection v).node) (same_move s x.map c.args.collection Done met))
 
-pub returns-in-Some-Done-clause-deed : goal.returns-in-Some-Done-clause-deed
-returns-in-Some-Done-clause-deed g c =
+pub returns-in-Some-Done-clause-effect : goal.returns-in-Some-Done-clause-effect
+returns-in-Some-Done-clause-effect g c =
     let x = c.args.self.now.state in
     let s = g.Q.Quorums.system in
     let met = sym (c.would_advance.ensures ∙ ap (λ v. move_of s v.state.map c.args.collection) c.self.view_is) ∙ c.in-Some-Done.is ∙ ap Some c.in-Some-Done.field-0-is in
-    c.end_collection.ensures.deed ∙ sym (ap (λ v. (collection_turned x c.args.collection v).deed) (same_move s x.map c.args.collection Done met))
+    c.end_collection.ensures.effect ∙ sym (ap (λ v. (collection_turned x c.args.collection v).deed.effect) (same_move s x.map c.args.collection Done met))
 
 pub would_advance-requires : goal.would_advance-requires
 would_advance-requires g c = back_fits _ _ _ (up_fits _ _ _ c.requires-raw.1.1.0)

@@ -1,83 +1,46 @@
-use Rattle.std.proofs.Common.{◌≡◌, None, Some, Ok, ◌∙◌, ap, refl, sym, subst}
+use Rattle.std.proofs.Common.{◌≡◌, None, IfOk, OnErr, refl, subst}
+use Rattle.std.proofs.lemmas.Result.{IfOk-weaker}
 use Rattle.rambo_node.specs.declared.change.Change.TheVariants as change
-use Rattle.rambo_node.specs.declared.effect.Effect.TheVariants as effect
-use Rattle.rambo_world.specs.Deliveries.{world_of}
+use Rattle.rambo_run.specs.declared.step.Step.{Step}
 use Rattle.rambo_run.specs.declared.step.Step.TheVariants as step
 use Rattle.rambo_run.specs.Runs.{result_of}
 use Rattle.rambo_run.specs.Steps.{refusal}
-use Rattle.rambo_world.specs.Direct.{IsReachedBarLetters}
+use Rattle.rambo_run.specs.Told.{called}
 use Rattle.rambo_run.specs.Ongoing.{RunningOf}
-use Rattle.rambo_names.proofs.Sizes.{up_fits, back_fits, next}
-use Rattle.rambo_world.proofs.Letterless.{bar_fits, bar_named, bar_next, call_named}
-use Rattle.rambo_names.proofs.Errors.{on_err}
-use Rattle.rambo_world.proofs.Single.{refused_told, taken_told, taken_after, stands, moves_on}
-use Rattle.rambo_world.proofs.Turns.{judged_at, step_refusal, step_turn}
+use Rattle.rambo_names.proofs.Sizes.{up_fits, back_fits}
+use Rattle.rambo_world.proofs.Letterless.{bar_fits, bar_named, bar_on, call_named}
+use Rattle.rambo_world.proofs.Reached.{goes_on, stays}
 use Rattle.rambo_world.proofs.direct.Direct.call.Goals as goal
-
-pub node-requires : goal.node-requires
-node-requires g c =
-    let state = back_fits _ _ _ (up_fits _ _ _ c.requires-raw.1.1) in
-    let nodes = back_fits _ _ _ (next _ _ _ _ (next _ _ _ _ (next _ _ _ _ (next _ _ _ _ (next _ _ _ _ (up_fits _ _ _ state)))))) in
-    (nodes, (back_fits _ _ _ (up_fits _ _ _ nodes)))
-
-pub may_call-requires : goal.may_call-requires
-may_call-requires g c =
-    let state = back_fits _ _ _ (up_fits _ _ _ c.requires-raw.1.1) in
-    let nodes = back_fits _ _ _ (next _ _ _ _ (next _ _ _ _ (next _ _ _ _ (next _ _ _ _ (next _ _ _ _ (up_fits _ _ _ state)))))) in
-    back_fits _ _ _ (up_fits _ _ _ nodes)
-
-pub returns-in-Err-clause-told : goal.returns-in-Err-clause-told
-returns-in-Err-clause-told g c =
-    let s = g.Q.Quorums.system in
-    let st = step.Call c.args.name c.args.op in
-    refused_told s c.args.self.now.state st c.in-Err.refusal (subst (λ (v : RunningOf _). refusal s v.state st ≡ Some c.in-Err.refusal) c.self.view_is
-    (subst (λ w. refusal s w st ≡ Some c.in-Err.refusal) (ap (λ i. i.state) c.self-inside.view_is) (sym (judged_at s (world_of c.self-inside.inside.0.1.0.nodes c.self-inside.inside.0.1.0.letters c.self-inside.inside.0.1.0.history.events c.self-inside.inside.0.1.0.marks.items) st c.args.name (change.Call c.args.op) c.node.result.now.state refl c.node.ensures) ∙ c.in-Err.ensures.refused)))
-
-pub returns-in-Err-clause-after : goal.returns-in-Err-clause-after
-returns-in-Err-clause-after g c =
-    let s = g.Q.Quorums.system in
-    let st = step.Call c.args.name c.args.op in
-    stands s c.args.self.now st c.in-Err.refusal (subst (λ (v : RunningOf _). refusal s v.state st ≡ Some c.in-Err.refusal) c.self.view_is
-    (subst (λ w. refusal s w st ≡ Some c.in-Err.refusal) (ap (λ i. i.state) c.self-inside.view_is) (sym (judged_at s (world_of c.self-inside.inside.0.1.0.nodes c.self-inside.inside.0.1.0.letters c.self-inside.inside.0.1.0.history.events c.self-inside.inside.0.1.0.marks.items) st c.args.name (change.Call c.args.op) c.node.result.now.state refl c.node.ensures) ∙ c.in-Err.ensures.refused)))
 
 pub call-requires : goal.call-requires
 call-requires g c =
-    let s = g.Q.Quorums.system in
-    let st = step.Call c.args.name c.args.op in
-    (back_fits _ _ _ (up_fits _ _ _ c.requires-raw.1.1), (sym (step_refusal c.self.inside.state st c.args.name (change.Call c.args.op) refl s) ∙ (subst (λ w. refusal s w st ≡ None) (ap (λ i. i.state) c.self-inside.view_is) (sym (judged_at s (world_of c.self-inside.inside.0.1.0.nodes c.self-inside.inside.0.1.0.letters c.self-inside.inside.0.1.0.history.events c.self-inside.inside.0.1.0.marks.items) st c.args.name (change.Call c.args.op) c.node.result.now.state refl c.node.ensures) ∙ c.in_default.ensures.ok)), bar_fits s c.self.inside.founders st c.args.name (change.Call c.args.op) (λ v. refl) c.self.inside.state c.self.invariant (subst (λ w. refusal s w st ≡ None) (ap (λ i. i.state) c.self-inside.view_is) (sym (judged_at s (world_of c.self-inside.inside.0.1.0.nodes c.self-inside.inside.0.1.0.letters c.self-inside.inside.0.1.0.history.events c.self-inside.inside.0.1.0.marks.items) st c.args.name (change.Call c.args.op) c.node.result.now.state refl c.node.ensures) ∙ c.in_default.ensures.ok))))
+    let st : Step g.row.Q.Denot = step.Call c.args.name c.args.op in
+    (back_fits _ _ _ (up_fits _ _ _ c.requires-raw.1.1), bar_fits g.Q.Quorums.system c.self.inside.founders st c.args.name (change.Call c.args.op) (λ v. refl) c.self.inside.state c.self.invariant)
 
 pub invariant_of-self : goal.invariant_of-self
-invariant_of-self g c = subst (IsReachedBarLetters g.Q.Quorums.system c.self.inside.founders) (sym c.in_err-id.ensures.err) c.self.invariant
-
-pub returns-in_err-id-clause-accepted : goal.returns-in_err-id-clause-accepted
-returns-in_err-id-clause-accepted g c =
-    let s = g.Q.Quorums.system in
-    let st = step.Call c.args.name c.args.op in
-    on_err c.from_residual.result (subst (λ (v : RunningOf _). refusal s v.state st ≡ None) c.self.view_is (subst (λ w. refusal s w st ≡ None) (ap (λ i. i.state) c.self-inside.view_is) (sym (judged_at s (world_of c.self-inside.inside.0.1.0.nodes c.self-inside.inside.0.1.0.letters c.self-inside.inside.0.1.0.history.events c.self-inside.inside.0.1.0.marks.items) st c.args.name (change.Call c.args.op) c.node.result.now.state refl c.node.ensures) ∙ c.in_default.ensures.ok)))
-
-pub invariant_of-self-2 : goal.invariant_of-self-2
-invariant_of-self-2 g c =
-    let s = g.Q.Quorums.system in
-    let st = step.Call c.args.name c.args.op in
-    bar_next s c.self.inside.founders st c.args.name (change.Call c.args.op) (λ v. refl) c.self.inside.state c.call.new.self c.self.invariant refl
-    (taken_after s c.self.inside.state st c.call.new.self (effect.Called c.in_ok-id.id) (subst (λ w. refusal s w st ≡ None) (ap (λ i. i.state) c.self-inside.view_is) (sym (judged_at s (world_of c.self-inside.inside.0.1.0.nodes c.self-inside.inside.0.1.0.letters c.self-inside.inside.0.1.0.history.events c.self-inside.inside.0.1.0.marks.items) st c.args.name (change.Call c.args.op) c.node.result.now.state refl c.node.ensures) ∙ c.in_default.ensures.ok)) (step_turn c.self.inside.state st c.args.name (change.Call c.args.op) refl ∙ c.in_ok-id.ensures.ok))
+invariant_of-self g c =
+    let st : Step g.row.Q.Denot = step.Call c.args.name c.args.op in
+    bar_on g.Q.Quorums.system c.self.inside.founders st c.args.name (change.Call c.args.op) (λ v. refl) c.self.inside.state c.call.new.self c.call.result c.self.invariant refl c.call.ensures.after c.call.ensures.err
 
 pub returns-clause-told : goal.returns-clause-told
 returns-clause-told g c =
     let s = g.Q.Quorums.system in
-    let st = step.Call c.args.name c.args.op in
-    subst (λ (v : RunningOf _). Ok (effect.Called c.in_ok-id.id) ≡ result_of (refusal s v.state st) v.state st) c.self.view_is
-    (taken_told s c.self.inside.state st c.call.new.self (effect.Called c.in_ok-id.id) (subst (λ w. refusal s w st ≡ None) (ap (λ i. i.state) c.self-inside.view_is) (sym (judged_at s (world_of c.self-inside.inside.0.1.0.nodes c.self-inside.inside.0.1.0.letters c.self-inside.inside.0.1.0.history.events c.self-inside.inside.0.1.0.marks.items) st c.args.name (change.Call c.args.op) c.node.result.now.state refl c.node.ensures) ∙ c.in_default.ensures.ok)) (step_turn c.self.inside.state st c.args.name (change.Call c.args.op) refl ∙ c.in_ok-id.ensures.ok))
-
-pub returns-clause-after : goal.returns-clause-after
-returns-clause-after g c =
-    let s = g.Q.Quorums.system in
-    let st = step.Call c.args.name c.args.op in
-    moves_on s c.self.inside.founders c.self.inside.state c.call.new.self c.args.self.now st c.self.view_is
-    (taken_after s c.self.inside.state st c.call.new.self (effect.Called c.in_ok-id.id) (subst (λ w. refusal s w st ≡ None) (ap (λ i. i.state) c.self-inside.view_is) (sym (judged_at s (world_of c.self-inside.inside.0.1.0.nodes c.self-inside.inside.0.1.0.letters c.self-inside.inside.0.1.0.history.events c.self-inside.inside.0.1.0.marks.items) st c.args.name (change.Call c.args.op) c.node.result.now.state refl c.node.ensures) ∙ c.in_default.ensures.ok)) (step_turn c.self.inside.state st c.args.name (change.Call c.args.op) refl ∙ c.in_ok-id.ensures.ok))
+    let st : Step g.row.Q.Denot = step.Call c.args.name c.args.op in
+    subst (λ (v : RunningOf _). IfOk c.call.result (λ r. called r ≡ result_of (refusal s v.state st) v.state st)) c.self.view_is c.call.ensures.told
 
 pub returns-clause-named : goal.returns-clause-named
 returns-clause-named g c =
     let s = g.Q.Quorums.system in
-    let w = c.self.inside.state in
-    call_named w c.call.new.self c.args.name c.args.op c.in_ok-id.id (bar_named s c.self.inside.founders w c.self.invariant c.args.name) c.in_ok-id.ensures.ok
+    IfOk-weaker c.call.result _ _ (λ r told. call_named s c.self.inside.state c.args.name c.args.op (bar_named s c.self.inside.founders c.self.inside.state c.self.invariant c.args.name) r told) c.call.ensures.told
+
+pub returns-clause-after : goal.returns-clause-after
+returns-clause-after g c = goes_on g.Q.Quorums.system c.self.inside.founders c.self.inside.state c.call.new.self c.args.self.now (step.Call c.args.name c.args.op) c.call.result c.self.view_is c.call.ensures.after
+
+pub returns-clause-err : goal.returns-clause-err
+returns-clause-err g c = stays c.self.inside.founders c.self.inside.state c.call.new.self c.args.self.now c.call.result c.self.view_is c.call.ensures.err
+
+pub returns-clause-accepted : goal.returns-clause-accepted
+returns-clause-accepted g c =
+    let s = g.Q.Quorums.system in
+    let st : Step g.row.Q.Denot = step.Call c.args.name c.args.op in
+    subst (λ (v : RunningOf _). OnErr c.call.result (refusal s v.state st ≡ None)) c.self.view_is c.call.ensures.accepted

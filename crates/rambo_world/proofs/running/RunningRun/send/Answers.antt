@@ -1,76 +1,34 @@
-use Rattle.std.proofs.Common.{◌≡◌, None, Some, Ok, ◌∙◌, ap, refl, sym, subst}
-use Rattle.rambo_node.specs.declared.change.Change.TheVariants as change
-use Rattle.rambo_node.specs.declared.effect.Effect.TheVariants as effect
-use Rattle.rambo_world.specs.Deliveries.{world_of}
+use Rattle.std.proofs.Common.{◌≡◌, None, IfOk, OnErr, subst}
+use Rattle.rambo_run.specs.declared.step.Step.{Step}
 use Rattle.rambo_run.specs.declared.step.Step.TheVariants as step
 use Rattle.rambo_run.specs.Runs.{result_of}
 use Rattle.rambo_run.specs.Steps.{refusal}
-use Rattle.rambo_run.specs.Ongoing.{RunningOf, IsReached}
-use Rattle.rambo_names.proofs.Sizes.{up_fits, back_fits, next}
-use Rattle.rambo_world.proofs.Reached.{reached_next}
-use Rattle.rambo_names.proofs.Errors.{on_err}
-use Rattle.rambo_world.proofs.Single.{refused_told, taken_told, taken_after, stands, moves_on}
-use Rattle.rambo_world.proofs.Turns.{judged_at}
+use Rattle.rambo_run.specs.Told as told
+use Rattle.rambo_run.specs.Ongoing.{RunningOf}
+use Rattle.rambo_names.proofs.Sizes.{up_fits, back_fits}
+use Rattle.rambo_world.proofs.Reached.{reached_on, goes_on, stays}
 use Rattle.rambo_world.proofs.running.RunningRun.send.Goals as goal
 
-pub node-requires : goal.node-requires
-node-requires g c =
-    let state = back_fits _ _ _ (up_fits _ _ _ c.requires-raw.1.1) in
-    let nodes = back_fits _ _ _ (next _ _ _ _ (next _ _ _ _ (next _ _ _ _ (next _ _ _ _ (next _ _ _ _ (up_fits _ _ _ state)))))) in
-    (nodes, (back_fits _ _ _ (up_fits _ _ _ nodes)))
-
-pub may_send-requires : goal.may_send-requires
-may_send-requires g c =
-    let state = back_fits _ _ _ (up_fits _ _ _ c.requires-raw.1.1) in
-    let nodes = back_fits _ _ _ (next _ _ _ _ (next _ _ _ _ (next _ _ _ _ (next _ _ _ _ (next _ _ _ _ (up_fits _ _ _ state)))))) in
-    back_fits _ _ _ (up_fits _ _ _ nodes)
-
-pub returns-in-Err-clause-told : goal.returns-in-Err-clause-told
-returns-in-Err-clause-told g c =
-    let s = g.Q.Quorums.system in
-    let st = step.Send c.args.from c.args.to in
-    refused_told s c.args.self.now.state st c.in-Err.refusal (subst (λ (v : RunningOf _). refusal s v.state st ≡ Some c.in-Err.refusal) c.self.view_is
-    (subst (λ w. refusal s w st ≡ Some c.in-Err.refusal) (ap (λ i. i.state) c.self-inside.view_is) (sym (judged_at s (world_of c.self-inside.inside.0.1.0.nodes c.self-inside.inside.0.1.0.letters c.self-inside.inside.0.1.0.history.events c.self-inside.inside.0.1.0.marks.items) st c.args.from (change.Send c.args.to) c.node.result.now.state refl c.node.ensures) ∙ c.in-Err.ensures.refused)))
-
-pub returns-in-Err-clause-after : goal.returns-in-Err-clause-after
-returns-in-Err-clause-after g c =
-    let s = g.Q.Quorums.system in
-    let st = step.Send c.args.from c.args.to in
-    stands s c.args.self.now st c.in-Err.refusal (subst (λ (v : RunningOf _). refusal s v.state st ≡ Some c.in-Err.refusal) c.self.view_is
-    (subst (λ w. refusal s w st ≡ Some c.in-Err.refusal) (ap (λ i. i.state) c.self-inside.view_is) (sym (judged_at s (world_of c.self-inside.inside.0.1.0.nodes c.self-inside.inside.0.1.0.letters c.self-inside.inside.0.1.0.history.events c.self-inside.inside.0.1.0.marks.items) st c.args.from (change.Send c.args.to) c.node.result.now.state refl c.node.ensures) ∙ c.in-Err.ensures.refused)))
-
 pub send-requires : goal.send-requires
-send-requires g c =
-    let s = g.Q.Quorums.system in
-    let st = step.Send c.args.from c.args.to in
-    (back_fits _ _ _ (up_fits _ _ _ c.requires-raw.1.1), subst (λ w. refusal s w st ≡ None) (ap (λ i. i.state) c.self-inside.view_is) (sym (judged_at s (world_of c.self-inside.inside.0.1.0.nodes c.self-inside.inside.0.1.0.letters c.self-inside.inside.0.1.0.history.events c.self-inside.inside.0.1.0.marks.items) st c.args.from (change.Send c.args.to) c.node.result.now.state refl c.node.ensures) ∙ c.in_default.ensures.ok))
+send-requires g c = back_fits _ _ _ (up_fits _ _ _ c.requires-raw.1.1)
 
 pub invariant_of-self : goal.invariant_of-self
-invariant_of-self g c = subst (IsReached g.Q.Quorums.system c.self.inside.founders) (sym c.in_err-number.ensures.err) c.self.invariant
-
-pub returns-in_err-number-clause-accepted : goal.returns-in_err-number-clause-accepted
-returns-in_err-number-clause-accepted g c =
-    let s = g.Q.Quorums.system in
-    let st = step.Send c.args.from c.args.to in
-    on_err c.from_residual.result (subst (λ (v : RunningOf _). refusal s v.state st ≡ None) c.self.view_is (subst (λ w. refusal s w st ≡ None) (ap (λ i. i.state) c.self-inside.view_is) (sym (judged_at s (world_of c.self-inside.inside.0.1.0.nodes c.self-inside.inside.0.1.0.letters c.self-inside.inside.0.1.0.history.events c.self-inside.inside.0.1.0.marks.items) st c.args.from (change.Send c.args.to) c.node.result.now.state refl c.node.ensures) ∙ c.in_default.ensures.ok)))
-
-pub invariant_of-self-2 : goal.invariant_of-self-2
-invariant_of-self-2 g c =
-    let s = g.Q.Quorums.system in
-    let st = step.Send c.args.from c.args.to in
-    reached_next s c.self.inside.founders c.self.inside.state c.send.new.self st c.self.invariant
-    (taken_after s c.self.inside.state st c.send.new.self (effect.Sent c.in_ok-number.number) (subst (λ w. refusal s w st ≡ None) (ap (λ i. i.state) c.self-inside.view_is) (sym (judged_at s (world_of c.self-inside.inside.0.1.0.nodes c.self-inside.inside.0.1.0.letters c.self-inside.inside.0.1.0.history.events c.self-inside.inside.0.1.0.marks.items) st c.args.from (change.Send c.args.to) c.node.result.now.state refl c.node.ensures) ∙ c.in_default.ensures.ok)) c.in_ok-number.ensures.ok)
+invariant_of-self g c = reached_on g.Q.Quorums.system c.self.inside.founders c.self.inside.state c.send.new.self (step.Send c.args.from c.args.to) c.send.result c.self.invariant c.send.ensures.after c.send.ensures.err
 
 pub returns-clause-told : goal.returns-clause-told
 returns-clause-told g c =
     let s = g.Q.Quorums.system in
-    let st = step.Send c.args.from c.args.to in
-    subst (λ (v : RunningOf _). Ok (effect.Sent c.in_ok-number.number) ≡ result_of (refusal s v.state st) v.state st) c.self.view_is
-    (taken_told s c.self.inside.state st c.send.new.self (effect.Sent c.in_ok-number.number) (subst (λ w. refusal s w st ≡ None) (ap (λ i. i.state) c.self-inside.view_is) (sym (judged_at s (world_of c.self-inside.inside.0.1.0.nodes c.self-inside.inside.0.1.0.letters c.self-inside.inside.0.1.0.history.events c.self-inside.inside.0.1.0.marks.items) st c.args.from (change.Send c.args.to) c.node.result.now.state refl c.node.ensures) ∙ c.in_default.ensures.ok)) c.in_ok-number.ensures.ok)
+    let st : Step g.row.Q.Denot = step.Send c.args.from c.args.to in
+    subst (λ (v : RunningOf _). IfOk c.send.result (λ r. told.sent r ≡ result_of (refusal s v.state st) v.state st)) c.self.view_is c.send.ensures.told
 
 pub returns-clause-after : goal.returns-clause-after
-returns-clause-after g c =
+returns-clause-after g c = goes_on g.Q.Quorums.system c.self.inside.founders c.self.inside.state c.send.new.self c.args.self.now (step.Send c.args.from c.args.to) c.send.result c.self.view_is c.send.ensures.after
+
+pub returns-clause-err : goal.returns-clause-err
+returns-clause-err g c = stays c.self.inside.founders c.self.inside.state c.send.new.self c.args.self.now c.send.result c.self.view_is c.send.ensures.err
+
+pub returns-clause-accepted : goal.returns-clause-accepted
+returns-clause-accepted g c =
     let s = g.Q.Quorums.system in
-    let st = step.Send c.args.from c.args.to in
-    moves_on s c.self.inside.founders c.self.inside.state c.send.new.self c.args.self.now st c.self.view_is
-    (taken_after s c.self.inside.state st c.send.new.self (effect.Sent c.in_ok-number.number) (subst (λ w. refusal s w st ≡ None) (ap (λ i. i.state) c.self-inside.view_is) (sym (judged_at s (world_of c.self-inside.inside.0.1.0.nodes c.self-inside.inside.0.1.0.letters c.self-inside.inside.0.1.0.history.events c.self-inside.inside.0.1.0.marks.items) st c.args.from (change.Send c.args.to) c.node.result.now.state refl c.node.ensures) ∙ c.in_default.ensures.ok)) c.in_ok-number.ensures.ok)
+    let st : Step g.row.Q.Denot = step.Send c.args.from c.args.to in
+    subst (λ (v : RunningOf _). OnErr c.send.result (refusal s v.state st ≡ None)) c.self.view_is c.send.ensures.accepted

@@ -1,130 +1,127 @@
-use Rattle.std.proofs.Common.{◌≡◌, ℕ, Option, None, Some, refl, sym, ap, ◌∙◌, subst, OnOk, IfErr}
-use Rattle.rambo_node.specs.declared.change.Change.{Change}
+use Rattle.std.proofs.Common.{◌≡◌, ◌∙◌, None, Some, sym, ap}
+use Rattle.std.proofs.lemmas.Result.{on_ok_weaker, IfErr-weaker}
+use Rattle.rambo_names.specs.Refusals.{least}
+use Rattle.rambo_node.specs.Prepared.{quick_change}
 use Rattle.rambo_node.specs.declared.change.Change.TheVariants as change
 use Rattle.rambo_run.specs.declared.step.Step.TheVariants as step
-use Rattle.rambo_run.specs.Steps.{Meant, meant, refusal}
-use Rattle.rambo_run.specs.Worlds.{WorldState}
-use Rattle.rambo_names.proofs.Sizes.{up_fits, back_fits, next, variant_fits}
-use Rattle.rambo_world.proofs.Turns.{judged_at, deliver_refusal}
+use Rattle.rambo_run.specs.Steps.{causes_at, meant, refusal}
+use Rattle.rambo_letters.specs.Kept.{SentState, sent_at}
+use Rattle.rambo_world.specs.Kept.{state_at}
 use Rattle.rambo_world.specs.Deliveries.{world_of}
-use Rattle.rambo_world.proofs.state.State.judge.Given.{Over}
+use Rattle.rambo_names.proofs.Errors.{err_kept}
+use Rattle.rambo_names.proofs.Sizes.{up_fits, back_fits, next}
+use Rattle.rambo_world.proofs.Coming.{judged_sent}
+use Rattle.rambo_world.proofs.Deliveries.{no_causes}
+use Rattle.rambo_run.proofs.QuickSteps.{quick_means, quick_else}
+use Rattle.rambo_world.proofs.Turns.{judged_now, deliver_refusal}
 use Rattle.rambo_world.proofs.state.State.judge.Goals as goal
-use Rattle.rambo_world.proofs.state.State.judge.Goals.{in-Join, in-Again, in-Collect, in-AdvanceCollect, in-Recon, in-Rebid, in-AdvanceRecon, in-Stop}
+
+pub get-requires : goal.get-requires
+get-requires g c = back_fits _ _ _ (next _ _ _ _ (next _ _ _ _ (next _ _ _ _ (up_fits _ _ _ c.requires-raw.1.1))))
 
 pub node-requires : goal.node-requires
-node-requires g c = ((back_fits _ _ _ (next _ _ _ _ (next _ _ _ _ (next _ _ _ _ (next _ _ _ _ (next _ _ _ _ (up_fits _ _ _ c.requires-raw.1.1))))))), ((back_fits _ _ _ (up_fits _ _ _ (back_fits _ _ _ (next _ _ _ _ (next _ _ _ _ (next _ _ _ _ (next _ _ _ _ (next _ _ _ _ (up_fits _ _ _ c.requires-raw.1.1)))))))))))
-
-pub may_call-requires : goal.may_call-requires
-may_call-requires g c = ((back_fits _ _ _ (up_fits _ _ _ (back_fits _ _ _ (next _ _ _ _ (next _ _ _ _ (next _ _ _ _ (next _ _ _ _ (next _ _ _ _ (up_fits _ _ _ c.requires-raw.1.1))))))))))
+node-requires g c =
+    let nodes = back_fits _ _ _ (next _ _ _ _ (next _ _ _ _ (next _ _ _ _ (next _ _ _ _ (up_fits _ _ _ c.requires-raw.1.1))))) in
+    (nodes, back_fits _ _ _ (up_fits _ _ _ nodes))
 
 pub node-requires-in-Send : goal.node-requires-in-Send
-node-requires-in-Send g c = ((back_fits _ _ _ (next _ _ _ _ (next _ _ _ _ (next _ _ _ _ (next _ _ _ _ (next _ _ _ _ (up_fits _ _ _ c.requires-raw.1.1))))))), ((back_fits _ _ _ (up_fits _ _ _ (back_fits _ _ _ (next _ _ _ _ (next _ _ _ _ (next _ _ _ _ (next _ _ _ _ (next _ _ _ _ (up_fits _ _ _ c.requires-raw.1.1)))))))))))
-
-pub may_send-requires : goal.may_send-requires
-may_send-requires g c = ((back_fits _ _ _ (up_fits _ _ _ (back_fits _ _ _ (next _ _ _ _ (next _ _ _ _ (next _ _ _ _ (next _ _ _ _ (next _ _ _ _ (up_fits _ _ _ c.requires-raw.1.1))))))))))
+node-requires-in-Send g c =
+    let nodes = back_fits _ _ _ (next _ _ _ _ (next _ _ _ _ (next _ _ _ _ (next _ _ _ _ (up_fits _ _ _ c.requires-raw.1.1))))) in
+    (nodes, back_fits _ _ _ (up_fits _ _ _ nodes))
 
 pub node-requires-in-Advance : goal.node-requires-in-Advance
-node-requires-in-Advance g c = ((back_fits _ _ _ (next _ _ _ _ (next _ _ _ _ (next _ _ _ _ (next _ _ _ _ (next _ _ _ _ (up_fits _ _ _ c.requires-raw.1.1))))))), ((back_fits _ _ _ (up_fits _ _ _ (back_fits _ _ _ (next _ _ _ _ (next _ _ _ _ (next _ _ _ _ (next _ _ _ _ (next _ _ _ _ (up_fits _ _ _ c.requires-raw.1.1)))))))))))
+node-requires-in-Advance g c =
+    let nodes = back_fits _ _ _ (next _ _ _ _ (next _ _ _ _ (next _ _ _ _ (next _ _ _ _ (up_fits _ _ _ c.requires-raw.1.1))))) in
+    (nodes, back_fits _ _ _ (up_fits _ _ _ nodes))
+
+pub node-requires-in-Some : goal.node-requires-in-Some
+node-requires-in-Some g c =
+    let nodes = back_fits _ _ _ (next _ _ _ _ (next _ _ _ _ (next _ _ _ _ (next _ _ _ _ (up_fits _ _ _ c.requires-raw.1.1))))) in
+    (nodes, back_fits _ _ _ (up_fits _ _ _ nodes))
+
+pub node-requires-in-Some-quick_of : goal.node-requires-in-Some-quick_of
+node-requires-in-Some-quick_of g c =
+    let nodes = back_fits _ _ _ (next _ _ _ _ (next _ _ _ _ (next _ _ _ _ (next _ _ _ _ (up_fits _ _ _ c.requires-raw.1.1))))) in
+    (nodes, back_fits _ _ _ (up_fits _ _ _ nodes))
+
+pub may_call-requires : goal.may_call-requires
+may_call-requires g c = back_fits _ _ _ (up_fits _ _ _ (back_fits _ _ _ (next _ _ _ _ (next _ _ _ _ (next _ _ _ _ (next _ _ _ _ (up_fits _ _ _ c.requires-raw.1.1)))))))
+
+pub may_send-requires : goal.may_send-requires
+may_send-requires g c = back_fits _ _ _ (up_fits _ _ _ (back_fits _ _ _ (next _ _ _ _ (next _ _ _ _ (next _ _ _ _ (next _ _ _ _ (up_fits _ _ _ c.requires-raw.1.1)))))))
 
 pub may_advance-requires : goal.may_advance-requires
-may_advance-requires g c = ((back_fits _ _ _ (up_fits _ _ _ (back_fits _ _ _ (next _ _ _ _ (next _ _ _ _ (next _ _ _ _ (next _ _ _ _ (next _ _ _ _ (up_fits _ _ _ c.requires-raw.1.1))))))))))
+may_advance-requires g c = back_fits _ _ _ (up_fits _ _ _ (back_fits _ _ _ (next _ _ _ _ (next _ _ _ _ (next _ _ _ _ (next _ _ _ _ (up_fits _ _ _ c.requires-raw.1.1)))))))
 
-pub node-requires-2 : goal.node-requires-2
-node-requires-2 g c = (back_fits _ _ _ (next _ _ _ _ (next _ _ _ _ (next _ _ _ _ (next _ _ _ _ (next _ _ _ _ (up_fits _ _ _ c.requires-raw.1.1)))))), back_fits _ _ _ (up_fits _ _ _ (back_fits _ _ _ (next _ _ _ _ (next _ _ _ _ (next _ _ _ _ (next _ _ _ _ (next _ _ _ _ (up_fits _ _ _ c.requires-raw.1.1)))))))))
+pub may_hear_outlined-requires : goal.may_hear_outlined-requires
+may_hear_outlined-requires g c = back_fits _ _ _ (up_fits _ _ _ (back_fits _ _ _ (next _ _ _ _ (next _ _ _ _ (next _ _ _ _ (next _ _ _ _ (up_fits _ _ _ c.requires-raw.1.1)))))))
 
-pub judge-requires : goal.judge-requires
-judge-requires g c = (back_fits _ _ _ (up_fits _ _ _ (back_fits _ _ _ (next _ _ _ _ (next _ _ _ _ (next _ _ _ _ (next _ _ _ _ (next _ _ _ _ (up_fits _ _ _ c.requires-raw.1.1)))))))), variant_fits _ _ _ _ (back_fits _ _ _ (up_fits _ _ _ c.requires-raw.1.1)))
-
-pub may_deliver-requires : goal.may_deliver-requires
-may_deliver-requires g c = c.requires-raw.1.1
+pub judge_quick-requires : goal.judge_quick-requires
+judge_quick-requires g c = back_fits _ _ _ (up_fits _ _ _ (back_fits _ _ _ (next _ _ _ _ (next _ _ _ _ (next _ _ _ _ (next _ _ _ _ (up_fits _ _ _ c.requires-raw.1.1)))))))
 
 pub returns-in-Call-clause-ok : goal.returns-in-Call-clause-ok
 returns-in-Call-clause-ok g c =
-    let s = g.Q.Quorums.system in
-    let w = world_of c.self.inside.nodes c.self.inside.letters c.self.inside.history.events c.self.inside.marks.items in
-    subst (λ st. OnOk c.may_call.result (refusal s c.args.self.now st ≡ None)) (sym c.in-Call.is)
-    (subst (λ w. OnOk c.may_call.result (refusal s w (step.Call c.in-Call.name c.in-Call.op) ≡ None)) c.self.view_is
-    (subst (λ o. OnOk c.may_call.result (o ≡ None)) (judged_at s w (step.Call c.in-Call.name c.in-Call.op) c.in-Call.name (change.Call c.in-Call.op) c.node.result.now.state refl c.node.ensures) c.may_call.ensures.ok))
+    on_ok_weaker c.may_call.result (judged_now g.Q.Quorums.system (world_of c.self.inside.nodes c.self.inside.letters c.self.inside.history.events c.self.inside.marks.items) c.args.self.now c.self.view_is c.args.step.now c.in-Call.name (change.Call c.in-Call.op) c.node.result.now.state (ap (meant (world_of c.self.inside.nodes c.self.inside.letters c.self.inside.history.events c.self.inside.marks.items)) c.in-Call.is) c.node.ensures None) c.may_call.ensures.ok
 
 pub returns-in-Call-clause-refused : goal.returns-in-Call-clause-refused
 returns-in-Call-clause-refused g c =
-    let s = g.Q.Quorums.system in
-    let w = world_of c.self.inside.nodes c.self.inside.letters c.self.inside.history.events c.self.inside.marks.items in
-    subst (λ st. IfErr c.may_call.result (λ r. refusal s c.args.self.now st ≡ Some r)) (sym c.in-Call.is)
-    (subst (λ w. IfErr c.may_call.result (λ r. refusal s w (step.Call c.in-Call.name c.in-Call.op) ≡ Some r)) c.self.view_is
-    (subst (λ o. IfErr c.may_call.result (λ r. o ≡ Some r)) (judged_at s w (step.Call c.in-Call.name c.in-Call.op) c.in-Call.name (change.Call c.in-Call.op) c.node.result.now.state refl c.node.ensures) c.may_call.ensures.refused))
+    IfErr-weaker c.may_call.result _ _ (λ r. judged_now g.Q.Quorums.system (world_of c.self.inside.nodes c.self.inside.letters c.self.inside.history.events c.self.inside.marks.items) c.args.self.now c.self.view_is c.args.step.now c.in-Call.name (change.Call c.in-Call.op) c.node.result.now.state (ap (meant (world_of c.self.inside.nodes c.self.inside.letters c.self.inside.history.events c.self.inside.marks.items)) c.in-Call.is) c.node.ensures (Some r)) c.may_call.ensures.refused
 
 pub returns-in-Send-clause-ok : goal.returns-in-Send-clause-ok
 returns-in-Send-clause-ok g c =
-    let s = g.Q.Quorums.system in
-    let w = world_of c.self.inside.nodes c.self.inside.letters c.self.inside.history.events c.self.inside.marks.items in
-    subst (λ st. OnOk c.may_send.result (refusal s c.args.self.now st ≡ None)) (sym c.in-Send.is)
-    (subst (λ w. OnOk c.may_send.result (refusal s w (step.Send c.in-Send.from c.in-Send.to) ≡ None)) c.self.view_is
-    (subst (λ o. OnOk c.may_send.result (o ≡ None)) (judged_at s w (step.Send c.in-Send.from c.in-Send.to) c.in-Send.from (change.Send c.in-Send.to) c.node-in-Send.result.now.state refl c.node-in-Send.ensures) c.may_send.ensures.ok))
+    on_ok_weaker c.may_send.result (judged_now g.Q.Quorums.system (world_of c.self.inside.nodes c.self.inside.letters c.self.inside.history.events c.self.inside.marks.items) c.args.self.now c.self.view_is c.args.step.now c.in-Send.from (change.Send c.in-Send.to) c.node-in-Send.result.now.state (ap (meant (world_of c.self.inside.nodes c.self.inside.letters c.self.inside.history.events c.self.inside.marks.items)) c.in-Send.is) c.node-in-Send.ensures None) c.may_send.ensures.ok
 
 pub returns-in-Send-clause-refused : goal.returns-in-Send-clause-refused
 returns-in-Send-clause-refused g c =
+    IfErr-weaker c.may_send.result _ _ (λ r. judged_now g.Q.Quorums.system (world_of c.self.inside.nodes c.self.inside.letters c.self.inside.history.events c.self.inside.marks.items) c.args.self.now c.self.view_is c.args.step.now c.in-Send.from (change.Send c.in-Send.to) c.node-in-Send.result.now.state (ap (meant (world_of c.self.inside.nodes c.self.inside.letters c.self.inside.history.events c.self.inside.marks.items)) c.in-Send.is) c.node-in-Send.ensures (Some r)) c.may_send.ensures.refused
+
+pub returns-in_ok-may_advance-in-Advance-clause-ok : goal.returns-in_ok-may_advance-in-Advance-clause-ok
+returns-in_ok-may_advance-in-Advance-clause-ok g c =
+    judged_now g.Q.Quorums.system (world_of c.self.inside.nodes c.self.inside.letters c.self.inside.history.events c.self.inside.marks.items) c.args.self.now c.self.view_is c.args.step.now c.in-Advance.id.name (change.Advance c.in-Advance.id) c.node-in-Advance.result.now.state (ap (meant (world_of c.self.inside.nodes c.self.inside.letters c.self.inside.history.events c.self.inside.marks.items)) c.in-Advance.is) c.node-in-Advance.ensures None c.in_ok-may_advance-in-Advance.ensures.ok.accepted
+
+pub returns-in_err-may_advance-in-Advance-clause-refused : goal.returns-in_err-may_advance-in-Advance-clause-refused
+returns-in_err-may_advance-in-Advance-clause-refused g c =
+    err_kept c.from_residual.result _ _ c.from_residual.ensures.1
+    (judged_now g.Q.Quorums.system (world_of c.self.inside.nodes c.self.inside.letters c.self.inside.history.events c.self.inside.marks.items) c.args.self.now c.self.view_is c.args.step.now c.in-Advance.id.name (change.Advance c.in-Advance.id) c.node-in-Advance.result.now.state (ap (meant (world_of c.self.inside.nodes c.self.inside.letters c.self.inside.history.events c.self.inside.marks.items)) c.in-Advance.is) c.node-in-Advance.ensures (Some _) c.in_err-may_advance-in-Advance.ensures.refused)
+
+pub returns-in-Some-clause-ok : goal.returns-in-Some-clause-ok
+returns-in-Some-clause-ok g c =
     let s = g.Q.Quorums.system in
-    let w = world_of c.self.inside.nodes c.self.inside.letters c.self.inside.history.events c.self.inside.marks.items in
-    subst (λ st. IfErr c.may_send.result (λ r. refusal s c.args.self.now st ≡ Some r)) (sym c.in-Send.is)
-    (subst (λ w. IfErr c.may_send.result (λ r. refusal s w (step.Send c.in-Send.from c.in-Send.to) ≡ Some r)) c.self.view_is
-    (subst (λ o. IfErr c.may_send.result (λ r. o ≡ Some r)) (judged_at s w (step.Send c.in-Send.from c.in-Send.to) c.in-Send.from (change.Send c.in-Send.to) c.node-in-Send.result.now.state refl c.node-in-Send.ensures) c.may_send.ensures.refused))
+    let i = c.self.inside in
+    let m : SentState _ = record { letter = c.sent.inside.letter; told = c.sent.inside.told } in
+    let found : sent_at i.letters c.in-Deliver.number ≡ Some m = sym c.get.ensures ∙ c.in-Some.is ∙ ap Some (sym c.sent.view_is) in
+    let here : state_at i.nodes m.letter.addressee ≡ Some c.node-in-Some.result.now.state = ap (λ l. state_at i.nodes l.addressee) (sym c.letter.view_is) ∙ c.node-in-Some.ensures in
+    let judged = ap (refusal s c.args.self.now) c.in-Deliver.is ∙ ap (λ w. refusal s w (step.Deliver c.in-Deliver.number)) (sym c.self.view_is)
+    ∙ sym (judged_sent s i.nodes i.letters i.history.events i.marks.items c.in-Deliver.number m found) in
+    on_ok_weaker c.may_hear_outlined.result (λ e. judged ∙ ap (λ o. least (causes_at s o (change.Deliver m.letter))) here ∙ e) c.may_hear_outlined.ensures.ok
 
-pub returns-in-Advance-clause-ok : goal.returns-in-Advance-clause-ok
-returns-in-Advance-clause-ok g c =
+pub returns-in-Some-clause-refused : goal.returns-in-Some-clause-refused
+returns-in-Some-clause-refused g c =
     let s = g.Q.Quorums.system in
-    let w = world_of c.self.inside.nodes c.self.inside.letters c.self.inside.history.events c.self.inside.marks.items in
-    subst (λ st. OnOk c.may_advance.result (refusal s c.args.self.now st ≡ None)) (sym c.in-Advance.is)
-    (subst (λ w. OnOk c.may_advance.result (refusal s w (step.Advance c.in-Advance.id) ≡ None)) c.self.view_is
-    (subst (λ o. OnOk c.may_advance.result (o ≡ None)) (judged_at s w (step.Advance c.in-Advance.id) c.in-Advance.id.name (change.Advance c.in-Advance.id) c.node-in-Advance.result.now.state refl c.node-in-Advance.ensures) c.may_advance.ensures.ok))
+    let i = c.self.inside in
+    let m : SentState _ = record { letter = c.sent.inside.letter; told = c.sent.inside.told } in
+    let found : sent_at i.letters c.in-Deliver.number ≡ Some m = sym c.get.ensures ∙ c.in-Some.is ∙ ap Some (sym c.sent.view_is) in
+    let here : state_at i.nodes m.letter.addressee ≡ Some c.node-in-Some.result.now.state = ap (λ l. state_at i.nodes l.addressee) (sym c.letter.view_is) ∙ c.node-in-Some.ensures in
+    let judged = ap (refusal s c.args.self.now) c.in-Deliver.is ∙ ap (λ w. refusal s w (step.Deliver c.in-Deliver.number)) (sym c.self.view_is)
+    ∙ sym (judged_sent s i.nodes i.letters i.history.events i.marks.items c.in-Deliver.number m found) in
+    IfErr-weaker c.may_hear_outlined.result _ _ (λ r e. judged ∙ ap (λ o. least (causes_at s o (change.Deliver m.letter))) here ∙ e) c.may_hear_outlined.ensures.refused
 
-pub returns-in-Advance-clause-refused : goal.returns-in-Advance-clause-refused
-returns-in-Advance-clause-refused g c =
+pub returns-in-None-clause-refused : goal.returns-in-None-clause-refused
+returns-in-None-clause-refused g c =
     let s = g.Q.Quorums.system in
-    let w = world_of c.self.inside.nodes c.self.inside.letters c.self.inside.history.events c.self.inside.marks.items in
-    subst (λ st. IfErr c.may_advance.result (λ r. refusal s c.args.self.now st ≡ Some r)) (sym c.in-Advance.is)
-    (subst (λ w. IfErr c.may_advance.result (λ r. refusal s w (step.Advance c.in-Advance.id) ≡ Some r)) c.self.view_is
-    (subst (λ o. IfErr c.may_advance.result (λ r. o ≡ Some r)) (judged_at s w (step.Advance c.in-Advance.id) c.in-Advance.id.name (change.Advance c.in-Advance.id) c.node-in-Advance.result.now.state refl c.node-in-Advance.ensures) c.may_advance.ensures.refused))
+    let i = c.self.inside in
+    let number = c.in-Deliver.number in
+    ap (refusal s c.args.self.now) c.in-Deliver.is ∙ ap (λ w. refusal s w (step.Deliver number)) (sym c.self.view_is)
+    ∙ deliver_refusal s (world_of c.self.inside.nodes c.self.inside.letters c.self.inside.history.events c.self.inside.marks.items) number ∙ ap least (no_causes i.nodes i.letters i.history.events i.marks.items number s (sym c.get.ensures ∙ c.in-None.is))
 
-pub returns-in-Deliver-clause-ok : goal.returns-in-Deliver-clause-ok
-returns-in-Deliver-clause-ok g c =
-    let s = g.Q.Quorums.system in
-    subst (λ st. OnOk c.may_deliver.result (refusal s c.args.self.now st ≡ None)) (sym c.in-Deliver.is) (subst (λ o. OnOk c.may_deliver.result (o ≡ None)) (sym (deliver_refusal s c.args.self.now c.in-Deliver.number)) c.may_deliver.ensures.ok)
+pub unreachable-requires : goal.unreachable-requires
+unreachable-requires g c =
+    quick_else c.args.step.now (sym c.quick_of.ensures ∙ c.in-None-quick_of.is) c.in_default.not-Call c.in_default.not-Send c.in_default.not-Deliver c.in_default.not-Advance
 
-pub returns-in-Deliver-clause-refused : goal.returns-in-Deliver-clause-refused
-returns-in-Deliver-clause-refused g c =
-    let s = g.Q.Quorums.system in
-    subst (λ st. IfErr c.may_deliver.result (λ r. refusal s c.args.self.now st ≡ Some r)) (sym c.in-Deliver.is) (subst (λ o. IfErr c.may_deliver.result (λ r. o ≡ Some r)) (sym (deliver_refusal s c.args.self.now c.in-Deliver.number)) c.may_deliver.ensures.refused)
-
-of_pair : {Q : Type 0} → ℕ × Change Q → Option (Meant Q)
-of_pair p = Some (record { name = p.0; change = p.1 })
-
--- a step of each other kind means the change that is made of it
-means : (g : Over) (c : goal.Joined-change g) (w : WorldState g.row.Q.Denot) → meant w c.args.step.now ≡ of_pair c.match-step.name
-unfolding of_pair
-means g c w = elim c.match-step.branch [
-  | in-Join b ↦ ap (meant w) b.in-Join.is ∙ sym (ap of_pair b.name-is)
-  | in-Again b ↦ ap (meant w) b.in-Again.is ∙ sym (ap of_pair b.name-is)
-  | in-Collect b ↦ ap (meant w) b.in-Collect.is ∙ sym (ap of_pair b.name-is)
-  | in-AdvanceCollect b ↦ ap (meant w) b.in-AdvanceCollect.is ∙ sym (ap of_pair b.name-is)
-  | in-Recon b ↦ ap (meant w) b.in-Recon.is ∙ sym (ap of_pair b.name-is)
-  | in-Rebid b ↦ ap (meant w) b.in-Rebid.is ∙ sym (ap of_pair b.name-is)
-  | in-AdvanceRecon b ↦ ap (meant w) b.in-AdvanceRecon.is ∙ sym (ap of_pair b.name-is)
-  | in-Stop b ↦ ap (meant w) b.in-Stop.is ∙ sym (ap of_pair b.name-is)
-]
-
-pub returns-clause-ok : goal.returns-clause-ok
-unfolding of_pair
-returns-clause-ok g c =
-    let s = g.Q.Quorums.system in
-    let w = world_of c.self.inside.nodes c.self.inside.letters c.self.inside.history.events c.self.inside.marks.items in
-    let is = judged_at s w c.args.step.now c.match-step.name.0 c.match-step.name.1 c.node-2.result.now.state (means g c w) c.node-2.ensures in
-    subst (λ w. OnOk c.judge.result (refusal s w c.args.step.now ≡ None)) c.self.view_is (subst (λ o. OnOk c.judge.result (o ≡ None)) is c.judge.ensures.ok)
-
-pub returns-clause-refused : goal.returns-clause-refused
-unfolding of_pair
-returns-clause-refused g c =
-    let s = g.Q.Quorums.system in
-    let w = world_of c.self.inside.nodes c.self.inside.letters c.self.inside.history.events c.self.inside.marks.items in
-    let is = judged_at s w c.args.step.now c.match-step.name.0 c.match-step.name.1 c.node-2.result.now.state (means g c w) c.node-2.ensures in
-    subst (λ w. IfErr c.judge.result (λ r. refusal s w c.args.step.now ≡ Some r)) c.self.view_is (subst (λ o. IfErr c.judge.result (λ r. o ≡ Some r)) is c.judge.ensures.refused)
+pub returns-in-Some-quick_of : goal.returns-in-Some-quick_of
+returns-in-Some-quick_of g c =
+    let means = quick_means (world_of c.self.inside.nodes c.self.inside.letters c.self.inside.history.events c.self.inside.marks.items) c.args.step.now c.in-Some-quick_of.meant (sym c.quick_of.ensures ∙ c.in-Some-quick_of.is) in
+    record {
+      ok = on_ok_weaker c.judge_quick.result (judged_now g.Q.Quorums.system (world_of c.self.inside.nodes c.self.inside.letters c.self.inside.history.events c.self.inside.marks.items) c.args.self.now c.self.view_is c.args.step.now c.in-Some-quick_of.meant.0 (quick_change c.in-Some-quick_of.meant.1) c.node-in-Some-quick_of.result.now.state means.means c.node-in-Some-quick_of.ensures None) c.judge_quick.ensures.ok;
+      refused = IfErr-weaker c.judge_quick.result _ _ (λ r. judged_now g.Q.Quorums.system (world_of c.self.inside.nodes c.self.inside.letters c.self.inside.history.events c.self.inside.marks.items) c.args.self.now c.self.view_is c.args.step.now c.in-Some-quick_of.meant.0 (quick_change c.in-Some-quick_of.meant.1) c.node-in-Some-quick_of.result.now.state means.means c.node-in-Some-quick_of.ensures (Some r)) c.judge_quick.ensures.refused;
+    }

@@ -4,7 +4,7 @@ use Rattle.rambo_names.proofs.Sizes.{up_fits, back_fits, next}
 use Rattle.rambo_world.proofs.state.State.reserve.Goals as goal
 
 pub reserve-requires : goal.reserve-requires
-reserve-requires g c = back_fits _ _ _ (next _ _ _ _ (next _ _ _ _ (next _ _ _ _ (next _ _ _ _ (up_fits _ _ _ c.requires-raw.1.1)))))
+reserve-requires g c = back_fits _ _ _ (next _ _ _ _ (next _ _ _ _ (next _ _ _ _ (up_fits _ _ _ c.requires-raw.1.1))))
 
 pub loop-step-init : goal.loop-step-init
 loop-step-init g c = grind (arith, common_steps)

@@ -1,41 +1,49 @@
-use Rattle.std.proofs.lemmas.Grind.{common_steps}
-use Rattle.std.proofs.Common.{sym, ap, ◌∙◌, arith}
-use Rattle.rambo_run.specs.Steps.{Turn}
-use Rattle.rambo_run.proofs.GoingOn.{after-taken, after-refused}
+use Rattle.std.proofs.Common.{◌≡◌, ◌∙◌, IfOk, refl, sym, subst}
+use Rattle.rambo_node.specs.Prepared.{quick_change}
+use Rattle.rambo_node.specs.declared.change.Change.TheVariants as change
+use Rattle.rambo_run.specs.declared.step.Step.TheVariants as step
+use Rattle.rambo_run.specs.Runs.{result_of}
+use Rattle.rambo_run.specs.Steps.{refusal}
+use Rattle.rambo_run.proofs.QuickSteps.{quick_means, quick_else}
+use Rattle.rambo_world.proofs.Quiet.{quick_told, quick_after}
+use Rattle.rambo_world.proofs.Turns.{step_fits}
 use Rattle.rambo_world.proofs.state.State.take.Goals as goal
 
-pub judge-requires : goal.judge-requires
-judge-requires g c = c.requires-raw.1.1.0
+pub call_lent-requires : goal.call_lent-requires
+call_lent-requires g c = (c.requires-raw.1.1.0, step_fits c.args.self.now (step.Call c.in-Call.name c.in-Call.op) c.in-Call.name (change.Call c.in-Call.op) refl g.Q.Quorums.system c.requires.fits)
 
-pub act-requires : goal.act-requires
-act-requires g c = (c.requires-raw.1.1.0, (c.in_default.ensures.ok, c.requires.fits))
+pub advance-requires : goal.advance-requires
+advance-requires g c = (c.requires-raw.1.1.0, step_fits c.args.self.now (step.Advance c.in-Advance.id) c.in-Advance.id.name (change.Advance c.in-Advance.id) refl g.Q.Quorums.system c.requires.fits)
 
-pub returns-in-Err-clause-after : goal.returns-in-Err-clause-after
-returns-in-Err-clause-after g c = sym (after-refused g.Q.Quorums.system c.args.self.now c.args.step.now c.in-Err.refusal c.in-Err.ensures.refused)
+pub send-requires : goal.send-requires
+send-requires g c = c.requires-raw.1.1.0
 
-pub returns-clause-after : goal.returns-clause-after
-returns-clause-after g c = sym (after-taken g.Q.Quorums.system c.args.self.now c.args.step.now c.in_default.ensures.ok ∙ ap (λ (t : Turn _). t.world) c.in_ok-effect.ensures.ok)
+pub deliver-requires : goal.deliver-requires
+deliver-requires g c = c.requires-raw.1.1.0
 
-pub returns-in-Err-clause-told : goal.returns-in-Err-clause-told
-returns-in-Err-clause-told g c = grind (arith, common_steps)
+pub quick-requires : goal.quick-requires
+quick-requires g c = (c.requires-raw.1.1.0, (quick_means c.args.self.now c.args.step.now c.in-Some.meant (sym c.quick_of.ensures ∙ c.in-Some.is)).silent)
 
-pub returns-in-Err-clause-accepted : goal.returns-in-Err-clause-accepted
-returns-in-Err-clause-accepted g c = grind (arith, common_steps)
+pub unreachable-requires : goal.unreachable-requires
+unreachable-requires g c =
+    quick_else c.args.step.now (sym c.quick_of.ensures ∙ c.in-None.is) c.in_default.not-Call c.in_default.not-Send c.in_default.not-Deliver c.in_default.not-Advance
 
-pub returns-in-Err-clause-err : goal.returns-in-Err-clause-err
-returns-in-Err-clause-err g c = grind (arith, common_steps)
+pub returns-in-Advance-clause-told : goal.returns-in-Advance-clause-told
+returns-in-Advance-clause-told g c =
+    let s = g.Q.Quorums.system in
+    subst (λ st. IfOk c.advance.result (λ r. r ≡ result_of (refusal s c.args.self.now st) c.args.self.now st)) (sym c.in-Advance.is) c.advance.ensures.told
 
-pub returns-in-Err-clause-refused : goal.returns-in-Err-clause-refused
-returns-in-Err-clause-refused g c = grind (arith, common_steps)
-
-pub returns-clause-told : goal.returns-clause-told
-returns-clause-told g c = grind (arith, common_steps)
-
-pub returns-clause-accepted : goal.returns-clause-accepted
-returns-clause-accepted g c = grind (arith, common_steps)
-
-pub returns-clause-err : goal.returns-clause-err
-returns-clause-err g c = grind (arith, common_steps)
-
-pub returns-clause-refused : goal.returns-clause-refused
-returns-clause-refused g c = grind (arith, common_steps)
+pub returns-in-Some : goal.returns-in-Some
+returns-in-Some g c =
+    let s = g.Q.Quorums.system in
+    let w = c.args.self.now in
+    let st = c.args.step.now in
+    let m = c.in-Some.meant in
+    let means = quick_means w st m (sym c.quick_of.ensures ∙ c.in-Some.is) in
+    record {
+      told = quick_told s w c.quick.new.self st m.0 (quick_change m.1) means.means c.quick.result c.quick.ensures.ok c.quick.ensures.accepted c.quick.ensures.refused;
+      after = quick_after s w c.quick.new.self st m.0 (quick_change m.1) means.means c.quick.result c.quick.ensures.ok c.quick.ensures.accepted c.quick.ensures.refused c.quick.ensures.err;
+      accepted = tt;
+      err = tt;
+      refused = tt;
+    }
