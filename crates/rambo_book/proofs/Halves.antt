@@ -73,21 +73,21 @@ module _ {Q : Type 0} (v : RoomyNode Q) (l : Letter Q) (c : Change Q) (h : Heari
   same_outline : letter_with l map.empty ≡ letter_with ready.letter map.empty
   same_outline = some_inj _ _ ready.told
 
-  pub may_hear : IsReadyKind v l.kind h.newer h.number
+  pub may_hear : IsReadyKind v l.kind h.copies h.number
   may_hear =
       let outline = letter_with l map.empty in
       let told = hearing_ready v ready.letter outline h same_outline ready.hearing in
-      subst (λ (n : Letter Q). IsReadyKind v n.kind h.newer h.number) (letter_again l map.empty) (ready_apart v outline.kind (copies_in l.kind) h.newer h.number told)
+      subst (λ (n : Letter Q). IsReadyKind v n.kind h.copies h.number) (letter_again l map.empty) (ready_apart v outline.kind (copies_in l.kind) h.copies h.number told)
 
-  pub hear_ends : heard_letter v.state (letter_with l h.newer) ≡ (made_by v.state c).node
+  pub hear_ends : heard_letter v.state (letter_with l h.copies) ≡ (made_by v.state c).node
   unfolding made_by
   hear_ends =
-      sym (ap (heard_letter v.state) (letter_twice l map.empty h.newer))
+      sym (ap (heard_letter v.state) (letter_twice l map.empty h.copies))
       ∙ hearing_ends v ready.letter (letter_with l map.empty) h same_outline ready.hearing
       ∙ sym (ap (λ c. (made_by v.state c).node) ready.delivers)
 
-  pub hear_keeps : beside_after v.state v.beside (change.Deliver (letter_with l h.newer)) ≡ beside_after v.state v.beside c
+  pub hear_keeps : beside_after v.state v.beside (change.Deliver (letter_with l h.copies)) ≡ beside_after v.state v.beside c
   hear_keeps =
-      sym (ap (λ l. beside_after v.state v.beside (change.Deliver l)) (letter_twice l map.empty h.newer))
+      sym (ap (λ l. beside_after v.state v.beside (change.Deliver l)) (letter_twice l map.empty h.copies))
       ∙ hearing_beside v ready.letter (letter_with l map.empty) h same_outline ready.hearing
       ∙ sym (ap (beside_after v.state v.beside) ready.delivers)

@@ -63,12 +63,12 @@ module _ {Q : Type 0} (s : QuorumSystem Q) (v : RoomyNode Q) where
   -- what may be heard of a letter may be heard of the one for which it stands
   hearing_as : (l whole : Letter Q) (h : Hearing) → IsShort l whole v.state.registers → IsHearing v l h → IsHearing v whole h
   hearing_as l whole h short e =
-      let newer : joined v.state.registers h.newer ≡ joined v.state.registers (copies_in whole.kind) =
-      e.newer ∙ sym (made_joined v.state l) ∙ ap (λ (m : Made Q). m.node.registers) (made_alike s v.state l whole short) ∙ made_joined v.state whole in
+      let alike : joined v.state.registers h.copies ≡ joined v.state.registers (copies_in whole.kind) =
+      e.alike ∙ sym (made_joined v.state l) ∙ ap (λ (m : Made Q). m.node.registers) (made_alike s v.state l whole short) ∙ made_joined v.state whole in
       record {
-        ready = subst (λ (n : Letter Q). IsReadyKind v n.kind h.newer h.number) short.rest (ready_apart v l.kind (copies_in whole.kind) h.newer h.number e.ready);
-        newer = newer;
-        stamped = stamped_alike v.state.registers h.newer (copies_in whole.kind) newer;
+        ready = subst (λ (n : Letter Q). IsReadyKind v n.kind h.copies h.number) short.rest (ready_apart v l.kind (copies_in whole.kind) h.copies h.number e.ready);
+        alike = alike;
+        stamped = stamped_alike v.state.registers h.copies (copies_in whole.kind) alike;
       }
 
   -- what is kept beside after a letter is what is kept after the one for which it stands

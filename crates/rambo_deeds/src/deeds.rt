@@ -145,9 +145,9 @@ impl<Q: Quorums, S: Replica> Worker<Q, S> {
     ///
     /// It takes no memory and can't fail.
     pub fn finish_delivery(&mut self, letter: &SharedLetter<Q>, hearing: Hearing)
-        requires { IsReadyKind self.old letter.now.kind hearing.newer hearing.number }
-        ensures node { self.new.state ≡ heard_letter self.old.state (letter_with letter.now hearing.newer) }
-        ensures beside { self.new.beside ≡ beside_after self.old.state self.old.beside (change.Deliver (letter_with letter.now hearing.newer)) }
+        requires { IsReadyKind self.old letter.now.kind hearing.copies hearing.number }
+        ensures node { self.new.state ≡ heard_letter self.old.state (letter_with letter.now hearing.copies) }
+        ensures beside { self.new.beside ≡ beside_after self.old.state self.old.beside (change.Deliver (letter_with letter.now hearing.copies)) }
     {
         self.node.finish_outlined(&letter.outline(), hearing);
     }

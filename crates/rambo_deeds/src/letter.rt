@@ -13,7 +13,7 @@ use rambo_gossip::LetterOutline;
 use rambo_letters::Standing;
 use rambo_names::{Name, Quorums, Refusal};
 use rambo_node::{Hearing, Node};
-use rambo_tag::{NoCopies, Pack, Replica};
+use rambo_tag::{Pack, Replica};
 use std::alloc::Global;
 use std::marker::Model;
 use std::sync::Arc;
@@ -169,8 +169,9 @@ pub(crate) fn ready_letter<Q: Quorums, S: Replica>(
 {
     let outline = letter.outline();
     node.may_hear_outlined(&outline)?;
-    match letter.copies() {
-        Some(copies) => node.ready_outlined(&outline, copies),
-        None => node.ready_outlined(&outline, NoCopies::new(alloc).pack()),
-    }
+    let copies = match letter.copies() {
+        Some(copies) => copies.clone()?,
+        None => Pack::empty(alloc),
+    };
+    node.ready_outlined(&outline, copies)
 }

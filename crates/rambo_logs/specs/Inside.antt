@@ -34,10 +34,9 @@ pub record HasRoom (l : Inside) (name number : ℕ) : Type 0 where
   pub row : hint_place number 64 ≤ length l.hints.items
   pub log : (d : Vec Entry Global) → vec_len (slice_index_or l.logs.items (name - 1) d) < vec_capacity (slice_index_or l.logs.items (name - 1) d)
 
--- the pack has the copies that were brought, and there is room for them
+-- the entries that were brought tell of copies, and there is room for them
 pub record HasBrought (l : Inside) (to : ℕ) : Type 0 where
   pub entries : All (IsEntry l.puts.items l.keys l.hints.items) l.lacked.items
-  pub pack : l.pack ≡ greatest_of (copies_of l.puts.items l.lacked.items)
   pub log : (d : Vec Entry Global) → vec_len (slice_index_or l.logs.items (to - 1) d) + length l.lacked.items ≤ vec_capacity (slice_index_or l.logs.items (to - 1) d)
 
 abbrev pub IsReady : Inside → Pending → Type 0

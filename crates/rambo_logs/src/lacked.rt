@@ -1,5 +1,5 @@
 //! What a node lacks of a part of a log.
-ghost use Rattle.std.specs.Prelude.{◌≡◌, ◌<◌, ◌≤◌, ◌++◌, ◌∷◌, ◌+◌, [], filter, length, take, drop, All, IsOk, IfErr, OnOk};
+ghost use Rattle.std.specs.Prelude.{◌≡◌, ◌<◌, ◌≤◌, ◌++◌, ◌∷◌, ◌+◌, [], filter, length, take, drop, All, IsOk, IfErr, IfOk, OnOk};
 ghost use Rattle.std.specs.Vec.{vec_len, vec_capacity};
 ghost use Rattle.rambo_tag.specs.Logs.{greatest_of};
 ghost use Rattle.rambo_logs.specs.Stored.{copies_of, is_lacked, raised, all_raised, IsWithin, AreHints};
@@ -8,7 +8,6 @@ use crate::entry::Entry;
 use crate::hints::{is_lacked, raise};
 use rambo_names::Refusal;
 use rambo_tag::{KeyedVersion, Pack};
-use std::mem;
 
 // Lists those entries whose copies the node at a place lacks.
 pub(crate) fn list_lacked(
@@ -34,46 +33,19 @@ pub(crate) fn list_lacked(
     Ok(())
 }
 
-// Packs the copies of entries. Where there are none it takes no memory.
-pub(crate) fn repack(
-    pack: &mut Pack,
-    puts: &Vec<KeyedVersion>,
-    entries: &[Entry],
-) -> Result<(), Refusal>
+// The copies of entries, packed. Of none it takes no memory.
+pub(crate) fn pack_of(puts: &Vec<KeyedVersion>, entries: &[Entry]) -> Result<Pack, Refusal>
     requires { All (λ e. e.place < length puts.now.items) entries.now }
-    ensures ok { OnOk result (pack.new ≡ greatest_of (copies_of puts.now.items entries.now)) }
+    ensures ok { IfOk result (λ p. p ≡ greatest_of (copies_of puts.now.items entries.now)) }
     ensures idle { entries.now ≡ [] → IsOk result }
     ensures refused { IfErr result (λ r. r ≡ Refusal.OutOfMemory) }
 {
-    if entries.is_empty() && pack.copies().is_empty() {
-        return Ok(());
-    }
-    // (the list of the copies before keeps its room)
-    let before = mem::replace(pack, Pack::new(Vec::new(*puts.allocator())));
-    let mut copies = before.into_copies();
-    copies.clear();
-    list_copies(&mut copies, puts, entries)?;
-    *pack = Pack::new(copies);
-    Ok(())
-}
-
-// Lists the copies of entries.
-#[inline]
-fn list_copies(
-    copies: &mut Vec<KeyedVersion>,
-    puts: &Vec<KeyedVersion>,
-    entries: &[Entry],
-) -> Result<(), Refusal>
-    requires empty { copies.old.items ≡ [] }
-    requires within { All (λ e. e.place < length puts.now.items) entries.now }
-    ensures ok { OnOk result (copies.new.items ≡ copies_of puts.now.items entries.now) }
-    ensures idle { entries.now ≡ [] → IsOk result }
-    ensures refused { IfErr result (λ r. r ≡ Refusal.OutOfMemory) }
-{
+    let mut copies = Vec::new(*puts.allocator());
+    copies.reserve(entries.len())?;
     for entry in entries {
         copies.push(puts[entry.place].clone()?)?;
     }
-    Ok(())
+    Ok(Pack::new(copies))
 }
 
 // Puts an entry at the end of the log of the node at a place, which has room for it.

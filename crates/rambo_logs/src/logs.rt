@@ -9,7 +9,7 @@ ghost use Rattle.rambo_logs.specs.NodeLogs.{Brought, log_at, extended, part, lac
 use crate::entry::Entry;
 use crate::hints::{NODES, make_rows, place_of};
 use crate::key_numbers::KeyNumbers;
-use crate::lacked::{list_lacked, log_entries, log_entry, repack};
+use crate::lacked::{list_lacked, log_entries, log_entry, pack_of};
 use crate::pending::Pending;
 use rambo_names::{Bytes, Name, Refusal};
 use rambo_tag::{KeyedVersion, Pack};
@@ -27,9 +27,8 @@ pub struct Logs {
     // A row of 64 for each key's number, and none for a key that was never put.
     hints: Vec<usize>,
     logs: Vec<Vec<Entry>>,
-    // What was brought last, and its copies.
+    // What was brought last.
     lacked: Vec<Entry>,
-    pack: Pack,
     pending: Pending,
 }
 
@@ -42,7 +41,6 @@ impl Drop for Logs {
             hints: _hints,
             logs: _logs,
             lacked: _lacked,
-            pack: _pack,
             pending: _pending,
         } = self;
     }
@@ -78,7 +76,6 @@ impl Logs {
             hints: Vec::new(alloc),
             logs,
             lacked: Vec::new(alloc),
-            pack: Pack::new(Vec::new(alloc)),
             pending: Pending::Nothing,
         })
     }
@@ -134,14 +131,15 @@ impl Logs {
         );
     }
 
-    /// Brings a name those copies that its log lacks of a part of another's, and makes room for them.
+    /// Brings a name those copies that its log lacks of a part of another's, makes room for them, and gives them.
     ///
     /// The part is from `start` on up to `end`, as far as there is any. A copy is lacked where it is newer
     /// than the greatest of its key in the log; a key may be among those that are brought more than once.
     ///
     /// `OutOfMemory` where there is no room for what is lacked. Where nothing is lacked no memory is taken.
     /// The logs stay, whatever comes of it.
-    pub fn bring(&mut self, to: Name, from: Name, start: usize, end: usize) -> Result<(), Refusal>
+    pub fn bring(&mut self, to: Name, from: Name, start: usize, end: usize) -> Result<Pack, Refusal>
+        ensures given { IfOk result (λ p. p ≡ greatest_of (lacked (greatest_of (log_at self.old.logs to)) (part (log_at self.old.logs from) start end))) }
         ensures ok { OnOk result (self.new ≡ with_brought self.old.logs to (lacked (greatest_of (log_at self.old.logs to)) (part (log_at self.old.logs from) start end))) }
         ensures enough { joined (greatest_of (log_at self.old.logs to)) (greatest_of (lacked (greatest_of (log_at self.old.logs to)) (part (log_at self.old.logs from) start end))) ≡ joined (greatest_of (log_at self.old.logs to)) (greatest_of (part (log_at self.old.logs from) start end)) }
         ensures idle { lacked (greatest_of (log_at self.old.logs to)) (part (log_at self.old.logs from) start end) ≡ [] → IsOk result }
@@ -158,17 +156,10 @@ impl Logs {
             node,
             between(self.logs[place_of(from)].as_slice(), start, end),
         )?;
-        repack(&mut self.pack, &self.puts, self.lacked.as_slice())?;
+        let pack = pack_of(&self.puts, self.lacked.as_slice())?;
         self.logs[node].reserve(self.lacked.len())?;
         self.pending = Pending::TakeOn(to);
-        Ok(())
-    }
-
-    /// The copies that were brought.
-    pub fn brought(&self) -> &Pack
-        ensures { (b : Brought) → self.now.brought ≡ Some b → result.now ≡ greatest_of b.copies }
-    {
-        &self.pack
+        Ok(pack)
     }
 
     /// Puts the copies that were brought to a name at the end of its log. It takes no memory.

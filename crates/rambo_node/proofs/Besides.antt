@@ -49,10 +49,10 @@ quick_beside x b quick.AdvanceRecon = refl
 quick_beside x b quick.Stop = refl
 
 -- copies that are stamped alike
-pub alike_beside : {Q : Type 0} (x : NodeState Q) (b : Beside) (j : ℕ) (k : Kind Q) (newer : Copies) → AreStampedAlike x.registers newer (copies_in k)
-    → beside_heard x b j (kind_with (kind_with k map.empty) newer) ≡ beside_heard x b j k
-alike_beside x b j kind.Join newer alike = refl
-alike_beside x b j (kind.Gossip g) newer alike = λ i. record { stamps = alike x.number b.stamps i; bases = raised b.bases j g.heard }
+pub alike_beside : {Q : Type 0} (x : NodeState Q) (b : Beside) (j : ℕ) (k : Kind Q) (other : Copies) → AreStampedAlike x.registers other (copies_in k)
+    → beside_heard x b j (kind_with (kind_with k map.empty) other) ≡ beside_heard x b j k
+alike_beside x b j kind.Join other alike = refl
+alike_beside x b j (kind.Gossip g) other alike = λ i. record { stamps = alike x.number b.stamps i; bases = raised b.bases j g.heard }
 
 -- a met query stamps what it puts
 pub query_beside : {Q : Type 0} (x : NodeState Q) (b : Beside) (id : CallId) (o : Op) (put : Option KeyedVersion) → query_in (open_call x id) ≡ Some o → put ≡ put_by x (Some o)

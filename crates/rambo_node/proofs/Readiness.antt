@@ -7,7 +7,7 @@ use Rattle.std.specs.List.{remove}
 use Rattle.rambo_names.specs.Quorums.{QuorumSystem}
 use Rattle.rambo_names.specs.Refusals.{least}
 use Rattle.rambo_tag.specs.Copies.{Copies, joined}
-use Rattle.rambo_tag.specs.Stamps.{AreStampedAlike}
+use Rattle.rambo_tag.specs.Stamps.{stamps_merged}
 use Rattle.rambo_history.specs.declared.event.CallId.{CallId}
 use Rattle.rambo_history.specs.declared.event.Event.TheVariants as event
 use Rattle.rambo_history.specs.declared.operation.Op.{Op}
@@ -112,67 +112,65 @@ unfolding heard_gossip
 gossip_ends x j g copies = refl
 
 -- what is ready of gossip is ready of its outline
-pub outline_ready : {Q : Type 0} (v : RoomyNode Q) (g o : Gossip Q) (newer : Copies) (number : ℕ) → o ≡ gossip_with g map.empty → IsReadyGossip v g newer number → IsReadyGossip v o newer number
-outline_ready v g o newer number e h = subst (λ p. IsReadyGossip v p newer number) (sym e) (record { counted = h.counted; keys = h.keys; phases = h.phases })
+pub outline_ready : {Q : Type 0} (v : RoomyNode Q) (g o : Gossip Q) (other : Copies) (number : ℕ) → o ≡ gossip_with g map.empty → IsReadyGossip v g other number → IsReadyGossip v o other number
+outline_ready v g o other number e h = subst (λ p. IsReadyGossip v p other number) (sym e) (record { counted = h.counted; keys = h.keys; phases = h.phases })
 
 -- what a letter says is as ready with other copies
-pub ready_apart : {Q : Type 0} (v : RoomyNode Q) (k : Kind Q) (copies newer : Copies) (number : ℕ) → IsReadyKind v k newer number → IsReadyKind v (kind_with k copies) newer number
-ready_apart v kind.Join copies newer number h = tt
-ready_apart v (kind.Gossip g) copies newer number h = record { counted = h.counted; keys = h.keys; phases = h.phases }
+pub ready_apart : {Q : Type 0} (v : RoomyNode Q) (k : Kind Q) (copies other : Copies) (number : ℕ) → IsReadyKind v k other number → IsReadyKind v (kind_with k copies) other number
+ready_apart v kind.Join copies other number h = tt
+ready_apart v (kind.Gossip g) copies other number h = record { counted = h.counted; keys = h.keys; phases = h.phases }
 
--- a letter with those of its copies that are newer comes to the same
-module _ {Q : Type 0} (x : NodeState Q) (l : Letter Q) (newer : Copies) (same : joined x.registers newer ≡ joined x.registers (copies_in l.kind)) where
-  short_is : letter_with (letter_with l map.empty) newer ≡ letter_with l newer
-  short_is = λ i. record l { kind = kind_twice l.kind map.empty newer i }
+-- a letter with copies that make the same comes to the same
+module _ {Q : Type 0} (x : NodeState Q) (l : Letter Q) (other : Copies) (same : joined x.registers other ≡ joined x.registers (copies_in l.kind)) where
+  short_is : letter_with (letter_with l map.empty) other ≡ letter_with l other
+  short_is = λ i. record l { kind = kind_twice l.kind map.empty other i }
 
-  pub short_ends : made_by x (change.Deliver (letter_with (letter_with l map.empty) newer)) ≡ made_by x (change.Deliver l)
+  pub short_ends : made_by x (change.Deliver (letter_with (letter_with l map.empty) other)) ≡ made_by x (change.Deliver l)
   unfolding made_by
   short_ends =
       ap (λ (n : Letter Q). quiet (heard_letter x n)) short_is
-      ∙ ap quiet ((heard_alike x l newer (copies_in l.kind) same).0 ∙ ap (heard_letter x) (own_copies l))
+      ∙ ap quiet ((heard_alike x l other (copies_in l.kind) same).0 ∙ ap (heard_letter x) (own_copies l))
 
-  pub short_judged : (s : QuorumSystem Q) → refusal_of s x (change.Deliver (letter_with (letter_with l map.empty) newer)) ≡ refusal_of s x (change.Deliver l)
+  pub short_judged : (s : QuorumSystem Q) → refusal_of s x (change.Deliver (letter_with (letter_with l map.empty) other)) ≡ refusal_of s x (change.Deliver l)
   short_judged s =
       ap (λ (n : Letter Q). least (hear_causes x n.kind)) short_is
-      ∙ ap least ((heard_alike x l newer (copies_in l.kind) same).1 ∙ ap (λ (n : Letter Q). hear_causes x n.kind) (own_copies l))
+      ∙ ap least ((heard_alike x l other (copies_in l.kind) same).1 ∙ ap (λ (n : Letter Q). hear_causes x n.kind) (own_copies l))
 
 -- and so it does where it is told by its outline
-pub hearing_ends : {Q : Type 0} (v : RoomyNode Q) (l o : Letter Q) (h : Hearing) → o ≡ letter_with l map.empty → IsHearing v l h → heard_letter v.state (letter_with o h.newer) ≡ heard_letter v.state l
+pub hearing_ends : {Q : Type 0} (v : RoomyNode Q) (l o : Letter Q) (h : Hearing) → o ≡ letter_with l map.empty → IsHearing v l h → heard_letter v.state (letter_with o h.copies) ≡ heard_letter v.state l
 hearing_ends v l o h is e =
-    ap (λ (n : Letter _). heard_letter v.state (letter_with n h.newer)) is
-    ∙ ap (heard_letter v.state) (short_is v.state l h.newer e.newer)
-    ∙ (heard_alike v.state l h.newer (copies_in l.kind) e.newer).0 ∙ ap (heard_letter v.state) (own_copies l)
+    ap (λ (n : Letter _). heard_letter v.state (letter_with n h.copies)) is
+    ∙ ap (heard_letter v.state) (short_is v.state l h.copies e.alike)
+    ∙ (heard_alike v.state l h.copies (copies_in l.kind) e.alike).0 ∙ ap (heard_letter v.state) (own_copies l)
 
 -- and leaves beside what the whole letter would
 pub hearing_beside : {Q : Type 0} (v : RoomyNode Q) (l o : Letter Q) (h : Hearing) → o ≡ letter_with l map.empty → IsHearing v l h
-    → beside_after v.state v.beside (change.Deliver (letter_with o h.newer)) ≡ beside_after v.state v.beside (change.Deliver l)
+    → beside_after v.state v.beside (change.Deliver (letter_with o h.copies)) ≡ beside_after v.state v.beside (change.Deliver l)
 hearing_beside v l o h is e =
-    ap (λ (n : Letter _). beside_after v.state v.beside (change.Deliver (letter_with n h.newer))) is
-    ∙ alike_beside v.state v.beside l.sender l.kind h.newer e.stamped
+    ap (λ (n : Letter _). beside_after v.state v.beside (change.Deliver (letter_with n h.copies))) is
+    ∙ alike_beside v.state v.beside l.sender l.kind h.copies e.stamped
 
-pub hearing_ready : {Q : Type 0} (v : RoomyNode Q) (l o : Letter Q) (h : Hearing) → o ≡ letter_with l map.empty → IsHearing v l h → IsReadyKind v o.kind h.newer h.number
-hearing_ready v l o h is e = subst (λ (n : Letter _). IsReadyKind v n.kind h.newer h.number) (sym is) (ready_apart v l.kind map.empty h.newer h.number e.ready)
+pub hearing_ready : {Q : Type 0} (v : RoomyNode Q) (l o : Letter Q) (h : Hearing) → o ≡ letter_with l map.empty → IsHearing v l h → IsReadyKind v o.kind h.copies h.number
+hearing_ready v l o h is e = subst (λ (n : Letter _). IsReadyKind v n.kind h.copies h.number) (sym is) (ready_apart v l.kind map.empty h.copies h.number e.ready)
 
 -- what was found of gossip is right for a letter that has it
-pub gossip_hearing : {Q : Type 0} (v : RoomyNode Q) (x : NodeState Q) (l : Letter Q) (o : Gossip Q) (copies : Copies) (h : Hearing) → v.state ≡ x → l.kind ≡ kind.Gossip (gossip_with o copies)
-    → IsReadyGossip v o h.newer h.number → joined x.registers h.newer ≡ joined x.registers copies → AreStampedAlike x.registers h.newer copies → IsHearing v l h
-gossip_hearing v x l o copies h same is ready newer stamped = record {
-  ready = subst (λ k. IsReadyKind v k h.newer h.number) (sym is) (ready_apart v (kind.Gossip o) copies h.newer h.number ready);
-  newer = subst (λ y. joined y.registers h.newer ≡ joined y.registers (copies_in l.kind)) (sym same) (newer ∙ sym (ap (λ k. joined x.registers (copies_in k)) is));
-  stamped = subst (λ y. AreStampedAlike y.registers h.newer (copies_in l.kind)) (sym same) (subst (λ k. AreStampedAlike x.registers h.newer (copies_in k)) (sym is) stamped);
-}
+pub gossip_hearing : {Q : Type 0} (v : RoomyNode Q) (l : Letter Q) (o : Gossip Q) (copies : Copies) (h : Hearing) → l.kind ≡ kind.Gossip (gossip_with o copies)
+    → IsReadyGossip v o h.copies h.number → h.copies ≡ copies → IsHearing v l h
+gossip_hearing v l o copies h is ready own =
+    let all : h.copies ≡ copies_in l.kind = own ∙ sym (ap copies_in is) in
+    record {
+      ready = subst (λ k. IsReadyKind v k h.copies h.number) (sym is) (ready_apart v (kind.Gossip o) copies h.copies h.number ready);
+      alike = ap (joined v.state.registers) all;
+      stamped = λ now s. ap (stamps_merged now v.state.registers s) all;
+    }
 
--- gossip with those of its copies that are newer comes to the letter that has all of them
-module _ {Q : Type 0} (x : NodeState Q) (l : Letter Q) (o : Gossip Q) (copies newer : Copies) (is : l.kind ≡ kind.Gossip (gossip_with o copies)) where
-  pub gossip_heard : joined x.registers newer ≡ joined x.registers copies → heard_gossip x l.sender (gossip_with o newer) ≡ heard_letter x l
-  gossip_heard same =
-      sym (ap (λ k. heard_kind x l.sender (kind_with k newer)) is)
-      ∙ (heard_alike x l newer (copies_in l.kind) (same ∙ sym (ap (λ k. joined x.registers (copies_in k)) is))).0 ∙ ap (heard_letter x) (own_copies l)
+-- gossip comes to the letter that has it
+module _ {Q : Type 0} (x : NodeState Q) (l : Letter Q) (o : Gossip Q) (copies : Copies) (is : l.kind ≡ kind.Gossip (gossip_with o copies)) where
+  pub gossip_heard : heard_gossip x l.sender (gossip_with o copies) ≡ heard_letter x l
+  gossip_heard = sym (ap (heard_kind x l.sender) is)
 
-  pub gossip_beside : (b : Beside) → AreStampedAlike x.registers newer copies → beside_heard x b l.sender (kind.Gossip (gossip_with o newer)) ≡ beside_after x b (change.Deliver l)
-  gossip_beside b stamped =
-      sym (ap (λ k. beside_heard x b l.sender (kind_with (kind_with k map.empty) newer)) is)
-      ∙ alike_beside x b l.sender l.kind newer (subst (λ k. AreStampedAlike x.registers newer (copies_in k)) (sym is) stamped)
+  pub gossip_beside : (b : Beside) → beside_heard x b l.sender (kind.Gossip (gossip_with o copies)) ≡ beside_after x b (change.Deliver l)
+  gossip_beside b = sym (ap (beside_heard x b l.sender) is)
 
 -- other copies are refused alike
 pub copies_judged : {Q : Type 0} (s : QuorumSystem Q) (x : NodeState Q) (l : Letter Q) (copies : Copies) → refusal_of s x (change.Deliver (letter_with l copies)) ≡ refusal_of s x (change.Deliver l)
@@ -260,14 +258,14 @@ module _ {Q : Type 0} (s : QuorumSystem Q) (v : RoomyNode Q) where
       → Prepares s v (change.Deliver l) (record { event = None; mark = None; copy = None; turn = turn.Hear t })
   unfolding made_by
   hear_prepares l t ok is h =
-      let newer = t.hearing.newer in
-      let alike = ap (λ (n : Letter Q). change.Deliver (letter_with n newer)) is in
+      let own = t.hearing.copies in
+      let alike = ap (λ (n : Letter Q). change.Deliver (letter_with n own)) is in
       record {
         prepared = record {
-          accepted = ap (refusal_of s v.state) alike ∙ short_judged v.state l newer h.newer s ∙ ok;
-          ready = subst (λ (n : Letter Q). IsReadyKind v n.kind newer t.hearing.number) (sym is) (ready_apart v l.kind map.empty newer t.hearing.number h.ready);
+          accepted = ap (refusal_of s v.state) alike ∙ short_judged v.state l own h.alike s ∙ ok;
+          ready = subst (λ (n : Letter Q). IsReadyKind v n.kind own t.hearing.number) (sym is) (ready_apart v l.kind map.empty own t.hearing.number h.ready);
         };
-        same = ap (made_by v.state) alike ∙ short_ends v.state l newer h.newer;
+        same = ap (made_by v.state) alike ∙ short_ends v.state l own h.alike;
         beside = hearing_beside v l (heard_by t) t.hearing is h;
         event = refl;
         mark = refl;

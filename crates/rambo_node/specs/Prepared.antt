@@ -34,7 +34,7 @@ use Rattle.rambo_node.specs.Kept.{propagation_begun}
 use Rattle.rambo_node.specs.Nodes.{NodeState, Room, RoomyNode, open_call}
 use Rattle.rambo_node.specs.Operations.{taken}
 
--- the change that a turn is: of a letter, with those of its copies that are newer
+-- the change that a turn is: of a letter, with the copies that it is heard with
 abbrev pub quick_change : {Q : Type 0} → Quick Q → Change Q
 quick_change (quick.Join contacts) = change.Join contacts
 quick_change (quick.Send to) = change.Send to
@@ -57,7 +57,7 @@ heard_by t = record { sender = t.sender; addressee = t.addressee; kind = kind_of
 abbrev pub turn_change : {Q : Type 0} → Turn Q → Change Q
 turn_change (turn.Call o) = change.Call o
 turn_change (turn.Advance t) = change.Advance t.moving.id
-turn_change (turn.Hear t) = change.Deliver (letter_with (heard_by t) t.hearing.newer)
+turn_change (turn.Hear t) = change.Deliver (letter_with (heard_by t) t.hearing.copies)
 turn_change (turn.Quick q) = quick_change q
 
 abbrev pub change_of : {Q : Type 0} → Prepared Q → Change Q
@@ -99,27 +99,27 @@ pub record IsMoving {Q : Type 0} (s : QuorumSystem Q) (v : RoomyNode Q) (m : Mov
   pub room : HasRoomFor v.room (put_by v.state (query_in (open_call v.state m.id)))
 
 -- gossip may be heard with these copies, after which the phase number is this
-pub record IsReadyGossip {Q : Type 0} (v : RoomyNode Q) (g : Gossip Q) (newer : Copies) (number : ℕ) : Type 0 where
+pub record IsReadyGossip {Q : Type 0} (v : RoomyNode Q) (g : Gossip Q) (copies : Copies) (number : ℕ) : Type 0 where
   pub counted : number ≡ number_after v.state g
-  pub keys : HasRoom v.room.keys newer
+  pub keys : HasRoom v.room.keys copies
   pub phases : IsRoomy g.map v.room.calls.list
 
 -- what a letter says may be heard: the wish to join needs no room
 abbrev pub IsReadyKind : {Q : Type 0} → RoomyNode Q → Kind Q → Copies → ℕ → Type 0
-IsReadyKind v kind.Join newer number = Unit {0}
-IsReadyKind v (kind.Gossip g) newer number = IsReadyGossip v g newer number
+IsReadyKind v kind.Join copies number = Unit {0}
+IsReadyKind v (kind.Gossip g) copies number = IsReadyGossip v g copies number
 
--- a letter may be heard with these of its copies, which make of the node's what all of them would, and are stamped alike
+-- a letter may be heard with these copies, which make of the node's what its own would, and are stamped alike
 pub record IsHearing {Q : Type 0} (v : RoomyNode Q) (l : Letter Q) (h : Hearing) : Type 0 where
-  pub ready : IsReadyKind v l.kind h.newer h.number
-  pub newer : joined v.state.registers h.newer ≡ joined v.state.registers (copies_in l.kind)
-  pub stamped : AreStampedAlike v.state.registers h.newer (copies_in l.kind)
+  pub ready : IsReadyKind v l.kind h.copies h.number
+  pub alike : joined v.state.registers h.copies ≡ joined v.state.registers (copies_in l.kind)
+  pub stamped : AreStampedAlike v.state.registers h.copies (copies_in l.kind)
 
 -- there is room for a turn, and what it has is right
 abbrev pub IsReady : {Q : Type 0} → QuorumSystem Q → RoomyNode Q → Turn Q → Type 0
 IsReady s v (turn.Call o) = 0 < v.room.calls.room
 IsReady s v (turn.Advance t) = IsMoving s v t.moving × (t.effect ≡ (made_by v.state (change.Advance t.moving.id)).deed.effect)
-IsReady s v (turn.Hear t) = IsReadyKind v (heard_by t).kind t.hearing.newer t.hearing.number
+IsReady s v (turn.Hear t) = IsReadyKind v (heard_by t).kind t.hearing.copies t.hearing.number
 IsReady s v (turn.Quick q) = Unit {0}
 
 -- and its change isn't refused

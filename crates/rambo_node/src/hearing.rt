@@ -106,7 +106,7 @@ impl<Q: Quorums, S: Replica> Node<Q, S> {
             Kind::Join => self.meet(letter.sender),
             Kind::Gossip(gossip) => {
                 let outline = gossip.outline();
-                let hearing = self.ready_gossip(&outline, &gossip.copies)?;
+                let hearing = self.ready_gossip(&outline, gossip.copies.clone()?)?;
                 self.finish_gossip(letter.sender, &outline, hearing);
             }
         }
@@ -201,7 +201,7 @@ impl<Q: Quorums, S: Replica> Node<Q, S> {
             }),
             Kind::Gossip(gossip) => {
                 let outline = gossip.outline();
-                let hearing = self.ready_gossip(&outline, &gossip.copies)?;
+                let hearing = self.ready_gossip(&outline, gossip.copies.clone()?)?;
                 Ok(HearTurn {
                     sender: letter.sender,
                     addressee: letter.addressee,
@@ -222,18 +222,18 @@ impl<Q: Quorums, S: Replica> Node<Q, S> {
     }
 
     /// The first half of hearing a letter that isn't refused, which is told by its outline and its copies: room is made for
-    /// it, and which of its copies are newer is found. The node stays, whatever the answer.
+    /// it. The node stays, whatever the answer.
     ///
     /// `OutOfMemory` where there is no room for what is new. The wish of a node to join needs none.
     pub fn ready_outlined(
         &mut self,
         outline: &LetterOutline<'_, Q>,
-        copies: &Pack,
+        copies: Pack,
     ) -> Result<Hearing, Refusal>
         requires { refusal_of Q.system self.old.state (change.Deliver outline.now) ≡ None }
         ensures same { self.new.state ≡ self.old.state }
         ensures beside { self.new.beside ≡ self.old.beside }
-        ensures hearing { IfOk result (IsHearing self.new (letter_with outline.now copies.now)) }
+        ensures hearing { IfOk result (IsHearing self.new (letter_with outline.now copies)) }
         ensures refused { IfErr result (λ r. r ≡ Refusal.OutOfMemory) }
         ensures join { outline.now.kind ≡ Kind.Join → IsOk result }
     {
@@ -245,10 +245,10 @@ impl<Q: Quorums, S: Replica> Node<Q, S> {
 
     // Of one of a joining node.
     fn ready_join(&self) -> Hearing
-        ensures newer { result.newer ≡ map.empty }
+        ensures none { result.copies ≡ map.empty }
     {
         Hearing {
-            newer: Pack::empty(self.calls.alloc()),
+            copies: Pack::empty(self.calls.alloc()),
             number: self.number,
         }
     }
@@ -257,21 +257,19 @@ impl<Q: Quorums, S: Replica> Node<Q, S> {
     fn ready_gossip(
         &mut self,
         gossip: &GossipOutline<'_, Q>,
-        copies: &Pack,
+        copies: Pack,
     ) -> Result<Hearing, Refusal>
         requires { (any_gap gossip.now.heard gossip.now.map.now self.old.state.calls && is_last self.old.state.number) ≡ false }
         ensures same { self.new.state ≡ self.old.state }
         ensures beside { self.new.beside ≡ self.old.beside }
-        ensures newer { IfOk result (λ h. joined self.old.state.registers h.newer ≡ joined self.old.state.registers copies.now) }
-        ensures stamped { IfOk result (λ h. AreStampedAlike self.old.state.registers h.newer copies.now) }
-        ensures ready { IfOk result (λ h. IsReadyGossip self.new (gossip_outlined gossip.now) h.newer h.number) }
+        ensures copies { IfOk result (λ h. h.copies ≡ copies) }
+        ensures ready { IfOk result (λ h. IsReadyGossip self.new (gossip_outlined gossip.now) h.copies h.number) }
         ensures refused { IfErr result (λ r. r ≡ Refusal.OutOfMemory) }
     {
         let number = self.number_after(gossip.heard, gossip.map);
         self.room_for(gossip.map)?;
-        let newer = self.registers.newer(copies)?;
-        self.registers.room(&newer)?;
-        Ok(Hearing { newer, number })
+        self.registers.room(&copies)?;
+        Ok(Hearing { copies, number })
     }
 }
 
@@ -279,9 +277,9 @@ impl<Q: Quorums, S: Replica> Node<Q, S> {
 impl<Q: Quorums, S: Replica> Node<Q, S> {
     // A letter is heard that is ready.
     pub(crate) fn finish_hear(&mut self, turn: HearTurn<Q>)
-        requires { IsReadyKind self.old (heard_by turn).kind turn.hearing.newer turn.hearing.number }
-        ensures state { self.new.state ≡ heard_letter self.old.state (letter_with (heard_by turn) turn.hearing.newer) }
-        ensures beside { self.new.beside ≡ beside_after self.old.state self.old.beside (change.Deliver (letter_with (heard_by turn) turn.hearing.newer)) }
+        requires { IsReadyKind self.old (heard_by turn).kind turn.hearing.copies turn.hearing.number }
+        ensures state { self.new.state ≡ heard_letter self.old.state (letter_with (heard_by turn) turn.hearing.copies) }
+        ensures beside { self.new.beside ≡ beside_after self.old.state self.old.beside (change.Deliver (letter_with (heard_by turn) turn.hearing.copies)) }
     {
         let HearTurn {
             sender,
@@ -299,9 +297,9 @@ impl<Q: Quorums, S: Replica> Node<Q, S> {
     ///
     /// It takes no memory and can't fail.
     pub fn finish_outlined(&mut self, outline: &LetterOutline<'_, Q>, hearing: Hearing)
-        requires { IsReadyKind self.old outline.now.kind hearing.newer hearing.number }
-        ensures state { self.new.state ≡ heard_letter self.old.state (letter_with outline.now hearing.newer) }
-        ensures beside { self.new.beside ≡ beside_after self.old.state self.old.beside (change.Deliver (letter_with outline.now hearing.newer)) }
+        requires { IsReadyKind self.old outline.now.kind hearing.copies hearing.number }
+        ensures state { self.new.state ≡ heard_letter self.old.state (letter_with outline.now hearing.copies) }
+        ensures beside { self.new.beside ≡ beside_after self.old.state self.old.beside (change.Deliver (letter_with outline.now hearing.copies)) }
     {
         match &outline.gossip {
             None => self.meet(outline.sender),
@@ -311,12 +309,12 @@ impl<Q: Quorums, S: Replica> Node<Q, S> {
 
     // Gossip is heard that is ready.
     fn finish_gossip(&mut self, from: Name, gossip: &GossipOutline<'_, Q>, hearing: Hearing)
-        requires { IsReadyGossip self.old (gossip_outlined gossip.now) hearing.newer hearing.number }
-        ensures state { self.new.state ≡ heard_gossip self.old.state from (gossip_with (gossip_outlined gossip.now) hearing.newer) }
-        ensures beside { self.new.beside ≡ beside_heard self.old.state self.old.beside from (Kind.Gossip (gossip_with (gossip_outlined gossip.now) hearing.newer)) }
+        requires { IsReadyGossip self.old (gossip_outlined gossip.now) hearing.copies hearing.number }
+        ensures state { self.new.state ≡ heard_gossip self.old.state from (gossip_with (gossip_outlined gossip.now) hearing.copies) }
+        ensures beside { self.new.beside ≡ beside_heard self.old.state self.old.beside from (Kind.Gossip (gossip_with (gossip_outlined gossip.now) hearing.copies)) }
     {
-        let Hearing { newer, number } = hearing;
-        self.registers.merge_room(newer, self.number);
+        let Hearing { copies, number } = hearing;
+        self.registers.merge_room(copies, self.number);
         self.settle(from, gossip, number);
     }
 }

@@ -99,8 +99,8 @@ pub(crate) struct HearTurn<Q: Quorums> {
 /// What the second half of hearing a letter needs besides the letter without its copies.
 #[derive(Drop)]
 pub struct Hearing {
-    // Those of its copies that are newer than what the node holds.
-    pub(crate) newer: Pack,
+    // Copies that come to the same for the node as those of the letter.
+    pub(crate) copies: Pack,
     // The phase number after it.
     pub(crate) number: u64,
 }

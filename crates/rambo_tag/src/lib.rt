@@ -14,7 +14,7 @@ mod version;
 
 pub use keyed_version::KeyedVersion;
 pub use merging::merging_laws;
-pub use pack::{NoCopies, Pack};
+pub use pack::Pack;
 pub use registers::Registers;
 pub use replica::Replica;
 pub use stamping::stamp_laws;

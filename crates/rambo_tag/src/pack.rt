@@ -66,26 +66,3 @@ impl Pack {
         })
     }
 }
-
-/// The copies of a letter that has none. It takes no memory.
-#[derive(Drop, Debug)]
-pub struct NoCopies {
-    pack: Pack,
-    ghost none: { pack ≡ empty },
-}
-
-impl NoCopies {
-    /// No copies. Memory for them would come from this allocator.
-    pub fn new(alloc: Global) -> NoCopies {
-        NoCopies {
-            pack: Pack::empty(alloc),
-        }
-    }
-
-    /// As a pack.
-    pub fn pack(&self) -> &Pack
-        ensures { result.now ≡ empty }
-    {
-        &self.pack
-    }
-}

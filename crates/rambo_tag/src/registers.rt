@@ -6,7 +6,7 @@ ghost use Rattle.std.specs.Vec.{vec_len, vec_capacity};
 ghost use Rattle.rambo_tag.specs.Tags.{is_newer};
 ghost use Rattle.rambo_tag.specs.Copies.{joined, HasRoom};
 ghost use Rattle.rambo_tag.specs.Logs.{greatest_after, greatest_of};
-ghost use Rattle.rambo_tag.specs.Stamps.{AreAtMost, stamps_merged};
+ghost use Rattle.rambo_tag.specs.Stamps.{AreAtMost, AreStampedAlike, stamps_merged};
 ghost use Rattle.rambo_tag.specs.Rows.{slot_in, place_in, copies_of, stamps_of, stamps_after, told_at, is_current, room_in, IsIndexed};
 
 use crate::borrowed_key::BorrowedKey;
@@ -94,6 +94,18 @@ impl<H: BuildHasher> Registers<H> {
         }
         Ok(copies)
     }
+
+    // The same as a pack: merged in the place of the other it comes to the same copies and the same stamps.
+    fn newer(&self, pack: &Pack) -> Result<Pack, Refusal>
+        ensures all { IfOk result (λ p. joined self.now.copies p ≡ joined self.now.copies pack.now) }
+        ensures stamped { IfOk result (λ p. AreStampedAlike self.now.copies p pack.now) }
+        ensures none { joined self.now.copies pack.now ≡ self.now.copies → IfOk result (λ p. p ≡ empty) }
+        ensures idle { joined self.now.copies pack.now ≡ self.now.copies → IsOk result }
+        ensures refused { IfErr result (λ r. r ≡ Refusal.OutOfMemory) }
+    {
+        let newer = self.newer_copies(pack)?;
+        Ok(Pack::new(newer))
+    }
 }
 
 impl<H: BuildHasher + Clone + Drop> Registers<H> {
@@ -144,11 +156,6 @@ impl<H: BuildHasher + Clone + Drop> Replica for Registers<H> {
             [copy] => self.merge_one(copy, now),
             _ => self.merge_all(pack, now),
         }
-    }
-
-    fn newer(&self, pack: &Pack) -> Result<Pack, Refusal> {
-        let newer = self.newer_copies(pack)?;
-        Ok(Pack::new(newer))
     }
 
     fn room(&mut self, pack: &Pack) -> Result<(), Refusal> {

@@ -3,7 +3,7 @@ ghost use Rattle.std.specs.Prelude.{◌≡◌, ◌<◌, ◌≤◌, ℕ, IsOk, If
 ghost use Rattle.std.specs.FinMap as map;
 ghost use Rattle.std.specs.Option.{option_copied};
 ghost use Rattle.rambo_tag.specs.Copies.{Copies, joined, HasRoom};
-ghost use Rattle.rambo_tag.specs.Stamps.{Stamps, AreAtMost, AreStampedAlike, IsSince, stamps_merged};
+ghost use Rattle.rambo_tag.specs.Stamps.{Stamps, AreAtMost, IsSince, stamps_merged};
 
 use crate::pack::Pack;
 use crate::version::Version;
@@ -55,17 +55,6 @@ pub trait Replica: Drop {
         ensures idle { joined (copies self.old) pack.now ≡ copies self.old → IsOk result }
         ensures err { OnErr result (copies self.new ≡ copies self.old) }
         ensures unstamped { OnErr result (stamps self.new ≡ stamps self.old) }
-        ensures refused { IfErr result (λ r. r ≡ Refusal.OutOfMemory) };
-
-    /// Those copies of a pack that are newer than what it holds: merged in the place of the pack they come to the
-    /// same copies and the same stamps.
-    ///
-    /// `OutOfMemory` where there is no room for the list of them. Where nothing is newer no memory is taken.
-    fn newer(&self, pack: &Pack) -> Result<Pack, Refusal>
-        ensures all { IfOk result (λ p. joined (copies self.now) p ≡ joined (copies self.now) pack.now) }
-        ensures stamped { IfOk result (λ p. AreStampedAlike (copies self.now) p pack.now) }
-        ensures none { joined (copies self.now) pack.now ≡ copies self.now → IfOk result (λ p. p ≡ map.empty) }
-        ensures idle { joined (copies self.now) pack.now ≡ copies self.now → IsOk result }
         ensures refused { IfErr result (λ r. r ≡ Refusal.OutOfMemory) };
 
     /// Makes room for a pack, so that `merge_room` can take it. The copies and the stamps stay, whatever the answer,

@@ -40,19 +40,19 @@ use Rattle.rambo_world.proofs.Growth.{same_grow}
 use Rattle.rambo_world.proofs.Zipping.{with_log, kept_of-at, node_here, put_node, node_unchanged, log_grows, brought_is, enough_brought}
 
 -- there is room for a letter with copies where there is for it without
-pub ready_bare : {Q : Type 0} (v : RoomyNode Q) (k : Kind Q) (c newer : Copies) (number : ℕ) → IsReadyKind v (kind_with k c) newer number → IsReadyKind v k newer number
-ready_bare v kind.Join c newer number ready = ready
-ready_bare v (kind.Gossip g) c newer number ready = record { counted = ready.counted; keys = ready.keys; phases = ready.phases }
+pub ready_bare : {Q : Type 0} (v : RoomyNode Q) (k : Kind Q) (c other : Copies) (number : ℕ) → IsReadyKind v (kind_with k c) other number → IsReadyKind v k other number
+ready_bare v kind.Join c other number ready = ready
+ready_bare v (kind.Gossip g) c other number ready = record { counted = ready.counted; keys = ready.keys; phases = ready.phases }
 
-newer_kind : {Q : Type 0} (x : NodeState Q) (j : ℕ) (k : Kind Q) (newer c : Copies) → joined x.registers newer ≡ joined x.registers (short.copies_in (kind_with k c)) → heard_kind x j (kind_with k newer) ≡ heard_kind x j (kind_with k c)
-newer_kind x j kind.Join newer c e = refl
-newer_kind x j (kind.Gossip g) newer c e = heard_alike x j (kind.Gossip g) newer c e
+other_kind : {Q : Type 0} (x : NodeState Q) (j : ℕ) (k : Kind Q) (other c : Copies) → joined x.registers other ≡ joined x.registers (short.copies_in (kind_with k c)) → heard_kind x j (kind_with k other) ≡ heard_kind x j (kind_with k c)
+other_kind x j kind.Join other c e = refl
+other_kind x j (kind.Gossip g) other c e = heard_alike x j (kind.Gossip g) other c e
 
--- what is newer of a letter's copies makes the same of a node as all of them
-pub newer_heard : {Q : Type 0} (x : NodeState Q) (l : Letter Q) (newer c : Copies) → joined x.registers newer ≡ joined x.registers (short.copies_in (letter_with l c).kind)
-    → heard_letter x (letter_with l newer) ≡ (made_by x (change.Deliver (letter_with l c))).node
+-- copies that make the same of a node's as those of a letter make the same of the node
+pub other_heard : {Q : Type 0} (x : NodeState Q) (l : Letter Q) (other c : Copies) → joined x.registers other ≡ joined x.registers (short.copies_in (letter_with l c).kind)
+    → heard_letter x (letter_with l other) ≡ (made_by x (change.Deliver (letter_with l c))).node
 unfolding made_by
-newer_heard x l newer c e = newer_kind x l.sender l.kind newer c e
+other_heard x l other c e = other_kind x l.sender l.kind other c e
 
 -- a part that ends before it begins has nothing
 pub part_past : {X : Type 0} (xs : List X) (start end : ℕ) → end ≤ start → part xs start end ≡ []

@@ -27,7 +27,7 @@ use rambo_logs::Logs;
 use rambo_names::{Name, Quorums, Refusal};
 use rambo_node::{Change, Deed, Node};
 use rambo_run::NodeMap;
-use rambo_tag::{KeyedVersion, NoCopies, Pack, Replica};
+use rambo_tag::{KeyedVersion, Pack, Replica};
 use std::alloc::Global;
 use std::marker::Model;
 
@@ -35,7 +35,7 @@ use std::marker::Model;
 pub(crate) struct Nodes<Q: Quorums, S: Replica> {
     list: Vec<Node<Q, S>>,
     logs: Logs,
-    none: NoCopies,
+    alloc: Global,
     // Never used: it tells the prover that a node has a size, which it doesn't see behind a `Vec`.
     spare: Node<Q, S>,
 }
@@ -46,7 +46,7 @@ impl<Q: Quorums, S: Replica> Drop for Nodes<Q, S> {
         let Nodes {
             list: _list,
             logs: _logs,
-            none: _none,
+            alloc: _alloc,
             spare: _spare,
         } = self;
     }
@@ -84,7 +84,7 @@ impl<Q: Quorums, S: Replica> Nodes<Q, S> {
         Ok(Nodes {
             list,
             logs,
-            none: NoCopies::new(alloc),
+            alloc,
             spare,
         })
     }
@@ -156,7 +156,7 @@ impl<Q: Quorums, S: Replica> Nodes<Q, S> {
         ensures grow { AllGrow self.old self.new }
     {
         let node = &mut self.list[place_of(letter.addressee)];
-        hear(node, &mut self.logs, &self.none, letter, start, end)
+        hear(node, &mut self.logs, self.alloc, letter, start, end)
     }
 
     // A node hears the letter that another has for it, unless it refuses it: of the copies that it tells of, those from a
@@ -179,7 +179,7 @@ impl<Q: Quorums, S: Replica> Nodes<Q, S> {
         ensures grow { AllGrow self.old self.new }
     {
         let nodes = self.list.as_mut_slice();
-        meet(nodes, &mut self.logs, &self.none, from, to, start)
+        meet(nodes, &mut self.logs, self.alloc, from, to, start)
     }
 
     // The letter of a node to another, as it is kept.
@@ -196,7 +196,7 @@ impl<Q: Quorums, S: Replica> Nodes<Q, S> {
 fn meet<Q: Quorums, S: Replica>(
     nodes: &mut [Node<Q, S>],
     logs: &mut Logs,
-    none: &NoCopies,
+    alloc: Global,
     from: Name,
     to: Name,
     start: usize,
@@ -211,7 +211,7 @@ fn meet<Q: Quorums, S: Replica>(
 {
     let (sender, addressee) = two_of(nodes, place_of(from), place_of(to));
     let Outline { letter, told } = outline_of(sender, to, logs.len(from));
-    match hear(addressee, logs, none, &letter, start, start.max(told))? {
+    match hear(addressee, logs, alloc, &letter, start, start.max(told))? {
         Ok(()) => Ok(Ok(told)),
         Err(refusal) => Ok(Err(refusal)),
     }
@@ -222,7 +222,7 @@ fn meet<Q: Quorums, S: Replica>(
 fn hear<Q: Quorums, S: Replica>(
     node: &mut Node<Q, S>,
     logs: &mut Logs,
-    none: &NoCopies,
+    alloc: Global,
     letter: &LetterOutline<'_, Q>,
     start: usize,
     end: usize,
@@ -239,12 +239,12 @@ fn hear<Q: Quorums, S: Replica>(
         return Ok(Err(refusal));
     }
     if end <= start {
-        hear_with(node, letter, none.pack())?;
+        hear_with(node, letter, Pack::empty(alloc))?;
         return Ok(Ok(()));
     }
     let to = letter.addressee;
-    logs.bring(to, letter.sender, start, end)?;
-    hear_with(node, letter, logs.brought())?;
+    let brought = logs.bring(to, letter.sender, start, end)?;
+    hear_with(node, letter, brought)?;
     logs.take_on(to);
     Ok(Ok(()))
 }
@@ -253,10 +253,10 @@ fn hear<Q: Quorums, S: Replica>(
 fn hear_with<Q: Quorums, S: Replica>(
     node: &mut Node<Q, S>,
     letter: &LetterOutline<'_, Q>,
-    copies: &Pack,
+    copies: Pack,
 ) -> Result<(), Refusal>
     requires { refusal_of Q.system node.old.state (Change.Deliver letter.now) ≡ None }
-    ensures node { OnOk result (node.new.state ≡ (made_by node.old.state (Change.Deliver (letter_with letter.now copies.now))).node) }
+    ensures node { OnOk result (node.new.state ≡ (made_by node.old.state (Change.Deliver (letter_with letter.now copies))).node) }
     ensures refused { IfErr result (λ r. r ≡ Refusal.OutOfMemory) }
     ensures err { OnErr result (node.new.state ≡ node.old.state) }
 {

@@ -14,7 +14,7 @@ use Rattle.rambo_world.proofs.nodes.hear.Goals as goal
 pub returns-then-end-start-clause-heard : goal.returns-then-end-start-clause-heard
 returns-then-end-start-clause-heard g c =
     let ls = c.args.logs.now.logs in
-    heard_none c.args.node.now c.hear_with.new.node ls ls c.args.letter.now c.args.start c.args.end c.pack.result.now c.if-end-start.true (c.pack.ensures ∙ sym greatest_of-nil) refl c.in_ok-hear_with.ensures.node
+    heard_none c.args.node.now c.hear_with.new.node ls ls c.args.letter.now c.args.start c.args.end c.empty.result c.if-end-start.true (c.empty.ensures ∙ sym greatest_of-nil) refl c.in_ok-hear_with.ensures.node
 
 pub returns-clause-heard : goal.returns-clause-heard
 returns-clause-heard g c =
@@ -22,11 +22,10 @@ returns-clause-heard g c =
     let li = c.letter.inside in
     let l : Letter _ = record { sender = li.sender; addressee = li.addressee; kind = outlined li.gossip } in
     let more = lacked_of ls l c.args.start c.args.end in
-    let pack : c.brought.result.now ≡ greatest_of more = c.brought.ensures (record { to = l.addressee; copies = more }) (ap (λ s. s.brought) c.in_ok-bring.ensures.ok) in
     let put : c.take_on.new.self.logs ≡ extended ls l.addressee more =
-    ap (λ s. s.logs) (c.take_on.ensures (record { to = l.addressee; copies = more }) (ap (λ s. s.brought) c.in_ok-bring.ensures.ok)) ∙ ap (λ s. extended s.logs l.addressee more) c.in_ok-bring.ensures.ok in
+    ap (λ s. s.logs) (c.take_on.ensures (record { to = l.addressee; copies = more }) (ap (λ s. s.brought) c.in_ok-brought.ensures.ok)) ∙ ap (λ s. extended s.logs l.addressee more) c.in_ok-brought.ensures.ok in
     subst (λ l. HasHeard c.args.node.now c.hear_with-2.new.node ls c.take_on.new.self.logs l c.args.start c.args.end) c.letter.view_is (record {
-      node = c.in_ok-hear_with-2.ensures.node ∙ λ i. (made_by c.args.node.now.state (change.Deliver (letter_with (sym c.letter.view_is i) (pack i)))).node;
+      node = c.in_ok-hear_with-2.ensures.node ∙ λ i. (made_by c.args.node.now.state (change.Deliver (letter_with (sym c.letter.view_is i) (c.in_ok-brought.ensures.given i)))).node;
       logs = put;
-      enough = c.in_ok-bring.ensures.enough;
+      enough = c.in_ok-brought.ensures.enough;
     })

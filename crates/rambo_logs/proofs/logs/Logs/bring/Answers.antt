@@ -27,8 +27,8 @@ pub returns-in_err-list_lacked-clause-enough : goal.returns-in_err-list_lacked-c
 returns-in_err-list_lacked-clause-enough c =
     joined-lacked (greatest_of (log_at c.args.self.now.logs c.args.to)) (part (log_at c.args.self.now.logs c.args.from) c.args.start c.args.end)
 
-pub returns-in_err-repack-clause-enough : goal.returns-in_err-repack-clause-enough
-returns-in_err-repack-clause-enough c =
+pub returns-in_err-pack-clause-enough : goal.returns-in_err-pack-clause-enough
+returns-in_err-pack-clause-enough c =
     joined-lacked (greatest_of (log_at c.args.self.now.logs c.args.to)) (part (log_at c.args.self.now.logs c.args.from) c.args.start c.args.end)
 
 pub returns-in_err-reserve-clause-enough : goal.returns-in_err-reserve-clause-enough
@@ -49,8 +49,8 @@ returns-in_err-list_lacked-clause-idle c none =
     c.self.invariant.stored c.place_of-node.result c.place_of.result c.place_of-node.ensures.place c.place_of.ensures.place c.place_of-node.ensures.within c.place_of.ensures.within c.index.ensures is seen in
     absurd (true≢false (sym (c.in_err-list_lacked.ensures.idle ((λ i. filter (is_lacked (c.as_slice.ensures.value i) (c.as_slice-2.ensures.value i) c.place_of-node.result) es) ∙ empty))))
 
-pub returns-in_err-repack-clause-idle : goal.returns-in_err-repack-clause-idle
-returns-in_err-repack-clause-idle c none =
+pub returns-in_err-pack-clause-idle : goal.returns-in_err-pack-clause-idle
+returns-in_err-pack-clause-idle c none =
     let l = c.self.inside in
     let es = c.between.result.now in
     let is : es ≡ part c.index.result.now.items c.args.start c.args.end = c.between.ensures ∙ ap (λ l. part l c.args.start c.args.end) c.as_slice-3.ensures.value in
@@ -59,7 +59,7 @@ returns-in_err-repack-clause-idle c none =
     let seen = subst (λ s. lacked (greatest_of (log_at s.logs c.args.to)) (part (log_at s.logs c.args.from) c.args.start c.args.end) ≡ []) (sym c.self.view_is) none in
     let empty = none_picked l.puts.items l.keys l.hints.items l.logs.items c.args.to c.args.from c.args.start c.args.end c.index.result.now es []
     c.self.invariant.stored c.place_of-node.result c.place_of.result c.place_of-node.ensures.place c.place_of.ensures.place c.place_of-node.ensures.within c.place_of.ensures.within c.index.ensures is seen in
-    absurd (true≢false (sym (c.in_err-repack.ensures.idle (c.as_slice-4.ensures.value ∙ picked ∙ empty))))
+    absurd (true≢false (sym (c.in_err-pack.ensures.idle (c.as_slice-4.ensures.value ∙ picked ∙ empty))))
 
 pub returns-in_err-reserve-clause-idle : goal.returns-in_err-reserve-clause-idle
 returns-in_err-reserve-clause-idle c none =
@@ -77,8 +77,8 @@ returns-in_err-reserve-clause-idle c none =
     let full : vec_capacity c.index_mut.result.now < vec_len c.index_mut.result.now + c.len.result = c.in_err-reserve.ensures.full in
     absurd (omega (arith, none_left, count, within, full))
 
-pub repack-requires : goal.repack-requires
-repack-requires c =
+pub pack_of-requires : goal.pack_of-requires
+pack_of-requires c =
     let l = c.self.inside in
     let es = c.between.result.now in
     let is : es ≡ part c.index.result.now.items c.args.start c.args.end = c.between.ensures ∙ ap (λ l. part l c.args.start c.args.end) c.as_slice-3.ensures.value in
@@ -120,7 +120,6 @@ invariant_of-self-2 c =
       ready = record {
         entries = more_entries l.puts.items l.keys l.hints.items l.logs.items c.args.to c.args.from c.args.start c.args.end c.index.result.now es c.list_lacked.new.lacked.items
             c.self.invariant.stored c.place_of-node.result c.place_of.result c.place_of-node.ensures.place c.place_of.ensures.place c.place_of-node.ensures.within c.place_of.ensures.within c.index.ensures is picked;
-        pack = c.in_ok-repack.ensures.ok ∙ ap (λ e. greatest_of (copies_of l.puts.items e)) c.as_slice-4.ensures.value;
         log = subst (λ n. (d : Vec Entry Global) → vec_len (slice_index_or (set l.logs.items c.place_of-node.result c.reserve.new.self) n d) + length c.list_lacked.new.lacked.items ≤ vec_capacity (slice_index_or (set l.logs.items c.place_of-node.result c.reserve.new.self) n d)) place
             (room_there l.logs.items c.place_of-node.result c.reserve.new.self (length c.list_lacked.new.lacked.items) (omega (arith, nodes, below))
             (subst (λ n. vec_len c.reserve.new.self + n ≤ vec_capacity c.reserve.new.self) (c.len.ensures ∙ c.list_lacked.new.lacked.ok.0) c.in_ok-reserve.ensures.ok));
@@ -141,6 +140,18 @@ returns-clause-ok c =
     (λ i. with_brought (map (copies_of l.puts.items) (same i)) c.args.to (more_seen l.puts.items l.keys l.hints.items l.logs.items c.args.to c.args.from c.args.start c.args.end c.index.result.now es c.list_lacked.new.lacked.items
     c.self.invariant.stored c.place_of-node.result c.place_of.result c.place_of-node.ensures.place c.place_of.ensures.place c.place_of-node.ensures.within c.place_of.ensures.within c.index.ensures is picked i))
     ∙ ap (λ s. with_brought s.logs c.args.to (lacked (greatest_of (log_at s.logs c.args.to)) (part (log_at s.logs c.args.from) c.args.start c.args.end))) c.self.view_is
+
+pub returns-clause-given : goal.returns-clause-given
+returns-clause-given c =
+    let l = c.self.inside in
+    let es = c.between.result.now in
+    let is : es ≡ part c.index.result.now.items c.args.start c.args.end = c.between.ensures ∙ ap (λ l. part l c.args.start c.args.end) c.as_slice-3.ensures.value in
+    let picked : c.list_lacked.new.lacked.items ≡ filter (is_lacked l.puts.items l.hints.items c.place_of-node.result) es =
+    c.in_ok-list_lacked.ensures.ok ∙ (λ i. filter (is_lacked (c.as_slice.ensures.value i) (c.as_slice-2.ensures.value i) c.place_of-node.result) es) in
+    c.in_ok-pack.ensures.ok ∙ ap (λ e. greatest_of (copies_of l.puts.items e)) c.as_slice-4.ensures.value
+    ∙ ap greatest_of (more_seen l.puts.items l.keys l.hints.items l.logs.items c.args.to c.args.from c.args.start c.args.end c.index.result.now es c.list_lacked.new.lacked.items
+    c.self.invariant.stored c.place_of-node.result c.place_of.result c.place_of-node.ensures.place c.place_of.ensures.place c.place_of-node.ensures.within c.place_of.ensures.within c.index.ensures is picked)
+    ∙ ap (λ s. greatest_of (lacked (greatest_of (log_at s.logs c.args.to)) (part (log_at s.logs c.args.from) c.args.start c.args.end))) c.self.view_is
 
 pub index-requires : goal.index-requires
 index-requires c = grind (arith, common_steps)
@@ -166,17 +177,17 @@ returns-in_err-list_lacked-clause-err c = grind (arith, common_steps)
 pub returns-in_err-list_lacked-clause-refused : goal.returns-in_err-list_lacked-clause-refused
 returns-in_err-list_lacked-clause-refused c = grind (arith, common_steps)
 
-pub invariant_of-self-in_err-repack : goal.invariant_of-self-in_err-repack
-invariant_of-self-in_err-repack c = assumption
+pub invariant_of-self-in_err-pack : goal.invariant_of-self-in_err-pack
+invariant_of-self-in_err-pack c = assumption
 
-pub returns-in_err-repack-clause-ok : goal.returns-in_err-repack-clause-ok
-returns-in_err-repack-clause-ok c = grind (arith, common_steps)
+pub returns-in_err-pack-clause-ok : goal.returns-in_err-pack-clause-ok
+returns-in_err-pack-clause-ok c = grind (arith, common_steps)
 
-pub returns-in_err-repack-clause-err : goal.returns-in_err-repack-clause-err
-returns-in_err-repack-clause-err c = grind (arith, common_steps)
+pub returns-in_err-pack-clause-err : goal.returns-in_err-pack-clause-err
+returns-in_err-pack-clause-err c = grind (arith, common_steps)
 
-pub returns-in_err-repack-clause-refused : goal.returns-in_err-repack-clause-refused
-returns-in_err-repack-clause-refused c = grind (arith, common_steps)
+pub returns-in_err-pack-clause-refused : goal.returns-in_err-pack-clause-refused
+returns-in_err-pack-clause-refused c = grind (arith, common_steps)
 
 pub index_mut-requires : goal.index_mut-requires
 index_mut-requires c = grind (arith, common_steps)

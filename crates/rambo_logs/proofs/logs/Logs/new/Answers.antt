@@ -3,7 +3,7 @@ use Rattle.std.proofs.lemmas.List.{map-append, replicate_more}
 use Rattle.rambo_logs.specs.NodeLogs.{settled}
 use Rattle.rambo_logs.specs.Stored.{entries_of}
 use Rattle.rambo_logs.proofs.Storing.{stored_first, seen_first}
-use Rattle.rambo_logs.proofs.logs.Logs.new.Goals.{After-new-7}
+use Rattle.rambo_logs.proofs.logs.Logs.new.Goals.{After-new-5}
 use Rattle.rambo_logs.proofs.logs.Logs.new.Goals as goal
 
 pub loop-node-preserved : goal.loop-node-preserved
@@ -13,7 +13,7 @@ loop-node-preserved c =
     ∙ (λ i. c.loop-node.invariant i ++ c.new.ensures.items i ∷ [])
     ∙ replicate_more c.loop-node._node []
 
-all_empty : (c : After-new-7) → entries_of c.loop-node.logs.items ≡ replicate 64 []
+all_empty : (c : After-new-5) → entries_of c.loop-node.logs.items ≡ replicate 64 []
 all_empty c =
     let all : c.loop-node._node ≡ 64 = omega (arith, c.loop-node-test.false, c.loop-node.auto._node-end) in
     c.loop-node.invariant ∙ ap (λ n. replicate n []) all

@@ -40,8 +40,7 @@ returns-in_ok-hearing-in-Gossip-clause-node g c =
     let copies = c.in-Gossip.gossip.copies in
     let found = c.in_ok-hearing-in-Gossip in
     let is = c.in-Gossip.is ∙ sym (ap (λ p. kind.Gossip (gossip_with p copies)) c.outline-outline.ensures) in
-    c.finish_gossip.ensures.state ∙ ap (λ y. heard_gossip y l.sender (gossip_with o found.hearing.newer)) found.ensures.same
-    ∙ gossip_heard x l o copies found.hearing.newer is found.ensures.newer
+    c.finish_gossip.ensures.state ∙ (λ i. heard_gossip (found.ensures.same i) l.sender (gossip_with o ((found.ensures.copies ∙ c.in_ok-clone-in-Gossip.ensures.same) i))) ∙ gossip_heard x l o copies is
 
 pub returns-in_ok-hearing-in-Gossip-clause-beside : goal.returns-in_ok-hearing-in-Gossip-clause-beside
 returns-in_ok-hearing-in-Gossip-clause-beside g c =
@@ -51,5 +50,5 @@ returns-in_ok-hearing-in-Gossip-clause-beside g c =
     let copies = c.in-Gossip.gossip.copies in
     let found = c.in_ok-hearing-in-Gossip in
     let is = c.in-Gossip.is ∙ sym (ap (λ p. kind.Gossip (gossip_with p copies)) c.outline-outline.ensures) in
-    c.finish_gossip.ensures.beside ∙ (λ i. beside_heard (found.ensures.same i) (found.ensures.beside i) l.sender (kind.Gossip (gossip_with o found.hearing.newer)))
-    ∙ gossip_beside v.state l o copies found.hearing.newer is v.beside found.ensures.stamped
+    c.finish_gossip.ensures.beside ∙ (λ i. beside_heard (found.ensures.same i) (found.ensures.beside i) l.sender (kind.Gossip (gossip_with o ((found.ensures.copies ∙ c.in_ok-clone-in-Gossip.ensures.same) i))))
+    ∙ gossip_beside v.state l o copies is v.beside

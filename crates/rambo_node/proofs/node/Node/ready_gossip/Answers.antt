@@ -1,6 +1,4 @@
-use Rattle.std.proofs.Common.{◌≡◌, sym, ap, ◌∙◌, subst}
-use Rattle.rambo_tag.specs.Copies.{joined}
-use Rattle.rambo_tag.specs.Stamps.{AreStampedAlike}
+use Rattle.std.proofs.Common.{sym, ap, ◌∙◌, subst}
 use Rattle.rambo_calls.specs.Hearing.{number_after}
 use Rattle.rambo_calls.specs.Kept.{IsRoomy}
 use Rattle.rambo_names.proofs.Sizes.{up_fits, back_fits}
@@ -13,11 +11,6 @@ number_after-number-requires g c = (c.requires-raw.1.1.0, (back_fits _ _ _ (up_f
 pub room_for-requires : goal.room_for-requires
 room_for-requires g c = (c.requires-raw.1.1.0, back_fits _ _ _ (up_fits _ _ _ c.requires-raw.1.1.0))
 
-pub returns-clause-newer : goal.returns-clause-newer
-returns-clause-newer g c =
-    let v = ap (λ n. n.state) c.self.view_is ∙ c.in_ok-room_for.ensures.same in
-    subst (λ x. joined x.registers c.in_ok-newer.newer ≡ joined x.registers c.args.copies.now) v c.in_ok-newer.ensures.all
-
 pub returns-clause-ready : goal.returns-clause-ready
 returns-clause-ready g c =
     let gossip = c.args.gossip.now in
@@ -27,11 +20,6 @@ returns-clause-ready g c =
       keys = c.in_ok-room.ensures.ok;
       phases = subst (λ n. IsRoomy gossip.map.now n.room.calls.list) (sym c.self.view_is) c.in_ok-room_for.ensures.room;
     }
-
-pub returns-clause-stamped : goal.returns-clause-stamped
-returns-clause-stamped g c =
-    let v = ap (λ n. n.state) c.self.view_is ∙ c.in_ok-room_for.ensures.same in
-    subst (λ x. AreStampedAlike x.registers c.in_ok-newer.newer c.args.copies.now) v c.in_ok-newer.ensures.stamped
 
 pub invariant_of-self : goal.invariant_of-self
 invariant_of-self g c = (c.self.invariant.0, late_same (g.S.Replica.stamps c.self.inside.registers) _ c.self.inside.number c.room.ensures.stamped c.self.invariant.1)

@@ -33,10 +33,10 @@ pub returns-in-Join-clause-hearing : goal.returns-in-Join-clause-hearing
 returns-in-Join-clause-hearing g c =
     let v = c.args.self.now in
     let h = c.ready_join.result in
-    let none = c.ready_join.ensures.newer ∙ sym (ap copies_in c.in-Join.is) in
+    let none = c.ready_join.ensures.none ∙ sym (ap copies_in c.in-Join.is) in
     record {
-      ready = subst (λ k. IsReadyKind v k h.newer h.number) (sym c.in-Join.is) tt;
-      newer = ap (joined v.state.registers) none;
+      ready = subst (λ k. IsReadyKind v k h.copies h.number) (sym c.in-Join.is) tt;
+      alike = ap (joined v.state.registers) none;
       stamped = λ now s. ap (stamps_merged now v.state.registers s) none;
     }
 
@@ -45,4 +45,4 @@ returns-in_ok-boxed-in-Gossip-clause-hearing g c =
     let copies = c.in-Gossip.gossip.copies in
     let found = c.in_ok-hearing-in-Gossip in
     let is = c.in-Gossip.is ∙ sym (ap (λ o. kind.Gossip (gossip_with o copies)) c.outline-outline.ensures) in
-    gossip_hearing c.ready_gossip.new.self c.args.self.now.state c.args.letter.now _ copies found.hearing found.ensures.same is found.ensures.ready found.ensures.newer found.ensures.stamped
+    gossip_hearing c.ready_gossip.new.self c.args.letter.now _ copies found.hearing is found.ensures.ready (found.ensures.copies ∙ c.in_ok-clone-in-Gossip.ensures.same)

@@ -3,7 +3,7 @@ use Rattle.rambo_tag.specs.Copies.{joined}
 use Rattle.rambo_tag.specs.Logs.{greatest_of}
 use Rattle.rambo_tag.proofs.Logged.{joined-greatest_of, greatest_of-nil}
 use Rattle.rambo_tag.proofs.StampLaws.{stamped_alike}
-use Rattle.rambo_tag.proofs.registers.RegistersReplica.newer.Goals as goal
+use Rattle.rambo_tag.proofs.registers.Registers.newer.Goals as goal
 
 pub returns-clause-all : goal.returns-clause-all
 returns-clause-all g c =
