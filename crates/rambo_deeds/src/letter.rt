@@ -169,9 +169,17 @@ pub(crate) fn ready_letter<Q: Quorums, S: Replica>(
 {
     let outline = letter.outline();
     node.may_hear_outlined(&outline)?;
-    let copies = match letter.copies() {
-        Some(copies) => copies.clone()?,
-        None => Pack::empty(alloc),
-    };
+    let copies = copies_of(alloc, letter)?;
     node.ready_outlined(&outline, copies)
+}
+
+// The copies of a letter, in a list of its own.
+fn copies_of<Q: Quorums>(alloc: Global, letter: &SharedLetter<Q>) -> Result<Pack, Refusal>
+    ensures same { IfOk result (λ p. p ≡ copies_in letter.now.kind) }
+    ensures refused { IfErr result (λ r. r ≡ Refusal.OutOfMemory) }
+{
+    match letter.copies() {
+        Some(copies) => copies.clone(),
+        None => Ok(Pack::empty(alloc)),
+    }
 }

@@ -1,6 +1,7 @@
-use Rattle.std.proofs.Common.{◌≡◌, Option, Some, IfOk, refl, sym, ap, ◌∙◌, subst}
+use Rattle.std.proofs.Common.{◌≡◌, Option, None, Some, IfOk, refl, sym, ap, ◌∙◌, subst}
 use Rattle.std.proofs.lemmas.Result.{IfErr-weaker}
 use Rattle.rambo_names.specs.declared.refusal.Refusal.{Refusal}
+use Rattle.rambo_names.specs.declared.refusal.Refusal.TheVariants.{OutOfMemory}
 use Rattle.rambo_names.specs.Quorums.{QuorumSystem}
 use Rattle.rambo_names.specs.Refusals.{IsRefusal}
 use Rattle.rambo_names.proofs.Errors.{err_kept}
@@ -22,9 +23,6 @@ may_hear_outlined-requires g c = c.requires-raw.1.1
 pub ready_outlined-requires : goal.ready_outlined-requires
 ready_outlined-requires g c = (c.requires-raw.1.1, c.in_ok-may_hear_outlined.ensures.ok)
 
-pub ready_outlined-requires-in-None : goal.ready_outlined-requires-in-None
-ready_outlined-requires-in-None g c = (c.requires-raw.1.1, c.in_ok-may_hear_outlined.ensures.ok)
-
 -- a letter is refused as its outline is
 abbrev alike : {Q : Type 0} (s : QuorumSystem Q) (x : NodeState Q) (l o : Letter Q) → o ≡ letter_with l map.empty → refusal_of s x (change.Deliver o) ≡ refusal_of s x (change.Deliver l)
 alike s x l o is = ap (λ (n : Letter _). refusal_of s x (change.Deliver n)) is ∙ copies_judged s x l map.empty
@@ -40,30 +38,26 @@ returns-in_err-may_hear_outlined-clause-refused g c =
     err_kept c.from_residual.result (IsRefusal (refusal_of s x (change.Deliver c.args.letter.now))) _ c.from_residual.ensures.1
     (told_as (alike s x c.args.letter.now _ c.outline-outline.ensures) c.in_err-may_hear_outlined.ensures.refused)
 
-pub returns-in-Some-clause-judged : goal.returns-in-Some-clause-judged
-returns-in-Some-clause-judged g c =
+pub returns-clause-judged : goal.returns-clause-judged
+returns-clause-judged g c =
     OnOk-always c.ready_outlined.result _ (sym (alike g.Q.Quorums.system c.args.node.now.state c.args.letter.now _ c.outline-outline.ensures) ∙ c.in_ok-may_hear_outlined.ensures.ok)
 
-pub returns-in-None-clause-judged : goal.returns-in-None-clause-judged
-returns-in-None-clause-judged g c =
-    OnOk-always c.ready_outlined-in-None.result _ (sym (alike g.Q.Quorums.system c.args.node.now.state c.args.letter.now _ c.outline-outline.ensures) ∙ c.in_ok-may_hear_outlined.ensures.ok)
-
-pub returns-in-Some-clause-refused : goal.returns-in-Some-clause-refused
-returns-in-Some-clause-refused g c =
+pub returns-clause-refused : goal.returns-clause-refused
+returns-clause-refused g c =
     let none = sym (alike g.Q.Quorums.system c.args.node.now.state c.args.letter.now _ c.outline-outline.ensures) ∙ c.in_ok-may_hear_outlined.ensures.ok in
     IfErr-weaker c.ready_outlined.result _ _ (λ r e. subst (λ o. IsRefusal o r) (sym none) e) c.ready_outlined.ensures.refused
 
-pub returns-in-None-clause-refused : goal.returns-in-None-clause-refused
-returns-in-None-clause-refused g c =
+-- and where nothing else refuses it, want of memory is told
+lacks : {p : Option Refusal} {r : Refusal} → p ≡ None → r ≡ OutOfMemory → IsRefusal p r
+lacks {r = r} none out = subst (λ p. IsRefusal p r) (sym none) out
+
+pub returns-in_err-copies-clause-refused : goal.returns-in_err-copies-clause-refused
+returns-in_err-copies-clause-refused g c =
     let none = sym (alike g.Q.Quorums.system c.args.node.now.state c.args.letter.now _ c.outline-outline.ensures) ∙ c.in_ok-may_hear_outlined.ensures.ok in
-    IfErr-weaker c.ready_outlined-in-None.result _ _ (λ r e. subst (λ o. IsRefusal o r) (sym none) e) c.ready_outlined-in-None.ensures.refused
+    err_kept c.from_residual-in_err-copies.result (IsRefusal (refusal_of g.Q.Quorums.system c.args.node.now.state (change.Deliver c.args.letter.now))) _ c.from_residual-in_err-copies.ensures.1
+    (lacks none c.in_err-copies.ensures.refused)
 
-pub returns-in-Some-clause-hearing : goal.returns-in-Some-clause-hearing
-returns-in-Some-clause-hearing g c =
+pub returns-clause-hearing : goal.returns-clause-hearing
+returns-clause-hearing g c =
     subst (λ l. IfOk c.ready_outlined.result (IsHearing c.ready_outlined.new.self l))
-    ((λ i. letter_with (c.outline-outline.ensures i) (c.in-Some.ensures i)) ∙ letter_again c.args.letter.now map.empty) c.ready_outlined.ensures.hearing
-
-pub returns-in-None-clause-hearing : goal.returns-in-None-clause-hearing
-returns-in-None-clause-hearing g c =
-    subst (λ l. IfOk c.ready_outlined-in-None.result (IsHearing c.ready_outlined-in-None.new.self l))
-    ((λ i. letter_with (c.outline-outline.ensures i) ((c.pack.ensures ∙ c.in-None.ensures) i)) ∙ letter_again c.args.letter.now map.empty) c.ready_outlined-in-None.ensures.hearing
+    ((λ i. letter_with (c.outline-outline.ensures i) (c.in_ok-copies.ensures.same i)) ∙ letter_again c.args.letter.now map.empty) c.ready_outlined.ensures.hearing
