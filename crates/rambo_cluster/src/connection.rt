@@ -17,8 +17,11 @@ use std::alloc::{AllocError, Global};
 use std::sync::Wait;
 use std::time::Clock;
 
-// How many bytes are asked for at once.
+// How many bytes are asked for at once; and when there are so many of replies, they are written.
 const PIECE: usize = 16 * 1024;
+
+// No reply takes more bytes.
+const LONGEST: usize = 8 * 1024;
 
 /// How a connection goes on after a command.
 #[derive(Clone, Copy, PartialEq, Eq)]
@@ -43,59 +46,88 @@ pub(crate) struct Session<'h, J: Terms<Weighted>, G: Gate, R> {
     pub(crate) name: Name,
 }
 
+/// What a client worker reads into and writes from, for one connection after the other. It has its room before the first, so
+/// that a server which lacks memory still hears that it is to end.
+#[derive(Drop)]
+pub(crate) struct Buffers {
+    piece: Vec<u8>,
+    out: BytesMut,
+}
+
+impl Buffers {
+    pub(crate) fn new(alloc: Global) -> Result<Buffers, AllocError> {
+        let mut piece = Vec::new(alloc);
+        piece.resize(PIECE, 0u8)?;
+        Ok(Buffers {
+            piece,
+            out: BytesMut::with_capacity(alloc, PIECE + LONGEST)?,
+        })
+    }
+}
+
 impl<'h, J: Terms<Weighted>, G: Gate, R: Wait + Clock> Session<'h, J, G, R> {
     /// Answers the commands of a source into a sink, until one of them ends.
-    pub(crate) fn talk<I: Source, O: Sink>(&mut self, reader: &mut I, writer: &mut O) -> Flow {
-        match self.talk_on(reader, writer) {
-            Ok(flow) => flow,
-            Err(_) => Flow::Ends,
-        }
-    }
-
-    fn talk_on<I: Source, O: Sink>(
+    pub(crate) fn talk<I: Source, O: Sink>(
         &mut self,
+        buffers: &mut Buffers,
         reader: &mut I,
         writer: &mut O,
-    ) -> Result<Flow, AllocError> {
-        let mut piece = Vec::new(self.alloc);
-        piece.resize(PIECE, 0u8)?;
+    ) -> Flow {
         let mut decoder = Decoder::new(self.alloc);
-        let mut out = BytesMut::new(self.alloc);
         for _ in self.rt.forever() {
-            let count = read_some(reader, piece.as_mut_slice());
+            let count = read_some(reader, buffers.piece.as_mut_slice());
             if count == 0 {
-                return Ok(Flow::Ends);
+                return Flow::Ends;
             }
-            let _ = decoder.feed(&piece[..count]);
-            out.clear();
-            let flow = self.answer_all(&mut decoder, &mut out);
-            let written = write_all(writer, out.as_slice());
+            let _ = decoder.feed(&buffers.piece[..count]);
+            let flow = self.answer_all(&mut decoder, &mut buffers.out, writer);
             if flow != Flow::GoesOn {
-                return Ok(flow);
-            }
-            if written.is_err() {
-                return Ok(Flow::Ends);
+                return flow;
             }
         }
-        Ok(Flow::Ends)
+        Flow::Ends
     }
 
-    // Answers the commands that are whole.
-    fn answer_all(&mut self, decoder: &mut Decoder, out: &mut BytesMut) -> Flow {
+    // Answers the commands that are whole, and writes the replies, some of them at a time.
+    fn answer_all<O: Sink>(
+        &mut self,
+        decoder: &mut Decoder,
+        out: &mut BytesMut,
+        writer: &mut O,
+    ) -> Flow {
         for _ in self.rt.forever() {
+            out.clear();
+            let answered = self.answer_some(decoder, out);
+            let written = write_all(writer, out.as_slice());
+            match answered {
+                Some(Flow::GoesOn) | None if written.is_err() => return Flow::Ends,
+                Some(flow) => return flow,
+                None => {}
+            }
+        }
+        Flow::Ends
+    }
+
+    // Answers the commands that are whole, and tells how the connection goes on; or so many of them that there is enough to
+    // be written.
+    fn answer_some(&mut self, decoder: &mut Decoder, out: &mut BytesMut) -> Option<Flow> {
+        for _ in self.rt.forever() {
+            if out.len() >= PIECE {
+                return None;
+            }
             let flow = match decoder.next() {
                 Ok(Some(command)) => self.answer(&command, out),
-                Ok(None) => return Flow::GoesOn,
+                Ok(None) => return Some(Flow::GoesOn),
                 Err(fault) => {
                     let _ = write_fault(self.alloc, fault, out);
                     Flow::Ends
                 }
             };
             if flow != Flow::GoesOn {
-                return flow;
+                return Some(flow);
             }
         }
-        Flow::Ends
+        Some(Flow::Ends)
     }
 
     // Answers a command: by a refusal, where it is refused.

@@ -7,7 +7,7 @@ ghost use Rattle.rambo_history.specs.Proper.{IsProperForAll};
 ghost use Rattle.rambo_run.specs.Legal.{IsLegal};
 ghost use Rattle.rambo_run.specs.Runs.{run, given_order};
 
-use crate::connection::{Flow, Session};
+use crate::connection::{Buffers, Flow, Session};
 use crate::fault::ServeFault;
 use crate::hub::{Copies, Hub};
 use crate::options::Options;
@@ -215,10 +215,14 @@ where
         }
         let mut place = 0usize;
         for pass in passes.iter_mut() {
-            let worker = scope.spawn(move || serve_streams(
-                rt, gate, alloc, hub, streams, own, pass, place,
-            ));
-            all_run &= worker.is_ok();
+            all_run &= match Buffers::new(alloc) {
+                Ok(buffers) => scope
+                    .spawn(move || serve_streams(
+                        rt, gate, alloc, hub, streams, own, pass, place, buffers,
+                    ))
+                    .is_ok(),
+                Err(_) => false,
+            };
             place = place.wrapping_add(1);
         }
         if all_run {
@@ -277,6 +281,7 @@ fn serve_streams<J: Terms<Weighted>, G: Gate, R>(
     own: SocketAddr,
     pass: &mut Pass<J, Weighted>,
     place: usize,
+    mut buffers: Buffers,
 )
 where
     R: Net<Listener = TcpListener, Stream = TcpStream> + Wait + Clock,
@@ -294,7 +299,7 @@ where
             place,
             name: hub.first,
         };
-        if serve_stream(&mut session, &stream) == Flow::EndsAll {
+        if serve_stream(&mut session, &mut buffers, &stream) == Flow::EndsAll {
             hub.close(rt);
             wake_acceptor(rt, own);
         }
@@ -304,6 +309,7 @@ where
 // Serves one connection, unless the server ends.
 fn serve_stream<J: Terms<Weighted>, G: Gate, R: Wait + Clock>(
     session: &mut Session<'_, J, G, R>,
+    buffers: &mut Buffers,
     stream: &TcpStream,
 ) -> Flow {
     let Ok(door) = stream.try_clone() else {
@@ -315,7 +321,11 @@ fn serve_stream<J: Terms<Weighted>, G: Gate, R: Wait + Clock>(
     let flow = if hub.is_closing() {
         Flow::Ends
     } else {
-        session.talk(&mut Wrapped::new(stream), &mut Wrapped::new(stream))
+        session.talk(
+            buffers,
+            &mut Wrapped::new(stream),
+            &mut Wrapped::new(stream),
+        )
     };
     hub.doors.put(session.rt, session.place, None);
     flow
