@@ -1,6 +1,7 @@
 //! One connection.
 ghost use Rattle.std.specs.Prelude.{◌≤◌, length};
 
+use crate::buffers::{Buffers, PIECE};
 use crate::hub::Hub;
 use bytes::BytesMut;
 use rambo_atomic::{Sink, Source, write_all};
@@ -13,15 +14,9 @@ use rambo_names::{Name, Refusal, Weighted};
 use rambo_post::{Gate, Pass, Terms};
 use rambo_resp::{Command, Decoder, Fault, Reply};
 use rambo_run::Step;
-use std::alloc::{AllocError, Global};
+use std::alloc::Global;
 use std::sync::Wait;
 use std::time::Clock;
-
-// How many bytes are asked for at once; and when there are so many of replies, they are written.
-const PIECE: usize = 16 * 1024;
-
-// No reply takes more bytes.
-const LONGEST: usize = 8 * 1024;
 
 /// How a connection goes on after a command.
 #[derive(Clone, Copy, PartialEq, Eq)]
@@ -44,25 +39,6 @@ pub(crate) struct Session<'h, J: Terms<Weighted>, G: Gate, R> {
     pub(crate) pass: &'h mut Pass<J, Weighted>,
     pub(crate) place: usize,
     pub(crate) name: Name,
-}
-
-/// What a client worker reads into and writes from, for one connection after the other. It has its room before the first, so
-/// that a server which lacks memory still hears that it is to end.
-#[derive(Drop)]
-pub(crate) struct Buffers {
-    piece: Vec<u8>,
-    out: BytesMut,
-}
-
-impl Buffers {
-    pub(crate) fn new(alloc: Global) -> Result<Buffers, AllocError> {
-        let mut piece = Vec::new(alloc);
-        piece.resize(PIECE, 0u8)?;
-        Ok(Buffers {
-            piece,
-            out: BytesMut::with_capacity(alloc, PIECE + LONGEST)?,
-        })
-    }
 }
 
 impl<'h, J: Terms<Weighted>, G: Gate, R: Wait + Clock> Session<'h, J, G, R> {

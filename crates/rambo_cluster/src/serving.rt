@@ -7,7 +7,8 @@ ghost use Rattle.rambo_history.specs.Proper.{IsProperForAll};
 ghost use Rattle.rambo_run.specs.Legal.{IsLegal};
 ghost use Rattle.rambo_run.specs.Runs.{run, given_order};
 
-use crate::connection::{Buffers, Flow, Session};
+use crate::buffers::Buffers;
+use crate::connection::{Flow, Session};
 use crate::fault::ServeFault;
 use crate::hub::{Copies, Hub};
 use crate::options::Options;
@@ -109,8 +110,8 @@ where
     Ok(end(hub, passes, founders))
 }
 
-// What all threads share, whose clients begin at the lowest founder and have a bell and a door each; and a pass for each of
-// them, which has seen nothing. `Memory` where there is no founder, too many clients, or no room.
+// What all threads share, whose clients begin at the lowest founder and have a bell, a door and buffers each; and a pass for
+// each of them, which has seen nothing. `Memory` where there is no founder, too many clients, or no room.
 fn set_up<J: Terms<Weighted>, R: Wait>(
     rt: &R,
     alloc: Global,
@@ -126,6 +127,7 @@ fn set_up<J: Terms<Weighted>, R: Wait>(
     ensures first { IfOk result (λ s. slice_get (names (members_of founders)) 0 ≡ Some s.0.first) }
     ensures bells { IfOk result (λ s. vec_len s.0.bells ≡ options.now.clients) }
     ensures doors { IfOk result (λ s. s.0.doors ≡ options.now.clients) }
+    ensures buffers { IfOk result (λ s. vec_len s.0.buffers ≡ options.now.clients) }
     ensures passes { IfOk result (λ s. vec_len s.1 ≡ options.now.clients) }
     ensures fresh { IfOk result (λ s. All (λ p. p ≡ record { seen = []; mine = [] }) s.1.items) }
     ensures fault { IfErr result (λ f. f ≡ ServeFault.Memory) }
@@ -215,14 +217,10 @@ where
         }
         let mut place = 0usize;
         for pass in passes.iter_mut() {
-            all_run &= match Buffers::new(alloc) {
-                Ok(buffers) => scope
-                    .spawn(move || serve_streams(
-                        rt, gate, alloc, hub, streams, own, pass, place, buffers,
-                    ))
-                    .is_ok(),
-                Err(_) => false,
-            };
+            let worker = scope.spawn(move || serve_streams(
+                rt, gate, alloc, hub, streams, own, pass, place,
+            ));
+            all_run &= worker.is_ok();
             place = place.wrapping_add(1);
         }
         if all_run {
@@ -271,7 +269,7 @@ where
     }
 }
 
-// The work of a client worker: it serves one connection after the other.
+// The work of a client worker: it serves one connection after the other, with the buffers of its place.
 fn serve_streams<J: Terms<Weighted>, G: Gate, R>(
     rt: &R,
     gate: &G,
@@ -281,11 +279,14 @@ fn serve_streams<J: Terms<Weighted>, G: Gate, R>(
     own: SocketAddr,
     pass: &mut Pass<J, Weighted>,
     place: usize,
-    mut buffers: Buffers,
 )
 where
     R: Net<Listener = TcpListener, Stream = TcpStream> + Wait + Clock,
 {
+    let Some(buffers) = hub.buffers.get(place) else {
+        return;
+    };
+    let mut buffers = buffers.lock(rt);
     for _ in rt.forever() {
         let Ok(stream) = streams.recv(rt) else {
             return;
@@ -299,7 +300,7 @@ where
             place,
             name: hub.first,
         };
-        if serve_stream(&mut session, &mut buffers, &stream) == Flow::EndsAll {
+        if serve_stream(&mut session, &mut *buffers, &stream) == Flow::EndsAll {
             hub.close(rt);
             wake_acceptor(rt, own);
         }
