@@ -1,6 +1,7 @@
 //! One connection.
 ghost use Rattle.std.specs.Prelude.{◌≤◌, length};
 
+use crate::buffers::{Buffers, PIECE};
 use crate::hub::Hub;
 use bytes::BytesMut;
 use rambo_atomic::{Sink, Source, write_all};
@@ -13,12 +14,9 @@ use rambo_names::{Name, Refusal, Weighted};
 use rambo_post::{Gate, Pass, Terms};
 use rambo_resp::{Command, Decoder, Fault, Reply};
 use rambo_run::Step;
-use std::alloc::{AllocError, Global};
+use std::alloc::Global;
 use std::sync::Wait;
 use std::time::Clock;
-
-// How many bytes are asked for at once.
-const PIECE: usize = 16 * 1024;
 
 /// How a connection goes on after a command.
 #[derive(Clone, Copy, PartialEq, Eq)]
@@ -45,57 +43,67 @@ pub(crate) struct Session<'h, J: Terms<Weighted>, G: Gate, R> {
 
 impl<'h, J: Terms<Weighted>, G: Gate, R: Wait + Clock> Session<'h, J, G, R> {
     /// Answers the commands of a source into a sink, until one of them ends.
-    pub(crate) fn talk<I: Source, O: Sink>(&mut self, reader: &mut I, writer: &mut O) -> Flow {
-        match self.talk_on(reader, writer) {
-            Ok(flow) => flow,
-            Err(_) => Flow::Ends,
-        }
-    }
-
-    fn talk_on<I: Source, O: Sink>(
+    pub(crate) fn talk<I: Source, O: Sink>(
         &mut self,
+        buffers: &mut Buffers,
         reader: &mut I,
         writer: &mut O,
-    ) -> Result<Flow, AllocError> {
-        let mut piece = Vec::new(self.alloc);
-        piece.resize(PIECE, 0u8)?;
+    ) -> Flow {
         let mut decoder = Decoder::new(self.alloc);
-        let mut out = BytesMut::new(self.alloc);
         for _ in self.rt.forever() {
-            let count = read_some(reader, piece.as_mut_slice());
+            let count = read_some(reader, buffers.piece.as_mut_slice());
             if count == 0 {
-                return Ok(Flow::Ends);
+                return Flow::Ends;
             }
-            let _ = decoder.feed(&piece[..count]);
-            out.clear();
-            let flow = self.answer_all(&mut decoder, &mut out);
-            let written = write_all(writer, out.as_slice());
+            let _ = decoder.feed(&buffers.piece[..count]);
+            let flow = self.answer_all(&mut decoder, &mut buffers.out, writer);
             if flow != Flow::GoesOn {
-                return Ok(flow);
-            }
-            if written.is_err() {
-                return Ok(Flow::Ends);
+                return flow;
             }
         }
-        Ok(Flow::Ends)
+        Flow::Ends
     }
 
-    // Answers the commands that are whole.
-    fn answer_all(&mut self, decoder: &mut Decoder, out: &mut BytesMut) -> Flow {
+    // Answers the commands that are whole, and writes the replies, some of them at a time.
+    fn answer_all<O: Sink>(
+        &mut self,
+        decoder: &mut Decoder,
+        out: &mut BytesMut,
+        writer: &mut O,
+    ) -> Flow {
         for _ in self.rt.forever() {
+            out.clear();
+            let answered = self.answer_some(decoder, out);
+            let written = write_all(writer, out.as_slice());
+            match answered {
+                Some(Flow::GoesOn) | None if written.is_err() => return Flow::Ends,
+                Some(flow) => return flow,
+                None => {}
+            }
+        }
+        Flow::Ends
+    }
+
+    // Answers the commands that are whole, and tells how the connection goes on; or so many of them that there is enough to
+    // be written.
+    fn answer_some(&mut self, decoder: &mut Decoder, out: &mut BytesMut) -> Option<Flow> {
+        for _ in self.rt.forever() {
+            if out.len() >= PIECE {
+                return None;
+            }
             let flow = match decoder.next() {
                 Ok(Some(command)) => self.answer(&command, out),
-                Ok(None) => return Flow::GoesOn,
+                Ok(None) => return Some(Flow::GoesOn),
                 Err(fault) => {
                     let _ = write_fault(self.alloc, fault, out);
                     Flow::Ends
                 }
             };
             if flow != Flow::GoesOn {
-                return flow;
+                return Some(flow);
             }
         }
-        Flow::Ends
+        Some(Flow::Ends)
     }
 
     // Answers a command: by a refusal, where it is refused.

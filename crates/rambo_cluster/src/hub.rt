@@ -1,6 +1,7 @@
 //! What all threads of a server share.
 ghost use Rattle.std.specs.Prelude.{◌≡◌, vec_len, IfOk, IfErr};
 
+use crate::buffers::Buffers;
 use crate::fault::ServeFault;
 use rambo_names::{Name, Weighted};
 use rambo_post::{Post, Terms};
@@ -8,8 +9,8 @@ use rambo_rooms::{Bell, Doors, Rooms};
 use rambo_tag::Registers;
 use std::alloc::Global;
 use std::hash::RandomState;
-use std::sync::Wait;
 use std::sync::atomic::{AtomicBool, AtomicU64, Ordering};
+use std::sync::{Mutex, Wait};
 
 /// The copies of a node: keys that a client chose make no look-up slow.
 pub(crate) type Copies = Registers<RandomState>;
@@ -24,6 +25,8 @@ pub(crate) struct Hub<J: Terms<Weighted>> {
     /// Each client waits for its bell.
     pub(crate) bells: Vec<Bell>,
     pub(crate) doors: Doors,
+    /// Each client worker has its own as long as it works.
+    pub(crate) buffers: Vec<Mutex<Buffers>>,
     /// The names at whose nodes there is something to do, by bits.
     pub(crate) pending: AtomicU64,
     /// The names at whose nodes somebody is.
@@ -35,7 +38,7 @@ pub(crate) struct Hub<J: Terms<Weighted>> {
 }
 
 impl<J: Terms<Weighted>> Hub<J> {
-    /// Nothing is to do, and so many clients have a bell and a door each.
+    /// Nothing is to do, and so many clients have a bell, a door and buffers each.
     pub(crate) fn new(
         alloc: Global,
         post: Post<J, Weighted, Copies>,
@@ -45,11 +48,14 @@ impl<J: Terms<Weighted>> Hub<J> {
         ensures first { IfOk result (λ h. h.first ≡ first) }
         ensures bells { IfOk result (λ h. vec_len h.bells ≡ clients) }
         ensures doors { IfOk result (λ h. h.doors ≡ clients) }
+        ensures buffers { IfOk result (λ h. vec_len h.buffers ≡ clients) }
         ensures fault { IfErr result (λ f. f ≡ ServeFault.Memory) }
     {
         let mut bells = Vec::new(alloc);
+        let mut buffers = Vec::new(alloc);
         for client in 0..clients {
             bells.push(Bell::new())?;
+            buffers.push(Mutex::new(Buffers::new(alloc)?))?;
         }
         Ok(Hub {
             post,
@@ -57,6 +63,7 @@ impl<J: Terms<Weighted>> Hub<J> {
             rooms: Rooms::new(alloc)?,
             bells,
             doors: Doors::new(alloc, clients)?,
+            buffers,
             pending: AtomicU64::new(0),
             visited: AtomicU64::new(0),
             laden: AtomicU64::new(0),

@@ -5,6 +5,7 @@
 //! - `ServeFault`: why nothing was served.
 #![tactic(auto)]
 
+mod buffers;
 mod clients;
 mod connection;
 mod fault;

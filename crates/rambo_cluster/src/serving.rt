@@ -7,6 +7,7 @@ ghost use Rattle.rambo_history.specs.Proper.{IsProperForAll};
 ghost use Rattle.rambo_run.specs.Legal.{IsLegal};
 ghost use Rattle.rambo_run.specs.Runs.{run, given_order};
 
+use crate::buffers::Buffers;
 use crate::connection::{Flow, Session};
 use crate::fault::ServeFault;
 use crate::hub::{Copies, Hub};
@@ -109,8 +110,8 @@ where
     Ok(end(hub, passes, founders))
 }
 
-// What all threads share, whose clients begin at the lowest founder and have a bell and a door each; and a pass for each of
-// them, which has seen nothing. `Memory` where there is no founder, too many clients, or no room.
+// What all threads share, whose clients begin at the lowest founder and have a bell, a door and buffers each; and a pass for
+// each of them, which has seen nothing. `Memory` where there is no founder, too many clients, or no room.
 fn set_up<J: Terms<Weighted>, R: Wait>(
     rt: &R,
     alloc: Global,
@@ -126,6 +127,7 @@ fn set_up<J: Terms<Weighted>, R: Wait>(
     ensures first { IfOk result (λ s. slice_get (names (members_of founders)) 0 ≡ Some s.0.first) }
     ensures bells { IfOk result (λ s. vec_len s.0.bells ≡ options.now.clients) }
     ensures doors { IfOk result (λ s. s.0.doors ≡ options.now.clients) }
+    ensures buffers { IfOk result (λ s. vec_len s.0.buffers ≡ options.now.clients) }
     ensures passes { IfOk result (λ s. vec_len s.1 ≡ options.now.clients) }
     ensures fresh { IfOk result (λ s. All (λ p. p ≡ record { seen = []; mine = [] }) s.1.items) }
     ensures fault { IfErr result (λ f. f ≡ ServeFault.Memory) }
@@ -267,7 +269,7 @@ where
     }
 }
 
-// The work of a client worker: it serves one connection after the other.
+// The work of a client worker: it serves one connection after the other, with the buffers of its place.
 fn serve_streams<J: Terms<Weighted>, G: Gate, R>(
     rt: &R,
     gate: &G,
@@ -281,6 +283,10 @@ fn serve_streams<J: Terms<Weighted>, G: Gate, R>(
 where
     R: Net<Listener = TcpListener, Stream = TcpStream> + Wait + Clock,
 {
+    let Some(buffers) = hub.buffers.get(place) else {
+        return;
+    };
+    let mut buffers = buffers.lock(rt);
     for _ in rt.forever() {
         let Ok(stream) = streams.recv(rt) else {
             return;
@@ -294,7 +300,7 @@ where
             place,
             name: hub.first,
         };
-        if serve_stream(&mut session, &stream) == Flow::EndsAll {
+        if serve_stream(&mut session, &mut *buffers, &stream) == Flow::EndsAll {
             hub.close(rt);
             wake_acceptor(rt, own);
         }
@@ -304,6 +310,7 @@ where
 // Serves one connection, unless the server ends.
 fn serve_stream<J: Terms<Weighted>, G: Gate, R: Wait + Clock>(
     session: &mut Session<'_, J, G, R>,
+    buffers: &mut Buffers,
     stream: &TcpStream,
 ) -> Flow {
     let Ok(door) = stream.try_clone() else {
@@ -315,7 +322,11 @@ fn serve_stream<J: Terms<Weighted>, G: Gate, R: Wait + Clock>(
     let flow = if hub.is_closing() {
         Flow::Ends
     } else {
-        session.talk(&mut Wrapped::new(stream), &mut Wrapped::new(stream))
+        session.talk(
+            buffers,
+            &mut Wrapped::new(stream),
+            &mut Wrapped::new(stream),
+        )
     };
     hub.doors.put(session.rt, session.place, None);
     flow
