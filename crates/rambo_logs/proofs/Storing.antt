@@ -1,5 +1,5 @@
 -- What holds of the stored logs, as keys, hints and copies are put and logged
-use Rattle.std.proofs.Common.{◌≡◌, ◌≢◌, ℕ, ◌+◌, ◌-◌, ◌<◌, ◌≤◌, cond, List, [], ◌∷◌, ◌++◌, length, map, replicate, Some, None, Vec, get_or, set, refl, sym, ap, subst, ◌∙◌, append-nil, append_assoc, inl, inr, zero, suc, arith}
+use Rattle.std.proofs.Common.{◌≡◌, ◌≢◌, ℕ, ◌-◌, ◌<◌, ◌≤◌, cond, List, [], ◌∷◌, ◌++◌, length, map, replicate, Some, None, Vec, get_or, set, refl, sym, ap, subst, ◌∙◌, append-nil, append_assoc, inl, inr, zero, suc, arith}
 use Rattle.std.specs.Prelude.{All, slice_index_or}
 use Rattle.std.specs.declared.alloc.Global.{Global}
 use Rattle.std.specs.FinMap.{get, get-empty}

@@ -1,8 +1,7 @@
 -- What is seen of the logs as they are stored, and what holds of them
-use Rattle.std.specs.Prelude.{◌≡◌, ℕ, ◌+◌, ◌-◌, ◌<◌, ◌≤◌, List, [], map, length, Option, None, Some, All, Vec, slice_index_or}
+use Rattle.std.specs.Prelude.{ℕ, ◌+◌, ◌-◌, ◌<◌, ◌≤◌, List, [], map, length, Option, None, Some, All, Vec, slice_index_or}
 use Rattle.std.specs.declared.alloc.Global.{Global}
 use Rattle.std.specs.Vec.{vec_len, vec_capacity}
-use Rattle.rambo_tag.specs.Logs.{greatest_of}
 use Rattle.rambo_logs.specs.declared.entry.Entry.{Entry}
 use Rattle.rambo_logs.specs.declared.pending.Pending.{Pending}
 use Rattle.rambo_logs.specs.declared.pending.Pending.TheVariants.{Nothing, Put, TakeOn}

@@ -41,6 +41,9 @@ pub(crate) fn pack_of(puts: &Vec<KeyedVersion>, entries: &[Entry]) -> Result<Pac
     ensures refused { IfErr result (λ r. r ≡ Refusal.OutOfMemory) }
 {
     let mut copies = Vec::new(*puts.allocator());
+    if entries.is_empty() {
+        return Ok(Pack::new(copies));
+    }
     copies.reserve(entries.len())?;
     for entry in entries {
         copies.push(puts[entry.place].clone()?)?;

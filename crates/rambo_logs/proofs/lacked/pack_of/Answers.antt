@@ -8,7 +8,7 @@ use Rattle.rambo_logs.proofs.lacked.pack_of.Goals as goal
 pub returns-clause-ok : goal.returns-clause-ok
 returns-clause-ok c =
     let all = c.loop-entry.invariant ∙ ap (copies_of c.args.puts.now.items) (take_all c.loop-entry.entry-index c.args.entries.now c.loop-entry-test.false) in
-    c.new.ensures ∙ ap greatest_of all
+    c.new-2.ensures ∙ ap greatest_of all
 
 pub loop-entry-init : goal.loop-entry-init
 loop-entry-init c = c.reserve.ensures.items ∙ c.new-copies.ensures.items
