@@ -159,11 +159,17 @@ impl<H: BuildHasher + Clone + Drop> Replica for Registers<H> {
     }
 
     fn room(&mut self, pack: &Pack) -> Result<(), Refusal> {
-        make_room(&mut self.table, &mut self.log, pack.copies().len())
+        match pack.copies() {
+            [] => Ok(()),
+            copies => make_room(&mut self.table, &mut self.log, copies.len()),
+        }
     }
 
     fn merge_room(&mut self, pack: Pack, now: u64) {
-        write_newer(&mut self.table, &mut self.log, pack.into_copies(), now);
+        match pack.copies() {
+            [] => {}
+            _ => write_newer(&mut self.table, &mut self.log, pack.into_copies(), now),
+        }
     }
 
     fn room_for_key(&mut self) -> Result<(), Refusal> {
