@@ -49,8 +49,3 @@ is_unmet s (Some c) = not (is_met s c.phase)
 abbrev pub query_in : {Q : Type 0} → Option (CallState Q) → Option Op
 query_in None = None
 query_in (Some c) = asked_in c.op c.stage
-
--- the number of a call that may be there
-abbrev pub number_in : {Q : Type 0} → Option (CallState Q) → Option ℕ
-number_in None = None
-number_in (Some c) = Some c.number

@@ -1,8 +1,6 @@
 //! Open calls.
 ghost use Rattle.std.specs.Prelude.{◌≡◌, ◌≤◌};
-ghost use Rattle.std.specs.Option.{option_copied};
 ghost use Rattle.rambo_phase.specs.Phases.{needed, started};
-ghost use Rattle.rambo_calls.specs.Calls.{asked_in};
 ghost use Rattle.rambo_calls.specs.Hearing.{heard_call, restarted};
 ghost use Rattle.rambo_calls.specs.Kept.{call_of, propagating};
 
@@ -27,16 +25,6 @@ pub struct OpenCall<Q: Quorums> {
 }
 
 impl<Q: Quorums> OpenCall<Q> {
-    /// What it asks for, if it is in its query.
-    pub fn query(&self) -> Option<&Op>
-        ensures { option_copied result ≡ asked_in self.now.op self.now.stage }
-    {
-        match self.stage {
-            Stage::Query => Some(&self.op),
-            Stage::Propagation(_) => None,
-        }
-    }
-
     // Sends a copy round, in a phase that begins under this number with this map.
     pub(crate) fn propagate(
         &mut self,

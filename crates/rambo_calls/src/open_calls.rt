@@ -1,8 +1,8 @@
 //! The open calls of a node, the oldest first.
-ghost use Rattle.std.specs.Prelude.{◌≡◌, ◌<◌, ◌≤◌, ◌-◌, ◌^◌, ◌++◌, ◌∷◌, [], length, min, IsOk, OnOk, IfErr, remove, slice_get, map as list_map};
+ghost use Rattle.std.specs.Prelude.{◌≡◌, ◌<◌, ◌≤◌, ◌++◌, ◌∷◌, [], IsOk, OnOk, IfErr, remove, slice_get, map as list_map};
 ghost use Rattle.std.specs.Option.{option_copied};
 ghost use Rattle.rambo_calls.specs.Calls.{place_of};
-ghost use Rattle.rambo_calls.specs.Hearing.{any_gap, number_after, restarted, heard_call};
+ghost use Rattle.rambo_calls.specs.Hearing.{any_gap, restarted, heard_call};
 ghost use Rattle.rambo_calls.specs.Kept.{calls_of, call_found, with_call, propagating, IsRoomy};
 ghost use Rattle.rambo_phase.specs.Phases.{started};
 ghost use Rattle.rambo_calls.specs.declared.stage.Stage.TheVariants.{Query};
@@ -59,16 +59,11 @@ impl<Q: Quorums> OpenCalls<Q> {
         }
     }
 
-    /// Where its memory comes from.
-    pub fn alloc(&self) -> Global {
-        *self.list.allocator()
-    }
-
-    /// How many there are.
-    pub fn len(&self) -> usize
-        ensures { result ≡ length self.now.list }
+    /// The calls themselves.
+    pub fn as_slice(&self) -> &[OpenCall<Q>]
+        ensures { result.now ≡ self.now.list }
     {
-        self.list.len()
+        self.list.as_slice()
     }
 
     /// Makes room for one call more. The calls stay, whatever the answer, and so does the room that there is.
@@ -97,7 +92,7 @@ impl<Q: Quorums> OpenCalls<Q> {
         requires { 0 < self.old.room }
         ensures { calls_of self.new.list ≡ calls_of self.old.list ++ record { number = number; op = op; stage = Query; phase = started phase_number map.now me } ∷ [] }
     {
-        let alloc = self.alloc();
+        let alloc = *self.list.allocator();
         let place = self.list.len();
         self.list.push_reserved(OpenCall {
             number,
@@ -207,17 +202,6 @@ impl<Q: Quorums> OpenCalls<Q> {
         ensures { result ≡ any_gap heard map.now (calls_of self.now.list) }
     {
         any_gap(self.list.as_slice(), heard, map)
-    }
-
-    /// The phase number after a letter with this heard number and map, where it was this one: one more where a phase
-    /// begins anew, but at most the greatest number.
-    pub fn number_after(&self, number: u64, heard: u64, map: &ConfigMap<Q>) -> u64
-        ensures { result ≡ min (number_after number heard map.now (calls_of self.now.list)) (2 ^ 64 - 1) }
-    {
-        if !self.any_gap(heard, map) {
-            return number;
-        }
-        number.saturating_add(1)
     }
 }
 

@@ -77,7 +77,7 @@ impl<Q: Quorums, S: Replica> Worker<Q, S> {
         let mut known = Members::empty();
         for number in 1..65u64 {
             if let Ok(name) = Name::new(number) {
-                if self.node.may_send(name).is_ok() {
+                if self.node.judge_quick(&Quick::Send(name)).is_ok() {
                     known = known.with(name);
                 }
             }
@@ -104,7 +104,7 @@ impl<Q: Quorums, S: Replica> Worker<Q, S> {
         if status.is_early() {
             return !status.is_idle();
         }
-        self.node.count_calls() > 0
+        !self.node.calls().is_empty()
             || goes_on(self.node.judge_quick(&Quick::AdvanceCollect))
             || goes_on(self.node.judge_quick(&Quick::AdvanceRecon))
     }

@@ -54,10 +54,10 @@ next_small n small e = has_next n (omega (arith, small)) e
 pub next_of : (n r : ℕ) → is_last n ≡ false → Fits w64 n → r ≡ min (n + 1) (2 ^ 64 - 1) → r ≡ n + 1
 next_of n r next fits is = let more = has_next n fits next in omega (arith, is, more)
 
--- the number after a letter
-pub next_number : (gap : Bool) (n r : ℕ) → (gap && is_last n) ≡ false → Fits w64 n → r ≡ min (if gap then suc n else n) (2 ^ 64 - 1) → r ≡ (if gap then suc n else n)
-next_number true n r next fits is = let more = has_next n fits next in omega (arith, is, more)
-next_number false n r next fits is = omega (arith, fits, is)
+-- nor the number after a letter that leaves a gap
+pub gap_next : (gap : Bool) (n : ℕ) → (gap && is_last n) ≡ false → gap ≡ true → Fits w64 n → Fits w64 (n + 1)
+gap_next true n next is fits = has_next n fits next
+gap_next false n next is fits = absurd (true≢false (sym is))
 
 -- where two causes don't hold, the least one is of those behind them
 pub least_behind : (a b : Bool) (p q : Refusal) (cs : List Cause) → a ≡ false → b ≡ false → least (cause p a ∷ cause q b ∷ cs) ≡ least cs

@@ -55,11 +55,6 @@ pub record RoomyNode (Q : Type 0) : Type 0 where
 abbrev pub open_call : {Q : Type 0} → NodeState Q → CallId → Option (CallState Q)
 open_call x id = if nat_eq id.name x.name then find_call id.number x.calls else None
 
--- the id of a call of this name, whose number may be there
-abbrev pub id_of : ℕ → Option ℕ → Option CallId
-id_of name None = None
-id_of name (Some number) = Some (record { name = name; number = number })
-
 -- the greatest phase number of a name that was heard
 abbrev pub heard_from : List ℕ → ℕ → ℕ
 heard_from heard name = slice_index heard (name - 1)

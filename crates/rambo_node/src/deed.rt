@@ -26,11 +26,11 @@ pub struct Deed<Q> {
     pub copy: Option<KeyedVersion>,
 }
 
-impl<Q: Copy> Deed<Q> {
-    /// That of a change that only changed its node.
-    pub fn quiet() -> Deed<Q>
-        ensures { result ≡ quiet_deed }
-    {
+/// That of a change that only changed its node.
+impl<Q: Copy> Default for Deed<Q> {
+    ghost is_default = { λ d. d ≡ quiet_deed };
+
+    fn default() -> Deed<Q> {
         Deed {
             effect: Effect::Done,
             event: None,
@@ -38,7 +38,9 @@ impl<Q: Copy> Deed<Q> {
             copy: None,
         }
     }
+}
 
+impl<Q: Copy> Deed<Q> {
     // Tells of a met propagation, which sent a copy round.
     fn tell_answer(&mut self, id: CallId, op: &Op, kept: &Option<Version>) -> Result<(), Refusal>
         requires { self.old ≡ quiet_deed }

@@ -5,8 +5,6 @@ ghost use Rattle.rambo_names.specs.Refusals.{IsRefusal};
 ghost use Rattle.rambo_gossip.specs.Letters.{letter_with, kind_with, gossip_with};
 ghost use Rattle.rambo_gossip.specs.Outlines.{outlined, gossip_outlined};
 ghost use Rattle.rambo_node.specs.Changes.{refusal_of, made_by};
-ghost use Rattle.rambo_tag.specs.Copies.{joined};
-ghost use Rattle.rambo_tag.specs.Stamps.{AreStampedAlike};
 ghost use Rattle.rambo_calls.specs.Hearing.{any_gap, number_after};
 ghost use Rattle.rambo_calls.specs.Kept.{IsRoomy};
 ghost use Rattle.rambo_node.specs.FullNodes.{IsDelta, IsDeltaLetter, full, beside_after, beside_heard};
@@ -137,7 +135,10 @@ impl<Q: Quorums, S: Replica> Node<Q, S> {
         requires { (any_gap heard map.now self.now.state.calls && is_last self.now.state.number) ≡ false }
         ensures { result ≡ number_after self.now.state.number heard map.now self.now.state.calls }
     {
-        self.calls.number_after(self.number, heard, map)
+        if self.calls.any_gap(heard, map) {
+            return self.number + 1;
+        }
+        self.number
     }
 
     // A joining node makes itself known.
@@ -217,7 +218,7 @@ impl<Q: Quorums, S: Replica> Node<Q, S> {
         ensures same { IfOk result (λ b. b.value ≡ gossip_outlined outline.now) }
         ensures refused { IfErr result (λ r. r ≡ Refusal.OutOfMemory) }
     {
-        let alloc = self.calls.alloc();
+        let alloc = self.map.places().alloc();
         Ok(Box::new(alloc, outline.with_copies(Pack::empty(alloc)))?)
     }
 
@@ -248,7 +249,7 @@ impl<Q: Quorums, S: Replica> Node<Q, S> {
         ensures none { result.copies ≡ map.empty }
     {
         Hearing {
-            copies: Pack::empty(self.calls.alloc()),
+            copies: Pack::empty(self.map.places().alloc()),
             number: self.number,
         }
     }

@@ -144,7 +144,7 @@ impl<Q: Quorums, S: Replica> Node<Q, S> {
     fn is_full(&self) -> bool
         ensures { result ≡ nat_le 64 (length self.now.state.calls) }
     {
-        self.calls.len() >= CALL_LIMIT
+        self.calls.as_slice().len() >= CALL_LIMIT
     }
 
     /// Why a client may not ask this of the node, if it may not: what `ready` says of a call.
@@ -176,9 +176,9 @@ impl<Q: Quorums, S: Replica> Node<Q, S> {
         Ok(())
     }
 
-    /// Why the node may not send a letter to a name, if it may not: 3 where it is idle, 4 where it has stopped, 5 where
-    /// the name is its own or one that it doesn't know.
-    pub fn may_send(&self, to: Name) -> Result<(), Refusal>
+    // Why the node may not send a letter to a name, if it may not: 3 where it is idle, 4 where it has stopped, 5 where
+    // the name is its own or one that it doesn't know.
+    pub(crate) fn may_send(&self, to: Name) -> Result<(), Refusal>
         ensures ok { OnOk result (least (send_causes self.now.state to) ≡ None) }
         ensures refused { IfErr result (λ r. least (send_causes self.now.state to) ≡ Some r) }
     {

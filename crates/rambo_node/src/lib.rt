@@ -23,7 +23,7 @@ pub use change::Change;
 pub use decided::Decided;
 pub use deed::Deed;
 pub use effect::Effect;
-pub use laws::{causes_rise, short_letters_are_heard_alike};
+pub use laws::changing_laws;
 pub use node::Node;
 pub use prepared::{Hearing, Moving, Prepared, Quick};
 pub use rambo_calls::Stage;

@@ -1,14 +1,14 @@
 //! Nodes.
-ghost use Rattle.std.specs.Prelude.{◌≡◌, false, length, slice_get};
+ghost use Rattle.std.specs.Prelude.{◌≡◌, false, slice_get};
 ghost use Rattle.std.specs.FinMap as map;
 ghost use Rattle.std.specs.Option.{option_copied};
 ghost use Rattle.rambo_node.specs.FullNodes.{first_beside};
-ghost use Rattle.rambo_node.specs.Nodes.{first_node, first_status, first_known, open_call, id_of};
-ghost use Rattle.rambo_calls.specs.Calls.{place_of, is_missing, query_in, number_in};
-ghost use Rattle.rambo_calls.specs.Kept.{call_found};
+ghost use Rattle.rambo_node.specs.Nodes.{first_node, first_status, first_known, open_call};
+ghost use Rattle.rambo_calls.specs.Calls.{place_of, is_missing, query_in};
+ghost use Rattle.rambo_calls.specs.Kept.{call_found, calls_of};
 
 use crate::heard_numbers::HeardNumbers;
-use rambo_calls::{OpenCall, OpenCalls};
+use rambo_calls::{OpenCall, OpenCalls, Stage};
 use rambo_config_map::ConfigMap;
 use rambo_gc::Collection;
 use rambo_history::{CallId, Op};
@@ -167,36 +167,23 @@ impl<Q: Quorums, S: Replica> Node<Q, S> {
         ensures own { is_missing (open_call self.now.state id.now) ≡ false → result ≡ place_of id.now.number self.now.state.calls }
     {
         if id.name != self.name {
-            return self.calls.len();
+            return self.calls.as_slice().len();
         }
         self.calls.place_of(id.number)
     }
 
-    /// What the open call at a place asks for, if there is one that is in its query.
-    pub fn query_at(&self, place: usize) -> Option<&Op>
+    /// The open calls, the oldest first.
+    pub fn calls(&self) -> &[OpenCall<Q>]
+        ensures { calls_of result.now ≡ self.now.state.calls }
+    {
+        self.calls.as_slice()
+    }
+
+    // What the open call at a place asks for, if there is one that is in its query.
+    pub(crate) fn query_at(&self, place: usize) -> Option<&Op>
         ensures { option_copied result ≡ query_in (slice_get self.now.state.calls place) }
     {
         query_of(self.calls.get(place))
-    }
-
-    /// How many calls are open.
-    pub fn count_calls(&self) -> usize
-        ensures { result ≡ length self.now.state.calls }
-    {
-        self.calls.len()
-    }
-
-    /// The id of the open call at a place, the oldest first, if there is one.
-    pub fn call_at(&self, place: usize) -> Option<CallId>
-        ensures { result ≡ id_of self.now.state.name (number_in (slice_get self.now.state.calls place)) }
-    {
-        match self.calls.get(place) {
-            Some(call) => Some(CallId {
-                name: self.name,
-                number: call.number,
-            }),
-            None => None,
-        }
     }
 }
 
@@ -205,7 +192,10 @@ pub(crate) fn query_of<Q: Quorums>(call: Option<&OpenCall<Q>>) -> Option<&Op>
     ensures { option_copied result ≡ query_in (call_found (option_copied call.entry)) }
 {
     match call {
-        Some(call) => call.query(),
+        Some(call) => match call.stage {
+            Stage::Query => Some(&call.op),
+            Stage::Propagation(_) => None,
+        },
         None => None,
     }
 }

@@ -144,12 +144,10 @@ impl<Q: Quorums, S: Replica> Node<Q, S> {
         Ok(Prepared::quiet(Turn::Quick(quick)))
     }
 
-    /// The first half of a call that isn't refused: room is made for it. The node stays, whatever the answer.
-    ///
-    /// `OutOfMemory` where there is no room for it.
+    // Of a call that isn't refused.
     // (what is prepared is large, and where this is inlined the other kinds clear its room)
     #[inline(never)]
-    pub fn prepare_call(&mut self, op: &Op) -> Result<Prepared<Q>, Refusal>
+    fn prepare_call(&mut self, op: &Op) -> Result<Prepared<Q>, Refusal>
         requires { refusal_of Q.system self.old.state (change.Call op.now) ≡ None }
         ensures same { self.new.state ≡ self.old.state }
         ensures beside { self.new.beside ≡ self.old.beside }
@@ -181,20 +179,17 @@ impl<Q: Quorums, S: Replica> Node<Q, S> {
         Ok(Prepared::quiet(Turn::Hear(turn)))
     }
 
-    /// The first half of the advance of a call that may go on, which stands at this place: room is made for the copy that it
-    /// puts, and what it will do is found. The node stays, whatever the answer.
-    ///
-    /// `OutOfMemory` where there is no room for it.
+    // Of the advance of a call that may go on, which stands at this place.
     // (as above)
     #[inline(never)]
-    pub fn prepare_advance(&mut self, id: CallId, place: usize) -> Result<Prepared<Q>, Refusal>
+    fn prepare_advance(&mut self, id: CallId, place: usize) -> Result<Prepared<Q>, Refusal>
         requires { IsFound Q.system self.old.state id place }
         ensures same { self.new.state ≡ self.old.state }
         ensures beside { self.new.beside ≡ self.old.beside }
         ensures prepares { IfOk result (Prepares Q.system self.new (change.Advance id)) }
         ensures refused { IfErr result (λ r. r ≡ Refusal.OutOfMemory) }
     {
-        let mut deed = Deed::quiet();
+        let mut deed = Deed::default();
         let moving = self.ready_advance(id, place, &mut deed)?;
         Ok(Prepared::advanced(deed, moving))
     }

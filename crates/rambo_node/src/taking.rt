@@ -91,7 +91,7 @@ impl<Q: Quorums, S: Replica> Node<Q, S> {
         ensures kept { OnErr result (self.new.beside ≡ self.old.beside) }
     {
         let place = self.may_advance(&id)?;
-        let mut deed = Deed::quiet();
+        let mut deed = Deed::default();
         let moving = self.ready_advance(id, place, &mut deed)?;
         self.finish_advance(moving);
         Ok(deed.effect.into_answer())

@@ -1,14 +1,16 @@
 -- What is first of a list that isn't refused
-use Rattle.std.proofs.Common.{◌≡◌, ℕ, zero, suc, ◌+◌, ◌<◌, ◌≤◌, Bool, true, false, cond, List, [], ◌∷◌, ◌++◌, map, find, length, drop, add-one, Option, None, Some, is_none, is_some, option_map, slice_get, refl, sym, ap, ◌∙◌, arith}
+use Rattle.std.proofs.Common.{◌≡◌, Bool, true, false, cond, List, [], ◌∷◌, ◌++◌, map, find, length, Option, None, Some, is_none, is_some, option_map, refl, sym, ap, ◌∙◌, arith}
 use Rattle.rambo_names.specs.Quorums.{QuorumSystem}
 use Rattle.rambo_history.specs.declared.event.CallId.{CallId}
-use Rattle.rambo_calls.specs.Calls.{CallState, number_in}
+use Rattle.rambo_calls.specs.Calls.{CallState}
+use Rattle.rambo_calls.specs.Kept.{calls_of}
+use Rattle.rambo_calls.specs.declared.open_call.OpenCall.{OpenCall}
 use Rattle.rambo_node.specs.declared.change.Change.TheVariants as change
 use Rattle.rambo_node.specs.Changes.{refusal_of}
-use Rattle.rambo_node.specs.Nodes.{NodeState, id_of}
+use Rattle.rambo_node.specs.Nodes.{NodeState}
 use Rattle.rambo_run.specs.declared.step.Step.{Step}
 use Rattle.rambo_run.specs.declared.step.Step.TheVariants as step
-use Rattle.rambo_run.proofs.Lists.{none-some, some_inj}
+use Rattle.rambo_run.proofs.Lists.{none-some}
 use Rattle.rambo_deeds.proofs.Letters.{none_of}
 use Rattle.rambo_deeds.specs.declared.mail.Mail.{Mail}
 use Rattle.rambo_pick.specs.Picking.{Candidate, delivery, advance, is_accepted, first_of}
@@ -54,36 +56,20 @@ pub heard_none : {Q : Type 0} (s : QuorumSystem Q) (x : NodeState Q) (rest : Lis
 heard_none s x [] e = refl
 heard_none s x (m ∷ ms) e = absurd (omega (arith, e))
 
--- and a call, by its place
-at_first : {Q : Type 0} (name : ℕ) (cs : List (CallState Q)) (k : ℕ) (id : CallId) → Some id ≡ id_of name (number_in (slice_get cs k)) → (c : CallState Q) × ((drop k cs ≡ c ∷ drop (suc k) cs) × (id ≡ record { name = name; number = c.number }))
-at_first name [] zero id e = absurd (none-some id (sym e))
-at_first name [] (suc k) id e = absurd (none-some id (sym e))
-at_first name (c ∷ cs) zero id e = (c, (refl, some_inj id (record { name = name; number = c.number }) e))
-at_first name (c ∷ cs) (suc k) id e = at_first name cs k id e
+-- and a call
+pub moved_here : {Q : Type 0} (s : QuorumSystem Q) (x : NodeState Q) (rest : List (CallState Q)) (c : CallState Q) (others : List (CallState Q)) (id : CallId) → rest ≡ c ∷ others → id ≡ record { name = x.name; number = c.number }
+    → is_some (refusal_of s x (change.Advance id)) ≡ false → first_of s x (map (advance x.name) rest) ≡ Some (step.Advance id)
+moved_here s x rest c others id e own none =
+    ap (λ cs. first_of s x (map (advance x.name) cs)) e
+    ∙ taken s x (advance x.name c) (map (advance x.name) others) (ap (λ i. is_some (refusal_of s x (change.Advance i))) (sym own) ∙ none)
+    ∙ ap (λ i. Some (step.Advance i)) (sym own)
 
-pub moved_here : {Q : Type 0} (s : QuorumSystem Q) (x : NodeState Q) (cs : List (CallState Q)) (k : ℕ) (id : CallId) → Some id ≡ id_of x.name (number_in (slice_get cs k)) → is_some (refusal_of s x (change.Advance id)) ≡ false
-    → first_of s x (map (advance x.name) (drop k cs)) ≡ Some (step.Advance id)
-moved_here s x cs k id there none =
-    let r = at_first x.name cs k id there in
-    ap (λ cs. first_of s x (map (advance x.name) cs)) r.1.0
-    ∙ taken s x (advance x.name r.0) (map (advance x.name) (drop (suc k) cs)) (ap (λ i. is_some (refusal_of s x (change.Advance i))) (sym r.1.1) ∙ none)
-    ∙ ap (λ i. Some (step.Advance i)) (sym r.1.1)
+pub moved_later : {Q : Type 0} (s : QuorumSystem Q) (x : NodeState Q) (rest : List (CallState Q)) (c : CallState Q) (others : List (CallState Q)) (id : CallId) → rest ≡ c ∷ others → id ≡ record { name = x.name; number = c.number }
+    → is_some (refusal_of s x (change.Advance id)) ≡ true → first_of s x (map (advance x.name) rest) ≡ first_of s x (map (advance x.name) others)
+moved_later s x rest c others id e own some =
+    ap (λ cs. first_of s x (map (advance x.name) cs)) e
+    ∙ passed s x (advance x.name c) (map (advance x.name) others) (ap (λ i. is_some (refusal_of s x (change.Advance i))) (sym own) ∙ some)
 
-pub moved_later : {Q : Type 0} (s : QuorumSystem Q) (x : NodeState Q) (cs : List (CallState Q)) (k : ℕ) (id : CallId) → Some id ≡ id_of x.name (number_in (slice_get cs k)) → is_some (refusal_of s x (change.Advance id)) ≡ true
-    → first_of s x (map (advance x.name) (drop (k + 1) cs)) ≡ first_of s x (map (advance x.name) (drop k cs))
-moved_later s x cs k id there some =
-    let r = at_first x.name cs k id there in
-    ap (λ n. first_of s x (map (advance x.name) (drop n cs))) (add-one k)
-    ∙ sym (ap (λ cs. first_of s x (map (advance x.name) cs)) r.1.0
-    ∙ passed s x (advance x.name r.0) (map (advance x.name) (drop (suc k) cs)) (ap (λ i. is_some (refusal_of s x (change.Advance i))) (sym r.1.1) ∙ some))
-
-pub there_is : {Q : Type 0} (name : ℕ) (cs : List (CallState Q)) (k : ℕ) → k < length cs → None ≡ id_of name (number_in (slice_get cs k)) → ⊥
-there_is name [] k lt e = omega (arith, lt)
-there_is name (c ∷ cs) zero lt e = none-some (record { name = name; number = c.number }) e
-there_is name (c ∷ cs) (suc k) lt e = there_is name cs k (omega (arith, lt)) e
-
-pub moved_none : {Q : Type 0} (s : QuorumSystem Q) (x : NodeState Q) (cs : List (CallState Q)) (k : ℕ) → length cs ≤ k → first_of s x (map (advance x.name) (drop k cs)) ≡ None
-moved_none s x [] zero e = refl
-moved_none s x [] (suc k) e = refl
-moved_none s x (c ∷ cs) zero e = absurd (omega (arith, e))
-moved_none s x (c ∷ cs) (suc k) e = moved_none s x cs k (omega (arith, e))
+pub moved_none : {Q : Type 0} (s : QuorumSystem Q) (x : NodeState Q) (rest : List (OpenCall Q)) → length rest ≡ 0 → first_of s x (map (advance x.name) (calls_of rest)) ≡ None
+moved_none s x [] e = refl
+moved_none s x (c ∷ cs) e = absurd (omega (arith, e))

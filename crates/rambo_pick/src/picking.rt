@@ -60,13 +60,16 @@ fn heard_first<Q: Quorums, S: Replica>(node: &Node<Q, S>, tray: &[Mail<Q>]) -> O
 fn moved_first<Q: Quorums, S: Replica>(node: &Node<Q, S>) -> Option<CallId>
     ensures { option_map Step.Advance result ≡ first_of Q.system node.now.state (map (advance node.now.state.name) node.now.state.calls) }
 {
-    for place in 0..node.count_calls() {
-        let Some(id) = node.call_at(place) else {
-            return None;
+    let mut rest = node.calls();
+    while let Some((call, others)) = rest.split_first() {
+        let id = CallId {
+            name: node.name(),
+            number: call.number,
         };
         if unmoved(node, &id).is_none() {
             return Some(id);
         }
+        rest = others;
     }
     None
 }

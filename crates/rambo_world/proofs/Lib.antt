@@ -9,7 +9,6 @@ mod Turns
 mod Changing
 mod Sendings
 mod Deliveries
-mod Asked
 pub mod Longer
 mod Starting
 mod Reached

@@ -1,8 +1,6 @@
 -- The logs of nodes: what a change puts into a log, and what stays of logs, letters and counts as logs grow
 use Rattle.std.proofs.Common.{◌≡◌, ℕ, ◌+◌, ◌<◌, true, List, ◌++◌, Option, Some, None, refl, sym, ap, ◌∙◌, inl, arith}
 use Rattle.std.proofs.Common.{append-nil}
-use Rattle.std.proofs.lemmas.Bool.{false≢true}
-use Rattle.std.specs.Option.{is_some}
 use Rattle.std.specs.Prelude.{if◌then◌else◌}
 use Rattle.std.specs.FinMap as copies
 use Rattle.std.specs.FinMap.{get, insert}
@@ -24,13 +22,12 @@ use Rattle.rambo_node.specs.declared.change.Change.{Change}
 use Rattle.rambo_node.specs.declared.change.Change.TheVariants as change
 use Rattle.rambo_calls.specs.declared.stage.Stage.{Stage}
 use Rattle.rambo_calls.specs.declared.stage.Stage.TheVariants.{Query, Propagation}
-use Rattle.rambo_calls.specs.Calls.{CallState, asked_in, query_in}
+use Rattle.rambo_calls.specs.Calls.{CallState}
 use Rattle.rambo_node.specs.Nodes.{NodeState, open_call}
 use Rattle.rambo_node.specs.Hearing.{heard_kind, heard_join, heard_gossip}
 use Rattle.rambo_node.specs.Operations.{called, joined_by, stopped, called_again, query_answered, call_closed, with_copy, taken, new_copy}
 use Rattle.rambo_node.specs.Changes.{Made, made_by, quiet, stage_met, advanced, begun_again, copy_put, collection_advanced, rebid_made, attempt_advanced}
 use Rattle.rambo_node.specs.Reconfigurations.{collection_opened, attempt_opened}
-use Rattle.rambo_letters.proofs.Lists.{some_is}
 use Rattle.rambo_world.proofs.Members.{Keeps, opened_keeps, collection_keeps, wish_keeps, rebid_keeps, attempt_keeps}
 use Rattle.rambo_world.specs.Logging.{copies_in, copies_brought, listed}
 
@@ -121,26 +118,6 @@ module _ {Q : Type 0} (x : NodeState Q) where
   made_registers change.Rebid = kept_registers (rebid_made x x.attempt) (rebid_keeps x x.attempt)
   made_registers change.AdvanceRecon = kept_registers (attempt_advanced x x.attempt) (attempt_keeps x x.attempt)
   made_registers change.Stop = sym (joined-empty x.registers)
-
--- the copy that an advance puts is of the key that its call asked for
-copy_key : {Q : Type 0} (x : NodeState Q) (o : Op) (cp : KeyedVersion) → copy_put o (taken x o) ≡ Some cp → (v : List ℕ) × (o ≡ op.Set cp.key v)
-copy_key x (op.Get key) cp e = absurd (false≢true (ap is_some e))
-copy_key x (op.Set key value) cp e = (value, ap (λ k. op.Set k value) (ap (λ c. c.key) (some_is (record { key = key; version = new_copy x key value }) cp e)))
-
-stage_key : {Q : Type 0} (x : NodeState Q) (id : CallId) (c : CallState Q) (stage : Stage) (cp : KeyedVersion) → (stage_met x id c stage).deed.copy ≡ Some cp
-    → (v : List ℕ) × (asked_in c.op stage ≡ Some (op.Set cp.key v))
-stage_key x id c Query cp e = let own = copy_key x c.op cp e in (own.0, ap Some own.1)
-stage_key x id c (Propagation kept) cp e = absurd (false≢true (ap is_some e))
-
-advanced_key : {Q : Type 0} (x : NodeState Q) (id : CallId) (found : Option (CallState Q)) (cp : KeyedVersion) → (advanced x id found).deed.copy ≡ Some cp
-    → (v : List ℕ) × (query_in found ≡ Some (op.Set cp.key v))
-advanced_key x id None cp e = absurd (false≢true (ap is_some e))
-advanced_key x id (Some c) cp e = stage_key x id c c.stage cp e
-
-pub put_key : {Q : Type 0} (x : NodeState Q) (id : CallId) (cp : KeyedVersion) → (made_by x (change.Advance id)).deed.copy ≡ Some cp
-    → (v : List ℕ) × (query_in (open_call x id) ≡ Some (op.Set cp.key v))
-unfolding made_by
-put_key x id cp e = advanced_key x id (open_call x id) cp e
 
 greatest_of-more : (log more : List KeyedVersion) → greatest_of (log ++ more) ≡ greatest_after (greatest_of log) more
 greatest_of-more log more = greatest_of-append log more ∙ joined-greatest_of (greatest_of log) more

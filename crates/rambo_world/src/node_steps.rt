@@ -94,7 +94,7 @@ impl<Q: Quorums, S: Replica> State<Q, S> {
         };
         self.history.reserve(1)?;
         self.marks.reserve(1)?;
-        let mut deed = Deed::quiet();
+        let mut deed = Deed::default();
         self.nodes.advance(id, place, &mut deed)?;
         note(&mut self.history, &mut self.marks, &mut deed);
         Ok(Ok(deed.effect))

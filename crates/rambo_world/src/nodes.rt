@@ -3,8 +3,6 @@ ghost use Rattle.std.specs.Prelude.{◌≡◌, ◌≢◌, ◌-◌, ◌<◌, ◌�
 ghost use Rattle.std.specs.Borrow.{sem};
 ghost use Rattle.rambo_names.specs.Names.{IsName, rising};
 ghost use Rattle.rambo_tag.specs.declared.keyed_version.KeyedVersion.{KeyedVersion};
-ghost use Rattle.rambo_history.specs.declared.operation.Op.TheVariants as asked;
-ghost use Rattle.rambo_calls.specs.Calls.{query_in};
 ghost use Rattle.rambo_gossip.specs.declared.letter.Kind.TheVariants as kind;
 ghost use Rattle.rambo_gossip.specs.Letters.{letter_with};
 ghost use Rattle.rambo_logs.specs.NodeLogs.{extended};
@@ -21,7 +19,7 @@ ghost use Rattle.rambo_world.specs.Direct.{told_refusal};
 
 use rambo_config_map::Places;
 use rambo_gossip::LetterOutline;
-use rambo_history::{CallId, Op};
+use rambo_history::CallId;
 use rambo_letters::Outline;
 use rambo_logs::Logs;
 use rambo_names::{Name, Quorums, Refusal};
@@ -114,7 +112,7 @@ impl<Q: Quorums, S: Replica> Nodes<Q, S> {
     }
 
     // A call goes on that may, and stands at this place; the copy that it puts goes into the log of its node. The rest of what
-    // it did is told in this deed, which told of nothing before.
+    // it did is told in this deed, which told of nothing before: where the call doesn't go on, nothing is to be read there.
     pub(crate) fn advance(
         &mut self,
         id: CallId,
@@ -126,13 +124,13 @@ impl<Q: Quorums, S: Replica> Nodes<Q, S> {
         ensures nodes { OnOk result (states_of self.new ≡ moved self.old id.name (λ x. (made_by x (Change.Advance id)).node)) }
         ensures deed { OnOk result ((x : NodeState Q) → state_at self.old id.name ≡ Some x → deed.new ≡ record (made_by x (Change.Advance id)).deed { copy = None }) }
         ensures refused { IfErr result (λ r. r ≡ Refusal.OutOfMemory) }
-        ensures err { OnErr result (SameBarRoom self.old self.new × (deed.new ≡ deed.old)) }
+        ensures err { OnErr result (SameBarRoom self.old self.new) }
         ensures grow { AllGrow self.old self.new }
     {
         let name = id.name;
         let node = &mut self.list[place_of(name)];
-        make_room(node, place, &mut self.logs, name)?;
         let moving = node.ready_advance(id, place, deed)?;
+        make_room(&mut self.logs, name, &deed.copy)?;
         node.finish_advance(moving);
         log_copy(&mut self.logs, name, &mut deed.copy);
         Ok(())
@@ -324,23 +322,17 @@ fn first_nodes<Q: Quorums, S: Replica>(
     Ok(list)
 }
 
-// Makes room in the log of a node's name for the copy that the advance of the call at a place will put, if it will put one.
-fn make_room<Q: Quorums, S: Replica>(
-    node: &Node<Q, S>,
-    place: usize,
-    logs: &mut Logs,
-    name: Name,
-) -> Result<(), Refusal>
+// Makes room in the log of a name for a copy, if there is one.
+fn make_room(logs: &mut Logs, name: Name, copy: &Option<KeyedVersion>) -> Result<(), Refusal>
     ensures same { logs.new.logs ≡ logs.old.logs }
-    ensures room { OnOk result ((key value : List ℕ) → query_in (slice_get node.now.state.calls place) ≡ Some (asked.Set key value) → logs.new.room ≡ Some (record { name = name; key = key })) }
+    ensures room { OnOk result ((c : KeyedVersion) → copy.now ≡ Some c → logs.new.room ≡ Some (record { name = name; key = c.key })) }
     ensures refused { IfErr result (λ r. r ≡ Refusal.OutOfMemory) }
 {
-    match node.query_at(place) {
-        Some(Op::Set(key, _)) => {
-            logs.reserve(name, key)?;
+    match copy {
+        Some(copy) => {
+            logs.reserve(name, &copy.key)?;
             Ok(())
         }
-        Some(Op::Get(_)) => Ok(()),
         None => Ok(()),
     }
 }

@@ -59,12 +59,12 @@ impl<Q: Quorums, S: Replica> Running<Q, S> {
         })
     }
 
-    /// Takes all of these steps, and gives what they did, the history, the sequences, their one order and the maps. A step that is
-    /// refused is noted with its refusal, and the run goes on. With no step before, that is the outcome of the run of these
-    /// steps, for any system of quorums.
-    ///
-    /// `OutOfMemory` where there is no room for it.
-    pub fn finish(self, alloc: Global, steps: &[Step<Q>]) -> Result<Outcome<Q>, Refusal>
+    // Takes all of these steps, and gives what they did, the history, the sequences, their one order and the maps. A step that is
+    // refused is noted with its refusal, and the run goes on. With no step before, that is the outcome of the run of these
+    // steps.
+    //
+    // `OutOfMemory` where there is no room for it.
+    pub(crate) fn finish(self, alloc: Global, steps: &[Step<Q>]) -> Result<Outcome<Q>, Refusal>
         ensures outcome { IfOk result (λ o. o ≡ outcome_at (results_from Q.system self.state steps.now) (run_from Q.system self.state steps.now)) }
         ensures proper { IfOk result (λ o. (key : List ℕ) → IsProper o.history key (sequence_in o.sequences key)) }
         ensures ordered { IfOk result (λ o. IsOrder o.history o.sequences o.order) }

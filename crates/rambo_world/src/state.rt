@@ -14,7 +14,7 @@ use rambo_history::{CallId, History};
 use rambo_letters::Letters;
 use rambo_logs::MergedCounts;
 use rambo_names::{Name, Quorums, Refusal};
-use rambo_node::Effect;
+use rambo_node::{Effect, Quick};
 use rambo_run::{NodeMap, Step, quick_of};
 use rambo_sequence::{KeySequence, Mark};
 use rambo_tag::Replica;
@@ -68,7 +68,7 @@ impl<Q: Quorums, S: Replica> State<Q, S> {
     {
         match step {
             Step::Call(name, op) => self.nodes.node(*name).may_call(op),
-            Step::Send(from, to) => self.nodes.node(*from).may_send(*to),
+            Step::Send(from, to) => { self.nodes.node(*from).judge_quick(&Quick::Send(*to)) }
             Step::Advance(id) => {
                 self.nodes.node(id.name).may_advance(id)?;
                 Ok(())

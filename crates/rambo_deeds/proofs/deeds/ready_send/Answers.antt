@@ -15,4 +15,4 @@ new-requires g c = standing_fits 0 g.row.Q g.Q.Quorums g.Q.PartialEq g.met.Q.Quo
 
 pub returns-clause-ready : goal.returns-clause-ready
 returns-clause-ready g c =
-    send_ready g.Q.Quorums.system c.args.node.now c.args.to c.in_ok-letter.letter _ c.in_ok-copies.copies (subst IsName c.number-number.ensures.value c.number-number.ensures.range) c.in_ok-may_send.ensures.ok c.in_ok-letter.ensures.same c.outline_for-outline.ensures c.in_ok-copies.ensures.since
+    send_ready g.Q.Quorums.system c.args.node.now c.args.to c.in_ok-letter.letter _ c.in_ok-copies.copies (subst IsName c.number-number.ensures.value c.number-number.ensures.range) c.in_ok-judge_quick.ensures.ok c.in_ok-letter.ensures.same c.outline_for-outline.ensures c.in_ok-copies.ensures.since

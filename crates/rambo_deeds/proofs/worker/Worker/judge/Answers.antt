@@ -12,8 +12,8 @@ use Rattle.rambo_deeds.proofs.worker.Worker.judge.Goals as goal
 pub may_call-requires : goal.may_call-requires
 may_call-requires g c = back_fits _ _ _ (up_fits _ _ _ c.requires-raw.1.1)
 
-pub may_send-requires : goal.may_send-requires
-may_send-requires g c = back_fits _ _ _ (up_fits _ _ _ c.requires-raw.1.1)
+pub judge_quick-requires : goal.judge_quick-requires
+judge_quick-requires g c = back_fits _ _ _ (up_fits _ _ _ c.requires-raw.1.1)
 
 pub may_advance-requires : goal.may_advance-requires
 may_advance-requires g c = back_fits _ _ _ (up_fits _ _ _ c.requires-raw.1.1)
@@ -21,8 +21,8 @@ may_advance-requires g c = back_fits _ _ _ (up_fits _ _ _ c.requires-raw.1.1)
 pub may_deliver-requires : goal.may_deliver-requires
 may_deliver-requires g c = back_fits _ _ _ (up_fits _ _ _ c.requires-raw.1.1)
 
-pub judge_quick-requires : goal.judge_quick-requires
-judge_quick-requires g c = back_fits _ _ _ (up_fits _ _ _ c.requires-raw.1.1)
+pub judge_quick-requires-in-Some : goal.judge_quick-requires-in-Some
+judge_quick-requires-in-Some g c = back_fits _ _ _ (up_fits _ _ _ c.requires-raw.1.1)
 
 pub returns-in-Call-clause-refused : goal.returns-in-Call-clause-refused
 returns-in-Call-clause-refused g c =
@@ -30,7 +30,7 @@ returns-in-Call-clause-refused g c =
 
 pub returns-in-Send-clause-refused : goal.returns-in-Send-clause-refused
 returns-in-Send-clause-refused g c =
-    refused g.Q.Quorums.system c.self.inside.node.state c.args.self.now.state (ap (λ (v : RoomyNode _). v.state) c.self.view_is) (option_copied c.args.letter) c.args.step.now (change.Send c.in-Send.to) c.may_send.result (c.in-Send.field-0, ap (meant_by (option_copied c.args.letter)) c.in-Send.is) c.may_send.ensures.refused
+    refused g.Q.Quorums.system c.self.inside.node.state c.args.self.now.state (ap (λ (v : RoomyNode _). v.state) c.self.view_is) (option_copied c.args.letter) c.args.step.now (change.Send c.in-Send.to) c.judge_quick.result (c.in-Send.field-0, ap (meant_by (option_copied c.args.letter)) c.in-Send.is) c.judge_quick.ensures.refused
 
 pub returns-in-Advance-clause-refused : goal.returns-in-Advance-clause-refused
 returns-in-Advance-clause-refused g c =
@@ -51,7 +51,7 @@ returns-in-Some-clause-ok g c =
     let o = option_copied c.args.letter in
     let meant = c.in-Some.meant in
     let q = meant.1 in
-    cleared g.Q.Quorums.system c.self.inside.node.state c.args.self.now.state (ap (λ (v : RoomyNode _). v.state) c.self.view_is) o st (quick_change q) c.judge_quick.result (quick_by o st meant (sym c.quick_of.ensures ∙ c.in-Some.is)) c.judge_quick.ensures.ok
+    cleared g.Q.Quorums.system c.self.inside.node.state c.args.self.now.state (ap (λ (v : RoomyNode _). v.state) c.self.view_is) o st (quick_change q) c.judge_quick-in-Some.result (quick_by o st meant (sym c.quick_of.ensures ∙ c.in-Some.is)) c.judge_quick-in-Some.ensures.ok
 
 pub returns-in-Some-clause-refused : goal.returns-in-Some-clause-refused
 returns-in-Some-clause-refused g c =
@@ -59,4 +59,4 @@ returns-in-Some-clause-refused g c =
     let o = option_copied c.args.letter in
     let meant = c.in-Some.meant in
     let q = meant.1 in
-    refused g.Q.Quorums.system c.self.inside.node.state c.args.self.now.state (ap (λ (v : RoomyNode _). v.state) c.self.view_is) o st (quick_change q) c.judge_quick.result (quick_by o st meant (sym c.quick_of.ensures ∙ c.in-Some.is)) c.judge_quick.ensures.refused
+    refused g.Q.Quorums.system c.self.inside.node.state c.args.self.now.state (ap (λ (v : RoomyNode _). v.state) c.self.view_is) o st (quick_change q) c.judge_quick-in-Some.result (quick_by o st meant (sym c.quick_of.ensures ∙ c.in-Some.is)) c.judge_quick-in-Some.ensures.refused

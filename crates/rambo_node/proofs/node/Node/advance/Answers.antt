@@ -30,7 +30,7 @@ pub returns-in_err-place-clause-err : goal.returns-in_err-place-clause-err
 returns-in_err-place-clause-err g c = on_err c.from_residual.result refl
 
 pub ready_advance-requires : goal.ready_advance-requires
-ready_advance-requires g c = (c.requires-raw.1.1, (c.in_ok-place.ensures.ok, c.quiet-deed.ensures))
+ready_advance-requires g c = (c.requires-raw.1.1, (c.in_ok-place.ensures.ok, c.default-deed.ensures))
 
 pub finish_advance-requires : goal.finish_advance-requires
 finish_advance-requires g c = (c.requires-raw.1.1, c.in_ok-moving.ensures.moving)

@@ -1,15 +1,15 @@
+use Rattle.std.proofs.Common.{◌&&◌, Fits, w64, sym, ap, ◌∙◌}
 use Rattle.rambo_names.proofs.Sizes.{up_fits, back_fits, next}
-use Rattle.std.proofs.Common.{Fits, w64, ap, ◌∙◌, subst, ◌-◌, ◌^◌, min}
-use Rattle.rambo_calls.specs.Hearing.{any_gap, number_after}
-use Rattle.rambo_node.proofs.Judged.{next_number}
+use Rattle.rambo_calls.specs.Hearing.{any_gap}
+use Rattle.rambo_node.specs.Refusals.{is_last}
+use Rattle.rambo_node.proofs.Judged.{gap_next}
 use Rattle.rambo_node.proofs.node.Node.number_after.Goals as goal
 
-pub returns : goal.returns
-returns g c =
-    let x = c.args.self.now.state in
-    let fits : Fits w64 c.self.inside.number = assumption in
-    next_number (any_gap c.args.heard c.args.map.now x.calls) x.number c.number_after.result c.requires (subst (λ m. Fits w64 m) (ap (λ v. v.state.number) c.self.view_is) fits)
-    (c.number_after.ensures ∙ ap (λ v. min (number_after v.state.number c.args.heard c.args.map.now v.state.calls) (2 ^ 64 - 1)) c.self.view_is)
+pub any_gap-requires : goal.any_gap-requires
+any_gap-requires g c = (back_fits _ _ _ (next _ _ _ _ (up_fits _ _ _ c.requires-raw.1.1.0)), c.requires-raw.1.1.1.0)
 
-pub number_after-requires : goal.number_after-requires
-number_after-requires g c = (back_fits _ _ _ (next _ _ _ _ (up_fits _ _ _ c.requires-raw.1.1.0)), c.requires-raw.1.1.1.0)
+pub overflow_add-result : goal.overflow_add-result
+overflow_add-result g c =
+    let fits : Fits w64 c.self.inside.number = assumption in
+    let next = ap (λ v. any_gap c.args.heard c.args.map.now v.state.calls && is_last v.state.number) c.self.view_is ∙ c.requires in
+    gap_next _ _ next (sym c.any_gap.ensures ∙ c.if-any_gap.true) fits

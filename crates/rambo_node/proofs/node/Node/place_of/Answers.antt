@@ -4,12 +4,14 @@ use Rattle.std.proofs.lemmas.Bool.{true≢false}
 use Rattle.std.proofs.lemmas.Option.{slice_get-map, slice_get_past}
 use Rattle.rambo_calls.specs.Calls.{place_of, is_missing}
 use Rattle.rambo_calls.specs.Kept.{call_of}
-use Rattle.rambo_names.proofs.Sizes.{up_fits, back_fits, next}
+use Rattle.rambo_names.proofs.Sizes.{up_fits, back_fits, next, variant_fits}
 use Rattle.rambo_node.proofs.Own.{other_call, own_call}
 use Rattle.rambo_node.proofs.node.Node.place_of.Goals as goal
 
-pub len-requires : goal.len-requires
-len-requires g c = back_fits _ _ _ (next _ _ _ _ (up_fits _ _ _ c.requires-raw.1.1))
+pub as_slice-requires : goal.as_slice-requires
+as_slice-requires g c =
+    let calls = back_fits _ _ _ (next _ _ _ _ (up_fits _ _ _ c.requires-raw.1.1)) in
+    (calls, variant_fits _ _ _ _ (back_fits _ _ _ (up_fits _ _ _ calls)))
 
 pub place_of-requires : goal.place_of-requires
 place_of-requires g c = back_fits _ _ _ (next _ _ _ _ (up_fits _ _ _ c.requires-raw.1.1))
@@ -19,8 +21,10 @@ returns-then-ne-clause-found g c =
     let x = c.args.self.now.state in
     let list = c.self.inside.calls.list in
     let other = sym (ap (λ v. not (nat_eq c.args.id.now.name v.state.name)) c.self.view_is) ∙ sym c.ne.ensures ∙ c.if-ne.true in
-    let past : length list ≤ c.len.result = omega (arith, c.len.ensures) in
-    ap (λ v. slice_get v.state.calls c.len.result) (sym c.self.view_is) ∙ slice_get-map call_of list c.len.result ∙ ap (option_map call_of) (slice_get_past list c.len.result past)
+    let all = length c.as_slice.result.now in
+    let is = ap length c.as_slice.ensures in
+    let past : length list ≤ all = omega (arith, is) in
+    ap (λ v. slice_get v.state.calls all) (sym c.self.view_is) ∙ slice_get-map call_of list all ∙ ap (option_map call_of) (slice_get_past list all past)
     ∙ sym (other_call x c.args.id.now other)
 
 pub returns-then-ne-clause-own : goal.returns-then-ne-clause-own

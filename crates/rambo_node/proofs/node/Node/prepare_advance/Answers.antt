@@ -6,7 +6,7 @@ use Rattle.rambo_node.proofs.Readiness.{advance_prepares}
 use Rattle.rambo_node.proofs.node.Node.prepare_advance.Goals as goal
 
 pub ready_advance-requires : goal.ready_advance-requires
-ready_advance-requires g c = (c.requires-raw.1.1.0, (c.requires, c.quiet-deed.ensures))
+ready_advance-requires g c = (c.requires-raw.1.1.0, (c.requires, c.default-deed.ensures))
 
 pub returns-clause-prepares : goal.returns-clause-prepares
 returns-clause-prepares g c =

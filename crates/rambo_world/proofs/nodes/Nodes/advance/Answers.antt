@@ -4,7 +4,6 @@ use Rattle.std.specs.Prelude.{slice_index_or}
 use Rattle.rambo_tag.specs.declared.keyed_version.KeyedVersion.{KeyedVersion}
 use Rattle.rambo_tag.specs.Copies.{joined}
 use Rattle.rambo_tag.proofs.Logged.{greatest_of-nil}
-use Rattle.rambo_calls.specs.Calls.{query_in}
 use Rattle.rambo_logs.specs.NodeLogs.{extended}
 use Rattle.rambo_node.specs.Changes.{made_by}
 use Rattle.rambo_node.specs.declared.deed.Deed.{Deed}
@@ -14,34 +13,13 @@ use Rattle.rambo_world.specs.Logging.{listed}
 use Rattle.rambo_names.proofs.Sizes.{up_fits, back_fits}
 use Rattle.rambo_letters.proofs.Lists.{some_is}
 use Rattle.rambo_names.proofs.Errors.{on_err}
-use Rattle.rambo_world.proofs.Logging.{made_name, made_recorded, put_key}
+use Rattle.rambo_world.proofs.Logging.{made_name, made_recorded}
 use Rattle.rambo_world.proofs.Growth.{same_grow}
 use Rattle.rambo_world.proofs.Zipping.{node_here, put_node, node_unchanged, log_grows}
 use Rattle.rambo_world.proofs.nodes.Nodes.advance.Goals as goal
 
 pub index_mut-node-requires : goal.index_mut-node-requires
 index_mut-node-requires g c = omega (arith, c.place_of.ensures.within, c.self.inside.list.ok.0, c.self.invariant.0)
-
-pub make_room-requires : goal.make_room-requires
-make_room-requires g c = back_fits _ _ _ (up_fits _ _ _ c.requires-raw.1.1.0)
-
-pub invariant_of-self : goal.invariant_of-self
-invariant_of-self g c = (length-set c.self.inside.list.items _ _ ∙ c.self.invariant.0, ap length c.make_room.ensures.same ∙ c.self.invariant.1)
-
-same_room : (g : _) (c : goal.After-from_residual g) → SameBarRoom c.args.self.now (kept_of (slice_set c.self.inside.list.items c.place_of.result c.index_mut-node.result.now) c.make_room.new.logs.logs)
-same_room g c =
-    let xs = c.self.inside.list.items in
-    let ls = c.self.inside.logs.logs in
-    let x = c.index_mut-node.result.now in
-    let below : c.place_of.result < length xs = subst (λ n. c.place_of.result < n) (sym c.self.invariant.0) c.place_of.ensures.within in
-    subst (λ now. SameBarRoom now (kept_of (slice_set xs c.place_of.result x) c.make_room.new.logs.logs)) c.self.view_is
-    (node_unchanged xs ls c.place_of.result c.args.id.name x x c.place_of.ensures.place c.place_of.ensures.named.0 below c.index_mut-node.ensures.value c.make_room.new.logs.logs refl c.make_room.ensures.same)
-
-pub returns-in_err-make_room-clause-err : goal.returns-in_err-make_room-clause-err
-returns-in_err-make_room-clause-err g c = on_err c.from_residual.result (same_room g c, refl)
-
-pub returns-in_err-make_room-clause-grow : goal.returns-in_err-make_room-clause-grow
-returns-in_err-make_room-clause-grow g c = same_grow c.args.self.now _ (same_room g c)
 
 pub ready_advance-requires : goal.ready_advance-requires
 ready_advance-requires g c =
@@ -52,14 +30,29 @@ ready_advance-requires g c =
     let here = subst (λ now. state_at now c.args.id.name ≡ Some x.state) c.self.view_is (node_here xs ls c.place_of.result c.args.id.name x x c.place_of.ensures.place c.place_of.ensures.named.0 below c.index_mut-node.ensures.value) in
     (back_fits _ _ _ (up_fits _ _ _ c.requires-raw.1.1.0), (c.requires.found x.state here, c.requires.quiet))
 
-pub finish_advance-requires : goal.finish_advance-requires
-finish_advance-requires g c = (back_fits _ _ _ (up_fits _ _ _ c.requires-raw.1.1.0), c.in_ok-moving.ensures.moving)
+pub invariant_of-self : goal.invariant_of-self
+invariant_of-self g c = (length-set c.self.inside.list.items _ _ ∙ c.self.invariant.0, c.self.invariant.1)
 
-pub invariant_of-self-in_err-moving : goal.invariant_of-self-in_err-moving
-invariant_of-self-in_err-moving g c = (length-set c.self.inside.list.items _ _ ∙ c.self.invariant.0, ap length c.make_room.ensures.same ∙ c.self.invariant.1)
+no_memory : (g : _) (c : goal.After-from_residual g) → SameBarRoom c.args.self.now (kept_of (slice_set c.self.inside.list.items c.place_of.result c.ready_advance.new.self) c.self.inside.logs.logs)
+no_memory g c =
+    let xs = c.self.inside.list.items in
+    let ls = c.self.inside.logs.logs in
+    let x = c.index_mut-node.result.now in
+    let below : c.place_of.result < length xs = subst (λ n. c.place_of.result < n) (sym c.self.invariant.0) c.place_of.ensures.within in
+    subst (λ now. SameBarRoom now (kept_of (slice_set xs c.place_of.result c.ready_advance.new.self) ls)) c.self.view_is
+    (node_unchanged xs ls c.place_of.result c.args.id.name x c.ready_advance.new.self c.place_of.ensures.place c.place_of.ensures.named.0 below c.index_mut-node.ensures.value ls c.ready_advance.ensures.same refl)
 
-err_same : (g : _) (c : goal.After-from_residual-in_err-moving g) → SameBarRoom c.args.self.now (kept_of (slice_set c.self.inside.list.items c.place_of.result c.ready_advance.new.self) c.make_room.new.logs.logs)
-err_same g c =
+pub returns-in_err-moving-clause-err : goal.returns-in_err-moving-clause-err
+returns-in_err-moving-clause-err g c = on_err c.from_residual.result (no_memory g c)
+
+pub returns-in_err-moving-clause-grow : goal.returns-in_err-moving-clause-grow
+returns-in_err-moving-clause-grow g c = same_grow c.args.self.now _ (no_memory g c)
+
+pub invariant_of-self-in_err-make_room : goal.invariant_of-self-in_err-make_room
+invariant_of-self-in_err-make_room g c = (length-set c.self.inside.list.items _ _ ∙ c.self.invariant.0, ap length c.make_room.ensures.same ∙ c.self.invariant.1)
+
+no_room : (g : _) (c : goal.Joined-moving g) → SameBarRoom c.args.self.now (kept_of (slice_set c.self.inside.list.items c.place_of.result c.ready_advance.new.self) c.make_room.new.logs.logs)
+no_room g c =
     let xs = c.self.inside.list.items in
     let ls = c.self.inside.logs.logs in
     let x = c.index_mut-node.result.now in
@@ -68,22 +61,17 @@ err_same g c =
     (node_unchanged xs ls c.place_of.result c.args.id.name x c.ready_advance.new.self c.place_of.ensures.place c.place_of.ensures.named.0 below c.index_mut-node.ensures.value
     c.make_room.new.logs.logs c.ready_advance.ensures.same c.make_room.ensures.same)
 
-pub returns-in_err-moving-clause-err : goal.returns-in_err-moving-clause-err
-returns-in_err-moving-clause-err g c = on_err c.from_residual-in_err-moving.result (err_same g c, c.in_err-moving.ensures.err)
+pub returns-in_err-make_room-clause-err : goal.returns-in_err-make_room-clause-err
+returns-in_err-make_room-clause-err g c = on_err c.from_residual-in_err-make_room.result (no_room g c)
 
-pub returns-in_err-moving-clause-grow : goal.returns-in_err-moving-clause-grow
-returns-in_err-moving-clause-grow g c = same_grow c.args.self.now _ (err_same g c)
+pub returns-in_err-make_room-clause-grow : goal.returns-in_err-make_room-clause-grow
+returns-in_err-make_room-clause-grow g c = same_grow c.args.self.now _ (no_room g c)
 
--- the room is for the key of the copy
+pub finish_advance-requires : goal.finish_advance-requires
+finish_advance-requires g c = (back_fits _ _ _ (up_fits _ _ _ c.requires-raw.1.1.0), c.in_ok-moving.ensures.moving)
+
 pub log_copy-requires : goal.log_copy-requires
-log_copy-requires g c cp found =
-    let xs = c.self.inside.list.items in
-    let ls = c.self.inside.logs.logs in
-    let x = c.index_mut-node.result.now in
-    let below : c.place_of.result < length xs = subst (λ n. c.place_of.result < n) (sym c.self.invariant.0) c.place_of.ensures.within in
-    let here = subst (λ now. state_at now c.args.id.name ≡ Some x.state) c.self.view_is (node_here xs ls c.place_of.result c.args.id.name x x c.place_of.ensures.place c.place_of.ensures.named.0 below c.index_mut-node.ensures.value) in
-    let own = put_key x.state c.args.id cp (sym (ap (λ d. d.copy) c.in_ok-moving.ensures.deed) ∙ found) in
-    c.in_ok-make_room.ensures.room cp.key own.0 (ap query_in (c.requires.found x.state here).at ∙ own.1)
+log_copy-requires g c = c.in_ok-make_room.ensures.room
 
 logs_after : (g : _) (c : goal.After-log_copy g) → c.log_copy.new.logs.logs ≡ extended c.self.inside.logs.logs c.args.id.name (listed (made_by c.index_mut-node.result.now.state (change.Advance c.args.id)).deed.copy)
 logs_after g c = c.log_copy.ensures.logged ∙ λ i. extended (c.make_room.ensures.same i) c.args.id.name (listed (ap (λ d. d.copy) c.in_ok-moving.ensures.deed i))

@@ -57,7 +57,7 @@ advance-requires g c = (
   back_fits _ _ _ (next _ _ _ _ (next _ _ _ _ (next _ _ _ _ (next _ _ _ _ (up_fits _ _ _ c.requires-raw.1.1.0))))),
   (
     λ x at. subst (λ x. IsFound g.Q.Quorums.system x c.args.id c.in-Ok.place) (some_is c.node.result.now.state x (sym c.node.ensures ∙ at)) c.in-Ok.ensures.ok,
-    c.quiet-deed.ensures,
+    c.default-deed.ensures,
   ),
 )
 
@@ -67,7 +67,7 @@ invariant_of-self-in_err-advance g c = kept_stays c.self.inside.nodes c.advance.
 pub returns-in_err-advance-clause-err : goal.returns-in_err-advance-clause-err
 returns-in_err-advance-clause-err g c =
     on_err c.from_residual-in_err-advance.result
-    (same_world c.self.inside.nodes c.advance.new.self c.self.inside.letters c.self.inside.history.events _ c.self.inside.marks.items _ c.in_err-advance.ensures.err.0 c.self.invariant.sent c.in_ok-reserve.ensures.events c.in_ok-reserve-2.ensures.items
+    (same_world c.self.inside.nodes c.advance.new.self c.self.inside.letters c.self.inside.history.events _ c.self.inside.marks.items _ c.in_err-advance.ensures.err c.self.invariant.sent c.in_ok-reserve.ensures.events c.in_ok-reserve-2.ensures.items
     ∙ c.self.view_is)
 
 pub note-requires-clause-fits : goal.note-requires-clause-fits

@@ -47,8 +47,8 @@ node-requires-in-Some-quick_of g c =
 pub may_call-requires : goal.may_call-requires
 may_call-requires g c = back_fits _ _ _ (up_fits _ _ _ (back_fits _ _ _ (next _ _ _ _ (next _ _ _ _ (next _ _ _ _ (next _ _ _ _ (up_fits _ _ _ c.requires-raw.1.1)))))))
 
-pub may_send-requires : goal.may_send-requires
-may_send-requires g c = back_fits _ _ _ (up_fits _ _ _ (back_fits _ _ _ (next _ _ _ _ (next _ _ _ _ (next _ _ _ _ (next _ _ _ _ (up_fits _ _ _ c.requires-raw.1.1)))))))
+pub judge_quick-requires : goal.judge_quick-requires
+judge_quick-requires g c = back_fits _ _ _ (up_fits _ _ _ (back_fits _ _ _ (next _ _ _ _ (next _ _ _ _ (next _ _ _ _ (next _ _ _ _ (up_fits _ _ _ c.requires-raw.1.1)))))))
 
 pub may_advance-requires : goal.may_advance-requires
 may_advance-requires g c = back_fits _ _ _ (up_fits _ _ _ (back_fits _ _ _ (next _ _ _ _ (next _ _ _ _ (next _ _ _ _ (next _ _ _ _ (up_fits _ _ _ c.requires-raw.1.1)))))))
@@ -56,8 +56,8 @@ may_advance-requires g c = back_fits _ _ _ (up_fits _ _ _ (back_fits _ _ _ (next
 pub may_hear_outlined-requires : goal.may_hear_outlined-requires
 may_hear_outlined-requires g c = back_fits _ _ _ (up_fits _ _ _ (back_fits _ _ _ (next _ _ _ _ (next _ _ _ _ (next _ _ _ _ (next _ _ _ _ (up_fits _ _ _ c.requires-raw.1.1)))))))
 
-pub judge_quick-requires : goal.judge_quick-requires
-judge_quick-requires g c = back_fits _ _ _ (up_fits _ _ _ (back_fits _ _ _ (next _ _ _ _ (next _ _ _ _ (next _ _ _ _ (next _ _ _ _ (up_fits _ _ _ c.requires-raw.1.1)))))))
+pub judge_quick-requires-in-Some-quick_of : goal.judge_quick-requires-in-Some-quick_of
+judge_quick-requires-in-Some-quick_of g c = back_fits _ _ _ (up_fits _ _ _ (back_fits _ _ _ (next _ _ _ _ (next _ _ _ _ (next _ _ _ _ (next _ _ _ _ (up_fits _ _ _ c.requires-raw.1.1)))))))
 
 pub returns-in-Call-clause-ok : goal.returns-in-Call-clause-ok
 returns-in-Call-clause-ok g c =
@@ -69,11 +69,11 @@ returns-in-Call-clause-refused g c =
 
 pub returns-in-Send-clause-ok : goal.returns-in-Send-clause-ok
 returns-in-Send-clause-ok g c =
-    on_ok_weaker c.may_send.result (judged_now g.Q.Quorums.system (world_of c.self.inside.nodes c.self.inside.letters c.self.inside.history.events c.self.inside.marks.items) c.args.self.now c.self.view_is c.args.step.now c.in-Send.from (change.Send c.in-Send.to) c.node-in-Send.result.now.state (ap (meant (world_of c.self.inside.nodes c.self.inside.letters c.self.inside.history.events c.self.inside.marks.items)) c.in-Send.is) c.node-in-Send.ensures None) c.may_send.ensures.ok
+    on_ok_weaker c.judge_quick.result (judged_now g.Q.Quorums.system (world_of c.self.inside.nodes c.self.inside.letters c.self.inside.history.events c.self.inside.marks.items) c.args.self.now c.self.view_is c.args.step.now c.in-Send.from (change.Send c.in-Send.to) c.node-in-Send.result.now.state (ap (meant (world_of c.self.inside.nodes c.self.inside.letters c.self.inside.history.events c.self.inside.marks.items)) c.in-Send.is) c.node-in-Send.ensures None) c.judge_quick.ensures.ok
 
 pub returns-in-Send-clause-refused : goal.returns-in-Send-clause-refused
 returns-in-Send-clause-refused g c =
-    IfErr-weaker c.may_send.result _ _ (λ r. judged_now g.Q.Quorums.system (world_of c.self.inside.nodes c.self.inside.letters c.self.inside.history.events c.self.inside.marks.items) c.args.self.now c.self.view_is c.args.step.now c.in-Send.from (change.Send c.in-Send.to) c.node-in-Send.result.now.state (ap (meant (world_of c.self.inside.nodes c.self.inside.letters c.self.inside.history.events c.self.inside.marks.items)) c.in-Send.is) c.node-in-Send.ensures (Some r)) c.may_send.ensures.refused
+    IfErr-weaker c.judge_quick.result _ _ (λ r. judged_now g.Q.Quorums.system (world_of c.self.inside.nodes c.self.inside.letters c.self.inside.history.events c.self.inside.marks.items) c.args.self.now c.self.view_is c.args.step.now c.in-Send.from (change.Send c.in-Send.to) c.node-in-Send.result.now.state (ap (meant (world_of c.self.inside.nodes c.self.inside.letters c.self.inside.history.events c.self.inside.marks.items)) c.in-Send.is) c.node-in-Send.ensures (Some r)) c.judge_quick.ensures.refused
 
 pub returns-in_ok-may_advance-in-Advance-clause-ok : goal.returns-in_ok-may_advance-in-Advance-clause-ok
 returns-in_ok-may_advance-in-Advance-clause-ok g c =
@@ -122,6 +122,6 @@ pub returns-in-Some-quick_of : goal.returns-in-Some-quick_of
 returns-in-Some-quick_of g c =
     let means = quick_means (world_of c.self.inside.nodes c.self.inside.letters c.self.inside.history.events c.self.inside.marks.items) c.args.step.now c.in-Some-quick_of.meant (sym c.quick_of.ensures ∙ c.in-Some-quick_of.is) in
     record {
-      ok = on_ok_weaker c.judge_quick.result (judged_now g.Q.Quorums.system (world_of c.self.inside.nodes c.self.inside.letters c.self.inside.history.events c.self.inside.marks.items) c.args.self.now c.self.view_is c.args.step.now c.in-Some-quick_of.meant.0 (quick_change c.in-Some-quick_of.meant.1) c.node-in-Some-quick_of.result.now.state means.means c.node-in-Some-quick_of.ensures None) c.judge_quick.ensures.ok;
-      refused = IfErr-weaker c.judge_quick.result _ _ (λ r. judged_now g.Q.Quorums.system (world_of c.self.inside.nodes c.self.inside.letters c.self.inside.history.events c.self.inside.marks.items) c.args.self.now c.self.view_is c.args.step.now c.in-Some-quick_of.meant.0 (quick_change c.in-Some-quick_of.meant.1) c.node-in-Some-quick_of.result.now.state means.means c.node-in-Some-quick_of.ensures (Some r)) c.judge_quick.ensures.refused;
+      ok = on_ok_weaker c.judge_quick-in-Some-quick_of.result (judged_now g.Q.Quorums.system (world_of c.self.inside.nodes c.self.inside.letters c.self.inside.history.events c.self.inside.marks.items) c.args.self.now c.self.view_is c.args.step.now c.in-Some-quick_of.meant.0 (quick_change c.in-Some-quick_of.meant.1) c.node-in-Some-quick_of.result.now.state means.means c.node-in-Some-quick_of.ensures None) c.judge_quick-in-Some-quick_of.ensures.ok;
+      refused = IfErr-weaker c.judge_quick-in-Some-quick_of.result _ _ (λ r. judged_now g.Q.Quorums.system (world_of c.self.inside.nodes c.self.inside.letters c.self.inside.history.events c.self.inside.marks.items) c.args.self.now c.self.view_is c.args.step.now c.in-Some-quick_of.meant.0 (quick_change c.in-Some-quick_of.meant.1) c.node-in-Some-quick_of.result.now.state means.means c.node-in-Some-quick_of.ensures (Some r)) c.judge_quick-in-Some-quick_of.ensures.refused;
     }

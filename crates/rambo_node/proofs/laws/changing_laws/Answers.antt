@@ -1,6 +1,10 @@
+use Rattle.rambo_node.proofs.Judged.{first_is_least}
 use Rattle.rambo_node.proofs.Telling.{heard_alike, joined_alike}
 use Rattle.rambo_node.proofs.Short.{heard_as_whole}
-use Rattle.rambo_node.proofs.laws.short_letters_are_heard_alike.Goals as goal
+use Rattle.rambo_node.proofs.laws.changing_laws.Goals as goal
+
+pub returns-clause-least : goal.returns-clause-least
+returns-clause-least g c = first_is_least
 
 pub returns-clause-joined : goal.returns-clause-joined
 returns-clause-joined g c = heard_alike
