@@ -108,11 +108,11 @@ impl<Q: Quorums, S: Replica> Run<Q> for Running<Q, S> {
     }
 
     fn sequences(&self, alloc: Global) -> Result<Vec<KeySequence>, Refusal> {
-        self.state.sequences(alloc)
+        rambo_sequence::sequences(alloc, &self.state.history, self.state.marks.as_slice())
     }
 
     fn maps(&self, alloc: Global) -> Result<Vec<NodeMap<Q>>, Refusal> {
-        self.state.maps(alloc)
+        self.state.nodes.maps(alloc)
     }
 }
 

@@ -55,9 +55,9 @@ pub(crate) fn outcome<Q: Quorums, S: Replica>(
     ensures refused { IfErr result (λ r. r ≡ Refusal.OutOfMemory) }
 {
     let effects = state.take_all(alloc, steps)?;
-    let sequences = state.sequences(alloc)?;
-    let order = state.order(alloc, sequences.as_slice())?;
-    let maps = state.maps(alloc)?;
+    let sequences = rambo_sequence::sequences(alloc, &state.history, state.marks.as_slice())?;
+    let order = rambo_sequence::one_order(alloc, &state.history, sequences.as_slice())?;
+    let maps = state.nodes.maps(alloc)?;
     Ok(Outcome {
         effects,
         history: state.take_history(alloc),

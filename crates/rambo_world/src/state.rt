@@ -1,22 +1,18 @@
 //! What a run makes.
 ghost use Rattle.std.specs.Prelude.{◌≡◌, List, None, Some, OnOk, OnErr, IfOk, IfErr};
-ghost use Rattle.rambo_node.specs.Nodes.{NodeState};
-ghost use Rattle.rambo_run.specs.Runs.{after, result_of, results_from, run_from, maps_of};
+ghost use Rattle.rambo_run.specs.Runs.{after, result_of, results_from, run_from};
 ghost use Rattle.rambo_run.specs.Steps.{refusal};
-ghost use Rattle.rambo_run.specs.Worlds.{first_world, node_at};
-ghost use Rattle.rambo_sequence.specs.Sequences.{sequence_of, sequences_of};
-ghost use Rattle.rambo_sequence.specs.StoreOrders.{NoTwice, all_calls, order_of};
+ghost use Rattle.rambo_run.specs.Worlds.{first_world};
 ghost use Rattle.rambo_run.specs.Legal.{EventsFit};
 
 use crate::nodes::Nodes;
-use rambo_config_map::ConfigMap;
-use rambo_history::{CallId, History};
+use rambo_history::History;
 use rambo_letters::Letters;
 use rambo_logs::MergedCounts;
-use rambo_names::{Name, Quorums, Refusal};
+use rambo_names::{Quorums, Refusal};
 use rambo_node::{Effect, Quick};
-use rambo_run::{NodeMap, Step, quick_of};
-use rambo_sequence::{KeySequence, Mark};
+use rambo_run::{Step, quick_of};
+use rambo_sequence::Mark;
 use rambo_tag::Replica;
 use std::alloc::Global;
 use std::marker::Model;
@@ -173,50 +169,6 @@ impl<Q: Quorums, S: Replica> State<Q, S> {
         self.history.reserve(calls.saturating_mul(2))?;
         self.marks.reserve(calls)?;
         Ok(())
-    }
-
-    // The given sequence of a key.
-    pub(crate) fn sequence(&self, alloc: Global, key: &[u8]) -> Result<Vec<CallId>, Refusal>
-        ensures calls { IfOk result (λ calls. calls.items ≡ sequence_of self.now.history self.now.marks key.now) }
-        ensures refused { IfErr result (λ r. r ≡ Refusal.OutOfMemory) }
-    {
-        rambo_sequence::sequence(alloc, &self.history, self.marks.as_slice(), key)
-    }
-
-    // The configuration map of a node.
-    pub(crate) fn map(&self, name: Name) -> &ConfigMap<Q>
-        ensures { (x : NodeState Q) → node_at self.now name ≡ Some x → result.now ≡ x.map }
-    {
-        self.nodes.node(name).map()
-    }
-
-    // The given sequences of all keys that have one.
-    pub(crate) fn sequences(&self, alloc: Global) -> Result<Vec<KeySequence>, Refusal>
-        ensures given { IfOk result (λ s. s.items ≡ sequences_of self.now.history self.now.marks) }
-        ensures refused { IfErr result (λ r. r ≡ Refusal.OutOfMemory) }
-    {
-        rambo_sequence::sequences(alloc, &self.history, self.marks.as_slice())
-    }
-
-    // The one order of the calls of all of these sequences.
-    pub(crate) fn order(
-        &self,
-        alloc: Global,
-        sequences: &[KeySequence],
-    ) -> Result<Vec<CallId>, Refusal>
-        requires { NoTwice (all_calls sequences.now) }
-        ensures given { IfOk result (λ order. order.items ≡ order_of self.now.history sequences.now) }
-        ensures refused { IfErr result (λ r. r ≡ Refusal.OutOfMemory) }
-    {
-        rambo_sequence::one_order(alloc, &self.history, sequences)
-    }
-
-    // The maps of the nodes that aren't idle.
-    pub(crate) fn maps(&self, alloc: Global) -> Result<Vec<NodeMap<Q>>, Refusal>
-        ensures maps { IfOk result (λ maps. maps.items ≡ maps_of self.now.nodes) }
-        ensures refused { IfErr result (λ r. r ≡ Refusal.OutOfMemory) }
-    {
-        self.nodes.maps(alloc)
     }
 
     // Takes the history out.

@@ -1,5 +1,5 @@
 //! Worlds.
-ghost use Rattle.std.specs.Prelude.{◌≡◌, ◌++◌, ◌∷◌, [], List, ℕ, Some, None, IfOk, IfErr, OnOk, OnErr};
+ghost use Rattle.std.specs.Prelude.{◌≡◌, ◌++◌, ◌∷◌, [], Some, None, IfOk, IfErr, OnOk, OnErr};
 ghost use Rattle.rambo_names.specs.Refusals.{least, IsRefusal};
 ghost use Rattle.rambo_history.specs.Proper.{IsProper};
 ghost use Rattle.rambo_node.specs.Nodes.{NodeState};
@@ -113,7 +113,7 @@ impl<Q: Quorums, S: Replica> World<Q, S> {
         ensures proper { IfOk result (λ calls. IsProper (state Q.system self.now).history key.now calls.items) }
         ensures refused { IfErr result (λ r. r ≡ Refusal.OutOfMemory) }
     {
-        self.state.sequence(alloc, key)
+        rambo_sequence::sequence(alloc, &self.state.history, self.state.marks.as_slice(), key)
     }
 
     /// The configuration map of a node. No two nodes, at one moment or at two, hold different configurations at one
@@ -122,6 +122,6 @@ impl<Q: Quorums, S: Replica> World<Q, S> {
         ensures agreed { Agrees Q.system self.now.founders self.now.steps }
         ensures map { (x : NodeState Q) → node_at (state Q.system self.now) name ≡ Some x → result.now ≡ x.map }
     {
-        self.state.map(name)
+        self.state.nodes.node(name).map()
     }
 }

@@ -1,19 +1,22 @@
-use Rattle.std.proofs.Common.{◌≡◌, ℕ, List, IfOk, subst}
+use Rattle.std.proofs.Common.{◌≡◌, ◌∙◌, ℕ, List, IfOk, ap, subst}
+use Rattle.std.proofs.lemmas.Result.{IfOk-weaker}
 use Rattle.rambo_history.specs.Proper.{IsProper}
 use Rattle.rambo_sequence.specs.Sequences.{sequences_of, sequence_in}
 use Rattle.rambo_run.specs.Ongoing.{RunningOf}
-use Rattle.rambo_names.proofs.Sizes.{up_fits, back_fits}
 use Rattle.rambo_world.proofs.Reached.{given_proper}
 use Rattle.rambo_world.proofs.running.RunningRun.sequences.Goals as goal
 
-pub sequences-requires : goal.sequences-requires
-sequences-requires g c = back_fits _ _ _ (up_fits _ _ _ c.requires-raw.1.1)
+-- of the state as the run has it
+given : (g : _) (c : goal.After-sequences g) → IfOk c.sequences.result (λ s. s.items ≡ sequences_of c.self.inside.state.history c.self.inside.state.marks)
+given g c =
+    let is = ap (λ i. i.state) c.self-inside.view_is in
+    IfOk-weaker c.sequences.result _ _ (λ s e. e ∙ (λ i. sequences_of (is i).history ((c.as_slice.ensures.value ∙ ap (λ w. w.marks) is) i))) c.sequences.ensures.given
 
 pub returns-clause-given : goal.returns-clause-given
 returns-clause-given g c =
-    subst (λ (v : RunningOf _). IfOk c.sequences.result (λ s. s.items ≡ sequences_of v.state.history v.state.marks)) c.self.view_is c.sequences.ensures.given
+    subst (λ (v : RunningOf _). IfOk c.sequences.result (λ s. s.items ≡ sequences_of v.state.history v.state.marks)) c.self.view_is (given g c)
 
 pub returns-clause-proper : goal.returns-clause-proper
 returns-clause-proper g c =
     subst (λ (v : RunningOf _). IfOk c.sequences.result (λ s. (key : List ℕ) → IsProper v.state.history key (sequence_in s.items key))) c.self.view_is
-    (given_proper g.Q.Quorums.system g.met.Q.Quorums.sound c.self.inside.founders c.self.inside.state _ c.sequences.result c.self.invariant c.sequences.ensures.given)
+    (given_proper g.Q.Quorums.system g.met.Q.Quorums.sound c.self.inside.founders c.self.inside.state _ c.sequences.result c.self.invariant (given g c))

@@ -1,18 +1,15 @@
-use Rattle.std.proofs.Common.{◌≡◌, ◌∙◌, sym, ap, subst, IfOk}
+use Rattle.std.proofs.Common.{◌∙◌, sym, ap, subst}
 use Rattle.rambo_sequence.specs.Sequences.{sequence_of}
 use Rattle.rambo_world.specs.Worlds.{state}
-use Rattle.rambo_names.proofs.Sizes.{up_fits, back_fits}
 use Rattle.std.proofs.lemmas.Result.{IfOk-weaker}
 use Rattle.rambo_history.specs.Proper.{IsProper}
 use Rattle.rambo_run.proofs.EveryRun.{is_atomic}
 use Rattle.rambo_world.proofs.world.World.sequence.Goals as goal
 
-pub sequence-requires : goal.sequence-requires
-sequence-requires g c = back_fits _ _ _ (up_fits _ _ _ c.requires-raw.1.1)
-
 pub returns-clause-calls : goal.returns-clause-calls
 returns-clause-calls g c =
-    subst (λ w. IfOk c.sequence.result (λ calls. calls.items ≡ sequence_of w.history w.marks c.args.key.now)) (c.self.invariant.0 ∙ ap (state g.Q.Quorums.system) c.self.view_is) c.sequence.ensures.calls
+    let is = ap (λ i. i.state) c.self-inside.view_is ∙ c.self.invariant.0 ∙ ap (state g.Q.Quorums.system) c.self.view_is in
+    IfOk-weaker c.sequence.result _ _ (λ calls e. e ∙ (λ i. sequence_of (is i).history ((c.as_slice.ensures.value ∙ ap (λ w. w.marks) is) i) c.args.key.now)) c.sequence.ensures.given
 
 pub returns-clause-proper : goal.returns-clause-proper
 returns-clause-proper g c =
