@@ -32,6 +32,8 @@ const CALL_LIMIT: usize = 64;
 
 impl<Q: Quorums, S: Replica> Node<Q, S> {
     /// Why a change that needs no memory is refused, if it is: what `ready` says of it.
+    // (who knows the kind asks for that one alone then, as of each letter that is sent)
+    #[inline(always)]
     pub fn judge_quick(&self, quick: &Quick<Q>) -> Result<(), Refusal>
         ensures ok { OnOk result (refusal_of Q.system self.now.state (quick_change quick.now) ≡ None) }
         ensures refused { IfErr result (λ r. refusal_of Q.system self.now.state (quick_change quick.now) ≡ Some r) }

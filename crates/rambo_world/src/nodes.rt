@@ -323,6 +323,7 @@ fn first_nodes<Q: Quorums, S: Replica>(
 }
 
 // Makes room in the log of a name for a copy, if there is one.
+#[inline(always)]
 fn make_room(logs: &mut Logs, name: Name, copy: &Option<KeyedVersion>) -> Result<(), Refusal>
     ensures same { logs.new.logs ≡ logs.old.logs }
     ensures room { OnOk result ((c : KeyedVersion) → copy.now ≡ Some c → logs.new.room ≡ Some (record { name = name; key = c.key })) }
