@@ -1,4 +1,4 @@
--- What letters tell of configurations, and a change, have a size where configurations have one
+-- What letters tell of configurations has a size where configurations have one
 use Rattle.std.proofs.Common.{ℕ, ◌<◌, ◌≤◌, ◌^◌, arith}
 use denote.Param.{layout, copied}
 use denote.RattleType.{RattleType}
@@ -7,10 +7,6 @@ use Rattle.rambo_names.specs.Room.{fits, room_of}
 use Rattle.rambo_names.specs.declared.quorums.Quorums
 use Rattle.std.specs.declared.cmp.PartialEq
 use Rattle.rambo_letters.specs.contracts.standing.Standing as standing
-use Rattle.rambo_node.specs.contracts.change.Change as change
 
 pub standing_fits : (i : ℕ) (T : RattleType) (qg : Quorums.Ghosts T.Denot) (pg : PartialEq.Ghosts T.Denot) → room_of T ≤ 4096 → size (layout (standing.the_row (copied i T) qg pg)) < 2 ^ 63
 standing_fits i T qg pg h = fits (layout (standing.the_row (copied i T) qg pg)) (omega (arith, h))
-
-pub change_fits : (i : ℕ) (T : RattleType) (qg : Quorums.Ghosts T.Denot) (pg : PartialEq.Ghosts T.Denot) → room_of T ≤ 4096 → size (layout (change.the_row (copied i T) qg pg)) < 2 ^ 63
-change_fits i T qg pg h = fits (layout (change.the_row (copied i T) qg pg)) (omega (arith, h))

@@ -12,10 +12,10 @@ use Rattle.rambo_node.specs.declared.prepared.Hearing.{Hearing}
 use Rattle.rambo_node.specs.declared.prepared.Prepared.{Prepared}
 use Rattle.rambo_node.specs.declared.prepared.Quick.{Quick}
 use Rattle.rambo_node.specs.Changes.{refusal_of, made_by}
-use Rattle.rambo_node.specs.FullNodes.{IsDelta, full, beside_after}
+use Rattle.rambo_node.specs.FullNodes.{IsDelta, full}
 use Rattle.rambo_node.specs.Letters.{letter_for}
 use Rattle.rambo_node.specs.Nodes.{RoomyNode}
-use Rattle.rambo_node.specs.Prepared.{IsHearing, IsPrepared, Prepares, change_of, quick_change}
+use Rattle.rambo_node.specs.Prepared.{IsHearing, Prepares, quick_change}
 use Rattle.rambo_node.proofs.Readiness.{quick_prepares}
 use Rattle.rambo_run.specs.Steps.{sends}
 use Rattle.rambo_run.proofs.Lists.{none-some}
@@ -45,19 +45,6 @@ module _ {Q : Type 0} (s : QuorumSystem Q) (v : RoomyNode Q) where
   call_ready c p b ok silent h is =
       let there = subst (Prepares s v c) (sym is) h in
       record { accepted = ok; half = there; event = there.event; mark = there.mark; letter = no_letter _ (quiet_made v.state c silent) }
-
-  -- what a node itself makes ready, which stays
-  pub made_ready : (w : RoomyNode Q) (c : Change Q) (p : Prepared Q) → w.state ≡ v.state → w.beside ≡ v.beside → IsPrepared s w p → made_by v.state (change_of p) ≡ made_by v.state c
-      → beside_after v.state v.beside (change_of p) ≡ beside_after v.state v.beside c → p.event ≡ (made_by v.state c).deed.event → p.mark ≡ (made_by v.state c).deed.mark → p.copy ≡ (made_by v.state c).deed.copy
-      → Prepares s w c p
-  made_ready w c p same beside prepared comes after event mark copy = record {
-    prepared = prepared;
-    same = subst (λ x. made_by x (change_of p) ≡ made_by x c) (sym same) comes;
-    beside = (λ i. beside_after (same i) (beside i) (change_of p)) ∙ after ∙ sym (λ i. beside_after (same i) (beside i) c);
-    event = event ∙ sym (ap (λ x. (made_by x c).deed.event) same);
-    mark = mark ∙ sym (ap (λ x. (made_by x c).deed.mark) same);
-    copy = copy ∙ sym (ap (λ x. (made_by x c).deed.copy) same);
-  }
 
   pub quick_ready : (q : Quick Q) → refusal_of s v.state (quick_change q) ≡ None → sends (quick_change q) ≡ false → IsReadyStep s v None (quick_change q) (half.Quick q)
   quick_ready q ok silent =

@@ -19,7 +19,7 @@ use crate::worker::Worker;
 use rambo_history::{CallId, Op};
 use rambo_letters::Standing;
 use rambo_names::{Name, Quorums, Refusal};
-use rambo_node::{Change, Effect, Hearing, Node, Prepared, Quick};
+use rambo_node::{Effect, Hearing, Node, Prepared, Quick};
 use rambo_run::{Step, quick_of};
 use rambo_tag::Replica;
 use std::alloc::Global;
@@ -120,7 +120,7 @@ impl<Q: Quorums, S: Replica> Worker<Q, S> {
             Step::Send(_, to) => {
                 ready_send(alloc, &self.node, &mut self.told, &mut self.carried, *to)
             }
-            Step::Advance(id) => ready_change(alloc, &mut self.node, Change::Advance(*id)),
+            Step::Advance(id) => ready_advance(alloc, &mut self.node, id),
             Step::Deliver(_) => ready_delivery(alloc, &mut self.node, letter),
             _ => match quick_of(step) {
                 Some(meant) => ready_quick(&self.node, meant.1),
@@ -199,24 +199,24 @@ fn ready_call<Q: Quorums, S: Replica>(
     ensures refused { IfErr result (IsRefusal (refusal_of Q.system node.old.state (change.Call op.now))) }
 {
     node.may_call(op)?;
-    let asked = op.clone()?;
-    ready_change(alloc, node, Change::Call(asked))
+    let prepared = node.prepare_call(op)?;
+    Ok(Half::Call(Box::new(alloc, prepared)?))
 }
 
-// That of a change that sends no letter, which the node itself makes ready.
-fn ready_change<Q: Quorums, S: Replica>(
+// That of the advance of one.
+fn ready_advance<Q: Quorums, S: Replica>(
     alloc: Global,
     node: &mut Node<Q, S>,
-    change: Change<Q>,
+    id: &CallId,
 ) -> Result<Half<Q>, Refusal>
-    requires { sends change ≡ false }
-    ensures judged { OnOk result (refusal_of Q.system node.old.state change ≡ None) }
+    ensures judged { OnOk result (refusal_of Q.system node.old.state (change.Advance id.now) ≡ None) }
     ensures same { node.new.state ≡ node.old.state }
     ensures beside { node.new.beside ≡ node.old.beside }
-    ensures ready { IfOk result (IsReadyStep Q.system node.new None change) }
-    ensures refused { IfErr result (IsRefusal (refusal_of Q.system node.old.state change)) }
+    ensures ready { IfOk result (IsReadyStep Q.system node.new None (change.Advance id.now)) }
+    ensures refused { IfErr result (IsRefusal (refusal_of Q.system node.old.state (change.Advance id.now))) }
 {
-    let prepared = node.ready(&change)?;
+    let place = node.may_advance(id)?;
+    let prepared = node.prepare_advance(*id, place)?;
     Ok(Half::Call(Box::new(alloc, prepared)?))
 }
 

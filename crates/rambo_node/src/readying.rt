@@ -144,10 +144,12 @@ impl<Q: Quorums, S: Replica> Node<Q, S> {
         Ok(Prepared::quiet(Turn::Quick(quick)))
     }
 
-    // Of a call that isn't refused.
+    /// The first half of a call that isn't refused: room is made for it. The node stays, whatever the answer.
+    ///
+    /// `OutOfMemory` where there is no room for it.
     // (what is prepared is large, and where this is inlined the other kinds clear its room)
     #[inline(never)]
-    fn prepare_call(&mut self, op: &Op) -> Result<Prepared<Q>, Refusal>
+    pub fn prepare_call(&mut self, op: &Op) -> Result<Prepared<Q>, Refusal>
         requires { refusal_of Q.system self.old.state (change.Call op.now) ≡ None }
         ensures same { self.new.state ≡ self.old.state }
         ensures beside { self.new.beside ≡ self.old.beside }
@@ -179,10 +181,13 @@ impl<Q: Quorums, S: Replica> Node<Q, S> {
         Ok(Prepared::quiet(Turn::Hear(turn)))
     }
 
-    // Of the advance of a call that may go on, which stands at this place.
+    /// The first half of the advance of a call that may go on, which stands at this place: room is made for the copy that it
+    /// puts, and what it will do is found. The node stays, whatever the answer.
+    ///
+    /// `OutOfMemory` where there is no room for it.
     // (as above)
     #[inline(never)]
-    fn prepare_advance(&mut self, id: CallId, place: usize) -> Result<Prepared<Q>, Refusal>
+    pub fn prepare_advance(&mut self, id: CallId, place: usize) -> Result<Prepared<Q>, Refusal>
         requires { IsFound Q.system self.old.state id place }
         ensures same { self.new.state ≡ self.old.state }
         ensures beside { self.new.beside ≡ self.old.beside }

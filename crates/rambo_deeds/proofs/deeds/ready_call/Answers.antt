@@ -1,9 +1,15 @@
-use Rattle.std.proofs.Common.{IfErr, IfOk, refl, ap, subst}
-use Rattle.rambo_names.specs.Refusals.{IsRefusal}
+use Rattle.std.proofs.Common.{refl, ap, ◌∙◌}
 use Rattle.rambo_node.specs.Changes.{refusal_of}
 use Rattle.rambo_node.specs.declared.change.Change.TheVariants as change
-use Rattle.rambo_deeds.proofs.Fitting.{change_fits}
+use Rattle.rambo_deeds.proofs.Halves.{call_ready}
 use Rattle.rambo_deeds.proofs.deeds.ready_call.Goals as goal
 
-pub ready_change-requires : goal.ready_change-requires
-ready_change-requires g c = (c.requires-raw.1.1, (change_fits 0 g.row.Q g.Q.Quorums g.Q.PartialEq g.met.Q.Quorums.small, refl))
+pub prepare_call-requires : goal.prepare_call-requires
+prepare_call-requires g c = (c.requires-raw.1.1, c.in_ok-may_call.ensures.ok)
+
+pub returns-clause-ready : goal.returns-clause-ready
+returns-clause-ready g c =
+    let s = g.Q.Quorums.system in
+    let ch = change.Call c.args.op.now in
+    let ok = ap (λ x. refusal_of s x ch) c.prepare_call.ensures.same ∙ c.in_ok-may_call.ensures.ok in
+    call_ready s c.prepare_call.new.self ch c.in_ok-prepared.prepared c.in_ok-new.field-0 ok refl c.in_ok-prepared.ensures.prepares c.in_ok-new.ensures.ok

@@ -1,4 +1,4 @@
-use Rattle.std.proofs.Common.{None, IfOk, refl, ap, sym, ◌∙◌, subst}
+use Rattle.std.proofs.Common.{None, IfOk, ap, sym, ◌∙◌, subst}
 use Rattle.std.specs.Option.{option_copied}
 use Rattle.rambo_node.specs.declared.change.Change.TheVariants as change
 use Rattle.rambo_node.specs.Nodes.{RoomyNode}
@@ -6,7 +6,7 @@ use Rattle.rambo_node.specs.Prepared.{quick_change}
 use Rattle.rambo_run.proofs.QuickSteps.{quick_else}
 use Rattle.rambo_names.proofs.Sizes.{up_fits, back_fits}
 use Rattle.rambo_deeds.specs.Deeds.{meant_by, IsReadyStep}
-use Rattle.rambo_deeds.proofs.Fitting.{standing_fits, change_fits}
+use Rattle.rambo_deeds.proofs.Fitting.{standing_fits}
 use Rattle.rambo_deeds.proofs.Means.{cleared, told, ready_after, cleared_as, told_as, ready_as, quick_by, quick_silent}
 use Rattle.rambo_deeds.proofs.worker.Worker.ready.Goals as goal
 
@@ -16,8 +16,8 @@ ready_send-requires g c = (back_fits _ _ _ (up_fits _ _ _ c.requires-raw.1.1), s
 pub ready_call-requires : goal.ready_call-requires
 ready_call-requires g c = back_fits _ _ _ (up_fits _ _ _ c.requires-raw.1.1)
 
-pub ready_change-requires : goal.ready_change-requires
-ready_change-requires g c = (back_fits _ _ _ (up_fits _ _ _ c.requires-raw.1.1), (change_fits 0 g.row.Q g.Q.Quorums g.Q.PartialEq g.met.Q.Quorums.small, refl))
+pub ready_advance-requires : goal.ready_advance-requires
+ready_advance-requires g c = back_fits _ _ _ (up_fits _ _ _ c.requires-raw.1.1)
 
 pub ready_delivery-requires : goal.ready_delivery-requires
 ready_delivery-requires g c = back_fits _ _ _ (up_fits _ _ _ c.requires-raw.1.1)
@@ -63,17 +63,17 @@ returns-in-Send-clause-ready g c =
 pub returns-in-Advance-clause-judged : goal.returns-in-Advance-clause-judged
 returns-in-Advance-clause-judged g c =
     let o = option_copied c.args.letter in
-    cleared g.Q.Quorums.system c.self.inside.node.state c.args.self.now.state (ap (λ (v : RoomyNode _). v.state) c.self.view_is) o c.args.step.now (change.Advance c.in-Advance.id) c.ready_change.result (c.in-Advance.id.name, ap (meant_by o) c.in-Advance.is) c.ready_change.ensures.judged
+    cleared g.Q.Quorums.system c.self.inside.node.state c.args.self.now.state (ap (λ (v : RoomyNode _). v.state) c.self.view_is) o c.args.step.now (change.Advance c.in-Advance.id) c.ready_advance.result (c.in-Advance.id.name, ap (meant_by o) c.in-Advance.is) c.ready_advance.ensures.judged
 
 pub returns-in-Advance-clause-refused : goal.returns-in-Advance-clause-refused
 returns-in-Advance-clause-refused g c =
     let o = option_copied c.args.letter in
-    told g.Q.Quorums.system c.self.inside.node.state c.args.self.now.state (ap (λ (v : RoomyNode _). v.state) c.self.view_is) o c.args.step.now (change.Advance c.in-Advance.id) c.ready_change.result (c.in-Advance.id.name, ap (meant_by o) c.in-Advance.is) c.ready_change.ensures.refused
+    told g.Q.Quorums.system c.self.inside.node.state c.args.self.now.state (ap (λ (v : RoomyNode _). v.state) c.self.view_is) o c.args.step.now (change.Advance c.in-Advance.id) c.ready_advance.result (c.in-Advance.id.name, ap (meant_by o) c.in-Advance.is) c.ready_advance.ensures.refused
 
 pub returns-in-Advance-clause-ready : goal.returns-in-Advance-clause-ready
 returns-in-Advance-clause-ready g c =
     let o = option_copied c.args.letter in
-    ready_after g.Q.Quorums.system c.ready_change.new.node o c.args.step.now (change.Advance c.in-Advance.id) c.ready_change.result (c.in-Advance.id.name, ap (meant_by o) c.in-Advance.is) c.ready_change.ensures.ready
+    ready_after g.Q.Quorums.system c.ready_advance.new.node o c.args.step.now (change.Advance c.in-Advance.id) c.ready_advance.result (c.in-Advance.id.name, ap (meant_by o) c.in-Advance.is) c.ready_advance.ensures.ready
 
 pub returns-in-Deliver-clause-judged : goal.returns-in-Deliver-clause-judged
 returns-in-Deliver-clause-judged g c =
