@@ -1,9 +1,8 @@
 //! The open calls of a node, the oldest first.
 ghost use Rattle.std.specs.Prelude.{◌≡◌, ◌<◌, ◌≤◌, ◌++◌, ◌∷◌, [], IsOk, OnOk, IfErr, remove, slice_get, map as list_map};
-ghost use Rattle.std.specs.Option.{option_copied};
 ghost use Rattle.rambo_calls.specs.Calls.{place_of};
 ghost use Rattle.rambo_calls.specs.Hearing.{any_gap, restarted, heard_call};
-ghost use Rattle.rambo_calls.specs.Kept.{calls_of, call_found, with_call, propagating, IsRoomy};
+ghost use Rattle.rambo_calls.specs.Kept.{calls_of, with_call, propagating, IsRoomy};
 ghost use Rattle.rambo_phase.specs.Phases.{started};
 ghost use Rattle.rambo_calls.specs.declared.stage.Stage.TheVariants.{Query};
 
@@ -190,13 +189,6 @@ impl<Q: Quorums> OpenCalls<Q> {
         place_of(self.list.as_slice(), number)
     }
 
-    /// The call at a place, if there is one.
-    pub fn get(&self, place: usize) -> Option<&OpenCall<Q>>
-        ensures { call_found (option_copied result) ≡ slice_get (calls_of self.now.list) place }
-    {
-        call_at(self.list.as_slice(), place)
-    }
-
     /// Whether a letter with this heard number and map restarts a phase: whether it is a reply whose map leaves a gap.
     pub fn any_gap(&self, heard: u64, map: &ConfigMap<Q>) -> bool
         ensures { result ≡ any_gap heard map.now (calls_of self.now.list) }
@@ -218,12 +210,6 @@ fn place_of<Q: Quorums>(calls: &[OpenCall<Q>], number: u64) -> usize
         rest = others;
     }
     count
-}
-
-fn call_at<Q: Quorums>(calls: &[OpenCall<Q>], place: usize) -> Option<&OpenCall<Q>>
-    ensures { call_found (option_copied result) ≡ slice_get (calls_of calls.now) place }
-{
-    calls.get(place)
 }
 
 fn any_gap<Q: Quorums>(calls: &[OpenCall<Q>], heard: u64, map: &ConfigMap<Q>) -> bool

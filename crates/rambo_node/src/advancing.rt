@@ -140,7 +140,7 @@ impl<Q: Quorums, S: Replica> Node<Q, S> {
         ensures refused { IfErr result (λ r. r ≡ Refusal.OutOfMemory) }
         ensures err { OnErr result (deed.new ≡ deed.old) }
     {
-        tell_answered(deed, id, self.calls.get(place))
+        tell_answered(deed, id, self.call_at(place))
     }
 
     // A set takes the next tag of its key, and its new copy will be put and go round.

@@ -220,7 +220,7 @@ impl<Q: Quorums, S: Replica> Node<Q, S> {
             return Err(Refusal::Stopped);
         }
         let place = self.place_of(id);
-        let call = self.calls.get(place);
+        let call = self.call_at(place);
         if is_missing(call) {
             return Err(Refusal::NoSuchCall);
         }
@@ -244,7 +244,7 @@ impl<Q: Quorums, S: Replica> Node<Q, S> {
         if self.status.is_stopped() {
             return Err(Refusal::Stopped);
         }
-        if is_missing(self.calls.get(self.place_of(id))) {
+        if is_missing(self.call_at(self.place_of(id))) {
             return Err(Refusal::NoSuchCall);
         }
         if is_last(self.number) {

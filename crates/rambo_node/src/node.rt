@@ -179,11 +179,18 @@ impl<Q: Quorums, S: Replica> Node<Q, S> {
         self.calls.as_slice()
     }
 
+    // The open call at a place, if there is one.
+    pub(crate) fn call_at(&self, place: usize) -> Option<&OpenCall<Q>>
+        ensures { call_found (option_copied result) ≡ slice_get self.now.state.calls place }
+    {
+        self.calls().get(place)
+    }
+
     // What the open call at a place asks for, if there is one that is in its query.
     pub(crate) fn query_at(&self, place: usize) -> Option<&Op>
         ensures { option_copied result ≡ query_in (slice_get self.now.state.calls place) }
     {
-        query_of(self.calls.get(place))
+        query_of(self.call_at(place))
     }
 }
 

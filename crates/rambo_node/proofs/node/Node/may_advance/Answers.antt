@@ -1,4 +1,4 @@
-use Rattle.std.proofs.Common.{slice_get, sym, ap, ◌∙◌}
+use Rattle.std.proofs.Common.{sym, ap, ◌∙◌}
 use Rattle.rambo_joiner.specs.Statuses.{is_early, is_stopped}
 use Rattle.rambo_calls.specs.Calls.{is_missing, is_unmet, query_in}
 use Rattle.rambo_node.specs.Refusals.{query_spent}
@@ -15,10 +15,10 @@ is_missing-requires g c = variant_fits _ _ _ _ (back_fits _ _ _ (up_fits _ _ _ (
 pub place_of-place-requires : goal.place_of-place-requires
 place_of-place-requires g c = assumption
 
-pub get-call-requires : goal.get-call-requires
-get-call-requires g c =
+pub call_at-call-requires : goal.call_at-call-requires
+call_at-call-requires g c =
     let calls = back_fits _ _ _ (next _ _ _ _ (up_fits _ _ _ c.requires-raw.1.1)) in
-    (calls, variant_fits _ _ _ _ (back_fits _ _ _ (up_fits _ _ _ calls)))
+    (c.requires-raw.1.1, variant_fits _ _ _ _ (back_fits _ _ _ (up_fits _ _ _ calls)))
 
 pub query_of-requires : goal.query_of-requires
 query_of-requires g c = variant_fits _ _ _ _ (back_fits _ _ _ (up_fits _ _ _ (back_fits _ _ _ (next _ _ _ _ (up_fits _ _ _ c.requires-raw.1.1)))))
@@ -38,7 +38,7 @@ returns-clause-ok g c =
     let x = c.args.self.now.state in
     let id = c.args.id.now in
     let place = c.place_of-place in
-    let found = c.get-call.ensures ∙ ap (λ v. slice_get v.state.calls place.result) c.self.view_is ∙ place.ensures.found in
+    let found = c.call_at-call.ensures ∙ place.ensures.found in
     let early = sym (c.is_early.ensures ∙ ap (λ v. is_early v.state.status) c.self.view_is) ∙ c.if-is_early.false in
     let over = sym (c.is_stopped.ensures ∙ ap (λ v. is_stopped v.state.status) c.self.view_is) ∙ c.if-is_stopped.false in
     let there = sym (c.is_missing.ensures ∙ ap is_missing found) ∙ c.if-is_missing.false in

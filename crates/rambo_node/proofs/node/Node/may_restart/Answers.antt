@@ -10,10 +10,10 @@ is_last-requires g c = assumption
 pub place_of-requires : goal.place_of-requires
 place_of-requires g c = assumption
 
-pub get-requires : goal.get-requires
-get-requires g c =
+pub call_at-requires : goal.call_at-requires
+call_at-requires g c =
     let calls = back_fits _ _ _ (next _ _ _ _ (up_fits _ _ _ c.requires-raw.1.1)) in
-    (calls, variant_fits _ _ _ _ (back_fits _ _ _ (up_fits _ _ _ calls)))
+    (c.requires-raw.1.1, variant_fits _ _ _ _ (back_fits _ _ _ (up_fits _ _ _ calls)))
 
 pub is_missing-requires : goal.is_missing-requires
 is_missing-requires g c = variant_fits _ _ _ _ (back_fits _ _ _ (up_fits _ _ _ (back_fits _ _ _ (next _ _ _ _ (up_fits _ _ _ c.requires-raw.1.1)))))
