@@ -15,7 +15,7 @@ use rambo_history::{CallId, Op};
 use rambo_joiner::Status;
 use rambo_names::{Members, Name, Quorums};
 use rambo_paxos::{Attempt, Vote};
-use rambo_tag::{Replica, Version};
+use rambo_tag::Replica;
 use std::alloc::Global;
 use std::marker::Model;
 
@@ -131,13 +131,6 @@ impl<Q: Quorums, S: Replica> Node<Q, S> {
             attempt: None,
             vote: Vote::new(),
         }
-    }
-
-    /// The copy that it holds of a key, if there is one.
-    pub fn copy(&self, key: &[u8]) -> Option<&Version>
-        ensures { option_copied result ≡ map.get self.now.state.registers key.now }
-    {
-        self.registers.copy(key)
     }
 
     /// The configuration map.
