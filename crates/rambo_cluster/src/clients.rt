@@ -26,7 +26,11 @@ impl<J: Terms<Weighted>> Hub<J> {
         self.unload(rt, pass, place);
         let number = self.call(rt, pass, place, name, op)?;
         let answer = self.wait_at(rt, gate, pass, place, name, number);
-        self.forget(rt, name, number);
+        match &answer {
+            // (who is answered has left the desk)
+            Ok(Some(_)) => {}
+            _ => self.forget(rt, name, number),
+        }
         self.hand_over(rt);
         answer
     }
@@ -53,7 +57,7 @@ impl<J: Terms<Weighted>> Hub<J> {
         !self.rooms.of(name).desk.lock(rt).is_empty()
     }
 
-    // Calls, and notes who waits. The desk is held meanwhile, so that no advance of the call is noted before.
+    // Calls, and notes who waits, before any advance of the call can be noted.
     fn call<R: Wait>(
         &self,
         rt: &R,
@@ -62,10 +66,13 @@ impl<J: Terms<Weighted>> Hub<J> {
         name: Name,
         op: Op,
     ) -> Result<u64, Refusal> {
-        let mut desk = self.rooms.of(name).desk.lock(rt);
-        let number = self.post.call(rt, pass, name, op)?.number;
-        desk.await_call(number, place)?;
-        Ok(number)
+        let desk = &self.rooms.of(name).desk;
+        let mut awaited = Ok(());
+        let id = self.post.call_noted(rt, pass, name, op, |id| {
+            awaited = desk.lock(rt).await_call(id.number, place);
+        })?;
+        awaited?;
+        Ok(id.number)
     }
 
     // Nobody waits for a call any more.
@@ -103,6 +110,7 @@ impl<J: Terms<Weighted>> Hub<J> {
             self.point_at(name);
             let worked = self.work(rt, gate, || bell.has_rung(rt));
             let is_over = self.is_full() || self.is_closing();
+            let rang = is_over || worked.is_err() || bell.wait_briefly(rt);
             if let Some(answer) = self.post.take_answer(rt, pass, CallId { name, number })? {
                 return Ok(Some(answer));
             }
@@ -110,7 +118,7 @@ impl<J: Terms<Weighted>> Hub<J> {
             if is_over {
                 return self.unanswered();
             }
-            if !bell.wait_briefly(rt) {
+            if !rang {
                 self.remind(rt, name, number);
             }
         }

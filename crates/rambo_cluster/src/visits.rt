@@ -60,13 +60,16 @@ impl<J: Terms<Weighted>> Hub<J> {
             return self.leave(rt, name, refusal);
         }
         let asked = self.asked(rt, name);
+        let readers = names_in(owes).union(asked);
         let mut done = Ok(());
-        for to in names_in(owes).union(asked).iter() {
+        for to in readers.iter() {
             if let Err(refusal) = self.write(rt, name, to, asked.has(to)) {
                 done = self.leave_letter(rt, name, to, refusal);
             }
         }
-        self.note_laden(rt, name);
+        if !readers.is_subset(Members::empty()) {
+            self.note_laden(rt, name);
+        }
         done
     }
 

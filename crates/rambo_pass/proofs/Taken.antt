@@ -1,5 +1,5 @@
 -- What taking an answer says of what the client has then seen
-use Rattle.std.proofs.Common.{◌≡◌, ◌⊎◌, Option, Some, None, Result, Ok, Err, OnOk, IfOk, IfErr, sym, ◌∙◌, subst, inl, inr}
+use Rattle.std.proofs.Common.{◌≡◌, ◌⊎◌, Option, Some, None, MatchOption, Result, Ok, Err, OnOk, IfOk, IfErr, sym, ◌∙◌, subst, inl, inr}
 use mathlib.Core.List.{IsPrefix}
 use Rattle.rambo_names.specs.declared.refusal.Refusal.{Refusal}
 use Rattle.rambo_names.specs.declared.refusal.Refusal.TheVariants.{OutOfMemory, NoSuchCall, Stopped}
@@ -22,6 +22,13 @@ module _ {Q : Type 0} (s : QuorumSystem Q) (agreed : Option Q) (b : BookView Q) 
   answer_of (Ok a) seen h = λ f e. h ∙ λ i. answer_in (run s (some_inj b.founders f (sym founded ∙ e) i) (sym seen i)).history id
   answer_of (Err r) seen h = h
 
+  pub given_of : (r : Result (Option Answer) Refusal) → IfOk r (λ a. MatchOption a (after ≡ before) (λ _. after.seen ≡ b.steps)) → IsLegal s b.founders b.steps → IfOk r (λ a. a ≡ answer_in (state s b).history id)
+      → IfOk r (λ a. MatchOption a (after ≡ before) (λ x. (f : Q) → agreed ≡ Some f → IsLegal s f after.seen × (answer_in (run s f after.seen).history id ≡ Some x)))
+  given_of (Ok None) seen h is = seen
+  given_of (Ok (Some a)) seen h is = λ f e. subst (λ f. IsLegal s f after.seen × (answer_in (run s f after.seen).history id ≡ Some a)) (some_inj b.founders f (sym founded ∙ e))
+      (subst (λ l. IsLegal s b.founders l × (answer_in (run s b.founders l).history id ≡ Some a)) (sym seen) (h, sym is))
+  given_of (Err r) seen h is = tt
+
   pub why_not : {A : Type 0} (r : Result A Refusal)
       → IfErr r (λ r. ((r ≡ OutOfMemory) × (after ≡ before))
       ⊎ (((r ≡ NoSuchCall) × (after ≡ before) × IsNone before.mine id)
@@ -42,3 +49,18 @@ module _ {Q : Type 0} (s : QuorumSystem Q) (agreed : Option Q) (b : BookView Q) 
       ))
     ]
   ]
+
+-- where an answer isn't given, the pass stays; so is told by a client who takes it
+pub refused_so : {Q : Type 0} {before after : PassView Q} {id : CallId} {r : Refusal} {X : Type 0} → after ≡ before → (r ≡ OutOfMemory) ⊎ ((r ≡ NoSuchCall) × IsNone before.mine id)
+    → ((r ≡ OutOfMemory) × (after ≡ before)) ⊎ (((r ≡ NoSuchCall) × (after ≡ before) × IsNone before.mine id) ⊎ X)
+refused_so same h = elim h [
+  | inl m ↦ inl (m, same)
+  | inr n ↦ inr (inl (n.0, same, n.1))
+]
+
+-- so is told by a client who takes it from the run that the steps give
+pub why_ungiven : {Q : Type 0} (s : QuorumSystem Q) (f : Q) {before after : PassView Q} {id : CallId} {r : Refusal} → after ≡ before → (r ≡ OutOfMemory) ⊎ ((r ≡ NoSuchCall) × IsNone before.mine id) → WhyNot s f before after id r
+why_ungiven s f same h = elim h [
+  | inl m ↦ inl (m, same)
+  | inr n ↦ inr (inl (n.0, (same, n.1)))
+]

@@ -1,5 +1,5 @@
 //! What was answered, as a client sees it.
-ghost use Rattle.std.specs.Prelude.{◌≡◌, ◌<◌, ◌⊎◌, ℕ, Some, None, true, length, OnOk, OnErr, IfOk, IfErr};
+ghost use Rattle.std.specs.Prelude.{◌≡◌, ◌⊎◌, Some, None, true, MatchOption, OnOk, OnErr, IfOk, IfErr};
 ghost use Rattle.std.specs.Option.{option_copied};
 ghost use mathlib.Core.List.{IsPrefix};
 ghost use Rattle.rambo_history.specs.Histories.{answer_in};
@@ -7,7 +7,7 @@ ghost use Rattle.rambo_book.specs.Kept.{state};
 ghost use Rattle.rambo_run.specs.Worlds.{node_at};
 ghost use Rattle.rambo_joiner.specs.Statuses.{is_stopped};
 ghost use Rattle.rambo_run.specs.Legal.{IsLegal};
-ghost use Rattle.rambo_pass.specs.Passes.{noted, entry_at, IsNoted, IsNone, HasStopped};
+ghost use Rattle.rambo_pass.specs.Passes.{IsNoted, IsNone, HasStopped};
 
 use crate::pass::Pass;
 use rambo_book::{Book, Keeper, Terms};
@@ -26,34 +26,41 @@ fn share(answer: Option<&Answer>) -> Result<Option<Answer>, Refusal>
     }
 }
 
-/// The answer of the call of an entry, for a client who has then seen all steps.
+/// The answer of a call of this client, if the steps have one: the client has then seen all of them. Else the pass stays.
 ///
-/// `OutOfMemory` where an answer can't be shared; the pass is then as it was.
-pub fn answer_in<J: Terms<Q>, Q: Quorums>(
+/// `NoSuchCall` where the call isn't this client's; `OutOfMemory` where the answer can't be shared. The pass is then as it was.
+pub fn take_given<J: Terms<Q>, Q: Quorums>(
     book: &mut Book<J, Q>,
     pass: &mut Pass<J, Q>,
-    at: usize,
+    id: &CallId,
 ) -> Result<Option<Answer>, Refusal>
-    requires { at < length pass.old.mine }
+    ensures founders { J.founders ≡ Some book.old.founders }
+    ensures legal { IsLegal Q.system book.old.founders book.old.steps }
     ensures book { book.new ≡ book.old }
-    ensures seen { OnOk result (pass.new.seen ≡ book.old.steps) }
+    ensures seen { IfOk result (λ a. MatchOption a (pass.new ≡ pass.old) (λ _. pass.new.seen ≡ book.old.steps)) }
     ensures begins { OnOk result (IsPrefix pass.old.seen pass.new.seen) }
-    ensures legal { OnOk result (IsLegal Q.system book.old.founders pass.new.seen) }
-    ensures answer { IfOk result (λ a. a ≡ answer_in (state Q.system book.old).history (entry_at pass.old.mine at).id) }
-    ensures mine { IfOk result (λ a. pass.new.mine ≡ noted pass.old.mine at a) }
-    ensures err { IfErr result (λ r. (r ≡ Refusal.OutOfMemory) × (pass.new ≡ pass.old)) }
+    ensures answer { IfOk result (λ a. a ≡ answer_in (state Q.system book.old).history id.now) }
+    ensures mine { IfOk result (λ a. IsNoted pass.old.mine id.now a pass.new.mine) }
+    ensures err { OnErr result (pass.new ≡ pass.old) }
+    ensures cause { IfErr result (λ r. (r ≡ Refusal.OutOfMemory) ⊎ ((r ≡ Refusal.NoSuchCall) × IsNone pass.old.mine id.now)) }
 {
+    book.facts();
     let Pass { seen, count, mine } = pass;
-    let id = mine.id_at(at);
-    let answer = share(book.answer(&id))?;
+    let Some(at) = mine.find(id) else {
+        return Err(Refusal::NoSuchCall);
+    };
+    let answer = share(book.answer(id))?;
     let kept = share(answer.as_ref())?;
+    if answer.is_none() {
+        return Ok(None);
+    }
     *count = book.show(seen);
     mine.note(at, kept);
     Ok(answer)
 }
 
-/// Whether the node of the keeper has stopped.
-pub fn has_stopped<J: Terms<Q>, Q: Quorums, S: Replica>(
+// Whether the node of the keeper has stopped.
+fn has_stopped<J: Terms<Q>, Q: Quorums, S: Replica>(
     book: &mut Book<J, Q>,
     keeper: &mut Keeper<J, Q, S>,
 ) -> bool
@@ -89,13 +96,13 @@ pub fn take_in<J: Terms<Q>, Q: Quorums, S: Replica>(
         ⊎ ((r ≡ Refusal.Stopped) × (pass.new.seen ≡ book.old.steps) × IsPrefix pass.old.seen pass.new.seen × (answer_in (state Q.system book.old).history id ≡ None) × HasStopped (state Q.system book.old) id.name)) }
 {
     book.facts();
-    let Some(at) = pass.mine.find(&id) else {
-        return Err(Refusal::NoSuchCall);
-    };
-    let answer = answer_in(book, pass, at)?;
+    if let Some(answer) = take_given(book, pass, &id)? {
+        return Ok(Some(answer));
+    }
     let stopped = has_stopped(book, keeper);
-    if answer.is_none() && stopped {
+    pass.see_all(book);
+    if stopped {
         return Err(Refusal::Stopped);
     }
-    Ok(answer)
+    Ok(None)
 }

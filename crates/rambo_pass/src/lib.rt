@@ -2,7 +2,7 @@
 //!
 //! - `Pass`: what one client has seen, and its calls; `Entry`: one of these.
 //! - `named`: of whose node a step is.
-//! - `act_in`, `act_ready_in`, `call_in`, `take_in`, `meet_in`: what a client does; `close_in`: the end, `Closed`.
+//! - `act_in`, `act_ready_in`, `call_in`, `take_given`, `take_in`, `meet_in`: what a client does; `close_in`: the end, `Closed`.
 #![tactic(auto)]
 
 mod answer;
@@ -11,7 +11,7 @@ mod mine;
 mod naming;
 mod pass;
 
-pub use answer::{answer_in, has_stopped, take_in};
+pub use answer::{take_given, take_in};
 pub use closing::{Closed, close_in};
 pub use mine::Entry;
 pub use naming::named;

@@ -78,6 +78,15 @@ impl<J: Terms<Q>, Q: Quorums> Pass<J, Q> {
         book.begun(&mut self.seen);
     }
 
+    // It has seen all steps of the book from now on.
+    pub(crate) fn see_all(&mut self, book: &mut Book<J, Q>)
+        ensures book { book.new ≡ book.old }
+        ensures pass { self.new ≡ record { seen = book.old.steps; mine = self.old.mine } }
+        ensures begins { IsPrefix self.old.seen book.old.steps }
+    {
+        self.count = book.show(&mut self.seen);
+    }
+
     // It sees what `from` has seen.
     fn copy(&mut self, book: &Book<J, Q>, from: &mut Pass<J, Q>)
         ensures from { from.new ≡ from.old }

@@ -1,5 +1,5 @@
 //! The locks.
-ghost use Rattle.std.specs.Prelude.{◌≡◌, ◌<◌, ◌≤◌, ◌⊎◌, [], None, Some, true, false, length, vec_len, IsOk, OnOk, OnErr, IfOk, IfErr, IfSome, All};
+ghost use Rattle.std.specs.Prelude.{◌≡◌, ◌<◌, ◌≤◌, ◌⊎◌, [], None, Some, true, false, length, vec_len, IsOk, MatchOption, OnOk, OnErr, IfOk, IfErr, IfSome, All};
 ghost use Rattle.std.specs.FinMap as map;
 ghost use Rattle.std.specs.FinSet as set;
 ghost use Rattle.rambo_names.specs.Refusals.{least, IsRefusal};
@@ -12,7 +12,7 @@ ghost use Rattle.rambo_book.specs.Kept.{IsServedBy, Told, state};
 ghost use Rattle.rambo_run.specs.Legal.{IsLegal};
 ghost use Rattle.rambo_history.specs.Histories.{answer_in};
 ghost use Rattle.rambo_history.specs.Proper.{IsProperForAll};
-ghost use Rattle.rambo_pass.specs.Passes.{Acted, IsNoted, WhyNot};
+ghost use Rattle.rambo_pass.specs.Passes.{Acted, IsNone, IsNoted, WhyNot};
 
 use crate::gate::Gate;
 use rambo_book::{Actor, Book, Keeper, Terms, ready};
@@ -21,7 +21,9 @@ use rambo_history::{Answer, CallId, Op};
 use rambo_mail::Mails;
 use rambo_names::{Members, Name, Quorums, Refusal};
 use rambo_node::Effect;
-use rambo_pass::{Closed, Pass, act_in, act_ready_in, call_in, close_in, meet_in, named, take_in};
+use rambo_pass::{
+    Closed, Pass, act_in, act_ready_in, call_in, close_in, meet_in, named, take_given, take_in,
+};
 use rambo_roll::Opened;
 use rambo_run::{Step, may_found};
 use rambo_tag::Replica;
@@ -128,10 +130,36 @@ impl<J: Terms<Q>, Q: Quorums, S: Replica> Post<J, Q, S> {
         ensures memory { IfErr result (λ r. r ≡ Refusal.OutOfMemory → pass.new ≡ pass.old) }
         ensures cause { IfErr result (λ r. (f : Q) → J.founders ≡ Some f → (r ≡ Refusal.OutOfMemory) ⊎ Told (refusal Q.system (run Q.system f pass.new.seen) (Step.Call name op)) (length pass.new.seen) J.capacity r) }
     {
+        self.call_noted(rt, pass, name, op, |_| {})
+    }
+
+    /// The same, and tells `noted` of the call before its node takes another step: whoever is to know of all that the node
+    /// does for the call misses nothing of it.
+    pub fn call_noted<R: Wait, F: FnOnce(CallId)>(
+        &self,
+        rt: &R,
+        pass: &mut Pass<J, Q>,
+        name: Name,
+        op: Op,
+        noted: F,
+    ) -> Result<CallId, Refusal>
+        requires { F.IsAlwaysCallable noted }
+        ensures noted { IfOk result (λ id. F.post noted id tt) }
+        ensures acted { IfOk result (λ id. (f : Q) → J.founders ≡ Some f → Acted Q.system f pass.old pass.new (Step.Call name op) (Effect.Called id)) }
+        ensures begins { IsPrefix pass.old.seen pass.new.seen }
+        ensures err { OnErr result (pass.new.mine ≡ pass.old.mine) }
+        ensures memory { IfErr result (λ r. r ≡ Refusal.OutOfMemory → pass.new ≡ pass.old) }
+        ensures cause { IfErr result (λ r. (f : Q) → J.founders ≡ Some f → (r ≡ Refusal.OutOfMemory) ⊎ Told (refusal Q.system (run Q.system f pass.new.seen) (Step.Call name op)) (length pass.new.seen) J.capacity r) }
+    {
         let mut keeper = self.keeper_of(rt, name);
         let half = ready(*self.keepers.allocator(), &mut keeper, Step::Call(name, op));
         let mut book = self.book.lock(rt);
-        call_in(&mut book, &mut keeper, pass, name, half)
+        let called = call_in(&mut book, &mut keeper, pass, name, half);
+        drop(book);
+        if let Ok(id) = &called {
+            noted(*id);
+        }
+        called
     }
 
     /// Does a step for a client: what it did. The client has then seen all steps up to it, and it stands last.
@@ -239,9 +267,45 @@ impl<J: Terms<Q>, Q: Quorums, S: Replica> Post<J, Q, S> {
         ensures err { OnErr result (pass.new.mine ≡ pass.old.mine) }
         ensures cause { IfErr result (λ r. (f : Q) → J.founders ≡ Some f → WhyNot Q.system f pass.old pass.new id r) }
     {
+        if let Some(answer) = self.given(rt, pass, &id)? {
+            return Ok(Some(answer));
+        }
+        self.ungiven(rt, pass, id)
+    }
+
+    // The same with the lock of the keeper, who knows whether its node has stopped.
+    fn ungiven<R: Wait>(
+        &self,
+        rt: &R,
+        pass: &mut Pass<J, Q>,
+        id: CallId,
+    ) -> Result<Option<Answer>, Refusal>
+        ensures begins { OnOk result (IsPrefix pass.old.seen pass.new.seen) }
+        ensures legal { OnOk result ((f : Q) → J.founders ≡ Some f → IsLegal Q.system f pass.new.seen) }
+        ensures answer { IfOk result (λ a. (f : Q) → J.founders ≡ Some f → a ≡ answer_in (run Q.system f pass.new.seen).history id) }
+        ensures mine { IfOk result (λ a. IsNoted pass.old.mine id a pass.new.mine) }
+        ensures err { OnErr result (pass.new.mine ≡ pass.old.mine) }
+        ensures cause { IfErr result (λ r. (f : Q) → J.founders ≡ Some f → WhyNot Q.system f pass.old pass.new id r) }
+    {
         let mut keeper = self.keeper_of(rt, id.name);
         let mut book = self.book.lock(rt);
         take_in(&mut book, &mut keeper, pass, id)
+    }
+
+    // The same with the book's lock alone, if the steps have an answer. Else the pass is as before.
+    fn given<R: Wait>(
+        &self,
+        rt: &R,
+        pass: &mut Pass<J, Q>,
+        id: &CallId,
+    ) -> Result<Option<Answer>, Refusal>
+        ensures given { IfOk result (λ a. MatchOption a (pass.new ≡ pass.old) (λ b. (f : Q) → J.founders ≡ Some f → IsLegal Q.system f pass.new.seen × (answer_in (run Q.system f pass.new.seen).history id.now ≡ Some b))) }
+        ensures begins { OnOk result (IsPrefix pass.old.seen pass.new.seen) }
+        ensures mine { IfOk result (λ a. IsNoted pass.old.mine id.now a pass.new.mine) }
+        ensures err { OnErr result (pass.new ≡ pass.old) }
+        ensures cause { IfErr result (λ r. (r ≡ Refusal.OutOfMemory) ⊎ ((r ≡ Refusal.NoSuchCall) × IsNone pass.old.mine id.now)) }
+    {
+        take_given(&mut self.book.lock(rt), pass, id)
     }
 
     /// The node of this name takes its mail, and does what it then picks. The book is free while the node picks, and makes the

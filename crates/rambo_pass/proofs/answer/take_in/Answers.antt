@@ -1,40 +1,53 @@
-use Rattle.std.proofs.Common.{◌≡◌, ◌<◌, length, Some, refl, sym, ap, ◌∙◌, subst, inl, inr}
-use Rattle.rambo_history.specs.Histories.{answer_in}
+use Rattle.std.proofs.Common.{◌≡◌, Some, None, MatchOption, refl, sym, ap, ◌∙◌, subst, inr}
+use mathlib.Core.List.{IsPrefix}
+use Rattle.rambo_names.proofs.Errors.{err_kept}
+use Rattle.rambo_run.specs.Legal.{IsLegal}
 use Rattle.rambo_run.specs.Worlds.{node_at}
-use Rattle.rambo_book.specs.Kept.{state}
-use Rattle.rambo_pass.specs.Passes.{PassView, IsNone, entry_at, noted}
-use Rattle.rambo_deeds.proofs.Letters.{none_of}
+use Rattle.rambo_book.specs.Kept.{BookView, state}
+use Rattle.rambo_pass.specs.Passes.{PassView, IsNoted}
+use Rattle.rambo_pass.proofs.Taken.{refused_so}
 use Rattle.rambo_pass.proofs.answer.take_in.Goals as goal
 
-pub answer_in-requires : goal.answer_in-requires
-answer_in-requires g c =
-    let mine = ap (λ (v : PassView _). v.mine) c.pass.view_is in
-    subst (λ l. c.in-Some.at < length l) mine c.in-Some.ensures.0
+pub returns-in_err-answer-clause-cause : goal.returns-in_err-answer-clause-cause
+returns-in_err-answer-clause-cause g c = err_kept c.from_residual.result _ _ c.from_residual.ensures.1 (refused_so c.in_err-answer.ensures.err c.in_err-answer.ensures.cause)
 
-pub returns-in_default-clause-cause : goal.returns-in_default-clause-cause
-returns-in_default-clause-cause g c =
-    let mine = ap (λ (v : PassView _). v.mine) c.pass.view_is in
-    inr (inl (refl, refl, subst (λ l. IsNone l c.args.id) mine c.in_default.ensures))
+pub returns-in-Some-clause-legal : goal.returns-in-Some-clause-legal
+returns-in-Some-clause-legal g c =
+    let after = c.take_given.new.pass in
+    let seen = subst (λ a. MatchOption a (after ≡ c.args.pass.now) (λ _. after.seen ≡ c.args.book.now.steps)) c.in-Some.is c.in_ok-answer.ensures.seen in
+    subst (IsLegal g.Q.Quorums.system c.args.book.now.founders) (sym seen) c.take_given.ensures.legal
 
-pub has_stopped-stopped-requires : goal.has_stopped-stopped-requires
-has_stopped-stopped-requires g c = c.requires-raw.1.1.1.0
-
-pub returns-then-stopped-clause-err : goal.returns-then-stopped-clause-err
-returns-then-stopped-clause-err g c = c.in_ok-answer.ensures.mine ∙ ap (noted c.args.pass.now.mine c.in-Some.at) (none_of c.in_ok-answer.answer c.if-is_none.ensures)
+pub returns-in-Some-clause-mine : goal.returns-in-Some-clause-mine
+returns-in-Some-clause-mine g c = subst (λ a. IsNoted c.args.pass.now.mine c.args.id a c.take_given.new.pass.mine) c.in-Some.is c.in_ok-answer.ensures.mine
 
 pub returns-then-stopped-clause-cause : goal.returns-then-stopped-clause-cause
 returns-then-stopped-clause-cause g c =
     let s = g.Q.Quorums.system in
-    let h = c.in_ok-answer.ensures in
+    let now = c.args.book.now in
     let x = c.args.keeper.now.node in
-    let mine = ap (λ (v : PassView _). v.mine) c.pass.view_is in
-    let own = subst (λ l. (entry_at l c.in-Some.at).id ≡ c.args.id) mine c.in-Some.ensures.1 in
-    let none = ap (answer_in (state s c.args.book.now).history) (sym own) ∙ sym h.answer ∙ none_of c.in_ok-answer.answer c.if-is_none.ensures in
-    let there = subst (λ n. node_at (state s c.args.book.now) n ≡ Some x) c.requires (subst (λ b. node_at (state s b) c.args.keeper.now.name ≡ Some x) h.book c.has_stopped-stopped.ensures.node) in
-    inr (inr (refl, h.seen, h.begins, none, (x, (there, sym c.has_stopped-stopped.ensures.stopped ∙ c.if-stopped.true))))
+    let given = c.take_given.new.pass in
+    let after = c.see_all.new.self in
+    let stays = subst (λ a. MatchOption a (given ≡ c.args.pass.now) (λ _. given.seen ≡ now.steps)) c.in_default.is c.in_ok-answer.ensures.seen in
+    let seen = ap (λ (v : PassView _). v.seen) c.see_all.ensures.pass in
+    let all = seen ∙ ap (λ (b : BookView _). b.steps) (c.has_stopped-stopped.ensures.same.0 ∙ c.take_given.ensures.book) in
+    let begins = subst (λ (v : PassView _). IsPrefix v.seen after.seen) stays (subst (IsPrefix given.seen) (sym seen) c.see_all.ensures.begins) in
+    let none = sym c.in_ok-answer.ensures.answer ∙ c.in_default.is in
+    let there = subst (λ n. node_at (state s now) n ≡ Some x) c.requires (subst (λ b. node_at (state s b) c.args.keeper.now.name ≡ Some x) c.take_given.ensures.book c.has_stopped-stopped.ensures.node) in
+    inr (inr (refl, all, begins, none, (x, (there, sym c.has_stopped-stopped.ensures.stopped ∙ c.if-stopped.true))))
+
+pub returns-clause-begins : goal.returns-clause-begins
+returns-clause-begins g c =
+    let given = c.take_given.new.pass in
+    let after = c.see_all.new.self in
+    let stays = subst (λ a. MatchOption a (given ≡ c.args.pass.now) (λ _. given.seen ≡ c.args.book.now.steps)) c.in_default.is c.in_ok-answer.ensures.seen in
+    subst (λ (v : PassView _). IsPrefix v.seen after.seen) stays (subst (IsPrefix given.seen) (sym (ap (λ (v : PassView _). v.seen) c.see_all.ensures.pass)) c.see_all.ensures.begins)
+
+pub returns-clause-legal : goal.returns-clause-legal
+returns-clause-legal g c =
+    let all = ap (λ (v : PassView _). v.seen) c.see_all.ensures.pass ∙ ap (λ (b : BookView _). b.steps) (c.has_stopped-stopped.ensures.same.0 ∙ c.take_given.ensures.book) in
+    subst (IsLegal g.Q.Quorums.system c.args.book.now.founders) (sym all) c.take_given.ensures.legal
 
 pub returns-clause-mine : goal.returns-clause-mine
 returns-clause-mine g c =
-    let mine = ap (λ (v : PassView _). v.mine) c.pass.view_is in
-    let own = subst (λ l. (entry_at l c.in-Some.at).id ≡ c.args.id) mine c.in-Some.ensures.1 in
-    (c.in-Some.at, ((subst (λ l. c.in-Some.at < length l) mine c.in-Some.ensures.0, own), c.in_ok-answer.ensures.mine))
+    let noted = subst (λ a. IsNoted c.args.pass.now.mine c.args.id a c.take_given.new.pass.mine) c.in_default.is c.in_ok-answer.ensures.mine in
+    subst (IsNoted c.args.pass.now.mine c.args.id None) (sym (ap (λ (v : PassView _). v.mine) c.see_all.ensures.pass)) noted

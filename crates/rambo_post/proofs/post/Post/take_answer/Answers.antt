@@ -1,23 +1,53 @@
-use Rattle.std.proofs.Common.{ap, ◌∙◌}
-use Rattle.rambo_names.proofs.Sizes.{up_fits, back_fits, variant_fits}
-use Rattle.rambo_book.specs.Kept.{KeeperView}
-use Rattle.rambo_pass.proofs.Taken.{legal_of, answer_of, why_not}
+use Rattle.std.proofs.Common.{◌≡◌, Some, MatchOption, OnOk, IfOk, IfErr, sym, subst}
+use mathlib.Core.List.{IsPrefix}
+use Rattle.rambo_names.proofs.Errors.{err_kept}
+use Rattle.rambo_history.specs.Histories.{answer_in}
+use Rattle.rambo_run.specs.Runs.{run}
+use Rattle.rambo_run.specs.Legal.{IsLegal}
+use Rattle.rambo_pass.specs.Passes.{PassView, IsNoted, WhyNot}
+use Rattle.rambo_pass.proofs.Taken.{why_ungiven}
 use Rattle.rambo_post.proofs.post.Post.take_answer.Goals as goal
 
-pub keeper_of-keeper-requires : goal.keeper_of-keeper-requires
-keeper_of-keeper-requires g c = (c.requires-raw.1.1.1.1, back_fits _ _ _ (up_fits _ _ _ (back_fits _ _ _ (up_fits _ _ _ (variant_fits _ _ _ _ (back_fits _ _ _ (up_fits _ _ _ c.requires-raw.1.1.1.1)))))))
+pub returns-in_err-answer-clause-cause : goal.returns-in_err-answer-clause-cause
+returns-in_err-answer-clause-cause g c = err_kept c.from_residual.result _ _ c.from_residual.ensures.1 (λ f e. why_ungiven g.Q.Quorums.system f c.in_err-answer.ensures.err c.in_err-answer.ensures.cause)
 
-pub take_in-requires : goal.take_in-requires
-take_in-requires g c = (back_fits _ _ _ (up_fits _ _ _ (back_fits _ _ _ (up_fits _ _ _ (variant_fits _ _ _ _ (back_fits _ _ _ (up_fits _ _ _ c.requires-raw.1.1.1.1)))))), ap (λ (k : KeeperView _). k.name) c.deref_mut-2.ensures.value ∙ c.keeper_of-keeper.ensures)
+pub returns-in-Some-clause-legal : goal.returns-in-Some-clause-legal
+returns-in-Some-clause-legal g c =
+    let s = g.Q.Quorums.system in
+    let after = c.given.new.pass in
+    let told = subst (λ a. MatchOption a (after ≡ c.args.pass.now) (λ b. (f : g.row.Q.Denot) → g.J.Terms.founders ≡ Some f → IsLegal s f after.seen × (answer_in (run s f after.seen).history c.args.id ≡ Some b))) c.in-Some.is c.in_ok-answer.ensures.given in
+    λ f e. (told f e).0
 
-pub drop-keeper-requires-room-T-Destruct : goal.drop-keeper-requires-room-T-Destruct
-drop-keeper-requires-room-T-Destruct g c κs within = back_fits _ _ _ (up_fits _ _ _ (back_fits _ _ _ (up_fits _ _ _ (variant_fits _ _ _ _ (back_fits _ _ _ (up_fits _ _ _ c.requires-raw.1.1.1.1))))))
+pub returns-in-Some-clause-answer : goal.returns-in-Some-clause-answer
+returns-in-Some-clause-answer g c =
+    let s = g.Q.Quorums.system in
+    let after = c.given.new.pass in
+    let told = subst (λ a. MatchOption a (after ≡ c.args.pass.now) (λ b. (f : g.row.Q.Denot) → g.J.Terms.founders ≡ Some f → IsLegal s f after.seen × (answer_in (run s f after.seen).history c.args.id ≡ Some b))) c.in-Some.is c.in_ok-answer.ensures.given in
+    λ f e. sym (told f e).1
 
-pub returns-clause-legal : goal.returns-clause-legal
-returns-clause-legal g c = legal_of g.Q.Quorums.system g.J.Terms.founders c.deref_mut.result.now c.args.pass.now c.take_in.new.pass c.args.id c.take_in.ensures.founders c.take_in.result c.take_in.ensures.legal
+pub returns-in-Some-clause-mine : goal.returns-in-Some-clause-mine
+returns-in-Some-clause-mine g c = subst (λ a. IsNoted c.args.pass.now.mine c.args.id a c.given.new.pass.mine) c.in-Some.is c.in_ok-answer.ensures.mine
 
-pub returns-clause-answer : goal.returns-clause-answer
-returns-clause-answer g c = answer_of g.Q.Quorums.system g.J.Terms.founders c.deref_mut.result.now c.args.pass.now c.take_in.new.pass c.args.id c.take_in.ensures.founders c.take_in.result c.take_in.ensures.seen c.take_in.ensures.answer
+pub returns-clause-begins : goal.returns-clause-begins
+returns-clause-begins g c =
+    let s = g.Q.Quorums.system in
+    let given = c.given.new.pass in
+    let after = c.ungiven.new.pass in
+    let stays = subst (λ a. MatchOption a (given ≡ c.args.pass.now) (λ b. (f : g.row.Q.Denot) → g.J.Terms.founders ≡ Some f → IsLegal s f given.seen × (answer_in (run s f given.seen).history c.args.id ≡ Some b))) c.in_default.is c.in_ok-answer.ensures.given in
+    subst (λ (v : PassView _). OnOk c.ungiven.result (IsPrefix v.seen after.seen)) stays c.ungiven.ensures.begins
+
+pub returns-clause-mine : goal.returns-clause-mine
+returns-clause-mine g c =
+    let s = g.Q.Quorums.system in
+    let given = c.given.new.pass in
+    let after = c.ungiven.new.pass in
+    let stays = subst (λ a. MatchOption a (given ≡ c.args.pass.now) (λ b. (f : g.row.Q.Denot) → g.J.Terms.founders ≡ Some f → IsLegal s f given.seen × (answer_in (run s f given.seen).history c.args.id ≡ Some b))) c.in_default.is c.in_ok-answer.ensures.given in
+    subst (λ (v : PassView _). IfOk c.ungiven.result (λ a. IsNoted v.mine c.args.id a after.mine)) stays c.ungiven.ensures.mine
 
 pub returns-clause-cause : goal.returns-clause-cause
-returns-clause-cause g c = why_not g.Q.Quorums.system g.J.Terms.founders c.deref_mut.result.now c.args.pass.now c.take_in.new.pass c.args.id c.take_in.ensures.founders c.take_in.result c.take_in.ensures.cause
+returns-clause-cause g c =
+    let s = g.Q.Quorums.system in
+    let given = c.given.new.pass in
+    let after = c.ungiven.new.pass in
+    let stays = subst (λ a. MatchOption a (given ≡ c.args.pass.now) (λ b. (f : g.row.Q.Denot) → g.J.Terms.founders ≡ Some f → IsLegal s f given.seen × (answer_in (run s f given.seen).history c.args.id ≡ Some b))) c.in_default.is c.in_ok-answer.ensures.given in
+    subst (λ v. IfErr c.ungiven.result (λ r. (f : g.row.Q.Denot) → g.J.Terms.founders ≡ Some f → WhyNot s f v after c.args.id r)) stays c.ungiven.ensures.cause
