@@ -27,7 +27,7 @@ impl<J: Terms<Weighted>> Hub<J> {
         let number = self.call(rt, pass, place, name, op)?;
         let answer = self.wait_at(rt, gate, pass, place, name, number);
         match &answer {
-            // (who is answered has left the desk)
+            // (the advance that answers a call takes it from the desk, when it is noted)
             Ok(Some(_)) => {}
             _ => self.forget(rt, name, number),
         }
