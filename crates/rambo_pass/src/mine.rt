@@ -3,7 +3,7 @@ ghost use Rattle.std.specs.Prelude.{◌≡◌, ◌<◌, ◌≤◌, ◌++◌, ◌
 ghost use Rattle.std.specs.HashMap.{spare};
 ghost use Rattle.std.specs.Map.{lookup};
 ghost use Rattle.rambo_history.specs.Calls.{same_call};
-ghost use Rattle.rambo_pass.specs.Passes.{entry_at, noted, IsEntry, IsNone};
+ghost use Rattle.rambo_pass.specs.Passes.{noted, IsEntry, IsNone};
 
 use rambo_history::{Answer, CallId};
 use std::alloc::{AllocError, Global};
@@ -78,14 +78,6 @@ impl Mine {
             Some(place) => Some(*place),
             None => None,
         }
-    }
-
-    // The id of the call at a place.
-    pub(crate) fn id_at(&self, place: usize) -> CallId
-        requires { place < length self.now.entries }
-        ensures { result ≡ (entry_at self.now.entries place).id }
-    {
-        self.entries[place].id
     }
 
     // The answer, if there is one, goes to the call at a place.
