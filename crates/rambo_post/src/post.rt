@@ -134,7 +134,8 @@ impl<J: Terms<Q>, Q: Quorums, S: Replica> Post<J, Q, S> {
     }
 
     /// The same, and tells `noted` of the call before its node takes another step: whoever is to know of all that the node
-    /// does for the call misses nothing of it.
+    /// does for the call misses nothing of it. `noted` is told with the keeper's lock held, so it may use nothing of the post.
+    /// It is refused as a call is, and `noted` is told nothing then.
     pub fn call_noted<R: Wait, F: FnOnce(CallId)>(
         &self,
         rt: &R,
