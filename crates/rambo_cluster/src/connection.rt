@@ -50,13 +50,24 @@ impl<'h, J: Terms<Weighted>, G: Gate, R: Wait + Clock> Session<'h, J, G, R> {
         writer: &mut O,
     ) -> Flow {
         let mut decoder = Decoder::new(self.alloc);
+        self.answer_pieces(&mut decoder, buffers, reader, writer)
+    }
+
+    // Answers the commands that a decoder finds in the pieces of a source.
+    fn answer_pieces<I: Source, O: Sink>(
+        &mut self,
+        decoder: &mut Decoder,
+        buffers: &mut Buffers,
+        reader: &mut I,
+        writer: &mut O,
+    ) -> Flow {
         for _ in self.rt.forever() {
             let count = read_some(reader, buffers.piece.as_mut_slice());
             if count == 0 {
                 return Flow::Ends;
             }
             let _ = decoder.feed(&buffers.piece[..count]);
-            let flow = self.answer_all(&mut decoder, &mut buffers.out, writer);
+            let flow = self.answer_all(decoder, &mut buffers.out, writer);
             if flow != Flow::GoesOn {
                 return flow;
             }
@@ -117,7 +128,16 @@ impl<'h, J: Terms<Weighted>, G: Gate, R: Wait + Clock> Session<'h, J, G, R> {
     // Does what a command asks for, and appends the reply to it.
     fn obey(&mut self, command: &Command, out: &mut BytesMut) -> Result<Flow, Refusal> {
         let request = ServerRequest::of(self.alloc, command)?;
-        match &request {
+        self.answer_request(&request, out)
+    }
+
+    // Does what a server's client asks for.
+    fn answer_request(
+        &mut self,
+        request: &ServerRequest,
+        out: &mut BytesMut,
+    ) -> Result<Flow, Refusal> {
+        match request {
             ServerRequest::Common(common) => self.answer_common(common, out),
             ServerRequest::Use(name) => {
                 self.name = *name;
@@ -170,7 +190,7 @@ impl<'h, J: Terms<Weighted>, G: Gate, R: Wait + Clock> Session<'h, J, G, R> {
 
     fn tell_map(&mut self, out: &mut BytesMut) -> Result<Flow, Refusal> {
         let map = self.hub.post.map(self.rt, self.name);
-        append(&map_told(self.alloc, &map)?, out)
+        append_map(self.alloc, &map, out)
     }
 }
 
@@ -201,6 +221,15 @@ fn told(appended: Result<(), Refusal>) -> Flow {
 // Appends the reply to a fault of the input.
 fn write_fault(alloc: Global, fault: Fault, out: &mut BytesMut) -> Result<(), Refusal> {
     append_reply(&fault_reply(alloc, fault)?, out)
+}
+
+// Appends what a node's configuration map tells.
+fn append_map(
+    alloc: Global,
+    map: &ConfigMap<Weighted>,
+    out: &mut BytesMut,
+) -> Result<Flow, Refusal> {
+    append(&map_told(alloc, map)?, out)
 }
 
 fn map_told(alloc: Global, map: &ConfigMap<Weighted>) -> Result<Reply, Refusal> {

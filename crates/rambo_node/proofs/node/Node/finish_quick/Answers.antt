@@ -6,6 +6,12 @@ use Rattle.rambo_node.proofs.Advances.{quiet_again, quiet_rebid}
 use Rattle.rambo_node.proofs.Besides.{quick_beside}
 use Rattle.rambo_node.proofs.node.Node.finish_quick.Goals as goal
 
+pub do_join-requires : goal.do_join-requires
+do_join-requires g c = assumption
+
+pub do_stop-requires : goal.do_stop-requires
+do_stop-requires g c = assumption
+
 pub do_again-requires : goal.do_again-requires
 do_again-requires g c = (c.requires-raw.1.1.0, subst (λ q. refusal_of g.Q.Quorums.system c.args.self.now.state (quick_change q) ≡ None) c.in-Again.is c.requires)
 

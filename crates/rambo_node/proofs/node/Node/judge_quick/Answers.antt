@@ -3,6 +3,33 @@ use Rattle.rambo_node.specs.Changes.{refusal_of}
 use Rattle.rambo_node.specs.Prepared.{quick_change}
 use Rattle.rambo_node.proofs.node.Node.judge_quick.Goals as goal
 
+pub may_join-requires : goal.may_join-requires
+may_join-requires g c = assumption
+
+pub may_send-requires : goal.may_send-requires
+may_send-requires g c = assumption
+
+pub may_restart-requires : goal.may_restart-requires
+may_restart-requires g c = assumption
+
+pub may_stop-requires : goal.may_stop-requires
+may_stop-requires g c = assumption
+
+pub may_collect-requires : goal.may_collect-requires
+may_collect-requires g c = assumption
+
+pub may_advance_collect-requires : goal.may_advance_collect-requires
+may_advance_collect-requires g c = assumption
+
+pub may_recon-requires : goal.may_recon-requires
+may_recon-requires g c = assumption
+
+pub may_rebid-requires : goal.may_rebid-requires
+may_rebid-requires g c = assumption
+
+pub may_advance_recon-requires : goal.may_advance_recon-requires
+may_advance_recon-requires g c = assumption
+
 pub returns-in-Join-clause-refused : goal.returns-in-Join-clause-refused
 returns-in-Join-clause-refused g c = subst (λ q. IfErr c.may_join.result (λ r. refusal_of g.Q.Quorums.system c.args.self.now.state (quick_change q) ≡ Some r)) (sym c.in-Join.is) c.may_join.ensures.refused
 

@@ -1,0 +1,11 @@
+use Rattle.rambo_names.proofs.Sizes.{up_fits, back_fits}
+use Rattle.rambo_node.proofs.node.Node.boxed.Goals as goal
+
+pub places-requires : goal.places-requires
+places-requires g c = let map = back_fits _ _ _ (up_fits _ _ _ c.requires-raw.1.1.0) in (map, back_fits _ _ _ (up_fits _ _ _ map))
+
+pub alloc-alloc-requires : goal.alloc-alloc-requires
+alloc-alloc-requires g c = back_fits _ _ _ (up_fits _ _ _ (back_fits _ _ _ (up_fits _ _ _ c.requires-raw.1.1.0)))
+
+pub with_copies-requires : goal.with_copies-requires
+with_copies-requires g c = assumption
