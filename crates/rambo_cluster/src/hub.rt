@@ -51,12 +51,8 @@ impl<J: Terms<Weighted>> Hub<J> {
         ensures buffers { IfOk result (λ h. vec_len h.buffers ≡ clients) }
         ensures fault { IfErr result (λ f. f ≡ ServeFault.Memory) }
     {
-        let mut bells = Vec::new(alloc);
-        let mut buffers = Vec::new(alloc);
-        for client in 0..clients {
-            bells.push(Bell::new())?;
-            buffers.push(Mutex::new(Buffers::new(alloc)?))?;
-        }
+        let bells = bells_of(alloc, clients)?;
+        let buffers = buffers_of(alloc, clients)?;
         Ok(Hub {
             post,
             first,
@@ -117,4 +113,28 @@ impl<J: Terms<Weighted>> Hub<J> {
         }
         self.doors.shut(rt);
     }
+}
+
+// So many bells.
+fn bells_of(alloc: Global, count: usize) -> Result<Vec<Bell>, ServeFault>
+    ensures count { IfOk result (λ bells. vec_len bells ≡ count) }
+    ensures fault { IfErr result (λ f. f ≡ ServeFault.Memory) }
+{
+    let mut bells = Vec::new(alloc);
+    for place in 0..count {
+        bells.push(Bell::new())?;
+    }
+    Ok(bells)
+}
+
+// Buffers for so many clients, one at a time for each.
+fn buffers_of(alloc: Global, count: usize) -> Result<Vec<Mutex<Buffers>>, ServeFault>
+    ensures count { IfOk result (λ buffers. vec_len buffers ≡ count) }
+    ensures fault { IfErr result (λ f. f ≡ ServeFault.Memory) }
+{
+    let mut buffers = Vec::new(alloc);
+    for place in 0..count {
+        buffers.push(Mutex::new(Buffers::new(alloc)?))?;
+    }
+    Ok(buffers)
 }

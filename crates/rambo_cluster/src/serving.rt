@@ -101,12 +101,9 @@ where
     ensures explained { IfOk result (λ c. IfSome c.order (λ o. IsProperForAll (run weighted_majorities founders c.steps.items).history o.items)) }
 {
     let own = listener.local_addr()?;
-    let (to, from) = bounded(alloc, WAITING)?;
-    let copies = Copies::new(alloc, RandomState::new(rt)?);
-    let (hub, mut passes) = set_up::<J, R>(rt, alloc, opened, options, founders, steps, &copies)?;
-    if !run(rt, gate, alloc, &hub, listener, own, to, &from, &mut passes) {
-        return Err(ServeFault::Memory);
-    }
+    let hasher = RandomState::new(rt)?;
+    let (hub, mut passes) = set_up::<J, R>(rt, alloc, opened, options, founders, steps, hasher)?;
+    serve_clients(rt, gate, alloc, &hub, listener, own, &mut passes)?;
     Ok(end(hub, passes, founders))
 }
 
@@ -119,7 +116,7 @@ fn set_up<J: Terms<Weighted>, R: Wait>(
     options: &Options<Weighted>,
     founders: Weighted,
     steps: usize,
-    copies: &Copies,
+    hasher: RandomState,
 ) -> Result<(Hub<J>, Vec<Pass<J, Weighted>>), ServeFault>
     requires name { opened ≡ J.table }
     requires founders { J.founders ≡ Some founders }
@@ -133,18 +130,37 @@ fn set_up<J: Terms<Weighted>, R: Wait>(
     ensures fault { IfErr result (λ f. f ≡ ServeFault.Memory) }
 {
     let first = lowest(founders)?;
+    let post = post_of::<J>(alloc, opened, options, founders, steps, hasher)?;
+    let passes = passes_of(rt, alloc, &post, options.clients)?;
+    let hub = Hub::new(alloc, post, first, options.clients)?;
+    Ok((hub, passes))
+}
+
+// The post of this many steps, whose letters are lost and doubled as the options say.
+fn post_of<J: Terms<Weighted>>(
+    alloc: Global,
+    opened: Opened<Step<Weighted>, Actor>,
+    options: &Options<Weighted>,
+    founders: Weighted,
+    steps: usize,
+    hasher: RandomState,
+) -> Result<Post<J, Weighted, Copies>, ServeFault>
+    requires name { opened ≡ J.table }
+    requires founders { J.founders ≡ Some founders }
+    requires capacity { steps ≡ J.capacity }
+    ensures fault { IfErr result (λ f. f ≡ ServeFault.Memory) }
+{
+    let copies = Copies::new(alloc, hasher);
     let post = Post::<J, Weighted, Copies>::with_mail(
         alloc,
         opened,
         founders,
         steps,
-        copies,
+        &copies,
         options.lose,
         options.twice,
     )?;
-    let passes = passes_of(rt, alloc, &post, options.clients)?;
-    let hub = Hub::new(alloc, post, first, options.clients)?;
-    Ok((hub, passes))
+    Ok(post)
 }
 
 // So many passes, which have seen nothing.
@@ -190,6 +206,29 @@ fn lowest(founders: Weighted) -> Result<Name, Refusal>
     match founders.members().iter().next() {
         Some(name) => Ok(name),
         None => Err(Refusal::EmptyMembers),
+    }
+}
+
+// Serves the clients of a listener until the end. `Memory` where there is no room for sockets that wait, or a thread can't be
+// started; then nobody was served.
+fn serve_clients<J: Terms<Weighted> + Send + Sync, G: Gate, R>(
+    rt: &R,
+    gate: &G,
+    alloc: Global,
+    hub: &Hub<J>,
+    listener: &TcpListener,
+    own: SocketAddr,
+    passes: &mut Vec<Pass<J, Weighted>>,
+) -> Result<(), ServeFault>
+where
+    R: Net<Listener = TcpListener, Stream = TcpStream> + Threads + Wait + Clock + Sync,
+    ensures fault { IfErr result (λ f. f ≡ ServeFault.Memory) }
+{
+    let (to, from) = bounded(alloc, WAITING)?;
+    if run(rt, gate, alloc, hub, listener, own, to, &from, passes) {
+        Ok(())
+    } else {
+        Err(ServeFault::Memory)
     }
 }
 
