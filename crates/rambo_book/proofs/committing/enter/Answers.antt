@@ -1,3 +1,4 @@
+use Rattle.std.proofs.lemmas.Grind.{common_steps}
 use Rattle.std.proofs.Common.{◌∙◌, ◌<◌, ◌≤◌, ◌++◌, ◌∷◌, [], None, length, refl, sym, ap, subst, inl, arith}
 use Rattle.rambo_history.specs.Faults.{fault_of}
 use Rattle.rambo_node.specs.Changes.{made_by}
@@ -132,3 +133,21 @@ returns-clause-node g c =
 
 pub posting_of-posting-requires : goal.posting_of-posting-requires
 posting_of-posting-requires g c = back_fits _ _ _ (up_fits _ _ _ c.requires-raw.1.1.1.0)
+
+pub invariant_of-book : goal.invariant_of-book
+invariant_of-book g c = grind (arith, common_steps)
+
+pub returns-in_default-clause-told : goal.returns-in_default-clause-told
+returns-in_default-clause-told g c = grind (arith, common_steps)
+
+pub invariant_of-keeper : goal.invariant_of-keeper
+invariant_of-keeper g c = grind (arith, common_steps)
+
+pub invariant_of-keeper-in_default : goal.invariant_of-keeper-in_default
+invariant_of-keeper-in_default g c = grind (arith, common_steps)
+
+pub invariant_of-book-in_default : goal.invariant_of-book-in_default
+invariant_of-book-in_default g c = grind (arith, common_steps)
+
+pub returns-in_default-clause-same : goal.returns-in_default-clause-same
+returns-in_default-clause-same g c = grind (arith, common_steps)

@@ -1,3 +1,4 @@
+use Rattle.std.proofs.lemmas.Grind.{common_steps}
 use Rattle.std.proofs.Common.{◌∙◌, ◌<◌, ◌≤◌, length, sym, ap, subst, arith}
 use Rattle.rambo_run.specs.Steps.{refusal}
 use Rattle.rambo_names.proofs.Sizes.{up_fits, back_fits}
@@ -51,3 +52,24 @@ returns-clause-room g c =
 
 pub returns-in-Err-clause-memory : goal.returns-in-Err-clause-memory
 returns-in-Err-clause-memory g c = refused_never_memory g.Q.Quorums.system c.keeper.inside.worker.state (meant_by (option_copied c.letter_named-letter.result) c.args.step.now) c.in-Err.refusal c.in-Err.ensures.refused
+
+pub invariant_of-book : goal.invariant_of-book
+invariant_of-book g c = grind (arith, common_steps)
+
+pub invariant_of-book-2 : goal.invariant_of-book-2
+invariant_of-book-2 g c = grind (arith, common_steps)
+
+pub invariant_of-keeper-2 : goal.invariant_of-keeper-2
+invariant_of-keeper-2 g c = grind (arith, common_steps)
+
+pub invariant_of-keeper : goal.invariant_of-keeper
+invariant_of-keeper g c = grind (arith, common_steps)
+
+pub invariant_of-keeper-then-len-book : goal.invariant_of-keeper-then-len-book
+invariant_of-keeper-then-len-book g c = grind (arith, common_steps)
+
+pub returns-then-len-book-clause-memory : goal.returns-then-len-book-clause-memory
+returns-then-len-book-clause-memory g c = grind (arith, common_steps)
+
+pub invariant_of-book-then-len-book : goal.invariant_of-book-then-len-book
+invariant_of-book-then-len-book g c = grind (arith, common_steps)

@@ -1,3 +1,4 @@
+use Rattle.std.proofs.lemmas.Grind.{common_steps}
 use Rattle.std.proofs.Common.{◌<◌, ◌∷◌, [], if◌then◌else◌, length, drop, suc, slice_get, refl, sym, ap, ◌∙◌, subst, arith}
 use Rattle.rambo_book.specs.Kept.{BookView, KeeperView, state}
 use Rattle.rambo_mail.specs.Waiting.{waiting_for, with_waiting}
@@ -83,3 +84,12 @@ returns-clause-all g c =
     let ended = c.in_default.ensures ∙ ap (λ n. slice_get (waiting_for book.waiting n) 0) c.name-name.ensures in
     subst (λ count. AreTaken w k.name count b.waiting book.waiting k.tray keeper.tray)
     (all_taken w k.name b.waiting k.tray inv.2 book.waiting keeper.tray inv.4 inv.3 ended ∙ ap (λ t. if t then 0 else length (waiting_for b.waiting k.name)) c.if-has_stopped.ensures) inv.4
+
+pub name-name-requires : goal.name-name-requires
+name-name-requires g c = assumption
+
+pub has_stopped-requires : goal.has_stopped-requires
+has_stopped-requires g c = assumption
+
+pub returns-in_err-take_letter-clause-keeper : goal.returns-in_err-take_letter-clause-keeper
+returns-in_err-take_letter-clause-keeper g c = grind (arith, common_steps)

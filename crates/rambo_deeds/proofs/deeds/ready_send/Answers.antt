@@ -1,4 +1,5 @@
-use Rattle.std.proofs.Common.{subst}
+use Rattle.std.proofs.lemmas.Grind.{common_steps}
+use Rattle.std.proofs.Common.{subst, arith}
 use Rattle.rambo_names.specs.Names.{IsName}
 use Rattle.rambo_deeds.proofs.Fitting.{standing_fits}
 use Rattle.rambo_deeds.proofs.Halves.{send_ready}
@@ -16,3 +17,24 @@ new-requires g c = standing_fits 0 g.row.Q g.Q.Quorums g.Q.PartialEq g.met.Q.Quo
 pub returns-clause-ready : goal.returns-clause-ready
 returns-clause-ready g c =
     send_ready g.Q.Quorums.system c.args.node.now c.args.to c.in_ok-letter.letter _ c.in_ok-copies.copies (subst IsName c.number-number.ensures.value c.number-number.ensures.range) c.in_ok-judge_quick.ensures.ok c.in_ok-letter.ensures.same c.outline_for-outline.ensures c.in_ok-copies.ensures.since
+
+pub judge_quick-requires : goal.judge_quick-requires
+judge_quick-requires g c = assumption
+
+pub returns-in_err-copies-clause-judged : goal.returns-in_err-copies-clause-judged
+returns-in_err-copies-clause-judged g c = grind (arith, common_steps)
+
+pub returns-in_err-letter-clause-ready : goal.returns-in_err-letter-clause-ready
+returns-in_err-letter-clause-ready g c = grind (arith, common_steps)
+
+pub returns-in_err-copies-clause-ready : goal.returns-in_err-copies-clause-ready
+returns-in_err-copies-clause-ready g c = grind (arith, common_steps)
+
+pub returns-clause-judged : goal.returns-clause-judged
+returns-clause-judged g c = grind (arith, common_steps)
+
+pub returns-in_err-letter-clause-judged : goal.returns-in_err-letter-clause-judged
+returns-in_err-letter-clause-judged g c = grind (arith, common_steps)
+
+pub returns-in_err-copies-clause-refused : goal.returns-in_err-copies-clause-refused
+returns-in_err-copies-clause-refused g c = grind (arith, common_steps)

@@ -1,4 +1,5 @@
-use Rattle.std.proofs.Common.{◌≡◌, Some, None, MatchOption, refl, sym, ap, ◌∙◌, subst, inr}
+use Rattle.std.proofs.lemmas.Grind.{common_steps}
+use Rattle.std.proofs.Common.{◌≡◌, Some, None, MatchOption, refl, sym, ap, ◌∙◌, subst, inr, arith}
 use mathlib.Core.List.{IsPrefix}
 use Rattle.rambo_names.proofs.Errors.{err_kept}
 use Rattle.rambo_run.specs.Legal.{IsLegal}
@@ -51,3 +52,30 @@ pub returns-clause-mine : goal.returns-clause-mine
 returns-clause-mine g c =
     let noted = subst (λ a. IsNoted c.args.pass.now.mine c.args.id a c.take_given.new.pass.mine) c.in_default.is c.in_ok-answer.ensures.mine in
     subst (IsNoted c.args.pass.now.mine c.args.id None) (sym (ap (λ (v : PassView _). v.mine) c.see_all.ensures.pass)) noted
+
+pub has_stopped-stopped-requires : goal.has_stopped-stopped-requires
+has_stopped-stopped-requires g c = assumption
+
+pub returns-in-Some-clause-begins : goal.returns-in-Some-clause-begins
+returns-in-Some-clause-begins g c = grind (arith, common_steps)
+
+pub returns-in-Some-clause-seen : goal.returns-in-Some-clause-seen
+returns-in-Some-clause-seen g c = grind (arith, common_steps)
+
+pub returns-in-Some-clause-answer : goal.returns-in-Some-clause-answer
+returns-in-Some-clause-answer g c = grind (arith, common_steps)
+
+pub returns-clause-answer : goal.returns-clause-answer
+returns-clause-answer g c = grind (arith, common_steps)
+
+pub returns-clause-same : goal.returns-clause-same
+returns-clause-same g c = grind (arith, common_steps)
+
+pub returns-then-stopped-clause-same : goal.returns-then-stopped-clause-same
+returns-then-stopped-clause-same g c = grind (arith, common_steps)
+
+pub returns-clause-seen : goal.returns-clause-seen
+returns-clause-seen g c = grind (arith, common_steps)
+
+pub returns-then-stopped-clause-err : goal.returns-then-stopped-clause-err
+returns-then-stopped-clause-err g c = grind (arith, common_steps)

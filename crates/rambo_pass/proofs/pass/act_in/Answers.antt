@@ -1,4 +1,5 @@
-use Rattle.std.proofs.Common.{◌∙◌, sym, ap, subst}
+use Rattle.std.proofs.lemmas.Grind.{common_steps}
+use Rattle.std.proofs.Common.{◌∙◌, sym, ap, subst, arith}
 use mathlib.Core.List.{IsPrefix}
 use Rattle.rambo_run.specs.Legal.{IsLegal}
 use Rattle.rambo_run.proofs.Lists.{some_inj}
@@ -57,3 +58,51 @@ returns-clause-legal g c =
     let s = g.Q.Quorums.system in
     subst (λ f. IsLegal s f c.show-2.new.seen) (some_inj _ _ (sym c.show-2.ensures.founders ∙ c.begun-place.ensures.founders))
     (subst (IsLegal s c.commit.new.book.founders) (sym c.show-2.ensures.seen) c.show-2.ensures.legal)
+
+pub returns-clause-effect : goal.returns-clause-effect
+returns-clause-effect g c = grind (arith, common_steps)
+
+pub invariant_of-pass-in_default-commit : goal.invariant_of-pass-in_default-commit
+invariant_of-pass-in_default-commit g c = grind (arith, common_steps)
+
+pub returns-in_default-reserve-clause-err : goal.returns-in_default-reserve-clause-err
+returns-in_default-reserve-clause-err g c = grind (arith, common_steps)
+
+pub returns-in_default-reserve-clause-cause : goal.returns-in_default-reserve-clause-cause
+returns-in_default-reserve-clause-cause g c = grind (arith, common_steps)
+
+pub invariant_of-pass-2 : goal.invariant_of-pass-2
+invariant_of-pass-2 g c = grind (arith, common_steps)
+
+pub returns-in_default-reserve-clause-memory : goal.returns-in_default-reserve-clause-memory
+returns-in_default-reserve-clause-memory g c = grind (arith, common_steps)
+
+pub returns-in-Err-clause-memory : goal.returns-in-Err-clause-memory
+returns-in-Err-clause-memory g c = grind (arith, common_steps)
+
+pub returns-in-Err-clause-cause : goal.returns-in-Err-clause-cause
+returns-in-Err-clause-cause g c = grind (arith, common_steps)
+
+pub returns-clause-accepted : goal.returns-clause-accepted
+returns-clause-accepted g c = grind (arith, common_steps)
+
+pub returns-in-Err-clause-err : goal.returns-in-Err-clause-err
+returns-in-Err-clause-err g c = grind (arith, common_steps)
+
+pub returns-in_default-commit-clause-err : goal.returns-in_default-commit-clause-err
+returns-in_default-commit-clause-err g c = grind (arith, common_steps)
+
+pub invariant_of-pass : goal.invariant_of-pass
+invariant_of-pass g c = grind (arith, common_steps)
+
+pub returns-in_default-commit-clause-cause : goal.returns-in_default-commit-clause-cause
+returns-in_default-commit-clause-cause g c = grind (arith, common_steps)
+
+pub invariant_of-pass-in_default-reserve : goal.invariant_of-pass-in_default-reserve
+invariant_of-pass-in_default-reserve g c = grind (arith, common_steps)
+
+pub returns-clause-last : goal.returns-clause-last
+returns-clause-last g c = grind (arith, common_steps)
+
+pub returns-in_default-commit-clause-memory : goal.returns-in_default-commit-clause-memory
+returns-in_default-commit-clause-memory g c = grind (arith, common_steps)

@@ -1,4 +1,5 @@
-use Rattle.std.proofs.Common.{◌≡◌, ◌++◌, ◌∷◌, [], None, length, inl, inr, ◌∙◌, sym, ap, subst}
+use Rattle.std.proofs.lemmas.Grind.{common_steps}
+use Rattle.std.proofs.Common.{◌≡◌, ◌++◌, ◌∷◌, [], None, length, inl, inr, ◌∙◌, sym, ap, subst, arith}
 use mathlib.Core.List.{IsPrefix}
 use Rattle.rambo_run.specs.Legal.{IsLegal}
 use Rattle.rambo_run.specs.Steps.{refusal, turn}
@@ -65,3 +66,27 @@ returns-clause-mine g c = c.note_call.ensures ∙ λ i. mine_with ((c.in-Ok.ensu
 
 pub returns-in-OutOfMemory-clause-cause : goal.returns-in-OutOfMemory-clause-cause
 returns-in-OutOfMemory-clause-cause g c = λ st half. inl c.in-OutOfMemory.is
+
+pub finish_in-requires : goal.finish_in-requires
+finish_in-requires g c = assumption
+
+pub note_call-requires : goal.note_call-requires
+note_call-requires g c = grind (arith, common_steps)
+
+pub returns-in_default-clause-err : goal.returns-in_default-clause-err
+returns-in_default-clause-err g c = grind (arith, common_steps)
+
+pub invariant_of-pass-2 : goal.invariant_of-pass-2
+invariant_of-pass-2 g c = grind (arith, common_steps)
+
+pub invariant_of-pass-in_default : goal.invariant_of-pass-in_default
+invariant_of-pass-in_default g c = grind (arith, common_steps)
+
+pub invariant_of-pass : goal.invariant_of-pass
+invariant_of-pass g c = grind (arith, common_steps)
+
+pub returns-in-OutOfMemory-clause-err : goal.returns-in-OutOfMemory-clause-err
+returns-in-OutOfMemory-clause-err g c = grind (arith, common_steps)
+
+pub returns-in-OutOfMemory-clause-memory : goal.returns-in-OutOfMemory-clause-memory
+returns-in-OutOfMemory-clause-memory g c = grind (arith, common_steps)

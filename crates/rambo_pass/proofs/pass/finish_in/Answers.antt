@@ -1,4 +1,5 @@
-use Rattle.std.proofs.Common.{◌≡◌, length, None, ◌++◌, ◌∷◌, [], IfOk, IfErr, refl, sym, ap, ◌∙◌, subst}
+use Rattle.std.proofs.lemmas.Grind.{common_steps}
+use Rattle.std.proofs.Common.{◌≡◌, length, None, ◌++◌, ◌∷◌, [], IfOk, IfErr, refl, sym, ap, ◌∙◌, subst, arith}
 use Rattle.std.proofs.lemmas.Result.{on_ok_weaker, on_err_weaker}
 use Rattle.rambo_names.specs.Refusals.{IsRefusal}
 use Rattle.rambo_names.specs.declared.refusal.Refusal.TheVariants.{OutOfMemory}
@@ -55,3 +56,18 @@ returns-clause-same g c = on_err_weaker c.commit_ready.result (λ e. e.0) c.comm
 pub returns-clause-founders : goal.returns-clause-founders
 returns-clause-founders g c =
     either_way c.commit_ready.result (on_ok_weaker c.commit_ready.result (λ e. ap (λ (b : BookView _). b.founders) e) c.commit_ready.ensures.book) (on_err_weaker c.commit_ready.result (λ e. ap (λ (b : BookView _). b.founders) e.0) c.commit_ready.ensures.same)
+
+pub unready-requires : goal.unready-requires
+unready-requires g c = assumption
+
+pub unready-requires-in_default : goal.unready-requires-in_default
+unready-requires-in_default g c = assumption
+
+pub returns-in-Err-clause-founders : goal.returns-in-Err-clause-founders
+returns-in-Err-clause-founders g c = grind (arith, common_steps)
+
+pub commit_ready-requires : goal.commit_ready-requires
+commit_ready-requires g c = grind (arith, common_steps)
+
+pub returns-in_default-clause-founders : goal.returns-in_default-clause-founders
+returns-in_default-clause-founders g c = grind (arith, common_steps)

@@ -28,3 +28,9 @@ returns-in_default-clause-told g c = λ st named half.
     let founded = c.facts.ensures.founders ∙ ap (λ (b : BookView _). Some b.founders) c.agree.ensures.same.0 in
     let here = subst (λ k. node_at (run s f k.seen) k.name ≡ Some k.node) c.agree.ensures.same.1 (c.facts-2.ensures.node f founded) in
     told_other s (run s f k.seen) (state s b) k.name k.node here c.agree.ensures.node st named c.args.cause (length b.steps) b.capacity (half f founded) c.in_default.not-OutOfMemory
+
+pub agree-requires : goal.agree-requires
+agree-requires g c = assumption
+
+pub facts-requires-2 : goal.facts-requires-2
+facts-requires-2 g c = assumption

@@ -75,3 +75,9 @@ returns-clause-fine g c = assumption
 
 pub returns-clause-fault : goal.returns-clause-fault
 returns-clause-fault g c = assumption
+
+pub returns-in_err-read_piece-clause-kept : goal.returns-in_err-read_piece-clause-kept
+returns-in_err-read_piece-clause-kept g c = grind (arith, common_steps)
+
+pub returns-in_err-read_piece-clause-stops : goal.returns-in_err-read_piece-clause-stops
+returns-in_err-read_piece-clause-stops g c = grind (arith, common_steps)

@@ -112,3 +112,12 @@ returns-else-lines-gt0-clause-fine g c = c.in_ok-count.ensures.fine
 
 pub returns-else-lines-gt0-clause-fault : goal.returns-else-lines-gt0-clause-fault
 returns-else-lines-gt0-clause-fault g c = assumption
+
+pub returns-then-lines-gt0-clause-piece : goal.returns-then-lines-gt0-clause-piece
+returns-then-lines-gt0-clause-piece g c = grind (arith, common_steps)
+
+pub returns-else-lines-gt0-clause-piece : goal.returns-else-lines-gt0-clause-piece
+returns-else-lines-gt0-clause-piece g c = grind (arith, common_steps)
+
+pub returns-in_err-count-clause-piece : goal.returns-in_err-count-clause-piece
+returns-in_err-count-clause-piece g c = grind (arith, common_steps)

@@ -1,4 +1,5 @@
-use Rattle.std.proofs.Common.{◌≡◌, Some, subst}
+use Rattle.std.proofs.lemmas.Grind.{common_steps}
+use Rattle.std.proofs.Common.{◌≡◌, Some, subst, arith}
 use Rattle.rambo_roll.specs.Rolls.{Idle}
 use Rattle.rambo_run.specs.Actors.{actor}
 use Rattle.rambo_run.specs.Worlds.{node_at}
@@ -19,3 +20,12 @@ returns-clause-node g c =
     let here = still _ _ _ _ _ _ _ _ _ _ _ _ _ _ _ c.self.invariant c.keeper.invariant c.agree.ensures.idle in
     subst (λ b. node_at (state s b) c.args.keeper.now.name ≡ Some c.args.keeper.now.node) c.self.view_is
     (subst (λ (k : KeeperView _). node_at (state s (record { founders = c.self.inside.founders; steps = c.self.inside.steps.items; capacity = c.self.inside.capacity; waiting = c.self.inside.mails.waiting; lose = c.self.inside.mails.lose; twice = c.self.inside.mails.twice })) k.name ≡ Some k.node) c.keeper.view_is here)
+
+pub invariant_of-self : goal.invariant_of-self
+invariant_of-self g c = grind (arith, common_steps)
+
+pub returns-clause-same : goal.returns-clause-same
+returns-clause-same g c = grind (arith, common_steps)
+
+pub invariant_of-keeper : goal.invariant_of-keeper
+invariant_of-keeper g c = grind (arith, common_steps)

@@ -1,5 +1,6 @@
+use Rattle.std.proofs.lemmas.Grind.{elements}
 use Rattle.rambo_names.proofs.Sizes.{up_fits, back_fits}
-use Rattle.std.proofs.Common.{sym, ap, ◌∙◌}
+use Rattle.std.proofs.Common.{sym, ap, ◌∙◌, arith}
 use Rattle.std.proofs.lemmas.Bool.{false≢true}
 use Rattle.rambo_phase.specs.Phases.{PhaseState}
 use Rattle.rambo_calls.specs.Calls.{CallState}
@@ -30,3 +31,9 @@ hear-requires g c = (back_fits _ _ _ (up_fits _ _ _ c.requires-raw.1.0), c.requi
 
 pub unreachable-unreachable : goal.unreachable-unreachable
 unreachable-unreachable g c = false≢true (c.in-Err.ensures.succeeds c.requires)
+
+pub begin-requires : goal.begin-requires
+begin-requires g c = omega arith
+
+pub unreachable-requires : goal.unreachable-requires
+unreachable-requires g c = grind (arith, elements)

@@ -1,4 +1,5 @@
-use Rattle.std.proofs.Common.{◌≡◌, List, [], ◌∷◌, ◌++◌, length, slice_get, slice_set, Some, refl, sym, ap, ◌∙◌}
+use Rattle.std.proofs.lemmas.Grind.{common_steps}
+use Rattle.std.proofs.Common.{◌≡◌, List, [], ◌∷◌, ◌++◌, length, slice_get, slice_set, Some, refl, sym, ap, ◌∙◌, arith}
 use Rattle.std.proofs.lemmas.List.{map-append, length-map}
 use Rattle.rambo_calls.specs.Calls.{CallState}
 use Rattle.rambo_calls.specs.declared.stage.Stage.TheVariants.{Query}
@@ -30,3 +31,12 @@ returns g c =
     ap calls_of c.push_reserved.ensures.items ∙ map-append call_of c.self.inside.list.items _
     ∙ ap (λ k. calls_of k.list ++ first ∷ []) c.self.view_is in
     c.restart.ensures ∙ (λ i. with_call (place i) (slice_get (opened i) (place i)) f (opened i)) ∙ last_put old first f
+
+pub restart-requires : goal.restart-requires
+restart-requires g c = assumption
+
+pub push_reserved-requires : goal.push_reserved-requires
+push_reserved-requires g c = grind (arith, common_steps)
+
+pub new-requires : goal.new-requires
+new-requires g c = grind (arith, common_steps)

@@ -1,3 +1,4 @@
+use Rattle.std.proofs.lemmas.Grind.{common_steps}
 use Rattle.rambo_names.proofs.Sizes.{up_fits, back_fits}
 use Rattle.std.proofs.Common.{◌≤◌, Some, None, Fits, w64, sym, ap, ◌∙◌, subst, arith}
 use Rattle.rambo_config_map.specs.Maps.{MapState, active_at, end_of, top_of, learnt}
@@ -56,3 +57,15 @@ returns-in-Chosen-clause-node g c =
     ∙ ap (λ m. learning m c.go_on.new.vote x) (c.learn.ensures ∙ ap (λ v. learnt v.state.map c.in-Chosen.config) c.self.view_is)
     ∙ ap (λ v. learning (learnt x.map c.in-Chosen.config) v x) (c.go_on.ensures.vote ∙ ap (λ v. vote_advanced a v.state.vote) c.self.view_is)
     ∙ sym (ap (λ b. (bid_made x a b).node) (sym c.go_on.ensures.bid ∙ c.in-Chosen.is))
+
+pub returns-in-Propose-clause-effect : goal.returns-in-Propose-clause-effect
+returns-in-Propose-clause-effect g c = grind (arith, common_steps)
+
+pub returns-in-Chosen-clause-effect : goal.returns-in-Chosen-clause-effect
+returns-in-Chosen-clause-effect g c = grind (arith, common_steps)
+
+pub returns-in-Propose-clause-beside : goal.returns-in-Propose-clause-beside
+returns-in-Propose-clause-beside g c = grind (arith, common_steps)
+
+pub returns-in-Chosen-clause-beside : goal.returns-in-Chosen-clause-beside
+returns-in-Chosen-clause-beside g c = grind (arith, common_steps)

@@ -1,4 +1,5 @@
-use Rattle.std.proofs.Common.{ap, ◌∙◌}
+use Rattle.std.proofs.lemmas.Grind.{common_steps}
+use Rattle.std.proofs.Common.{ap, ◌∙◌, arith}
 use Rattle.std.specs.FinMap as map
 use Rattle.rambo_gossip.specs.Letters.{letter_with}
 use Rattle.rambo_node.specs.Letters.{letter_for}
@@ -22,3 +23,9 @@ outline_for-outline-requires g c = assumption
 
 pub with_copies-requires : goal.with_copies-requires
 with_copies-requires g c = assumption
+
+pub pack_for-requires : goal.pack_for-requires
+pack_for-requires g c = assumption
+
+pub returns-clause-judged : goal.returns-clause-judged
+returns-clause-judged g c = grind (arith, common_steps)

@@ -44,3 +44,6 @@ returns-in-None-clause-beside g c =
     let m = c.args.moving in
     let round = went_alone v.state (query_in (open_call v.state m.id)) (sym c.in-None.is ∙ c.requires.takes) in
     c.finish_answer.ensures.beside ∙ sym (answer_beside v.state v.beside m.id round)
+
+pub finish_answer-requires : goal.finish_answer-requires
+finish_answer-requires g c = assumption

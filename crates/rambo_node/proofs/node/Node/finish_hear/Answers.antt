@@ -49,3 +49,6 @@ returns-in-Some-clause-beside g c =
     c.finish_gossip.ensures.beside
     ∙ ap (λ o. beside_heard v.state v.beside t.sender (kind.Gossip (gossip_with o t.hearing.copies))) (c.outline.ensures ∙ ap (λ p. gossip_with p map.empty) c.deref.ensures)
     ∙ sym (ap (λ o. beside_heard v.state v.beside t.sender (kind_with (kind_of o) t.hearing.copies)) c.in-Some.is)
+
+pub meet-requires : goal.meet-requires
+meet-requires g c = assumption

@@ -1,4 +1,5 @@
-use Rattle.std.proofs.Common.{◌≡◌, None, Some, false, Result, IsOk, OnOk, IfOk, IfErr, refl, sym, ap, ◌∙◌, subst}
+use Rattle.std.proofs.lemmas.Grind.{common_steps}
+use Rattle.std.proofs.Common.{◌≡◌, None, Some, false, Result, IsOk, OnOk, IfOk, IfErr, refl, sym, ap, ◌∙◌, subst, arith}
 use Rattle.std.proofs.lemmas.Bool.{true≢false}
 use Rattle.std.proofs.lemmas.Result.{IfOk-weaker, IfErr-weaker}
 use Rattle.rambo_names.specs.declared.refusal.Refusal.{Refusal}
@@ -147,3 +148,42 @@ returns-in-Stop g c =
     let s = g.Q.Quorums.system in
     let p = c.ready_quick-in-Stop in
     subst (λ ch. Told s c.args.self.now c.args.self.now ch p.result) (sym c.in-Stop.is) (told_quick s c.args.self.now quick.Stop p.result p.ensures.judged p.ensures.prepares p.ensures.refused)
+
+pub ready_quick-requires-in-Send : goal.ready_quick-requires-in-Send
+ready_quick-requires-in-Send g c = assumption
+
+pub ready_quick-requires-in-AdvanceCollect : goal.ready_quick-requires-in-AdvanceCollect
+ready_quick-requires-in-AdvanceCollect g c = assumption
+
+pub ready_quick-requires-in-Again : goal.ready_quick-requires-in-Again
+ready_quick-requires-in-Again g c = assumption
+
+pub ready_quick-requires : goal.ready_quick-requires
+ready_quick-requires g c = assumption
+
+pub ready_quick-requires-in-Stop : goal.ready_quick-requires-in-Stop
+ready_quick-requires-in-Stop g c = assumption
+
+pub ready_quick-requires-in-Recon : goal.ready_quick-requires-in-Recon
+ready_quick-requires-in-Recon g c = assumption
+
+pub ready_quick-requires-in-Rebid : goal.ready_quick-requires-in-Rebid
+ready_quick-requires-in-Rebid g c = assumption
+
+pub ready_quick-requires-in-Collect : goal.ready_quick-requires-in-Collect
+ready_quick-requires-in-Collect g c = assumption
+
+pub ready_quick-requires-in-AdvanceRecon : goal.ready_quick-requires-in-AdvanceRecon
+ready_quick-requires-in-AdvanceRecon g c = assumption
+
+pub may_call-requires : goal.may_call-requires
+may_call-requires g c = assumption
+
+pub may_advance-requires : goal.may_advance-requires
+may_advance-requires g c = assumption
+
+pub returns-in_err-may_call-in-Call-clause-no_memory : goal.returns-in_err-may_call-in-Call-clause-no_memory
+returns-in_err-may_call-in-Call-clause-no_memory g c = grind (arith, common_steps)
+
+pub returns-in_err-place-in-Advance-clause-no_memory : goal.returns-in_err-place-in-Advance-clause-no_memory
+returns-in_err-place-in-Advance-clause-no_memory g c = grind (arith, common_steps)

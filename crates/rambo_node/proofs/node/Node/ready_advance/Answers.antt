@@ -1,4 +1,5 @@
-use Rattle.std.proofs.Common.{None, Some, slice_get, sym, ap, ◌∙◌, subst}
+use Rattle.std.proofs.lemmas.Grind.{common_steps, elements}
+use Rattle.std.proofs.Common.{None, Some, slice_get, sym, ap, ◌∙◌, subst, arith}
 use Rattle.std.specs.Option.{option_copied}
 use Rattle.rambo_calls.specs.Calls.{query_in}
 use Rattle.rambo_node.specs.Changes.{made_by}
@@ -66,3 +67,30 @@ returns-in_ok-tell_answer-in-None-clause-deed g c =
     let round = found_asked s x id c.args.place found None (sym (ap option_copied c.in-None.is) ∙ c.query_at.ensures) in
     c.in_ok-tell_answer-in-None.ensures.deed ∙ ap (λ n. answered_from id (slice_get x.calls n)) found.own ∙ answer_tells x id (found_there s x id c.args.place found) round
     ∙ ap (λ y. (made_by y (change.Advance id)).deed) same
+
+pub query_at-requires : goal.query_at-requires
+query_at-requires g c = assumption
+
+pub room_at-requires : goal.room_at-requires
+room_at-requires g c = assumption
+
+pub returns-in_err-tell_answer-in-None-clause-err : goal.returns-in_err-tell_answer-in-None-clause-err
+returns-in_err-tell_answer-in-None-clause-err g c = grind (arith, common_steps)
+
+pub returns-in_err-tell_query-in-Some-clause-err : goal.returns-in_err-tell_query-in-Some-clause-err
+returns-in_err-tell_query-in-Some-clause-err g c = grind (arith, common_steps)
+
+pub returns-in_err-tell_answer-in-None-clause-refused : goal.returns-in_err-tell_answer-in-None-clause-refused
+returns-in_err-tell_answer-in-None-clause-refused g c = grind (arith, common_steps)
+
+pub returns-in_err-tell_query-in-Some-clause-deed : goal.returns-in_err-tell_query-in-Some-clause-deed
+returns-in_err-tell_query-in-Some-clause-deed g c = grind (arith, elements)
+
+pub returns-in_err-tell_query-in-Some-clause-id : goal.returns-in_err-tell_query-in-Some-clause-id
+returns-in_err-tell_query-in-Some-clause-id g c = grind (arith, elements)
+
+pub returns-in_err-tell_query-in-Some-clause-moving : goal.returns-in_err-tell_query-in-Some-clause-moving
+returns-in_err-tell_query-in-Some-clause-moving g c = grind (arith, elements)
+
+pub returns-in_err-tell_query-in-Some-clause-refused : goal.returns-in_err-tell_query-in-Some-clause-refused
+returns-in_err-tell_query-in-Some-clause-refused g c = grind (arith, elements)

@@ -1,4 +1,5 @@
-use Rattle.std.proofs.Common.{ap, ◌∙◌, subst}
+use Rattle.std.proofs.lemmas.Grind.{common_steps}
+use Rattle.std.proofs.Common.{ap, ◌∙◌, subst, arith}
 use Rattle.rambo_names.proofs.Sizes.{up_fits, back_fits, variant_fits}
 use Rattle.std.specs.Sync.Mutex.{mutex_guard_value}
 use Rattle.rambo_book.specs.Kept.{KeeperView, IsServedBy, state}
@@ -21,3 +22,9 @@ returns-then-serves g c =
     let s = g.Q.Quorums.system in
     subst (IsServedBy (state s (mutex_guard_value c.lock-book.result)) c.args.step.now) (c.name.ensures ∙ ap (λ (k : KeeperView _). k.name) c.deref-in-loop-2.ensures)
     (subst (λ b. IsServedBy (state s b) c.args.step.now c.name.result) c.deref-in-loop.ensures (c.serves.ensures c.if-serves.true))
+
+pub index-requires : goal.index-requires
+index-requires g c = omega arith
+
+pub unreachable-requires : goal.unreachable-requires
+unreachable-requires g c = grind (arith, common_steps)

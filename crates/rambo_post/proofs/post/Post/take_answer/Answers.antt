@@ -1,4 +1,5 @@
-use Rattle.std.proofs.Common.{◌≡◌, Some, MatchOption, OnOk, IfOk, IfErr, sym, subst}
+use Rattle.std.proofs.lemmas.Grind.{common_steps}
+use Rattle.std.proofs.Common.{◌≡◌, Some, MatchOption, OnOk, IfOk, IfErr, sym, subst, arith}
 use mathlib.Core.List.{IsPrefix}
 use Rattle.rambo_names.proofs.Errors.{err_kept}
 use Rattle.rambo_history.specs.Histories.{answer_in}
@@ -51,3 +52,15 @@ returns-clause-cause g c =
     let after = c.ungiven.new.pass in
     let stays = subst (λ a. MatchOption a (given ≡ c.args.pass.now) (λ b. (f : g.row.Q.Denot) → g.J.Terms.founders ≡ Some f → IsLegal s f given.seen × (answer_in (run s f given.seen).history c.args.id ≡ Some b))) c.in_default.is c.in_ok-answer.ensures.given in
     subst (λ v. IfErr c.ungiven.result (λ r. (f : g.row.Q.Denot) → g.J.Terms.founders ≡ Some f → WhyNot s f v after c.args.id r)) stays c.ungiven.ensures.cause
+
+pub ungiven-requires : goal.ungiven-requires
+ungiven-requires g c = assumption
+
+pub given-requires : goal.given-requires
+given-requires g c = assumption
+
+pub returns-clause-err : goal.returns-clause-err
+returns-clause-err g c = grind (arith, common_steps)
+
+pub returns-in-Some-clause-begins : goal.returns-in-Some-clause-begins
+returns-in-Some-clause-begins g c = grind (arith, common_steps)

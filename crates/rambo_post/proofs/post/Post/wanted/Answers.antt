@@ -8,3 +8,6 @@ returns g c =
     let all = c.all_wanted.result in
     let name = c.args.name in
     ap (λ s. contains s name) c.without.ensures ∙ contains-remove nat_cmp_total all name name ∙ ap (λ t. not t && contains all name) (unsigned_tied name name ∙ eq-eqb name name refl)
+
+pub all_wanted-requires : goal.all_wanted-requires
+all_wanted-requires g c = assumption

@@ -1,3 +1,4 @@
+use Rattle.std.proofs.lemmas.Grind.{common_steps}
 use Rattle.std.proofs.Common.{◌≡◌, ◌+◌, suc, [], refl, sym, ap, ◌∙◌, subst, arith}
 use Rattle.rambo_names.specs.declared.refusal.Refusal.TheVariants.{OutOfMemory}
 use Rattle.rambo_names.specs.Names.{IsName}
@@ -46,3 +47,33 @@ drop-keepers-requires-in_default-room-T-Destruct g c κs within = back_fits _ _ 
 
 pub returns-in_default-clause-refused : goal.returns-in_default-clause-refused
 returns-in_default-clause-refused g c = subst (λ o. IsRefusal o OutOfMemory) (sym c.in_ok-may_found.ensures.ok) refl
+
+pub named-roll-requires : goal.named-roll-requires
+named-roll-requires g c = assumption
+
+pub overflow_add-place : goal.overflow_add-place
+overflow_add-place g c = omega arith
+
+pub keeper-requires : goal.keeper-requires
+keeper-requires g c = grind (arith, common_steps)
+
+pub returns-in_err-name-clause-founded : goal.returns-in_err-name-clause-founded
+returns-in_err-name-clause-founded g c = grind (arith, common_steps)
+
+pub returns-in_err-name-clause-refused : goal.returns-in_err-name-clause-refused
+returns-in_err-name-clause-refused g c = grind (arith, common_steps)
+
+pub returns-in_err-mails-clause-founded : goal.returns-in_err-mails-clause-founded
+returns-in_err-mails-clause-founded g c = grind (arith, common_steps)
+
+pub returns-in_err-mails-clause-refused : goal.returns-in_err-mails-clause-refused
+returns-in_err-mails-clause-refused g c = grind (arith, common_steps)
+
+pub returns-in_err-may_found-clause-refused : goal.returns-in_err-may_found-clause-refused
+returns-in_err-may_found-clause-refused g c = grind (arith, common_steps)
+
+pub returns-in_err-may_found-clause-founded : goal.returns-in_err-may_found-clause-founded
+returns-in_err-may_found-clause-founded g c = grind (arith, common_steps)
+
+pub returns-in_err-reserve-clause-founded : goal.returns-in_err-reserve-clause-founded
+returns-in_err-reserve-clause-founded g c = grind (arith, common_steps)

@@ -1,4 +1,5 @@
-use Rattle.std.proofs.Common.{◌≡◌, ◌∙◌, ◌+◌, ◌++◌, ◌∷◌, [], None, Some, refl, sym, ap, subst}
+use Rattle.std.proofs.lemmas.Grind.{common_steps}
+use Rattle.std.proofs.Common.{◌≡◌, ◌∙◌, ◌+◌, ◌++◌, ◌∷◌, [], None, Some, refl, sym, ap, subst, arith}
 use Rattle.rambo_history.specs.declared.event.Event.TheVariants as event
 use Rattle.rambo_history.specs.Faults.{fault_of}
 use Rattle.rambo_node.specs.Changes.{made_by, refusal_of}
@@ -153,3 +154,6 @@ pub returns-clause-after : goal.returns-clause-after
 returns-clause-after g c =
     taken_after g.Q.Quorums.system c.args.self.now (step.Call c.args.name c.args.op) _ (effect.Called c.finish_call-id.result)
     (judged_now g.Q.Quorums.system _ c.args.self.now c.self.view_is (step.Call c.args.name c.args.op) c.args.name (change.Call c.args.op) c.node.result.now.state refl c.node.ensures None c.in_default.ensures.ok) (turned g c)
+
+pub push_call-requires-clause-room : goal.push_call-requires-clause-room
+push_call-requires-clause-room g c = grind (arith, common_steps)

@@ -1,4 +1,5 @@
-use Rattle.std.proofs.Common.{◌≡◌, ◌∙◌, IfOk, refl, sym, subst}
+use Rattle.std.proofs.lemmas.Grind.{common_steps}
+use Rattle.std.proofs.Common.{◌≡◌, ◌∙◌, IfOk, refl, sym, subst, arith}
 use Rattle.rambo_node.specs.Prepared.{quick_change}
 use Rattle.rambo_node.specs.declared.change.Change.TheVariants as change
 use Rattle.rambo_run.specs.declared.step.Step.TheVariants as step
@@ -47,3 +48,45 @@ returns-in-Some g c =
       err = tt;
       refused = tt;
     }
+
+pub returns-in-Ok-2-clause-told : goal.returns-in-Ok-2-clause-told
+returns-in-Ok-2-clause-told g c = grind (arith, common_steps)
+
+pub returns-in-Ok-2-clause-after : goal.returns-in-Ok-2-clause-after
+returns-in-Ok-2-clause-after g c = grind (arith, common_steps)
+
+pub returns-in-Err-clause-after : goal.returns-in-Err-clause-after
+returns-in-Err-clause-after g c = grind (arith, common_steps)
+
+pub returns-in-Err-3-clause-told : goal.returns-in-Err-3-clause-told
+returns-in-Err-3-clause-told g c = grind (arith, common_steps)
+
+pub returns-in-Ok-3-clause-told : goal.returns-in-Ok-3-clause-told
+returns-in-Ok-3-clause-told g c = grind (arith, common_steps)
+
+pub returns-in-Ok-clause-after : goal.returns-in-Ok-clause-after
+returns-in-Ok-clause-after g c = grind (arith, common_steps)
+
+pub returns-in-Ok-clause-told : goal.returns-in-Ok-clause-told
+returns-in-Ok-clause-told g c = grind (arith, common_steps)
+
+pub returns-in-Advance-clause-after : goal.returns-in-Advance-clause-after
+returns-in-Advance-clause-after g c = grind (arith, common_steps)
+
+pub returns-in-Err-3-clause-after : goal.returns-in-Err-3-clause-after
+returns-in-Err-3-clause-after g c = grind (arith, common_steps)
+
+pub returns-in-Ok-3-clause-after : goal.returns-in-Ok-3-clause-after
+returns-in-Ok-3-clause-after g c = grind (arith, common_steps)
+
+pub returns-in-Advance-clause-accepted : goal.returns-in-Advance-clause-accepted
+returns-in-Advance-clause-accepted g c = grind (arith, common_steps)
+
+pub returns-in-Err-2-clause-told : goal.returns-in-Err-2-clause-told
+returns-in-Err-2-clause-told g c = grind (arith, common_steps)
+
+pub returns-in-Err-2-clause-after : goal.returns-in-Err-2-clause-after
+returns-in-Err-2-clause-after g c = grind (arith, common_steps)
+
+pub returns-in-Err-clause-told : goal.returns-in-Err-clause-told
+returns-in-Err-clause-told g c = grind (arith, common_steps)

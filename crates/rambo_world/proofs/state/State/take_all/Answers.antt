@@ -1,4 +1,5 @@
-use Rattle.std.proofs.Common.{◌∙◌, take, sym, ap, subst}
+use Rattle.std.proofs.lemmas.Grind.{common_steps}
+use Rattle.std.proofs.Common.{◌∙◌, take, sym, ap, subst, arith}
 use Rattle.std.proofs.lemmas.List.{take_all}
 use Rattle.rambo_run.specs.Runs.{results_from, run_from}
 use Rattle.rambo_run.specs.Legal.{EventsFit}
@@ -29,3 +30,12 @@ returns-clause-after g c = c.loop-step.invariant.1 ∙ ap (run_from g.Q.Quorums.
 
 pub reserve-requires-2 : goal.reserve-requires-2
 reserve-requires-2 g c = assumption
+
+pub returns-in_err-reserve-2-clause-told : goal.returns-in_err-reserve-2-clause-told
+returns-in_err-reserve-2-clause-told g c = grind (arith, common_steps)
+
+pub returns-in_err-push-clause-after : goal.returns-in_err-push-clause-after
+returns-in_err-push-clause-after g c = grind (arith, common_steps)
+
+pub returns-in_err-reserve-2-clause-refused : goal.returns-in_err-reserve-2-clause-refused
+returns-in_err-reserve-2-clause-refused g c = grind (arith, common_steps)

@@ -1,4 +1,5 @@
-use Rattle.std.proofs.Common.{◌≡◌, ◌++◌, ◌∷◌, [], sym, ap, ◌∙◌, refl, subst}
+use Rattle.std.proofs.lemmas.Grind.{common_steps, elements}
+use Rattle.std.proofs.Common.{◌≡◌, ◌++◌, ◌∷◌, [], sym, ap, ◌∙◌, refl, subst, arith}
 use Rattle.rambo_names.specs.Refusals.{IsRefusal}
 use Rattle.rambo_names.proofs.Errors.{err_kept}
 use Rattle.rambo_names.proofs.Sizes.{up_fits, back_fits}
@@ -81,3 +82,18 @@ drop-requires g c = tt
 
 pub drop-step-requires : goal.drop-step-requires
 drop-step-requires g c = tt
+
+pub returns-clause-ok : goal.returns-clause-ok
+returns-clause-ok g c = grind (arith, common_steps)
+
+pub returns-then-is_err-clause-refused : goal.returns-then-is_err-clause-refused
+returns-then-is_err-clause-refused g c = grind (arith, common_steps)
+
+pub returns-then-is_err-clause-err : goal.returns-then-is_err-clause-err
+returns-then-is_err-clause-err g c = grind (arith, common_steps)
+
+pub returns-in_err-take-clause-err : goal.returns-in_err-take-clause-err
+returns-in_err-take-clause-err g c = grind (arith, elements)
+
+pub returns-in_err-take-clause-ok : goal.returns-in_err-take-clause-ok
+returns-in_err-take-clause-ok g c = grind (arith, elements)
