@@ -1,5 +1,5 @@
 //! The phase numbers that a node heard of others.
-ghost use Rattle.std.specs.Prelude.{◌≡◌, replicate, length};
+ghost use Rattle.std.specs.Prelude.{◌≡◌, replicate};
 ghost use Rattle.rambo_node.specs.Nodes.{heard_from, raised};
 
 use rambo_names::Name;

@@ -1,7 +1,7 @@
 //! What is done with a map, a collection and an attempt where the node's judge has let a turn pass.
 //!
 //! Nothing here takes memory. What a part could refuse, a `requires` rules out.
-ghost use Rattle.std.specs.Prelude.{◌≡◌, ◌≤◌, ◌<◌, ◌^◌, Some, None, true, false, nat_le, nat_lt, if◌then◌else◌, length};
+ghost use Rattle.std.specs.Prelude.{◌≡◌, ◌≤◌, ◌<◌, ◌^◌, Some, true, false, nat_le, nat_lt, if◌then◌else◌, length};
 ghost use Rattle.rambo_config_map.specs.Maps.{active_at, end_of, top_of, learnt, without_lowest};
 ghost use Rattle.rambo_gc.specs.Collections.{has_quorum, move_of, opened as collection_of, moved};
 ghost use Rattle.rambo_paxos.specs.Attempts.{opened as attempt_of, rebid, vote_opened, bid_of, advanced, vote_advanced};
