@@ -10,3 +10,9 @@ pub struct Ready<Q: Quorums> {
     pub step: Step<Q>,
     pub(crate) half: Half<Q>,
 }
+
+impl<Q: Quorums> Ready<Q> {
+    /// It is let go: the step isn't done, and the node stays as it is.
+    // (whoever gives one up by this needn't follow all that is in it)
+    pub fn let_go(self) {}
+}

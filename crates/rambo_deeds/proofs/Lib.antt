@@ -1,4 +1,3 @@
-pub mod Fitting
 pub mod Halves
 pub mod Letters
 pub mod Means

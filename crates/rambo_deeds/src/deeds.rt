@@ -14,10 +14,10 @@ ghost use Rattle.rambo_deeds.specs.Deeds.{judged, letter_in, meant_by, name_in, 
 
 use crate::carried::Carried;
 use crate::half::Half;
-use crate::letter::{SharedLetter, may_hear, ready_letter};
+use crate::letter::{may_hear, ready_letter};
 use crate::worker::Worker;
 use rambo_history::{CallId, Op};
-use rambo_letters::Standing;
+use rambo_letters::{SharedLetter, Standing};
 use rambo_names::{Name, Quorums, Refusal};
 use rambo_node::{Effect, Hearing, Node, Prepared, Quick};
 use rambo_run::{Step, quick_of};

@@ -1,6 +1,6 @@
 //! First halves of steps.
 
-use crate::letter::SharedLetter;
+use rambo_letters::SharedLetter;
 use rambo_names::Quorums;
 use rambo_node::{Hearing, Prepared, Quick};
 

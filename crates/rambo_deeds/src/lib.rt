@@ -1,14 +1,13 @@
 //! Steps as the node takes them that each means: why it refuses one, and what it makes of one.
 //!
 //! - `Worker`: a node that takes steps; `Half`: the first half of a step, which left its node as it is.
-//! - `SharedLetter`: a letter that several own; `Mail`: one in a tray, with its number.
+//! - `SharedLetter`, of `rambo_letters`: a letter that several own; `Mail`: one in a tray, with its number.
 //! - `may_hear`: why a node refuses such a letter; `letter_of`: the letter of a number; `letter_named`: the one that a
 //!   step lets come; `named_by`: whose step a step is.
 #![tactic(auto)]
 
 mod carried;
 mod deeds;
-mod gossip;
 mod half;
 mod letter;
 mod mail;
@@ -16,6 +15,7 @@ mod worker;
 
 pub use deeds::{letter_named, letter_of, named_by};
 pub use half::Half;
-pub use letter::{SharedLetter, may_hear};
+pub use letter::may_hear;
 pub use mail::Mail;
+pub use rambo_letters::SharedLetter;
 pub use worker::Worker;

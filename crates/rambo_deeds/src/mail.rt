@@ -1,6 +1,6 @@
 //! Letters in a tray.
 
-use crate::letter::SharedLetter;
+use rambo_letters::SharedLetter;
 use rambo_names::Quorums;
 
 /// A letter in a tray, and its number.

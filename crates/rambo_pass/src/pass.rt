@@ -188,6 +188,7 @@ fn finish_in<J: Terms<Q>, Q: Quorums, S: Replica>(
         Err(cause) => return Err(unready(book, keeper, cause)),
     };
     let Ok(()) = mine.reserve() else {
+        ready.let_go();
         return Err(unready(book, keeper, Refusal::OutOfMemory));
     };
     commit_ready(book, keeper, ready)

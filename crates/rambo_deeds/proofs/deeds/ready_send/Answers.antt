@@ -1,7 +1,7 @@
 use Rattle.std.proofs.lemmas.Grind.{common_steps}
 use Rattle.std.proofs.Common.{subst, arith}
 use Rattle.rambo_names.specs.Names.{IsName}
-use Rattle.rambo_deeds.proofs.Fitting.{standing_fits}
+use Rattle.rambo_letters.proofs.Fitting.{standing_fits}
 use Rattle.rambo_deeds.proofs.Halves.{send_ready}
 use Rattle.rambo_deeds.proofs.deeds.ready_send.Goals as goal
 

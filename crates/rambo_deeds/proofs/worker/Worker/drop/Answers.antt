@@ -1,5 +1,5 @@
 use Rattle.rambo_names.proofs.Sizes.{up_fits, back_fits}
-use Rattle.rambo_deeds.proofs.Fitting.{standing_fits}
+use Rattle.rambo_letters.proofs.Fitting.{standing_fits}
 use Rattle.rambo_deeds.proofs.worker.Worker.drop.Goals as goal
 
 pub drop-node-requires : goal.drop-node-requires

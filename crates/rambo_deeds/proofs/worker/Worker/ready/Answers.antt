@@ -6,7 +6,7 @@ use Rattle.rambo_node.specs.Prepared.{quick_change}
 use Rattle.rambo_run.proofs.QuickSteps.{quick_else}
 use Rattle.rambo_names.proofs.Sizes.{up_fits, back_fits}
 use Rattle.rambo_deeds.specs.Deeds.{meant_by, IsReadyStep}
-use Rattle.rambo_deeds.proofs.Fitting.{standing_fits}
+use Rattle.rambo_letters.proofs.Fitting.{standing_fits}
 use Rattle.rambo_deeds.proofs.Means.{cleared, told, ready_after, cleared_as, told_as, ready_as, quick_by, quick_silent}
 use Rattle.rambo_deeds.proofs.worker.Worker.ready.Goals as goal
 

@@ -4,9 +4,9 @@ use Rattle.rambo_gossip.specs.declared.letter.Letter.{Letter}
 use Rattle.rambo_gossip.specs.Letters.{kind_with, letter_with}
 use Rattle.rambo_gossip.specs.Outlines.{outlined}
 use Rattle.rambo_letters.specs.Kept.{kind_of}
-use Rattle.rambo_deeds.proofs.Fitting.{standing_fits}
-use Rattle.rambo_deeds.proofs.letter.SharedLetter.new.Goals as goal
-use Rattle.rambo_deeds.proofs.letter.SharedLetter.new.Goals.{in-None, in-Some+in_ok-new-in-Some}
+use Rattle.rambo_letters.proofs.Fitting.{standing_fits}
+use Rattle.rambo_letters.proofs.shared_letter.SharedLetter.new.Goals as goal
+use Rattle.rambo_letters.proofs.shared_letter.SharedLetter.new.Goals.{in-None, in-Some+in_ok-new-in-Some}
 
 pub new-requires : goal.new-requires
 new-requires g c = standing_fits 0 g.row.Q g.Q.Quorums g.Q.PartialEq g.met.Q.Quorums.small

@@ -6,8 +6,8 @@ ghost use Rattle.rambo_gossip.specs.Letters.{gossip_with};
 ghost use Rattle.rambo_gossip.specs.Outlines.{gossip_outlined};
 ghost use Rattle.rambo_letters.specs.Shared.{standing_of};
 
+use crate::standing::Standing;
 use rambo_gossip::GossipOutline;
-use rambo_letters::Standing;
 use rambo_names::{Members, Quorums, Refusal};
 use rambo_tag::Pack;
 use std::alloc::Global;

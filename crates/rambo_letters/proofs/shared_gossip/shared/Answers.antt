@@ -1,6 +1,6 @@
 use Rattle.std.proofs.lemmas.Grind.{common_steps}
 use Rattle.std.proofs.Common.{arith}
-use Rattle.rambo_deeds.proofs.gossip.shared.Goals as goal
+use Rattle.rambo_letters.proofs.shared_gossip.shared.Goals as goal
 
 pub of-requires : goal.of-requires
 of-requires g c = assumption
