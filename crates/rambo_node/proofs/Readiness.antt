@@ -6,6 +6,8 @@ use Rattle.std.specs.FinMap as map
 use Rattle.std.specs.List.{remove}
 use Rattle.rambo_names.specs.Quorums.{QuorumSystem}
 use Rattle.rambo_names.specs.Refusals.{least}
+use Rattle.rambo_tag.specs.declared.keyed_version.KeyedVersion.{KeyedVersion}
+use Rattle.rambo_tag.specs.declared.version.Version.{Version}
 use Rattle.rambo_tag.specs.Copies.{Copies, joined}
 use Rattle.rambo_tag.specs.Stamps.{stamps_merged}
 use Rattle.rambo_history.specs.declared.event.CallId.{CallId}
@@ -34,14 +36,13 @@ use Rattle.rambo_node.specs.declared.prepared.Quick.TheVariants as quick
 use Rattle.rambo_node.specs.declared.prepared.HearTurn.{HearTurn}
 use Rattle.rambo_node.specs.declared.prepared.Hearing.{Hearing}
 use Rattle.rambo_node.specs.declared.prepared.Moving.{Moving}
-use Rattle.rambo_node.specs.declared.prepared.Taken.{Taken}
 use Rattle.rambo_node.specs.FullNodes.{beside_after, beside_heard}
 use Rattle.rambo_node.specs.Changes.{refusal_of, made_by, told, quiet, bid_made, decided, collection_turned, collection_advanced, attempt_advanced, rebid_made, begun_again}
 use Rattle.rambo_node.specs.Hearing.{heard_letter, heard_kind, heard_gossip, heard_rest}
 use Rattle.rambo_node.specs.Kept.{answered_from, move_deed, propagation_begun}
 use Rattle.rambo_node.specs.Nodes.{NodeState, Beside, RoomyNode, open_call}
 use Rattle.rambo_node.specs.Operations.{taken, with_copy}
-use Rattle.rambo_node.specs.Prepared.{quick_change, put_by, taken_by, with_put, query_done, IsFound, IsMoving, IsHearing, IsReadyGossip, IsReadyKind, Prepares, heard_by}
+use Rattle.rambo_node.specs.Prepared.{quick_change, kept_by, put_by, with_put, query_done, HasRoomFor, IsAlone, IsFound, IsMoving, IsHearing, IsReadyGossip, IsReadyKind, Prepares, heard_by}
 use Rattle.rambo_node.specs.Reconfigurations.{collection_move, attempt_ended}
 use Rattle.rambo_node.specs.Refusals.{hear_causes, is_last, query_spent, tags_spent}
 use Rattle.rambo_node.proofs.Advances.{query_moves, call_closes}
@@ -57,11 +58,11 @@ put_is x (op.Set key value) = refl
 
 -- a met query, with what was found for it
 module _ {Q : Type 0} (x : NodeState Q) (id : CallId) (o : Op) (asked : query_in (open_call x id) ≡ Some o) where
-  pub query_ends : (place : ℕ) (t : Taken) → place ≡ place_of id.number x.calls → t.kept ≡ taken x o → t.put ≡ put_by x (Some o)
-      → query_done x place t.kept t.put ≡ (made_by x (change.Advance id)).node
+  pub query_ends : (place : ℕ) (kept : Option Version) (put : Option KeyedVersion) → place ≡ place_of id.number x.calls → kept ≡ taken x o → put ≡ put_by x (Some o)
+      → query_done x place kept put ≡ (made_by x (change.Advance id)).node
   unfolding made_by
-  query_ends place t own kept put =
-      (λ i. query_done x (own i) (kept i) (put i))
+  query_ends place kept put own sent held =
+      (λ i. query_done x (own i) (sent i) (held i))
       ∙ ap (λ r. propagation_begun (record x { registers = r }) (place_of id.number x.calls) (taken x o)) (put_is x o)
       ∙ (query_moves x id o asked).0
 
@@ -91,19 +92,33 @@ module _ {Q : Type 0} (s : QuorumSystem Q) (x : NodeState Q) (id : CallId) (plac
   pub found_next : (o : Op) → query_in (open_call x id) ≡ Some o → (is_last x.number ≡ false) × (tags_spent x o ≡ false)
   found_next o asked = asked_next x o (sym (ap (query_spent x) asked) ∙ (advance_next x s id f.accepted).1)
 
--- what a met query takes along
-pub takes_along : {Q : Type 0} (x : NodeState Q) (o : Op) (t : Taken) → t.kept ≡ taken x o → t.put ≡ put_by x (Some o) → Some t ≡ taken_by x (Some o)
-takes_along x o t kept put = λ i. Some (record { kept = kept i; put = put i })
+-- who is in its query takes along what is found for it
+pub query_takes : {Q : Type 0} (s : QuorumSystem Q) (v : RoomyNode Q) (m : Moving) (o : Op) → IsFound s v.state m.id m.place → query_in (open_call v.state m.id) ≡ Some o
+    → HasRoomFor v.room (put_by v.state (query_in (open_call v.state m.id))) → IsMoving s v (record m { kept = taken v.state o; put = put_by v.state (Some o) })
+query_takes s v m o found asked room = record {
+  found = found;
+  kept = sym (ap (kept_by v.state) asked);
+  put = sym (ap (put_by v.state) asked);
+  room = room;
+}
 
--- who takes something along asked for something in its query
-pub took_along : {Q : Type 0} (x : NodeState Q) (asked : Option Op) (t : Taken) → Some t ≡ taken_by x asked → (o : Op) × ((asked ≡ Some o) × (t.kept ≡ taken x o) × (t.put ≡ put_by x (Some o)))
-took_along x None t e = absurd (none-some t (sym e))
-took_along x (Some o) t e = let same = same_Some t (record { kept = taken x o; put = put_by x (Some o) }) e in (o, (refl, ap (λ u. u.kept) same, ap (λ u. u.put) same))
+-- and who was in its propagation takes nothing along
+pub answer_takes : {Q : Type 0} (s : QuorumSystem Q) (v : RoomyNode Q) (m : Moving) → IsFound s v.state m.id m.place → query_in (open_call v.state m.id) ≡ None → IsAlone m
+    → HasRoomFor v.room (put_by v.state (query_in (open_call v.state m.id))) → IsMoving s v m
+answer_takes s v m found round alone room = record {
+  found = found;
+  kept = alone.kept ∙ sym (ap (kept_by v.state) round);
+  put = alone.put ∙ sym (ap (put_by v.state) round);
+  room = room;
+}
 
--- and who takes nothing along was in its propagation
-pub went_alone : {Q : Type 0} (x : NodeState Q) (asked : Option Op) → None ≡ taken_by x asked → asked ≡ None
-went_alone x None e = refl
-went_alone x (Some o) e = absurd (none-some (record { kept = taken x o; put = put_by x (Some o) }) e)
+-- a call for which nothing was found yet
+module _ (id : CallId) (place : ℕ) (m : Moving) (is : m ≡ record { id = id; place = place; kept = None; put = None }) where
+  pub starts_alone : IsAlone m
+  starts_alone = record { kept = ap (λ n. n.kept) is; put = ap (λ n. n.put) is }
+
+  pub starts_found : {Q : Type 0} (s : QuorumSystem Q) (x : NodeState Q) → IsFound s x id place → IsFound s x m.id m.place
+  starts_found s x = subst (λ (n : Moving). IsFound s x n.id n.place) (sym is)
 
 -- gossip whose copies were merged first
 pub gossip_ends : {Q : Type 0} (x : NodeState Q) (j : ℕ) (g : Gossip Q) (copies : Copies)

@@ -26,7 +26,6 @@ use Rattle.rambo_node.specs.declared.prepared.Quick.TheVariants as quick
 use Rattle.rambo_node.specs.declared.prepared.HearTurn.{HearTurn}
 use Rattle.rambo_node.specs.declared.prepared.Hearing.{Hearing}
 use Rattle.rambo_node.specs.declared.prepared.Moving.{Moving}
-use Rattle.rambo_node.specs.declared.prepared.Taken.{Taken}
 use Rattle.rambo_node.specs.Changes.{refusal_of, made_by, copy_put}
 use Rattle.rambo_node.specs.FullNodes.{beside_after}
 use Rattle.rambo_node.specs.Hearing.{number_after}
@@ -87,15 +86,21 @@ pub record IsFound {Q : Type 0} (s : QuorumSystem Q) (x : NodeState Q) (id : Cal
   pub own : place ≡ place_of id.number x.calls
   pub at : slice_get x.calls place ≡ open_call x id
 
--- what a met query takes to its propagation; a met propagation takes nothing
-abbrev pub taken_by : {Q : Type 0} → NodeState Q → Option Op → Option Taken
-taken_by x None = None
-taken_by x (Some o) = Some (record { kept = taken x o; put = put_by x (Some o) })
+-- the copy that a call takes to its propagation whose query, if it is in it, is met
+abbrev pub kept_by : {Q : Type 0} → NodeState Q → Option Op → Option Version
+kept_by x None = None
+kept_by x (Some o) = taken x o
+
+-- what a call takes along isn't found yet, or is taken from it
+pub record IsAlone (m : Moving) : Type 0 where
+  pub kept : m.kept ≡ None
+  pub put : m.put ≡ None
 
 -- a call may go on with what it takes, and there is room for the copy that it puts
 pub record IsMoving {Q : Type 0} (s : QuorumSystem Q) (v : RoomyNode Q) (m : Moving) : Type 0 where
   pub found : IsFound s v.state m.id m.place
-  pub takes : m.taken ≡ taken_by v.state (query_in (open_call v.state m.id))
+  pub kept : m.kept ≡ kept_by v.state (query_in (open_call v.state m.id))
+  pub put : m.put ≡ put_by v.state (query_in (open_call v.state m.id))
   pub room : HasRoomFor v.room (put_by v.state (query_in (open_call v.state m.id)))
 
 -- gossip may be heard with these copies, after which the phase number is this

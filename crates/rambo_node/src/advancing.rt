@@ -8,14 +8,14 @@ ghost use Rattle.rambo_node.specs.Changes.{refusal_of, made_by, quiet_deed};
 ghost use Rattle.rambo_node.specs.Kept.{answered_from, move_deed};
 ghost use Rattle.rambo_calls.specs.Calls.{query_in};
 ghost use Rattle.rambo_node.specs.Operations.{new_copy, taken};
-ghost use Rattle.rambo_node.specs.Prepared.{IsFound, IsMoving, HasRoomFor, put_by};
+ghost use Rattle.rambo_node.specs.Prepared.{IsAlone, IsFound, IsMoving, HasRoomFor, put_by};
 ghost use Rattle.rambo_node.specs.Refusals.{is_last, tags_spent};
 ghost use Rattle.rambo_node.specs.declared.change.Change.TheVariants as change;
 
 use crate::deed::{Deed, clone_of, tell_answered};
 use crate::effect::Effect;
 use crate::node::Node;
-use crate::prepared::{Moving, Taken};
+use crate::prepared::Moving;
 use rambo_history::{CallId, Op};
 use rambo_names::{Bytes, Quorums, Refusal};
 use rambo_sequence::Mark;
@@ -57,42 +57,34 @@ impl<Q: Quorums, S: Replica> Node<Q, S> {
         self.calls.restart(place, self.number, &self.map, self.name);
     }
 
-    /// The first half of the advance of a call that may go on, which stands at this place: room is made for the copy that it
-    /// puts, and what it takes to its propagation, if its query is met, is found. The node stays, whatever the answer.
+    /// The first half of the advance of a call that may go on: room is made for the copy that it puts, and what it takes to
+    /// its propagation, if its query is met, is found. The node stays, whatever the answer.
     ///
-    /// What it will do is told in this deed, which told of nothing before: so a large deed is written where its owner has it,
-    /// and isn't handed on from one to another. `OutOfMemory` where there is no room for what is new; the deed is then as it
-    /// was.
+    /// What it takes along is noted beside the call, for which nothing was found before, and what it will do is told in this
+    /// deed, which told of nothing before: so what is large is written where its owner has it, and isn't handed on from one to
+    /// another. `OutOfMemory` where there is no room for what is new; the deed and what is beside the call are then as they
+    /// were.
     pub fn ready_advance(
         &mut self,
-        id: CallId,
-        place: usize,
+        moving: &mut Moving,
         deed: &mut Deed<Q>,
-    ) -> Result<Moving, Refusal>
-        requires found { IsFound Q.system self.old.state id place }
+    ) -> Result<(), Refusal>
+        requires found { IsFound Q.system self.old.state moving.old.id moving.old.place }
+        requires alone { IsAlone moving.old }
         requires quiet { deed.old ≡ quiet_deed }
         ensures same { self.new.state ≡ self.old.state }
         ensures beside { self.new.beside ≡ self.old.beside }
-        ensures id { IfOk result (λ m. m.id ≡ id) }
-        ensures moving { IfOk result (IsMoving Q.system self.new) }
-        ensures deed { OnOk result (deed.new ≡ (made_by self.old.state (change.Advance id)).deed) }
+        ensures id { OnOk result (moving.new.id ≡ moving.old.id) }
+        ensures moving { OnOk result (IsMoving Q.system self.new moving.new) }
+        ensures deed { OnOk result (deed.new ≡ (made_by self.old.state (change.Advance moving.old.id)).deed) }
         ensures refused { IfErr result (λ r. r ≡ Refusal.OutOfMemory) }
         ensures err { OnErr result (deed.new ≡ deed.old) }
+        ensures kept { OnErr result (moving.new ≡ moving.old) }
     {
-        self.room_at(place)?;
-        match self.query_at(place) {
-            Some(asked) => {
-                let taken = Some(self.tell_query(id, asked, deed)?);
-                Ok(Moving { id, place, taken })
-            }
-            None => {
-                self.tell_answer(id, place, deed)?;
-                Ok(Moving {
-                    id,
-                    place,
-                    taken: None,
-                })
-            }
+        self.room_at(moving.place)?;
+        match self.query_at(moving.place) {
+            Some(asked) => self.tell_query(moving, asked, deed),
+            None => self.tell_answer(moving.id, moving.place, deed),
         }
     }
 
@@ -109,27 +101,31 @@ impl<Q: Quorums, S: Replica> Node<Q, S> {
         }
     }
 
-    // What a met query that asked for this does is told in this deed, which told of nothing before. The answer is what its
-    // second half needs.
-    fn tell_query(&self, id: CallId, asked: &Op, deed: &mut Deed<Q>) -> Result<Taken, Refusal>
+    // What a met query that asked for this takes along is noted beside its call, and what it does is told in this deed, which
+    // told of nothing before.
+    fn tell_query(
+        &self,
+        moving: &mut Moving,
+        asked: &Op,
+        deed: &mut Deed<Q>,
+    ) -> Result<(), Refusal>
         requires tags { tags_spent self.now.state asked.now ≡ false }
+        requires alone { IsAlone moving.old }
         requires quiet { deed.old ≡ quiet_deed }
-        ensures kept { IfOk result (λ t. t.kept ≡ taken self.now.state asked.now) }
-        ensures put { IfOk result (λ t. t.put ≡ put_by self.now.state (Some asked.now)) }
-        ensures deed { OnOk result (deed.new ≡ move_deed id asked.now (taken self.now.state asked.now)) }
+        ensures moving { OnOk result (moving.new ≡ record moving.old { kept = taken self.now.state asked.now; put = put_by self.now.state (Some asked.now) }) }
+        ensures deed { OnOk result (deed.new ≡ move_deed moving.old.id asked.now (taken self.now.state asked.now)) }
         ensures refused { IfErr result (λ r. r ≡ Refusal.OutOfMemory) }
         ensures err { OnErr result (deed.new ≡ deed.old) }
+        ensures kept { OnErr result (moving.new ≡ moving.old) }
     {
         match asked {
             Op::Get(key) => {
                 let held = clone_of(self.registers.copy(key.as_slice()))?;
+                moving.kept = held;
                 deed.effect = Effect::Moved;
-                Ok(Taken {
-                    kept: held,
-                    put: None,
-                })
+                Ok(())
             }
-            Op::Set(key, value) => self.tell_set(id, key, value, deed),
+            Op::Set(key, value) => self.tell_set(moving, key, value, deed),
         }
     }
 
@@ -146,18 +142,19 @@ impl<Q: Quorums, S: Replica> Node<Q, S> {
     // A set takes the next tag of its key, and its new copy will be put and go round.
     fn tell_set(
         &self,
-        id: CallId,
+        moving: &mut Moving,
         key: &Bytes,
         value: &Bytes,
         deed: &mut Deed<Q>,
-    ) -> Result<Taken, Refusal>
+    ) -> Result<(), Refusal>
         requires tags { tags_spent self.now.state (asked.Set key.now value.now) ≡ false }
+        requires alone { IsAlone moving.old }
         requires quiet { deed.old ≡ quiet_deed }
-        ensures kept { IfOk result (λ t. t.kept ≡ Some (new_copy self.now.state key.now value.now)) }
-        ensures put { IfOk result (λ t. t.put ≡ Some (record { key = key.now; version = new_copy self.now.state key.now value.now })) }
-        ensures deed { OnOk result (deed.new ≡ move_deed id (asked.Set key.now value.now) (Some (new_copy self.now.state key.now value.now))) }
+        ensures moving { OnOk result (moving.new ≡ record moving.old { kept = Some (new_copy self.now.state key.now value.now); put = Some (record { key = key.now; version = new_copy self.now.state key.now value.now }) }) }
+        ensures deed { OnOk result (deed.new ≡ move_deed moving.old.id (asked.Set key.now value.now) (Some (new_copy self.now.state key.now value.now))) }
         ensures refused { IfErr result (λ r. r ≡ Refusal.OutOfMemory) }
         ensures err { OnErr result (deed.new ≡ deed.old) }
+        ensures kept { OnErr result (moving.new ≡ moving.old) }
     {
         let tag = Tag {
             sequence: sequence_of(self.registers.copy(key.as_slice())) + 1,
@@ -168,17 +165,16 @@ impl<Q: Quorums, S: Replica> Node<Q, S> {
         let copy = keyed(tag, key, value)?;
         let kept = version(tag, value)?;
         let op = Op::Set(key.clone()?, value.clone()?);
+        moving.kept = Some(sent);
+        moving.put = Some(put);
         deed.effect = Effect::Moved;
         deed.mark = Some(Mark {
-            id,
+            id: moving.id,
             op,
             kept: Some(kept),
         });
         deed.copy = Some(copy);
-        Ok(Taken {
-            kept: Some(sent),
-            put: Some(put),
-        })
+        Ok(())
     }
 }
 
@@ -194,6 +190,7 @@ fn version(tag: Tag, value: &Bytes) -> Result<Version, Refusal>
 }
 
 // A key's value under a tag.
+#[inline(always)]
 fn keyed(tag: Tag, key: &Bytes, value: &Bytes) -> Result<KeyedVersion, Refusal>
     ensures made { IfOk result (λ c. c ≡ record { key = key.now; version = record { tag = tag; value = Some value.now } }) }
     ensures refused { IfErr result (λ r. r ≡ Refusal.OutOfMemory) }

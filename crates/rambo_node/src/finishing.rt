@@ -10,7 +10,7 @@ ghost use Rattle.rambo_node.specs.Refusals.{is_last};
 ghost use Rattle.rambo_node.specs.declared.change.Change.TheVariants as change;
 
 use crate::node::Node;
-use crate::prepared::{Moving, Taken};
+use crate::prepared::Moving;
 use rambo_history::{CallId, Op};
 use rambo_names::Quorums;
 use rambo_tag::{KeyedVersion, Replica, Version};
@@ -37,42 +37,34 @@ impl<Q: Quorums, S: Replica> Node<Q, S> {
 
     /// The second half of the advance of a call that is ready: it goes on with what it takes along, or is answered.
     ///
-    /// It takes no memory and can't fail.
-    pub fn finish_advance(&mut self, moving: Moving)
-        requires { IsMoving Q.system self.old moving }
-        ensures node { self.new.state ≡ (made_by self.old.state (change.Advance moving.id)).node }
-        ensures beside { self.new.beside ≡ beside_after self.old.state self.old.beside (change.Advance moving.id) }
+    /// It takes no memory and can't fail. What the call took along is no longer beside it.
+    pub fn finish_advance(&mut self, moving: &mut Moving)
+        requires { IsMoving Q.system self.old moving.old }
+        ensures node { self.new.state ≡ (made_by self.old.state (change.Advance moving.old.id)).node }
+        ensures beside { self.new.beside ≡ beside_after self.old.state self.old.beside (change.Advance moving.old.id) }
+        ensures taken { moving.new ≡ record moving.old { kept = None; put = None } }
     {
-        let Moving {
-            id: _,
-            place,
-            taken,
-        } = moving;
-        match taken {
-            Some(taken) => self.finish_query(place, taken),
-            None => self.finish_answer(place),
+        match self.query_at(moving.place) {
+            Some(_) => {
+                self.put(&mut moving.put);
+                self.propagate(moving.place, moving.kept.take());
+            }
+            None => self.finish_answer(moving.place),
         }
     }
 
-    // A met query at a place goes on: the copy of a set is put, for which there is room, and a copy goes round.
-    fn finish_query(&mut self, place: usize, taken: Taken)
-        requires next { is_last self.old.state.number ≡ false }
-        requires room { HasRoomFor self.old.room taken.put }
-        ensures state { self.new.state ≡ query_done self.old.state place taken.kept taken.put }
-        ensures beside { self.new.beside ≡ record self.old.beside { stamps = stamp_put self.old.state.number self.old.beside.stamps taken.put } }
-    {
-        let Taken { kept, put } = taken;
-        self.put(put);
-        self.propagate(place, kept);
-    }
-
     // Puts a copy, if there is one, for which there is room: it is stamped with the phase number.
-    fn put(&mut self, put: Option<KeyedVersion>)
-        requires { HasRoomFor self.old.room put }
-        ensures state { self.new.state ≡ record self.old.state { registers = with_put self.old.state.registers put } }
-        ensures beside { self.new.beside ≡ record self.old.beside { stamps = stamp_put self.old.state.number self.old.beside.stamps put } }
+    // (most calls put none, and room for one isn't moved then)
+    fn put(&mut self, put: &mut Option<KeyedVersion>)
+        requires { HasRoomFor self.old.room put.old }
+        ensures state { self.new.state ≡ record self.old.state { registers = with_put self.old.state.registers put.old } }
+        ensures beside { self.new.beside ≡ record self.old.beside { stamps = stamp_put self.old.state.number self.old.beside.stamps put.old } }
+        ensures taken { put.new ≡ None }
     {
-        if let Some(KeyedVersion { key, version }) = put {
+        if put.is_none() {
+            return;
+        }
+        if let Some(KeyedVersion { key, version }) = put.take() {
             self.registers.put_room(key, version, self.number);
         }
     }

@@ -279,6 +279,7 @@ fn is_missing<Q: Quorums>(call: Option<&OpenCall<Q>>) -> bool
 }
 
 // Whether there is an open call whose phase isn't met.
+#[inline(always)]
 fn is_unmet<Q: Quorums>(call: Option<&OpenCall<Q>>) -> bool
     ensures { result ≡ is_unmet Q.system (call_found (option_copied call.entry)) }
 {

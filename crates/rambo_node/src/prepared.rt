@@ -67,23 +67,32 @@ pub(crate) struct AdvanceTurn<Q> {
     pub(crate) effect: Effect<Q>,
 }
 
-/// What the second half of the advance of a call needs.
+/// A call that goes on, and what the second half of its advance needs besides.
+///
+/// Its owner has it from the first half to the second one. Both write to it where it lies, since it is large.
 #[derive(Drop)]
 pub struct Moving {
     pub(crate) id: CallId,
     // Where the call stands among the open ones.
     pub(crate) place: usize,
-    // What it takes to its propagation, where its query is met.
-    pub(crate) taken: Option<Taken>,
-}
-
-// What a met query takes to its propagation.
-#[derive(Drop)]
-pub(crate) struct Taken {
-    // The copy that will go round.
+    // The copy that will go round, where its query is met.
     pub(crate) kept: Option<Version>,
     // The copy that a set will put.
     pub(crate) put: Option<KeyedVersion>,
+}
+
+impl Moving {
+    /// The open call of an id, which stands at this place among the open ones: what it takes along isn't found yet.
+    pub fn of(id: CallId, place: usize) -> Moving
+        ensures { result ≡ record { id = id; place = place; kept = None; put = None } }
+    {
+        Moving {
+            id,
+            place,
+            kept: None,
+            put: None,
+        }
+    }
 }
 
 // A letter that may be heard.

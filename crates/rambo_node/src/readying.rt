@@ -11,7 +11,7 @@ use crate::change::Change;
 use crate::deed::Deed;
 use crate::effect::Effect;
 use crate::node::Node;
-use crate::prepared::{AdvanceTurn, Prepared, Quick, Turn};
+use crate::prepared::{AdvanceTurn, Moving, Prepared, Quick, Turn};
 use rambo_gossip::Letter;
 use rambo_history::{CallId, Event, Op};
 use rambo_names::{Quorums, Refusal};
@@ -194,8 +194,9 @@ impl<Q: Quorums, S: Replica> Node<Q, S> {
         ensures prepares { IfOk result (Prepares Q.system self.new (change.Advance id)) }
         ensures refused { IfErr result (λ r. r ≡ Refusal.OutOfMemory) }
     {
+        let mut moving = Moving::of(id, place);
         let mut deed = Deed::default();
-        let moving = self.ready_advance(id, place, &mut deed)?;
+        self.ready_advance(&mut moving, &mut deed)?;
         Ok(Prepared::advanced(deed, moving))
     }
 }
@@ -213,8 +214,8 @@ impl<Q: Quorums, S: Replica> Node<Q, S> {
         match turn {
             Turn::Call(op) => Effect::Called(self.finish_call(op)),
             Turn::Advance(advance) => {
-                let AdvanceTurn { moving, effect } = advance;
-                self.finish_advance(moving);
+                let AdvanceTurn { mut moving, effect } = advance;
+                self.finish_advance(&mut moving);
                 effect
             }
             Turn::Hear(letter) => {

@@ -11,6 +11,7 @@ use crate::change::Change;
 use crate::decided::Decided;
 use crate::deed::Deed;
 use crate::node::Node;
+use crate::prepared::Moving;
 use rambo_history::{Answer, CallId, Op};
 use rambo_joiner::Status;
 use rambo_names::{Members, Quorums, Refusal};
@@ -91,9 +92,10 @@ impl<Q: Quorums, S: Replica> Node<Q, S> {
         ensures kept { OnErr result (self.new.beside ≡ self.old.beside) }
     {
         let place = self.may_advance(&id)?;
+        let mut moving = Moving::of(id, place);
         let mut deed = Deed::default();
-        let moving = self.ready_advance(id, place, &mut deed)?;
-        self.finish_advance(moving);
+        self.ready_advance(&mut moving, &mut deed)?;
+        self.finish_advance(&mut moving);
         Ok(deed.effect.into_answer())
     }
 

@@ -88,13 +88,14 @@ impl<Q: Quorums, S: Replica> State<Q, S> {
         ensures err { OnErr result (self.new ≡ self.old) }
         ensures refused { IfErr result (λ r. r ≡ Refusal.OutOfMemory) }
     {
+        // (a deed is large, and is cleared once where it is made before all else)
+        let mut deed = Deed::default();
         let place = match self.nodes.node(id.name).may_advance(&id) {
             Ok(place) => place,
             Err(refusal) => return Ok(Err(refusal)),
         };
         self.history.reserve(1)?;
         self.marks.reserve(1)?;
-        let mut deed = Deed::default();
         self.nodes.advance(id, place, &mut deed)?;
         note(&mut self.history, &mut self.marks, &mut deed);
         Ok(Ok(deed.effect))
@@ -111,6 +112,7 @@ fn push_call(history: &mut History, id: &CallId, op: Op)
 }
 
 // The event and the mark of a deed go from it to the ends of a history and of the marks, where there is room for them.
+#[inline(always)]
 fn note<Q: Quorums>(history: &mut History, marks: &mut Vec<Mark>, deed: &mut Deed<Q>)
     requires room { 0 < history.old.room }
     requires fits { (e : Event) → deed.old.event ≡ Some e → fault_of history.old.events e ≡ None }
@@ -125,6 +127,7 @@ fn note<Q: Quorums>(history: &mut History, marks: &mut Vec<Mark>, deed: &mut Dee
 
 // The event of a deed, if it has one, goes to the end, where there is room for it.
 // (most deeds have none, and room for one isn't moved then)
+#[inline(always)]
 fn push_event(history: &mut History, event: &mut Option<Event>)
     requires room { 0 < history.old.room }
     requires fits { (e : Event) → event.old ≡ Some e → fault_of history.old.events e ≡ None }
@@ -139,6 +142,7 @@ fn push_event(history: &mut History, event: &mut Option<Event>)
 }
 
 // And so does its mark.
+#[inline(always)]
 fn push_mark(marks: &mut Vec<Mark>, mark: &mut Option<Mark>)
     requires { vec_len marks.old < vec_capacity marks.old }
     ensures { marks.new.items ≡ with_mark marks.old.items mark.old }

@@ -23,7 +23,7 @@ use rambo_history::CallId;
 use rambo_letters::Outline;
 use rambo_logs::Logs;
 use rambo_names::{Name, Quorums, Refusal};
-use rambo_node::{Change, Deed, Node};
+use rambo_node::{Change, Deed, Moving, Node};
 use rambo_run::NodeMap;
 use rambo_tag::{KeyedVersion, Pack, Replica};
 use std::alloc::Global;
@@ -129,9 +129,10 @@ impl<Q: Quorums, S: Replica> Nodes<Q, S> {
     {
         let name = id.name;
         let node = &mut self.list[place_of(name)];
-        let moving = node.ready_advance(id, place, deed)?;
+        let mut moving = Moving::of(id, place);
+        node.ready_advance(&mut moving, deed)?;
         make_room(&mut self.logs, name, &deed.copy)?;
-        node.finish_advance(moving);
+        node.finish_advance(&mut moving);
         log_copy(&mut self.logs, name, &mut deed.copy);
         Ok(())
     }

@@ -1,5 +1,5 @@
 use Rattle.std.proofs.Common.{Some, sym, ap, ◌∙◌}
-use Rattle.std.proofs.lemmas.Result.{on_ok_weaker, IfOk-weaker}
+use Rattle.std.proofs.lemmas.Result.{on_ok_weaker}
 use Rattle.std.specs.FinMap as map
 use Rattle.rambo_node.specs.Kept.{move_deed}
 use Rattle.rambo_node.specs.Operations.{taken}
@@ -10,28 +10,28 @@ use Rattle.rambo_node.specs.declared.effect.Effect.TheVariants as effect
 use Rattle.rambo_node.proofs.node.Node.tell_query.Goals as goal
 
 pub tell_set-requires : goal.tell_set-requires
-tell_set-requires g c = (c.requires-raw.1.1.0, (sym (ap (tags_spent c.args.self.now.state) c.in-Set.is) ∙ c.requires.tags, c.requires.quiet))
+tell_set-requires g c = (c.requires-raw.1.1.0, (sym (ap (tags_spent c.args.self.now.state) c.in-Set.is) ∙ c.requires.tags, (c.requires.alone, c.requires.quiet)))
 
-pub returns-in_ok-held-in-Get-clause-kept : goal.returns-in_ok-held-in-Get-clause-kept
-returns-in_ok-held-in-Get-clause-kept g c =
+pub returns-in_ok-held-in-Get-clause-moving : goal.returns-in_ok-held-in-Get-clause-moving
+returns-in_ok-held-in-Get-clause-moving g c =
     let x = c.args.self.now.state in
-    c.in_ok-held-in-Get.ensures.same ∙ c.copy.ensures ∙ ap (map.get _) c.as_slice.ensures ∙ ap (λ v. map.get v.state.registers c.in-Get.key) c.self.view_is ∙ sym (ap (taken x) c.in-Get.is)
-
-pub returns-in_ok-held-in-Get-clause-put : goal.returns-in_ok-held-in-Get-clause-put
-returns-in_ok-held-in-Get-clause-put g c = sym (ap (λ o. put_by c.args.self.now.state (Some o)) c.in-Get.is)
+    let m = c.args.moving.now in
+    let kept = c.in_ok-held-in-Get.ensures.same ∙ c.copy.ensures ∙ ap (map.get _) c.as_slice.ensures ∙ ap (λ v. map.get v.state.registers c.in-Get.key) c.self.view_is ∙ sym (ap (taken x) c.in-Get.is) in
+    let put = c.requires.alone.put ∙ sym (ap (λ o. put_by x (Some o)) c.in-Get.is) in
+    λ i. record m { kept = kept i; put = put i }
 
 pub returns-in_ok-held-in-Get-clause-deed : goal.returns-in_ok-held-in-Get-clause-deed
 returns-in_ok-held-in-Get-clause-deed g c =
     let x = c.args.self.now.state in
-    ap (λ (d : Deed _). record d { effect = effect.Moved }) c.requires.quiet ∙ sym (ap (λ o. move_deed c.args.id o (taken x o)) c.in-Get.is)
+    ap (λ (d : Deed _). record d { effect = effect.Moved }) c.requires.quiet ∙ sym (ap (λ o. move_deed c.args.moving.now.id o (taken x o)) c.in-Get.is)
 
-pub returns-in-Set-clause-kept : goal.returns-in-Set-clause-kept
-returns-in-Set-clause-kept g c = IfOk-weaker c.tell_set.result _ _ (λ t e. e ∙ sym (ap (taken c.args.self.now.state) c.in-Set.is)) c.tell_set.ensures.kept
-
-pub returns-in-Set-clause-put : goal.returns-in-Set-clause-put
-returns-in-Set-clause-put g c = IfOk-weaker c.tell_set.result _ _ (λ t e. e ∙ sym (ap (λ o. put_by c.args.self.now.state (Some o)) c.in-Set.is)) c.tell_set.ensures.put
+pub returns-in-Set-clause-moving : goal.returns-in-Set-clause-moving
+returns-in-Set-clause-moving g c =
+    let x = c.args.self.now.state in
+    let m = c.args.moving.now in
+    on_ok_weaker c.tell_set.result (λ e. e ∙ sym (ap (λ o. record m { kept = taken x o; put = put_by x (Some o) }) c.in-Set.is)) c.tell_set.ensures.moving
 
 pub returns-in-Set-clause-deed : goal.returns-in-Set-clause-deed
 returns-in-Set-clause-deed g c =
     let x = c.args.self.now.state in
-    on_ok_weaker c.tell_set.result (λ e. e ∙ sym (ap (λ o. move_deed c.args.id o (taken x o)) c.in-Set.is)) c.tell_set.ensures.deed
+    on_ok_weaker c.tell_set.result (λ e. e ∙ sym (ap (λ o. move_deed c.args.moving.now.id o (taken x o)) c.in-Set.is)) c.tell_set.ensures.deed
