@@ -168,7 +168,7 @@ fn may_advance<Q: Quorums, S: Replica>(node: &Node<Q, S>, id: &CallId) -> Result
     ensures ok { OnOk result (refusal_of Q.system node.now.state (change.Advance id.now) ≡ None) }
     ensures refused { IfErr result (λ r. refusal_of Q.system node.now.state (change.Advance id.now) ≡ Some r) }
 {
-    let _place = node.may_advance(id)?;
+    let _found = node.may_advance(id)?;
     Ok(())
 }
 
@@ -215,8 +215,8 @@ fn ready_advance<Q: Quorums, S: Replica>(
     ensures ready { IfOk result (IsReadyStep Q.system node.new None (change.Advance id.now)) }
     ensures refused { IfErr result (IsRefusal (refusal_of Q.system node.old.state (change.Advance id.now))) }
 {
-    let place = node.may_advance(id)?;
-    let prepared = node.prepare_advance(*id, place)?;
+    let found = node.may_advance(id)?;
+    let prepared = node.prepare_advance(*id, found)?;
     Ok(Half::Call(Box::new(alloc, prepared)?))
 }
 

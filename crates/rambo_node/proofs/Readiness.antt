@@ -1,7 +1,6 @@
 -- What is ready tells what the change will do
 use Rattle.std.proofs.Common.{◌≡◌, ℕ, ◌+◌, ◌<◌, Bool, true, false, nat_lt, Option, None, Some, slice_get, refl, sym, ap, ◌∙◌, subst}
 use Rattle.std.specs.Prelude.{if◌then◌else◌}
-use Rattle.std.proofs.lemmas.Option.{none-some, same_Some}
 use Rattle.std.specs.FinMap as map
 use Rattle.std.specs.List.{remove}
 use Rattle.rambo_names.specs.Quorums.{QuorumSystem}
@@ -35,6 +34,7 @@ use Rattle.rambo_node.specs.declared.prepared.Quick.{Quick}
 use Rattle.rambo_node.specs.declared.prepared.Quick.TheVariants as quick
 use Rattle.rambo_node.specs.declared.prepared.HearTurn.{HearTurn}
 use Rattle.rambo_node.specs.declared.prepared.Hearing.{Hearing}
+use Rattle.rambo_node.specs.declared.prepared.Found.{Found}
 use Rattle.rambo_node.specs.declared.prepared.Moving.{Moving}
 use Rattle.rambo_node.specs.FullNodes.{beside_after, beside_heard}
 use Rattle.rambo_node.specs.Changes.{refusal_of, made_by, told, quiet, bid_made, decided, collection_turned, collection_advanced, attempt_advanced, rebid_made, begun_again}
@@ -42,7 +42,7 @@ use Rattle.rambo_node.specs.Hearing.{heard_letter, heard_kind, heard_gossip, hea
 use Rattle.rambo_node.specs.Kept.{answered_from, move_deed, propagation_begun}
 use Rattle.rambo_node.specs.Nodes.{NodeState, Beside, RoomyNode, open_call}
 use Rattle.rambo_node.specs.Operations.{taken, with_copy}
-use Rattle.rambo_node.specs.Prepared.{quick_change, kept_by, put_by, with_put, query_done, HasRoomFor, IsAlone, IsFound, IsMoving, IsHearing, IsReadyGossip, IsReadyKind, Prepares, heard_by}
+use Rattle.rambo_node.specs.Prepared.{quick_change, kept_by, put_by, with_put, query_done, sequence_before, HasRoomFor, IsAlone, IsFound, IsMoving, IsHearing, IsReadyGossip, IsReadyKind, Prepares, heard_by}
 use Rattle.rambo_node.specs.Reconfigurations.{collection_move, attempt_ended}
 use Rattle.rambo_node.specs.Refusals.{hear_causes, is_last, query_spent, tags_spent}
 use Rattle.rambo_node.proofs.Advances.{query_moves, call_closes}
@@ -81,19 +81,22 @@ module _ {Q : Type 0} (x : NodeState Q) (id : CallId) (there : is_missing (open_
   answer_tells = (call_closes x id there round).1
 
 -- a call that may go on, where it was found
-module _ {Q : Type 0} (s : QuorumSystem Q) (x : NodeState Q) (id : CallId) (place : ℕ) (f : IsFound s x id place) where
+module _ {Q : Type 0} (s : QuorumSystem Q) (x : NodeState Q) (id : CallId) (at : Found) (f : IsFound s x id at) where
   pub found_there : is_missing (open_call x id) ≡ false
   found_there = (advance_next x s id f.accepted).0
 
-  pub found_asked : (asked : Option Op) → asked ≡ query_in (slice_get x.calls place) → query_in (open_call x id) ≡ asked
+  pub found_asked : (asked : Option Op) → asked ≡ query_in (slice_get x.calls at.place) → query_in (open_call x id) ≡ asked
   found_asked asked e = sym (e ∙ ap query_in f.at)
 
   -- a query that goes on has a next number, and a set a next tag
   pub found_next : (o : Op) → query_in (open_call x id) ≡ Some o → (is_last x.number ≡ false) × (tags_spent x o ≡ false)
   found_next o asked = asked_next x o (sym (ap (query_spent x) asked) ∙ (advance_next x s id f.accepted).1)
 
+  pub found_before : (o : Op) → query_in (open_call x id) ≡ Some o → at.sequence ≡ sequence_before x (Some o)
+  found_before o asked = f.before ∙ ap (sequence_before x) asked
+
 -- who is in its query takes along what is found for it
-pub query_takes : {Q : Type 0} (s : QuorumSystem Q) (v : RoomyNode Q) (m : Moving) (o : Op) → IsFound s v.state m.id m.place → query_in (open_call v.state m.id) ≡ Some o
+pub query_takes : {Q : Type 0} (s : QuorumSystem Q) (v : RoomyNode Q) (m : Moving) (o : Op) → IsFound s v.state m.id m.found → query_in (open_call v.state m.id) ≡ Some o
     → HasRoomFor v.room (put_by v.state (query_in (open_call v.state m.id))) → IsMoving s v (record m { kept = taken v.state o; put = put_by v.state (Some o) })
 query_takes s v m o found asked room = record {
   found = found;
@@ -103,7 +106,7 @@ query_takes s v m o found asked room = record {
 }
 
 -- and who was in its propagation takes nothing along
-pub answer_takes : {Q : Type 0} (s : QuorumSystem Q) (v : RoomyNode Q) (m : Moving) → IsFound s v.state m.id m.place → query_in (open_call v.state m.id) ≡ None → IsAlone m
+pub answer_takes : {Q : Type 0} (s : QuorumSystem Q) (v : RoomyNode Q) (m : Moving) → IsFound s v.state m.id m.found → query_in (open_call v.state m.id) ≡ None → IsAlone m
     → HasRoomFor v.room (put_by v.state (query_in (open_call v.state m.id))) → IsMoving s v m
 answer_takes s v m found round alone room = record {
   found = found;
@@ -113,12 +116,12 @@ answer_takes s v m found round alone room = record {
 }
 
 -- a call for which nothing was found yet
-module _ (id : CallId) (place : ℕ) (m : Moving) (is : m ≡ record { id = id; place = place; kept = None; put = None }) where
+module _ (id : CallId) (at : Found) (m : Moving) (is : m ≡ record { id = id; found = at; kept = None; put = None }) where
   pub starts_alone : IsAlone m
   starts_alone = record { kept = ap (λ n. n.kept) is; put = ap (λ n. n.put) is }
 
-  pub starts_found : {Q : Type 0} (s : QuorumSystem Q) (x : NodeState Q) → IsFound s x id place → IsFound s x m.id m.place
-  starts_found s x = subst (λ (n : Moving). IsFound s x n.id n.place) (sym is)
+  pub starts_found : {Q : Type 0} (s : QuorumSystem Q) (x : NodeState Q) → IsFound s x id at → IsFound s x m.id m.found
+  starts_found s x = subst (λ (n : Moving). IsFound s x n.id n.found) (sym is)
 
 -- gossip whose copies were merged first
 pub gossip_ends : {Q : Type 0} (x : NodeState Q) (j : ℕ) (g : Gossip Q) (copies : Copies)

@@ -1,5 +1,5 @@
 -- What a node holds, and what a new one holds
-use Rattle.std.specs.Prelude.{ℕ, ◌-◌, max, nat_eq, if◌then◌else◌, List, [], Option, None, Some, replicate, slice_index, slice_set}
+use Rattle.std.specs.Prelude.{ℕ, ◌-◌, max, nat_eq, if◌then◌else◌, List, [], Option, None, replicate, slice_index, slice_set}
 use Rattle.std.specs.FinSet as set
 use Rattle.std.specs.FinMap as map
 use Rattle.rambo_names.specs.Names.{NameSet}

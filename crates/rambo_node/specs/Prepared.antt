@@ -6,8 +6,10 @@ use Rattle.rambo_tag.specs.declared.keyed_version.KeyedVersion.{KeyedVersion}
 use Rattle.rambo_tag.specs.declared.version.Version.{Version}
 use Rattle.rambo_tag.specs.Copies.{Copies, HasRoom, joined}
 use Rattle.rambo_tag.specs.Stamps.{AreStampedAlike}
+use Rattle.rambo_tag.specs.Tags.{tag_of}
 use Rattle.rambo_history.specs.declared.event.CallId.{CallId}
 use Rattle.rambo_history.specs.declared.operation.Op.{Op}
+use Rattle.rambo_history.specs.declared.operation.Op.TheVariants as op
 use Rattle.rambo_calls.specs.Calls.{place_of, query_in}
 use Rattle.rambo_calls.specs.Kept.{IsRoomy}
 use Rattle.rambo_gossip.specs.declared.letter.Gossip.{Gossip}
@@ -25,6 +27,7 @@ use Rattle.rambo_node.specs.declared.prepared.Quick.{Quick}
 use Rattle.rambo_node.specs.declared.prepared.Quick.TheVariants as quick
 use Rattle.rambo_node.specs.declared.prepared.HearTurn.{HearTurn}
 use Rattle.rambo_node.specs.declared.prepared.Hearing.{Hearing}
+use Rattle.rambo_node.specs.declared.prepared.Found.{Found}
 use Rattle.rambo_node.specs.declared.prepared.Moving.{Moving}
 use Rattle.rambo_node.specs.Changes.{refusal_of, made_by, copy_put}
 use Rattle.rambo_node.specs.FullNodes.{beside_after}
@@ -80,11 +83,18 @@ HasRoomFor room (Some c) = 0 < room.keys
 abbrev pub query_done : {Q : Type 0} → NodeState Q → ℕ → Option Version → Option KeyedVersion → NodeState Q
 query_done x place kept put = propagation_begun (record x { registers = with_put x.registers put }) place kept
 
--- an open call that may go on stands at this place
-pub record IsFound {Q : Type 0} (s : QuorumSystem Q) (x : NodeState Q) (id : CallId) (place : ℕ) : Type 0 where
+-- the sequence number of the key's tag that a set in its query goes on from, and 0 of any other call
+abbrev pub sequence_before : {Q : Type 0} → NodeState Q → Option Op → ℕ
+sequence_before x None = 0
+sequence_before x (Some (op.Get key)) = 0
+sequence_before x (Some (op.Set key value)) = (tag_of (map.get x.registers key)).sequence
+
+-- an open call that may go on was found here
+pub record IsFound {Q : Type 0} (s : QuorumSystem Q) (x : NodeState Q) (id : CallId) (f : Found) : Type 0 where
   pub accepted : refusal_of s x (change.Advance id) ≡ None
-  pub own : place ≡ place_of id.number x.calls
-  pub at : slice_get x.calls place ≡ open_call x id
+  pub own : f.place ≡ place_of id.number x.calls
+  pub at : slice_get x.calls f.place ≡ open_call x id
+  pub before : f.sequence ≡ sequence_before x (query_in (open_call x id))
 
 -- the copy that a call takes to its propagation whose query, if it is in it, is met
 abbrev pub kept_by : {Q : Type 0} → NodeState Q → Option Op → Option Version
@@ -98,7 +108,7 @@ pub record IsAlone (m : Moving) : Type 0 where
 
 -- a call may go on with what it takes, and there is room for the copy that it puts
 pub record IsMoving {Q : Type 0} (s : QuorumSystem Q) (v : RoomyNode Q) (m : Moving) : Type 0 where
-  pub found : IsFound s v.state m.id m.place
+  pub found : IsFound s v.state m.id m.found
   pub kept : m.kept ≡ kept_by v.state (query_in (open_call v.state m.id))
   pub put : m.put ≡ put_by v.state (query_in (open_call v.state m.id))
   pub room : HasRoomFor v.room (put_by v.state (query_in (open_call v.state m.id)))

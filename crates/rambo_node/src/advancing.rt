@@ -1,14 +1,14 @@
 //! How open calls begin and go on: each in two halves, of which the first makes room and finds what is new, and the second
 //! (in `finishing`) changes the node; and how a phase begins anew.
 ghost use Rattle.std.specs.Prelude.{◌≡◌, ◌+◌, ◌<◌, None, Some, false, slice_get, IfOk, IfErr, OnOk, OnErr};
-ghost use Rattle.std.specs.Option.{option_copied};
+ghost use Rattle.std.specs.FinMap.{get};
 ghost use Rattle.rambo_tag.specs.Tags.{tag_of};
 ghost use Rattle.rambo_history.specs.declared.operation.Op.TheVariants as asked;
 ghost use Rattle.rambo_node.specs.Changes.{refusal_of, made_by, quiet_deed};
 ghost use Rattle.rambo_node.specs.Kept.{answered_from, move_deed};
 ghost use Rattle.rambo_calls.specs.Calls.{query_in};
 ghost use Rattle.rambo_node.specs.Operations.{new_copy, taken};
-ghost use Rattle.rambo_node.specs.Prepared.{IsAlone, IsFound, IsMoving, HasRoomFor, put_by};
+ghost use Rattle.rambo_node.specs.Prepared.{IsAlone, IsFound, IsMoving, HasRoomFor, put_by, sequence_before};
 ghost use Rattle.rambo_node.specs.Refusals.{is_last, tags_spent};
 ghost use Rattle.rambo_node.specs.declared.change.Change.TheVariants as change;
 
@@ -64,12 +64,8 @@ impl<Q: Quorums, S: Replica> Node<Q, S> {
     /// deed, which told of nothing before: so what is large is written where its owner has it, and isn't handed on from one to
     /// another. `OutOfMemory` where there is no room for what is new; the deed and what is beside the call are then as they
     /// were.
-    pub fn ready_advance(
-        &mut self,
-        moving: &mut Moving,
-        deed: &mut Deed<Q>,
-    ) -> Result<(), Refusal>
-        requires found { IsFound Q.system self.old.state moving.old.id moving.old.place }
+    pub fn ready_advance(&mut self, moving: &mut Moving, deed: &mut Deed<Q>) -> Result<(), Refusal>
+        requires found { IsFound Q.system self.old.state moving.old.id moving.old.found }
         requires alone { IsAlone moving.old }
         requires quiet { deed.old ≡ quiet_deed }
         ensures same { self.new.state ≡ self.old.state }
@@ -81,10 +77,11 @@ impl<Q: Quorums, S: Replica> Node<Q, S> {
         ensures err { OnErr result (deed.new ≡ deed.old) }
         ensures kept { OnErr result (moving.new ≡ moving.old) }
     {
-        self.room_at(moving.place)?;
-        match self.query_at(moving.place) {
+        let place = moving.found.place;
+        self.room_at(place)?;
+        match self.query_at(place) {
             Some(asked) => self.tell_query(moving, asked, deed),
-            None => self.tell_answer(moving.id, moving.place, deed),
+            None => self.tell_answer(moving.id, place, deed),
         }
     }
 
@@ -103,12 +100,8 @@ impl<Q: Quorums, S: Replica> Node<Q, S> {
 
     // What a met query that asked for this takes along is noted beside its call, and what it does is told in this deed, which
     // told of nothing before.
-    fn tell_query(
-        &self,
-        moving: &mut Moving,
-        asked: &Op,
-        deed: &mut Deed<Q>,
-    ) -> Result<(), Refusal>
+    fn tell_query(&self, moving: &mut Moving, asked: &Op, deed: &mut Deed<Q>) -> Result<(), Refusal>
+        requires before { moving.old.found.sequence ≡ sequence_before self.now.state (Some asked.now) }
         requires tags { tags_spent self.now.state asked.now ≡ false }
         requires alone { IsAlone moving.old }
         requires quiet { deed.old ≡ quiet_deed }
@@ -147,7 +140,8 @@ impl<Q: Quorums, S: Replica> Node<Q, S> {
         value: &Bytes,
         deed: &mut Deed<Q>,
     ) -> Result<(), Refusal>
-        requires tags { tags_spent self.now.state (asked.Set key.now value.now) ≡ false }
+        requires before { moving.old.found.sequence ≡ (tag_of (get self.now.state.registers key.now)).sequence }
+        requires tags { is_last moving.old.found.sequence ≡ false }
         requires alone { IsAlone moving.old }
         requires quiet { deed.old ≡ quiet_deed }
         ensures moving { OnOk result (moving.new ≡ record moving.old { kept = Some (new_copy self.now.state key.now value.now); put = Some (record { key = key.now; version = new_copy self.now.state key.now value.now }) }) }
@@ -157,7 +151,7 @@ impl<Q: Quorums, S: Replica> Node<Q, S> {
         ensures kept { OnErr result (moving.new ≡ moving.old) }
     {
         let tag = Tag {
-            sequence: sequence_of(self.registers.copy(key.as_slice())) + 1,
+            sequence: moving.found.sequence + 1,
             name: self.name,
         };
         let sent = version(tag, value)?;
@@ -199,14 +193,4 @@ fn keyed(tag: Tag, key: &Bytes, value: &Bytes) -> Result<KeyedVersion, Refusal>
         key: key.clone()?,
         version: version(tag, value)?,
     })
-}
-
-// The sequence number of what a key holds: 0 where it is absent.
-fn sequence_of(version: Option<&Version>) -> u64
-    ensures { result ≡ (tag_of (option_copied version.entry)).sequence }
-{
-    match version {
-        Some(version) => version.tag.sequence,
-        None => 0,
-    }
 }

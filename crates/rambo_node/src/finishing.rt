@@ -44,12 +44,13 @@ impl<Q: Quorums, S: Replica> Node<Q, S> {
         ensures beside { self.new.beside ≡ beside_after self.old.state self.old.beside (change.Advance moving.old.id) }
         ensures taken { moving.new ≡ record moving.old { kept = None; put = None } }
     {
-        match self.query_at(moving.place) {
+        let place = moving.found.place;
+        match self.query_at(place) {
             Some(_) => {
                 self.put(&mut moving.put);
-                self.propagate(moving.place, moving.kept.take());
+                self.propagate(place, moving.kept.take());
             }
-            None => self.finish_answer(moving.place),
+            None => self.finish_answer(place),
         }
     }
 

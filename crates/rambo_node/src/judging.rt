@@ -4,22 +4,23 @@ ghost use Rattle.std.specs.FinSet as set;
 ghost use Rattle.rambo_names.specs.Names.{count_of};
 ghost use Rattle.rambo_history.specs.Calls.{key_of};
 ghost use Rattle.rambo_names.specs.Refusals.{least};
+ghost use Rattle.rambo_tag.specs.Tags.{tag_of};
 ghost use Rattle.rambo_gossip.specs.Outlines.{outlined};
-ghost use Rattle.rambo_node.specs.Refusals.{join_causes, call_causes, send_causes, advance_causes, again_causes, stop_causes, tags_spent, value_is_long, restarts, query_spent, is_last};
+ghost use Rattle.rambo_node.specs.Refusals.{join_causes, call_causes, send_causes, advance_causes, again_causes, stop_causes, value_is_long, restarts, query_spent, is_last};
 ghost use Rattle.std.specs.Option.{option_copied};
 ghost use Rattle.rambo_calls.specs.Calls.{is_missing, is_unmet};
 ghost use Rattle.rambo_calls.specs.Kept.{call_found};
 ghost use Rattle.rambo_node.specs.Changes.{refusal_of};
-ghost use Rattle.rambo_node.specs.Prepared.{IsFound, quick_change};
+ghost use Rattle.rambo_node.specs.Prepared.{IsFound, quick_change, sequence_before};
 ghost use Rattle.rambo_node.specs.declared.change.Change.TheVariants as change;
 
 use crate::node::{Node, query_of};
-use crate::prepared::Quick;
+use crate::prepared::{Found, Quick};
 use rambo_calls::OpenCall;
 use rambo_gossip::{GossipOutline, Kind, Letter, LetterOutline};
 use rambo_history::{CallId, Op};
 use rambo_names::{Members, Name, Quorums, Refusal};
-use rambo_tag::Replica;
+use rambo_tag::{Replica, Version};
 
 // Keys have at most so many bytes.
 const KEY_LIMIT: usize = 256;
@@ -115,19 +116,6 @@ impl<Q: Quorums, S: Replica> Node<Q, S> {
         self.restarts(kind) && is_last(self.number)
     }
 
-    // Whether a set can take no further tag.
-    fn tags_are_spent(&self, op: &Op) -> bool
-        ensures { result ≡ tags_spent self.now.state op.now }
-    {
-        match op {
-            Op::Get(_) => false,
-            Op::Set(key, _) => match self.registers.copy(key.as_slice()) {
-                Some(version) => version.tag.sequence == u64::MAX,
-                None => false,
-            },
-        }
-    }
-
     // Whether the node may join with these contacts.
     pub(crate) fn may_join(&self, contacts: Members) -> Result<(), Refusal>
         ensures ok { OnOk result (least (join_causes self.now.state contacts) ≡ None) }
@@ -196,20 +184,31 @@ impl<Q: Quorums, S: Replica> Node<Q, S> {
         Ok(())
     }
 
-    // Whether an answered query that asked for this, if it is one, can't go on.
-    fn query_is_spent(&self, asked: Option<&Op>) -> bool
+    // The sequence number of the key's tag that a set in its query goes on from, and 0 of any other call.
+    fn sequence_before(&self, asked: Option<&Op>) -> u64
+        ensures { result ≡ sequence_before self.now.state (option_copied asked.entry) }
+    {
+        match asked {
+            Some(Op::Set(key, _)) => sequence_of(self.registers.copy(key.as_slice())),
+            _ => 0,
+        }
+    }
+
+    // Whether an answered query that asked for this, if it is one, can't go on, where it goes on from this sequence number.
+    fn query_is_spent(&self, asked: Option<&Op>, sequence: u64) -> bool
+        requires { sequence ≡ sequence_before self.now.state (option_copied asked) }
         ensures { result ≡ query_spent self.now.state (option_copied asked.entry) }
     {
         match asked {
-            Some(op) => is_last(self.number) || self.tags_are_spent(op),
+            Some(_) => is_last(self.number) || is_last(sequence),
             None => false,
         }
     }
 
-    /// At `Ok` the place of the open call of an id, which may go on. Else why it may not: 3 where the node is idle or joining,
+    /// At `Ok` where the open call of an id stands, which may go on. Else why it may not: 3 where the node is idle or joining,
     /// 4 where it has stopped, 7 where there is no such open call, 8 where its phase isn't met, 21 where it is in its query
     /// and the phase number, or for a set the sequence number of the key's tag, is the greatest one.
-    pub fn may_advance(&self, id: &CallId) -> Result<usize, Refusal>
+    pub fn may_advance(&self, id: &CallId) -> Result<Found, Refusal>
         ensures ok { IfOk result (IsFound Q.system self.now.state id.now) }
         ensures refused { IfErr result (λ r. least (advance_causes Q.system self.now.state id.now) ≡ Some r) }
     {
@@ -227,10 +226,12 @@ impl<Q: Quorums, S: Replica> Node<Q, S> {
         if is_unmet(call) {
             return Err(Refusal::NotYet);
         }
-        if self.query_is_spent(query_of(call)) {
+        let asked = query_of(call);
+        let sequence = self.sequence_before(asked);
+        if self.query_is_spent(asked, sequence) {
             return Err(Refusal::NumbersSpent);
         }
-        Ok(place)
+        Ok(Found { place, sequence })
     }
 
     // Whether the phase of the open call of an id may begin anew.
@@ -286,6 +287,16 @@ fn is_unmet<Q: Quorums>(call: Option<&OpenCall<Q>>) -> bool
     match call {
         Some(call) => !call.phase.met(),
         None => false,
+    }
+}
+
+// The sequence number of what a key holds: 0 where it is absent.
+fn sequence_of(version: Option<&Version>) -> u64
+    ensures { result ≡ (tag_of (option_copied version.entry)).sequence }
+{
+    match version {
+        Some(version) => version.tag.sequence,
+        None => 0,
     }
 }
 

@@ -67,14 +67,22 @@ pub(crate) struct AdvanceTurn<Q> {
     pub(crate) effect: Effect<Q>,
 }
 
+/// Where an open call stands that may go on, and what a set in its query goes on from.
+#[derive(Clone, Copy)]
+pub struct Found {
+    // Its place among the open ones.
+    pub(crate) place: usize,
+    // Of a set in its query the sequence number of its key's tag, and 0 of any other call.
+    pub(crate) sequence: u64,
+}
+
 /// A call that goes on, and what the second half of its advance needs besides.
 ///
 /// Its owner has it from the first half to the second one. Both write to it where it lies, since it is large.
 #[derive(Drop)]
 pub struct Moving {
     pub(crate) id: CallId,
-    // Where the call stands among the open ones.
-    pub(crate) place: usize,
+    pub(crate) found: Found,
     // The copy that will go round, where its query is met.
     pub(crate) kept: Option<Version>,
     // The copy that a set will put.
@@ -82,13 +90,13 @@ pub struct Moving {
 }
 
 impl Moving {
-    /// The open call of an id, which stands at this place among the open ones: what it takes along isn't found yet.
-    pub fn of(id: CallId, place: usize) -> Moving
-        ensures { result ≡ record { id = id; place = place; kept = None; put = None } }
+    /// The open call of an id, which was found here: what it takes along isn't known yet.
+    pub fn of(id: CallId, found: Found) -> Moving
+        ensures { result ≡ record { id = id; found = found; kept = None; put = None } }
     {
         Moving {
             id,
-            place,
+            found,
             kept: None,
             put: None,
         }

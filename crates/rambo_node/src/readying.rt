@@ -11,7 +11,7 @@ use crate::change::Change;
 use crate::deed::Deed;
 use crate::effect::Effect;
 use crate::node::Node;
-use crate::prepared::{AdvanceTurn, Moving, Prepared, Quick, Turn};
+use crate::prepared::{AdvanceTurn, Found, Moving, Prepared, Quick, Turn};
 use rambo_gossip::Letter;
 use rambo_history::{CallId, Event, Op};
 use rambo_names::{Quorums, Refusal};
@@ -78,8 +78,8 @@ impl<Q: Quorums, S: Replica> Node<Q, S> {
                 self.prepare_letter(letter)
             }
             Change::Advance(id) => {
-                let place = self.may_advance(id)?;
-                self.prepare_advance(*id, place)
+                let found = self.may_advance(id)?;
+                self.prepare_advance(*id, found)
             }
             Change::Again(id) => self.ready_quick(Quick::Again(*id)),
             Change::Collect => self.ready_quick(Quick::Collect),
@@ -181,20 +181,20 @@ impl<Q: Quorums, S: Replica> Node<Q, S> {
         Ok(Prepared::quiet(Turn::Hear(turn)))
     }
 
-    /// The first half of the advance of a call that may go on, which stands at this place: room is made for the copy that it
+    /// The first half of the advance of a call that may go on, which was found here: room is made for the copy that it
     /// puts, and what it will do is found. The node stays, whatever the answer.
     ///
     /// `OutOfMemory` where there is no room for it.
     // (as above)
     #[inline(never)]
-    pub fn prepare_advance(&mut self, id: CallId, place: usize) -> Result<Prepared<Q>, Refusal>
-        requires { IsFound Q.system self.old.state id place }
+    pub fn prepare_advance(&mut self, id: CallId, found: Found) -> Result<Prepared<Q>, Refusal>
+        requires { IsFound Q.system self.old.state id found }
         ensures same { self.new.state ≡ self.old.state }
         ensures beside { self.new.beside ≡ self.old.beside }
         ensures prepares { IfOk result (Prepares Q.system self.new (change.Advance id)) }
         ensures refused { IfErr result (λ r. r ≡ Refusal.OutOfMemory) }
     {
-        let mut moving = Moving::of(id, place);
+        let mut moving = Moving::of(id, found);
         let mut deed = Deed::default();
         self.ready_advance(&mut moving, &mut deed)?;
         Ok(Prepared::advanced(deed, moving))

@@ -91,8 +91,8 @@ impl<Q: Quorums, S: Replica> Node<Q, S> {
         ensures err { OnErr result (self.new.state ≡ self.old.state) }
         ensures kept { OnErr result (self.new.beside ≡ self.old.beside) }
     {
-        let place = self.may_advance(&id)?;
-        let mut moving = Moving::of(id, place);
+        let found = self.may_advance(&id)?;
+        let mut moving = Moving::of(id, found);
         let mut deed = Deed::default();
         self.ready_advance(&mut moving, &mut deed)?;
         self.finish_advance(&mut moving);

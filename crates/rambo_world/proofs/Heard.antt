@@ -18,7 +18,7 @@ use Rattle.rambo_gossip.specs.declared.letter.Kind.{Kind}
 use Rattle.rambo_gossip.specs.declared.letter.Kind.TheVariants as kind
 use Rattle.rambo_gossip.specs.Letters.{kind_with, letter_with}
 use Rattle.rambo_gossip.specs.Short as short
-use Rattle.rambo_logs.specs.NodeLogs.{part, lacked}
+use Rattle.rambo_logs.specs.NodeLogs.{extended, part, lacked}
 use Rattle.rambo_node.specs.Changes.{refusal_of, made_by}
 use Rattle.rambo_node.specs.declared.change.Change.TheVariants as change
 use Rattle.rambo_node.specs.Hearing.{heard_kind, heard_letter}
@@ -65,17 +65,11 @@ part_past (x ∷ xs) (suc start) (suc end) past = part_past xs start end (omega 
 pub lacks_nothing : {Q : Type 0} (ls : List (List KeyedVersion)) (l : Letter Q) (start end : ℕ) → end ≤ start → lacked_of ls l start end ≡ []
 lacks_nothing ls l start end past = ap (lacked (greatest_of (slice_index_or ls (l.addressee - 1) []))) (part_past (slice_index_or ls (l.sender - 1) []) start end past)
 
--- it was heard without copies, where there are none
-pub heard_none : {Q : Type 0} (old new : RoomyNode Q) (before after : List (List KeyedVersion)) (l : Letter Q) (start end : ℕ) (none : Copies) → end ≤ start → none ≡ greatest_of [] → after ≡ before
-    → new.state ≡ (made_by old.state (change.Deliver (letter_with l none))).node → HasHeard old new before after l start end
-heard_none old new before after l start end none past is same heard =
-    let nothing = lacks_nothing before l start end past in
-    let own : List KeyedVersion = slice_index_or before (l.addressee - 1) [] in
-    record {
-      node = heard ∙ ap (λ c. (made_by old.state (change.Deliver (letter_with l c))).node) (is ∙ ap greatest_of (sym nothing));
-      logs = same ∙ sym (ap (slice_set before (l.addressee - 1)) (ap (λ more. own ++ more) nothing ∙ append-nil own) ∙ set-get_or before (l.addressee - 1) []);
-      enough = ap (λ more. joined (greatest_of own) (greatest_of more)) (nothing ∙ sym (part_past (slice_index_or before (l.sender - 1) []) start end past));
-    }
+-- a log that nothing goes to stays
+pub extended_none : (ls : List (List KeyedVersion)) (to : ℕ) (more : List KeyedVersion) → more ≡ [] → extended ls to more ≡ ls
+extended_none ls to more none =
+    let own : List KeyedVersion = slice_index_or ls (to - 1) [] in
+    ap (slice_set ls (to - 1)) (ap (λ more. own ++ more) none ∙ append-nil own) ∙ set-get_or ls (to - 1) []
 
 -- one of three ways out
 pub either_way : {A B E P U G : Type 0} (r : Result (Result A B) E) → IfOk r (λ s. OnOk s P) → IfOk r (λ s. OnErr s U) → OnErr r U → (P → G) → (U → G) → G

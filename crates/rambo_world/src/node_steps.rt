@@ -90,13 +90,13 @@ impl<Q: Quorums, S: Replica> State<Q, S> {
     {
         // (a deed is large, and is cleared once where it is made before all else)
         let mut deed = Deed::default();
-        let place = match self.nodes.node(id.name).may_advance(&id) {
-            Ok(place) => place,
+        let found = match self.nodes.node(id.name).may_advance(&id) {
+            Ok(found) => found,
             Err(refusal) => return Ok(Err(refusal)),
         };
         self.history.reserve(1)?;
         self.marks.reserve(1)?;
-        self.nodes.advance(id, place, &mut deed)?;
+        self.nodes.advance(id, found, &mut deed)?;
         note(&mut self.history, &mut self.marks, &mut deed);
         Ok(Ok(deed.effect))
     }

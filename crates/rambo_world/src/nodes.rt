@@ -5,14 +5,18 @@ ghost use Rattle.rambo_names.specs.Names.{IsName, rising};
 ghost use Rattle.rambo_tag.specs.declared.keyed_version.KeyedVersion.{KeyedVersion};
 ghost use Rattle.rambo_gossip.specs.declared.letter.Kind.TheVariants as kind;
 ghost use Rattle.rambo_gossip.specs.Letters.{letter_with};
-ghost use Rattle.rambo_logs.specs.NodeLogs.{extended};
+ghost use Rattle.rambo_tag.specs.Copies.{joined};
+ghost use Rattle.rambo_tag.specs.Logs.{greatest_of};
+ghost use Rattle.rambo_logs.specs.NodeLogs as node_logs;
+ghost use Rattle.rambo_logs.specs.NodeLogs.{extended, part};
+ghost use Rattle.std.specs.Option.{IsSomeAnd};
 ghost use Rattle.rambo_node.specs.Changes.{refusal_of, made_by, quiet_deed};
 ghost use Rattle.rambo_node.specs.Nodes.{NodeState, RoomyNode, first_node};
 ghost use Rattle.rambo_node.specs.Prepared.{IsFound};
 ghost use Rattle.rambo_run.specs.Runs.{maps_of};
 ghost use Rattle.rambo_run.specs.Worlds.{first_nodes};
 ghost use Rattle.rambo_world.specs.Kept.{KeptNode, states_of, logs_of, node_states, state_at, kept_at, log_at, moved, outline, outline_by, AllGrow, SameBarRoom};
-ghost use Rattle.rambo_world.specs.Hearing.{hear_refusal, told_by, HasHeard, HasMet, IsHeard, IsUnheard};
+ghost use Rattle.rambo_world.specs.Hearing.{hear_refusal, lacked_of, told_by, HasHeard, HasMet, IsHeard, IsUnheard};
 ghost use Rattle.rambo_world.specs.Pairs.{lends_both, AreBoth};
 ghost use Rattle.rambo_world.specs.Logging.{listed};
 ghost use Rattle.rambo_world.specs.Direct.{told_refusal};
@@ -23,7 +27,7 @@ use rambo_history::CallId;
 use rambo_letters::Outline;
 use rambo_logs::Logs;
 use rambo_names::{Name, Quorums, Refusal};
-use rambo_node::{Change, Deed, Moving, Node};
+use rambo_node::{Change, Deed, Found, Moving, Node};
 use rambo_run::NodeMap;
 use rambo_tag::{KeyedVersion, Pack, Replica};
 use std::alloc::Global;
@@ -111,15 +115,15 @@ impl<Q: Quorums, S: Replica> Nodes<Q, S> {
         maps_of(alloc, self.list.as_slice())
     }
 
-    // A call goes on that may, and stands at this place; the copy that it puts goes into the log of its node. The rest of what
+    // A call goes on that may, and was found here; the copy that it puts goes into the log of its node. The rest of what
     // it did is told in this deed, which told of nothing before: where the call doesn't go on, nothing is to be read there.
     pub(crate) fn advance(
         &mut self,
         id: CallId,
-        place: usize,
+        found: Found,
         deed: &mut Deed<Q>,
     ) -> Result<(), Refusal>
-        requires found { (x : NodeState Q) → state_at self.old id.name ≡ Some x → IsFound Q.system x id place }
+        requires found { (x : NodeState Q) → state_at self.old id.name ≡ Some x → IsFound Q.system x id found }
         requires quiet { deed.old ≡ quiet_deed }
         ensures nodes { OnOk result (states_of self.new ≡ moved self.old id.name (λ x. (made_by x (Change.Advance id)).node)) }
         ensures deed { OnOk result ((x : NodeState Q) → state_at self.old id.name ≡ Some x → deed.new ≡ record (made_by x (Change.Advance id)).deed { copy = None }) }
@@ -129,7 +133,7 @@ impl<Q: Quorums, S: Replica> Nodes<Q, S> {
     {
         let name = id.name;
         let node = &mut self.list[place_of(name)];
-        let mut moving = Moving::of(id, place);
+        let mut moving = Moving::of(id, found);
         node.ready_advance(&mut moving, deed)?;
         make_room(&mut self.logs, name, &deed.copy)?;
         node.finish_advance(&mut moving);
@@ -237,18 +241,47 @@ fn hear<Q: Quorums, S: Replica>(
     if let Err(refusal) = node.may_hear_outlined(letter) {
         return Ok(Err(refusal));
     }
-    if end <= start {
-        hear_with(node, letter, Pack::empty(alloc))?;
-        return Ok(Ok(()));
-    }
-    let to = letter.addressee;
-    let brought = logs.bring(to, letter.sender, start, end)?;
-    hear_with(node, letter, brought)?;
-    logs.take_on(to);
+    let copies = bring(logs, alloc, letter, start, end)?;
+    hear_with(node, letter, copies)?;
+    take_on(logs, letter.addressee, start, end);
     Ok(Ok(()))
 }
 
+// Brings the addressee of a letter those copies of its sender's log from one place up to another, as far as there are any, that
+// its own log lacks, and gives them.
+#[inline(always)]
+fn bring<Q: Quorums>(
+    logs: &mut Logs,
+    alloc: Global,
+    letter: &LetterOutline<'_, Q>,
+    start: usize,
+    end: usize,
+) -> Result<Pack, Refusal>
+    ensures given { IfOk result (λ p. p ≡ greatest_of (lacked_of logs.old.logs letter.now start end)) }
+    ensures brought { OnOk result (start < end → logs.new.brought ≡ Some (record { to = letter.now.addressee; copies = lacked_of logs.old.logs letter.now start end })) }
+    ensures enough { OnOk result (joined (greatest_of (node_logs.log_at logs.old.logs letter.now.addressee)) (greatest_of (lacked_of logs.old.logs letter.now start end)) ≡ joined (greatest_of (node_logs.log_at logs.old.logs letter.now.addressee)) (greatest_of (part (node_logs.log_at logs.old.logs letter.now.sender) start end))) }
+    ensures same { logs.new.logs ≡ logs.old.logs }
+    ensures refused { IfErr result (λ r. r ≡ Refusal.OutOfMemory) }
+{
+    if end <= start {
+        return Ok(Pack::empty(alloc));
+    }
+    logs.bring(letter.addressee, letter.sender, start, end)
+}
+
+// What was brought to a name of a part from one place up to another, if there is any, goes to the end of its log.
+#[inline(always)]
+fn take_on(logs: &mut Logs, to: Name, start: usize, end: usize)
+    requires { start < end → IsSomeAnd logs.old.brought (λ b. b.to ≡ to) }
+    ensures { (more : List KeyedVersion) → (start < end → logs.old.brought ≡ Some (record { to = to; copies = more })) → (end ≤ start → more ≡ []) → logs.new.logs ≡ extended logs.old.logs to more }
+{
+    if start < end {
+        logs.take_on(to);
+    }
+}
+
 // A node hears a letter that isn't refused, with these copies.
+#[inline(always)]
 fn hear_with<Q: Quorums, S: Replica>(
     node: &mut Node<Q, S>,
     letter: &LetterOutline<'_, Q>,

@@ -18,30 +18,30 @@ into_answer-requires g c = assumption
 pub may_advance-requires : goal.may_advance-requires
 may_advance-requires g c = assumption
 
-pub returns-in_err-place-clause-judged : goal.returns-in_err-place-clause-judged
-returns-in_err-place-clause-judged g c = err_ok c.from_residual.result _ _ c.from_residual.ensures.1
+pub returns-in_err-found-clause-judged : goal.returns-in_err-found-clause-judged
+returns-in_err-found-clause-judged g c = err_ok c.from_residual.result _ _ c.from_residual.ensures.1
 
-pub returns-in_err-place-clause-node : goal.returns-in_err-place-clause-node
-returns-in_err-place-clause-node g c = err_ok c.from_residual.result _ _ c.from_residual.ensures.1
+pub returns-in_err-found-clause-node : goal.returns-in_err-found-clause-node
+returns-in_err-found-clause-node g c = err_ok c.from_residual.result _ _ c.from_residual.ensures.1
 
-pub returns-in_err-place-clause-answer : goal.returns-in_err-place-clause-answer
-returns-in_err-place-clause-answer g c = err_if_ok c.from_residual.result _ _ c.from_residual.ensures.1
+pub returns-in_err-found-clause-answer : goal.returns-in_err-found-clause-answer
+returns-in_err-found-clause-answer g c = err_if_ok c.from_residual.result _ _ c.from_residual.ensures.1
 
-pub returns-in_err-place-clause-err : goal.returns-in_err-place-clause-err
-returns-in_err-place-clause-err g c = on_err c.from_residual.result refl
+pub returns-in_err-found-clause-err : goal.returns-in_err-found-clause-err
+returns-in_err-found-clause-err g c = on_err c.from_residual.result refl
 
 pub ready_advance-requires : goal.ready_advance-requires
 ready_advance-requires g c =
     let m = c.of-moving.result in
-    let place = c.in_ok-place in
-    let found = starts_found c.args.id place.place m c.of-moving.ensures g.Q.Quorums.system c.args.self.now.state place.ensures.ok in
-    (c.requires-raw.1.1, (found, (starts_alone c.args.id place.place m c.of-moving.ensures, c.default-deed.ensures)))
+    let at = c.in_ok-found in
+    let found = starts_found c.args.id at.found m c.of-moving.ensures g.Q.Quorums.system c.args.self.now.state at.ensures.ok in
+    (c.requires-raw.1.1, (found, (starts_alone c.args.id at.found m c.of-moving.ensures, c.default-deed.ensures)))
 
 pub finish_advance-requires : goal.finish_advance-requires
 finish_advance-requires g c = (c.requires-raw.1.1, c.in_ok-ready_advance.ensures.moving)
 
 pub returns-clause-judged : goal.returns-clause-judged
-returns-clause-judged g c = c.in_ok-place.ensures.ok.accepted
+returns-clause-judged g c = c.in_ok-found.ensures.ok.accepted
 
 pub returns-clause-node : goal.returns-clause-node
 returns-clause-node g c =
@@ -55,8 +55,8 @@ returns-clause-beside g c =
     let own = m.id ∙ ap (λ m. m.id) c.of-moving.ensures in
     c.finish_advance.ensures.beside ∙ λ i. beside_after (m.same i) (m.beside i) (change.Advance (own i))
 
-pub returns-in_err-place-clause-beside : goal.returns-in_err-place-clause-beside
-returns-in_err-place-clause-beside g c = err_ok c.from_residual.result _ _ c.from_residual.ensures.1
+pub returns-in_err-found-clause-beside : goal.returns-in_err-found-clause-beside
+returns-in_err-found-clause-beside g c = err_ok c.from_residual.result _ _ c.from_residual.ensures.1
 
-pub returns-in_err-place-clause-kept : goal.returns-in_err-place-clause-kept
-returns-in_err-place-clause-kept g c = on_err c.from_residual.result refl
+pub returns-in_err-found-clause-kept : goal.returns-in_err-found-clause-kept
+returns-in_err-found-clause-kept g c = on_err c.from_residual.result refl

@@ -8,8 +8,8 @@ use Rattle.rambo_node.proofs.node.Node.prepare_advance.Goals as goal
 pub ready_advance-requires : goal.ready_advance-requires
 ready_advance-requires g c =
     let m = c.of-moving.result in
-    let found = starts_found c.args.id c.args.place m c.of-moving.ensures g.Q.Quorums.system c.args.self.now.state c.requires in
-    (c.requires-raw.1.1.0, (found, (starts_alone c.args.id c.args.place m c.of-moving.ensures, c.default-deed.ensures)))
+    let found = starts_found c.args.id c.args.found m c.of-moving.ensures g.Q.Quorums.system c.args.self.now.state c.requires in
+    (c.requires-raw.1.1.0, (found, (starts_alone c.args.id c.args.found m c.of-moving.ensures, c.default-deed.ensures)))
 
 pub returns-clause-prepares : goal.returns-clause-prepares
 returns-clause-prepares g c =

@@ -87,12 +87,12 @@ returns-in_ok-may_hear-in-Deliver g c =
     (told_room s c.args.self.now p.new.self p.ensures.same p.ensures.beside (change.Deliver c.in-Deliver.letter) p.result c.in_ok-may_hear-in-Deliver.ensures.ok p.ensures.prepares p.ensures.refused
     p.ensures.no_memory)
 
-pub returns-in_ok-place-in-Advance : goal.returns-in_ok-place-in-Advance
-returns-in_ok-place-in-Advance g c =
+pub returns-in_ok-found-in-Advance : goal.returns-in_ok-found-in-Advance
+returns-in_ok-found-in-Advance g c =
     let s = g.Q.Quorums.system in
     let p = c.prepare_advance in
     subst (λ ch. Told s c.args.self.now p.new.self ch p.result) (sym c.in-Advance.is)
-    (told_room s c.args.self.now p.new.self p.ensures.same p.ensures.beside (change.Advance c.in-Advance.id) p.result c.in_ok-place-in-Advance.ensures.ok.accepted p.ensures.prepares
+    (told_room s c.args.self.now p.new.self p.ensures.same p.ensures.beside (change.Advance c.in-Advance.id) p.result c.in_ok-found-in-Advance.ensures.ok.accepted p.ensures.prepares
     p.ensures.refused (λ none. absurd (true≢false none)))
 
 pub returns-in-Join : goal.returns-in-Join
@@ -185,5 +185,5 @@ may_advance-requires g c = assumption
 pub returns-in_err-may_call-in-Call-clause-no_memory : goal.returns-in_err-may_call-in-Call-clause-no_memory
 returns-in_err-may_call-in-Call-clause-no_memory g c = grind (arith, common_steps)
 
-pub returns-in_err-place-in-Advance-clause-no_memory : goal.returns-in_err-place-in-Advance-clause-no_memory
-returns-in_err-place-in-Advance-clause-no_memory g c = grind (arith, common_steps)
+pub returns-in_err-found-in-Advance-clause-no_memory : goal.returns-in_err-found-in-Advance-clause-no_memory
+returns-in_err-found-in-Advance-clause-no_memory g c = grind (arith, common_steps)

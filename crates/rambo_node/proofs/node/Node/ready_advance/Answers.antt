@@ -7,7 +7,7 @@ use Rattle.rambo_node.specs.Changes.{made_by}
 use Rattle.rambo_node.specs.Kept.{answered_from}
 use Rattle.rambo_node.specs.Prepared.{IsFound, IsMoving, HasRoomFor, put_by}
 use Rattle.rambo_node.specs.declared.change.Change.TheVariants as change
-use Rattle.rambo_node.proofs.Readiness.{found_there, found_asked, found_next, query_tells, answer_tells, query_takes, answer_takes}
+use Rattle.rambo_node.proofs.Readiness.{found_there, found_asked, found_next, found_before, query_tells, answer_tells, query_takes, answer_takes}
 use Rattle.rambo_node.proofs.node.Node.ready_advance.Goals as goal
 
 pub tell_query-requires : goal.tell_query-requires
@@ -16,9 +16,9 @@ tell_query-requires g c =
     let x = c.room_at.new.self.state in
     let m = c.args.moving.now in
     let o = c.in-Some.asked.now in
-    let found = subst (λ y. IsFound s y m.id m.place) (sym c.in_ok-room_at.ensures.same) c.requires.found in
-    let asked = found_asked s x m.id m.place found (Some o) (sym (ap option_copied c.in-Some.is) ∙ c.query_at.ensures) in
-    (c.requires-raw.1.1.0, ((found_next s x m.id m.place found o asked).1, (c.requires.alone, c.requires.quiet)))
+    let found = subst (λ y. IsFound s y m.id m.found) (sym c.in_ok-room_at.ensures.same) c.requires.found in
+    let asked = found_asked s x m.id m.found found (Some o) (sym (ap option_copied c.in-Some.is) ∙ c.query_at.ensures) in
+    (c.requires-raw.1.1.0, (found_before s x m.id m.found found o asked, ((found_next s x m.id m.found found o asked).1, (c.requires.alone, c.requires.quiet))))
 
 pub tell_answer-requires : goal.tell_answer-requires
 tell_answer-requires g c = (c.requires-raw.1.1.0, c.requires.quiet)
@@ -29,8 +29,8 @@ returns-in-Some-clause-moving g c =
     let v = c.room_at.new.self in
     let m = c.args.moving.now in
     let o = c.in-Some.asked.now in
-    let found = subst (λ y. IsFound s y m.id m.place) (sym c.in_ok-room_at.ensures.same) c.requires.found in
-    let asked = found_asked s v.state m.id m.place found (Some o) (sym (ap option_copied c.in-Some.is) ∙ c.query_at.ensures) in
+    let found = subst (λ y. IsFound s y m.id m.found) (sym c.in_ok-room_at.ensures.same) c.requires.found in
+    let asked = found_asked s v.state m.id m.found found (Some o) (sym (ap option_copied c.in-Some.is) ∙ c.query_at.ensures) in
     let room = subst (λ d. HasRoomFor v.room (put_by v.state (query_in d))) found.at c.in_ok-room_at.ensures.room in
     on_ok_weaker c.tell_query.result (λ e. subst (IsMoving s v) (sym e) (query_takes s v m o found asked room)) c.tell_query.ensures.moving
 
@@ -41,8 +41,8 @@ returns-in-Some-clause-deed g c =
     let m = c.args.moving.now in
     let o = c.in-Some.asked.now in
     let same = c.in_ok-room_at.ensures.same in
-    let found = subst (λ y. IsFound s y m.id m.place) (sym same) c.requires.found in
-    let asked = found_asked s x m.id m.place found (Some o) (sym (ap option_copied c.in-Some.is) ∙ c.query_at.ensures) in
+    let found = subst (λ y. IsFound s y m.id m.found) (sym same) c.requires.found in
+    let asked = found_asked s x m.id m.found found (Some o) (sym (ap option_copied c.in-Some.is) ∙ c.query_at.ensures) in
     on_ok_weaker c.tell_query.result (λ e. e ∙ query_tells x m.id o asked ∙ ap (λ y. (made_by y (change.Advance m.id)).deed) same) c.tell_query.ensures.deed
 
 pub returns-in-Some-clause-id : goal.returns-in-Some-clause-id
@@ -59,8 +59,8 @@ returns-in-None-clause-moving g c =
     let s = g.Q.Quorums.system in
     let v = c.room_at.new.self in
     let m = c.args.moving.now in
-    let found = subst (λ y. IsFound s y m.id m.place) (sym c.in_ok-room_at.ensures.same) c.requires.found in
-    let round = found_asked s v.state m.id m.place found None (sym (ap option_copied c.in-None.is) ∙ c.query_at.ensures) in
+    let found = subst (λ y. IsFound s y m.id m.found) (sym c.in_ok-room_at.ensures.same) c.requires.found in
+    let round = found_asked s v.state m.id m.found found None (sym (ap option_copied c.in-None.is) ∙ c.query_at.ensures) in
     let room = subst (λ d. HasRoomFor v.room (put_by v.state (query_in d))) found.at c.in_ok-room_at.ensures.room in
     on_ok_weaker c.tell_answer.result (λ e. answer_takes s v m found round c.requires.alone room) c.tell_answer.ensures.deed
 
@@ -70,11 +70,11 @@ returns-in-None-clause-deed g c =
     let x = c.room_at.new.self.state in
     let m = c.args.moving.now in
     let same = c.in_ok-room_at.ensures.same in
-    let found = subst (λ y. IsFound s y m.id m.place) (sym same) c.requires.found in
-    let round = found_asked s x m.id m.place found None (sym (ap option_copied c.in-None.is) ∙ c.query_at.ensures) in
+    let found = subst (λ y. IsFound s y m.id m.found) (sym same) c.requires.found in
+    let round = found_asked s x m.id m.found found None (sym (ap option_copied c.in-None.is) ∙ c.query_at.ensures) in
     on_ok_weaker c.tell_answer.result (λ e.
-        e ∙ ap (λ n. answered_from m.id (slice_get x.calls n)) found.own ∙ answer_tells x m.id (found_there s x m.id m.place found) round
-        ∙ ap (λ y. (made_by y (change.Advance m.id)).deed) same) c.tell_answer.ensures.deed
+    e ∙ ap (λ n. answered_from m.id (slice_get x.calls n)) found.own ∙ answer_tells x m.id (found_there s x m.id m.found found) round
+    ∙ ap (λ y. (made_by y (change.Advance m.id)).deed) same) c.tell_answer.ensures.deed
 
 pub query_at-requires : goal.query_at-requires
 query_at-requires g c = assumption

@@ -3,14 +3,18 @@ use Rattle.std.proofs.lemmas.Result.{on_ok_weaker}
 use Rattle.std.specs.FinMap as map
 use Rattle.rambo_node.specs.Kept.{move_deed}
 use Rattle.rambo_node.specs.Operations.{taken}
-use Rattle.rambo_node.specs.Prepared.{put_by}
-use Rattle.rambo_node.specs.Refusals.{tags_spent}
+use Rattle.rambo_node.specs.Prepared.{put_by, sequence_before}
+use Rattle.rambo_node.specs.Refusals.{is_last, tags_spent}
 use Rattle.rambo_node.specs.declared.deed.Deed.{Deed}
 use Rattle.rambo_node.specs.declared.effect.Effect.TheVariants as effect
 use Rattle.rambo_node.proofs.node.Node.tell_query.Goals as goal
 
 pub tell_set-requires : goal.tell_set-requires
-tell_set-requires g c = (c.requires-raw.1.1.0, (sym (ap (tags_spent c.args.self.now.state) c.in-Set.is) ∙ c.requires.tags, (c.requires.alone, c.requires.quiet)))
+tell_set-requires g c =
+    let x = c.args.self.now.state in
+    let before = c.requires.before ∙ ap (λ o. sequence_before x (Some o)) c.in-Set.is in
+    let tags = ap is_last before ∙ sym (ap (tags_spent x) c.in-Set.is) ∙ c.requires.tags in
+    (c.requires-raw.1.1.0, (before, (tags, (c.requires.alone, c.requires.quiet))))
 
 pub returns-in_ok-held-in-Get-clause-moving : goal.returns-in_ok-held-in-Get-clause-moving
 returns-in_ok-held-in-Get-clause-moving g c =

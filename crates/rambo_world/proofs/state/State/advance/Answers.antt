@@ -47,6 +47,11 @@ returns-in_err-reserve-2-clause-accepted g c =
     on_err c.from_residual-in_err-reserve-2.result
     (judged_now g.Q.Quorums.system _ c.args.self.now c.self.view_is (step.Advance c.args.id) c.args.id.name (change.Advance c.args.id) c.node.result.now.state refl c.node.ensures None c.in-Ok.ensures.ok.accepted)
 
+pub returns-in_err-reserve-2-clause-err : goal.returns-in_err-reserve-2-clause-err
+returns-in_err-reserve-2-clause-err g c =
+    on_err c.from_residual-in_err-reserve-2.result
+    ((λ i. world_of c.self.inside.nodes c.self.inside.letters (c.in_ok-reserve.ensures.events i) (c.in_err-reserve-2.ensures.items i)) ∙ c.self.view_is)
+
 pub returns-in_err-advance-clause-accepted : goal.returns-in_err-advance-clause-accepted
 returns-in_err-advance-clause-accepted g c =
     on_err c.from_residual-in_err-advance.result
@@ -56,7 +61,7 @@ pub advance-requires : goal.advance-requires
 advance-requires g c = (
   back_fits _ _ _ (next _ _ _ _ (next _ _ _ _ (next _ _ _ _ (next _ _ _ _ (up_fits _ _ _ c.requires-raw.1.1.0))))),
   (
-    λ x at. subst (λ x. IsFound g.Q.Quorums.system x c.args.id c.in-Ok.place) (some_is c.node.result.now.state x (sym c.node.ensures ∙ at)) c.in-Ok.ensures.ok,
+    λ x at. subst (λ x. IsFound g.Q.Quorums.system x c.args.id c.in-Ok.found) (some_is c.node.result.now.state x (sym c.node.ensures ∙ at)) c.in-Ok.ensures.ok,
     c.default-deed.ensures,
   ),
 )
