@@ -94,9 +94,8 @@ impl<Q: Quorums, S: Replica> State<Q, S> {
             Ok(found) => found,
             Err(refusal) => return Ok(Err(refusal)),
         };
-        self.history.reserve(1)?;
-        self.marks.reserve(1)?;
-        self.nodes.advance(id, found, &mut deed)?;
+        self.nodes
+            .advance(id, found, &mut deed, &mut self.history, &mut self.marks)?;
         note(&mut self.history, &mut self.marks, &mut deed);
         Ok(Ok(deed.effect))
     }
@@ -114,9 +113,9 @@ fn push_call(history: &mut History, id: &CallId, op: Op)
 // The event and the mark of a deed go from it to the ends of a history and of the marks, where there is room for them.
 #[inline(always)]
 fn note<Q: Quorums>(history: &mut History, marks: &mut Vec<Mark>, deed: &mut Deed<Q>)
-    requires room { 0 < history.old.room }
+    requires room { (e : Event) → deed.old.event ≡ Some e → 0 < history.old.room }
     requires fits { (e : Event) → deed.old.event ≡ Some e → fault_of history.old.events e ≡ None }
-    requires space { vec_len marks.old < vec_capacity marks.old }
+    requires space { (m : Mark) → deed.old.mark ≡ Some m → vec_len marks.old < vec_capacity marks.old }
     ensures event { history.new.events ≡ with_event history.old.events deed.old.event }
     ensures mark { marks.new.items ≡ with_mark marks.old.items deed.old.mark }
     ensures effect { deed.new.effect ≡ deed.old.effect }
@@ -129,7 +128,7 @@ fn note<Q: Quorums>(history: &mut History, marks: &mut Vec<Mark>, deed: &mut Dee
 // (most deeds have none, and room for one isn't moved then)
 #[inline(always)]
 fn push_event(history: &mut History, event: &mut Option<Event>)
-    requires room { 0 < history.old.room }
+    requires room { (e : Event) → event.old ≡ Some e → 0 < history.old.room }
     requires fits { (e : Event) → event.old ≡ Some e → fault_of history.old.events e ≡ None }
     ensures { history.new.events ≡ with_event history.old.events event.old }
 {
@@ -144,7 +143,7 @@ fn push_event(history: &mut History, event: &mut Option<Event>)
 // And so does its mark.
 #[inline(always)]
 fn push_mark(marks: &mut Vec<Mark>, mark: &mut Option<Mark>)
-    requires { vec_len marks.old < vec_capacity marks.old }
+    requires { (m : Mark) → mark.old ≡ Some m → vec_len marks.old < vec_capacity marks.old }
     ensures { marks.new.items ≡ with_mark marks.old.items mark.old }
 {
     if mark.is_none() {

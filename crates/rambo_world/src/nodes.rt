@@ -1,6 +1,7 @@
 //! The nodes of a world, and the logs of their copies.
 ghost use Rattle.std.specs.Prelude.{◌≡◌, ◌≢◌, ◌-◌, ◌<◌, ◌≤◌, max, List, [], None, Some, length, replicate, slice_get, slice_set, OnOk, OnErr, IfOk, IfErr};
 ghost use Rattle.std.specs.Borrow.{sem};
+ghost use Rattle.std.specs.Vec.{vec_capacity, vec_len};
 ghost use Rattle.rambo_names.specs.Names.{IsName, rising};
 ghost use Rattle.rambo_tag.specs.declared.keyed_version.KeyedVersion.{KeyedVersion};
 ghost use Rattle.rambo_gossip.specs.declared.letter.Kind.TheVariants as kind;
@@ -23,12 +24,13 @@ ghost use Rattle.rambo_world.specs.Direct.{told_refusal};
 
 use rambo_config_map::Places;
 use rambo_gossip::LetterOutline;
-use rambo_history::CallId;
+use rambo_history::{CallId, Event, History};
 use rambo_letters::Outline;
 use rambo_logs::Logs;
 use rambo_names::{Name, Quorums, Refusal};
 use rambo_node::{Change, Deed, Found, Moving, Node};
 use rambo_run::NodeMap;
+use rambo_sequence::Mark;
 use rambo_tag::{KeyedVersion, Pack, Replica};
 use std::alloc::Global;
 use std::marker::Model;
@@ -117,16 +119,23 @@ impl<Q: Quorums, S: Replica> Nodes<Q, S> {
 
     // A call goes on that may, and was found here; the copy that it puts goes into the log of its node. The rest of what
     // it did is told in this deed, which told of nothing before: where the call doesn't go on, nothing is to be read there.
+    // For the event and the mark that it told of there is room then in this history and these marks.
     pub(crate) fn advance(
         &mut self,
         id: CallId,
         found: Found,
         deed: &mut Deed<Q>,
+        history: &mut History,
+        marks: &mut Vec<Mark>,
     ) -> Result<(), Refusal>
         requires found { (x : NodeState Q) → state_at self.old id.name ≡ Some x → IsFound Q.system x id found }
         requires quiet { deed.old ≡ quiet_deed }
         ensures nodes { OnOk result (states_of self.new ≡ moved self.old id.name (λ x. (made_by x (Change.Advance id)).node)) }
         ensures deed { OnOk result ((x : NodeState Q) → state_at self.old id.name ≡ Some x → deed.new ≡ record (made_by x (Change.Advance id)).deed { copy = None }) }
+        ensures events { history.new.events ≡ history.old.events }
+        ensures items { marks.new.items ≡ marks.old.items }
+        ensures room { OnOk result ((e : Event) → deed.new.event ≡ Some e → 0 < history.new.room) }
+        ensures space { OnOk result ((m : Mark) → deed.new.mark ≡ Some m → vec_len marks.new < vec_capacity marks.new) }
         ensures refused { IfErr result (λ r. r ≡ Refusal.OutOfMemory) }
         ensures err { OnErr result (SameBarRoom self.old self.new) }
         ensures grow { AllGrow self.old self.new }
@@ -135,7 +144,7 @@ impl<Q: Quorums, S: Replica> Nodes<Q, S> {
         let node = &mut self.list[place_of(name)];
         let mut moving = Moving::of(id, found);
         node.ready_advance(&mut moving, deed)?;
-        make_room(&mut self.logs, name, &deed.copy)?;
+        make_room(&mut self.logs, history, marks, name, deed)?;
         node.finish_advance(&mut moving);
         log_copy(&mut self.logs, name, &mut deed.copy);
         Ok(())
@@ -356,9 +365,36 @@ fn first_nodes<Q: Quorums, S: Replica>(
     Ok(list)
 }
 
+// Makes room for what a deed tells of: for its copy in the log of a name, for its event in a history, and for its mark in marks.
+#[inline(always)]
+fn make_room<Q: Quorums>(
+    logs: &mut Logs,
+    history: &mut History,
+    marks: &mut Vec<Mark>,
+    name: Name,
+    deed: &Deed<Q>,
+) -> Result<(), Refusal>
+    ensures same { logs.new.logs ≡ logs.old.logs }
+    ensures copy { OnOk result ((c : KeyedVersion) → deed.now.copy ≡ Some c → logs.new.room ≡ Some (record { name = name; key = c.key })) }
+    ensures events { history.new.events ≡ history.old.events }
+    ensures event { OnOk result ((e : Event) → deed.now.event ≡ Some e → 0 < history.new.room) }
+    ensures items { marks.new.items ≡ marks.old.items }
+    ensures mark { OnOk result ((m : Mark) → deed.now.mark ≡ Some m → vec_len marks.new < vec_capacity marks.new) }
+    ensures refused { IfErr result (λ r. r ≡ Refusal.OutOfMemory) }
+{
+    make_log_room(logs, name, &deed.copy)?;
+    if deed.event.is_some() {
+        history.reserve(1)?;
+    }
+    if deed.mark.is_some() {
+        marks.reserve(1)?;
+    }
+    Ok(())
+}
+
 // Makes room in the log of a name for a copy, if there is one.
 #[inline(always)]
-fn make_room(logs: &mut Logs, name: Name, copy: &Option<KeyedVersion>) -> Result<(), Refusal>
+fn make_log_room(logs: &mut Logs, name: Name, copy: &Option<KeyedVersion>) -> Result<(), Refusal>
     ensures same { logs.new.logs ≡ logs.old.logs }
     ensures room { OnOk result ((c : KeyedVersion) → copy.now ≡ Some c → logs.new.room ≡ Some (record { name = name; key = c.key })) }
     ensures refused { IfErr result (λ r. r ≡ Refusal.OutOfMemory) }

@@ -74,7 +74,7 @@ pub finish_advance-requires : goal.finish_advance-requires
 finish_advance-requires g c = (back_fits _ _ _ (up_fits _ _ _ c.requires-raw.1.1.0), c.in_ok-ready_advance.ensures.moving)
 
 pub log_copy-requires : goal.log_copy-requires
-log_copy-requires g c = c.in_ok-make_room.ensures.room
+log_copy-requires g c = c.in_ok-make_room.ensures.copy
 
 told : (g : _) (c : goal.Joined-moving-11 g) → c.ready_advance.new.deed ≡ (made_by c.index_mut-node.result.now.state (change.Advance c.args.id)).deed
 told g c = c.in_ok-ready_advance.ensures.deed ∙ ap (λ m. (made_by c.index_mut-node.result.now.state (change.Advance m.id)).deed) c.of-moving.ensures

@@ -34,27 +34,9 @@ returns-in-Err-clause-after g c =
     sym (after-refused g.Q.Quorums.system c.args.self.now (step.Advance c.args.id) c.in-Err.refusal
     (judged_now g.Q.Quorums.system _ c.args.self.now c.self.view_is (step.Advance c.args.id) c.args.id.name (change.Advance c.args.id) c.node.result.now.state refl c.node.ensures (Some c.in-Err.refusal) c.in-Err.ensures.refused))
 
-pub reserve-requires : goal.reserve-requires
-reserve-requires g c = tt
-
-pub returns-in_err-reserve-clause-accepted : goal.returns-in_err-reserve-clause-accepted
-returns-in_err-reserve-clause-accepted g c =
-    on_err c.from_residual.result
-    (judged_now g.Q.Quorums.system _ c.args.self.now c.self.view_is (step.Advance c.args.id) c.args.id.name (change.Advance c.args.id) c.node.result.now.state refl c.node.ensures None c.in-Ok.ensures.ok.accepted)
-
-pub returns-in_err-reserve-2-clause-accepted : goal.returns-in_err-reserve-2-clause-accepted
-returns-in_err-reserve-2-clause-accepted g c =
-    on_err c.from_residual-in_err-reserve-2.result
-    (judged_now g.Q.Quorums.system _ c.args.self.now c.self.view_is (step.Advance c.args.id) c.args.id.name (change.Advance c.args.id) c.node.result.now.state refl c.node.ensures None c.in-Ok.ensures.ok.accepted)
-
-pub returns-in_err-reserve-2-clause-err : goal.returns-in_err-reserve-2-clause-err
-returns-in_err-reserve-2-clause-err g c =
-    on_err c.from_residual-in_err-reserve-2.result
-    ((λ i. world_of c.self.inside.nodes c.self.inside.letters (c.in_ok-reserve.ensures.events i) (c.in_err-reserve-2.ensures.items i)) ∙ c.self.view_is)
-
 pub returns-in_err-advance-clause-accepted : goal.returns-in_err-advance-clause-accepted
 returns-in_err-advance-clause-accepted g c =
-    on_err c.from_residual-in_err-advance.result
+    on_err c.from_residual.result
     (judged_now g.Q.Quorums.system _ c.args.self.now c.self.view_is (step.Advance c.args.id) c.args.id.name (change.Advance c.args.id) c.node.result.now.state refl c.node.ensures None c.in-Ok.ensures.ok.accepted)
 
 pub advance-requires : goal.advance-requires
@@ -66,13 +48,13 @@ advance-requires g c = (
   ),
 )
 
-pub invariant_of-self-in_err-advance : goal.invariant_of-self-in_err-advance
-invariant_of-self-in_err-advance g c = kept_stays c.self.inside.nodes c.advance.new.self c.advance.ensures.grow c.self.inside.letters c.self.inside.merged c.self.invariant
+pub invariant_of-self : goal.invariant_of-self
+invariant_of-self g c = kept_stays c.self.inside.nodes c.advance.new.self c.advance.ensures.grow c.self.inside.letters c.self.inside.merged c.self.invariant
 
 pub returns-in_err-advance-clause-err : goal.returns-in_err-advance-clause-err
 returns-in_err-advance-clause-err g c =
-    on_err c.from_residual-in_err-advance.result
-    (same_world c.self.inside.nodes c.advance.new.self c.self.inside.letters c.self.inside.history.events _ c.self.inside.marks.items _ c.in_err-advance.ensures.err c.self.invariant.sent c.in_ok-reserve.ensures.events c.in_ok-reserve-2.ensures.items
+    on_err c.from_residual.result
+    (same_world c.self.inside.nodes c.advance.new.self c.self.inside.letters c.self.inside.history.events _ c.self.inside.marks.items _ c.in_err-advance.ensures.err c.self.invariant.sent c.advance.ensures.events c.advance.ensures.items
     ∙ c.self.view_is)
 
 pub note-requires-clause-fits : goal.note-requires-clause-fits
@@ -82,7 +64,7 @@ note-requires-clause-fits g c =
     let x = c.node.result.now.state in
     let fits = subst (λ w. EventFits w n ch) (sym c.self.view_is)
     (c.requires.fits (judged_now g.Q.Quorums.system _ c.args.self.now c.self.view_is (step.Advance c.args.id) c.args.id.name (change.Advance c.args.id) c.node.result.now.state refl c.node.ensures None c.in-Ok.ensures.ok.accepted)) in
-    λ e found. ap (λ h. fault_of h e) c.in_ok-reserve.ensures.events ∙ fits x e c.node.ensures (sym (ap (λ d. d.event) (c.in_ok-advance.ensures.deed x c.node.ensures)) ∙ found)
+    λ e found. ap (λ h. fault_of h e) c.advance.ensures.events ∙ fits x e c.node.ensures (sym (ap (λ d. d.event) (c.in_ok-advance.ensures.deed x c.node.ensures)) ∙ found)
 
 pub invariant_of-self-2 : goal.invariant_of-self-2
 invariant_of-self-2 g c = kept_stays c.self.inside.nodes c.advance.new.self c.advance.ensures.grow c.self.inside.letters c.self.inside.merged c.self.invariant
@@ -102,7 +84,7 @@ returns-clause-told g c =
     (turned_now _ c.args.self.now c.self.view_is (step.Advance c.args.id) n ch refl _
     (changed_world ks c.advance.new.self ss h c.note.new.history.events ms c.note.new.marks.items n ch c.note.new.deed.effect x c.in_ok-advance.ensures.nodes
     (letters_stay ks c.advance.new.self c.advance.ensures.grow ss c.self.invariant.sent) c.node.ensures refl (c.note.ensures.effect ∙ ap (λ d. d.effect) deed)
-    (c.note.ensures.event ∙ (λ i. with_event (c.in_ok-reserve.ensures.events i) (deed i).event)) (c.note.ensures.mark ∙ (λ i. with_mark (c.in_ok-reserve-2.ensures.items i) (deed i).mark))))
+    (c.note.ensures.event ∙ (λ i. with_event (c.advance.ensures.events i) (deed i).event)) (c.note.ensures.mark ∙ (λ i. with_mark (c.advance.ensures.items i) (deed i).mark))))
 
 pub returns-clause-after : goal.returns-clause-after
 returns-clause-after g c =
@@ -119,4 +101,4 @@ returns-clause-after g c =
     (turned_now _ c.args.self.now c.self.view_is (step.Advance c.args.id) n ch refl _
     (changed_world ks c.advance.new.self ss h c.note.new.history.events ms c.note.new.marks.items n ch c.note.new.deed.effect x c.in_ok-advance.ensures.nodes
     (letters_stay ks c.advance.new.self c.advance.ensures.grow ss c.self.invariant.sent) c.node.ensures refl (c.note.ensures.effect ∙ ap (λ d. d.effect) deed)
-    (c.note.ensures.event ∙ (λ i. with_event (c.in_ok-reserve.ensures.events i) (deed i).event)) (c.note.ensures.mark ∙ (λ i. with_mark (c.in_ok-reserve-2.ensures.items i) (deed i).mark))))
+    (c.note.ensures.event ∙ (λ i. with_event (c.advance.ensures.events i) (deed i).event)) (c.note.ensures.mark ∙ (λ i. with_mark (c.advance.ensures.items i) (deed i).mark))))

@@ -2,7 +2,7 @@ use Rattle.std.proofs.Common.{◌∙◌, Some, sym, ap}
 use Rattle.rambo_tag.specs.declared.keyed_version.KeyedVersion.{KeyedVersion}
 use Rattle.rambo_letters.proofs.Lists.{some_is}
 use Rattle.rambo_names.proofs.Errors.{err_kept}
-use Rattle.rambo_world.proofs.nodes.make_room.Goals as goal
+use Rattle.rambo_world.proofs.nodes.make_log_room.Goals as goal
 
 pub returns-in_err-reserve-in-Some-clause-refused : goal.returns-in_err-reserve-in-Some-clause-refused
 returns-in_err-reserve-in-Some-clause-refused c = err_kept c.from_residual.result _ _ c.from_residual.ensures.1 c.in_err-reserve-in-Some.ensures.refused
