@@ -115,14 +115,6 @@ answer_takes s v m found round alone room = record {
   room = room;
 }
 
--- a call for which nothing was found yet
-module _ (id : CallId) (at : Found) (m : Moving) (is : m ≡ record { id = id; found = at; kept = None; put = None }) where
-  pub starts_alone : IsAlone m
-  starts_alone = record { kept = ap (λ n. n.kept) is; put = ap (λ n. n.put) is }
-
-  pub starts_found : {Q : Type 0} (s : QuorumSystem Q) (x : NodeState Q) → IsFound s x id at → IsFound s x m.id m.found
-  starts_found s x = subst (λ (n : Moving). IsFound s x n.id n.found) (sym is)
-
 -- gossip whose copies were merged first
 pub gossip_ends : {Q : Type 0} (x : NodeState Q) (j : ℕ) (g : Gossip Q) (copies : Copies)
     → heard_rest (record x { registers = joined x.registers copies }) j g ≡ heard_gossip x j (gossip_with g copies)

@@ -78,29 +78,18 @@ pub struct Found {
 
 /// A call that goes on, and what the second half of its advance needs besides.
 ///
-/// Its owner has it from the first half to the second one. Both write to it where it lies, since it is large.
+/// Its owner has it from the first half to the second one, and begins it with no copies. Both halves write to it where it lies,
+/// since it is large.
 #[derive(Drop)]
 pub struct Moving {
-    pub(crate) id: CallId,
-    pub(crate) found: Found,
-    // The copy that will go round, where its query is met.
-    pub(crate) kept: Option<Version>,
-    // The copy that a set will put.
-    pub(crate) put: Option<KeyedVersion>,
-}
-
-impl Moving {
-    /// The open call of an id, which was found here: what it takes along isn't known yet.
-    pub fn of(id: CallId, found: Found) -> Moving
-        ensures { result ≡ record { id = id; found = found; kept = None; put = None } }
-    {
-        Moving {
-            id,
-            found,
-            kept: None,
-            put: None,
-        }
-    }
+    /// The open call.
+    pub id: CallId,
+    /// Where it was found.
+    pub found: Found,
+    /// The copy that will go round, where its query is met.
+    pub kept: Option<Version>,
+    /// The copy that a set will put.
+    pub put: Option<KeyedVersion>,
 }
 
 // A letter that may be heard.

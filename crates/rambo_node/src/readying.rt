@@ -194,7 +194,12 @@ impl<Q: Quorums, S: Replica> Node<Q, S> {
         ensures prepares { IfOk result (Prepares Q.system self.new (change.Advance id)) }
         ensures refused { IfErr result (λ r. r ≡ Refusal.OutOfMemory) }
     {
-        let mut moving = Moving::of(id, found);
+        let mut moving = Moving {
+            id,
+            found,
+            kept: None,
+            put: None,
+        };
         let mut deed = Deed::default();
         self.ready_advance(&mut moving, &mut deed)?;
         Ok(Prepared::advanced(deed, moving))

@@ -92,7 +92,12 @@ impl<Q: Quorums, S: Replica> Node<Q, S> {
         ensures kept { OnErr result (self.new.beside ≡ self.old.beside) }
     {
         let found = self.may_advance(&id)?;
-        let mut moving = Moving::of(id, found);
+        let mut moving = Moving {
+            id,
+            found,
+            kept: None,
+            put: None,
+        };
         let mut deed = Deed::default();
         self.ready_advance(&mut moving, &mut deed)?;
         self.finish_advance(&mut moving);

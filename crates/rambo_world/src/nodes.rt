@@ -142,7 +142,12 @@ impl<Q: Quorums, S: Replica> Nodes<Q, S> {
     {
         let name = id.name;
         let node = &mut self.list[place_of(name)];
-        let mut moving = Moving::of(id, found);
+        let mut moving = Moving {
+            id,
+            found,
+            kept: None,
+            put: None,
+        };
         node.ready_advance(&mut moving, deed)?;
         make_room(&mut self.logs, history, marks, name, deed)?;
         node.finish_advance(&mut moving);

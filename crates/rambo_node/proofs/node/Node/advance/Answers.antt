@@ -1,9 +1,8 @@
-use Rattle.std.proofs.Common.{refl, ap, ◌∙◌}
+use Rattle.std.proofs.Common.{refl, ◌∙◌}
 use Rattle.rambo_node.specs.Changes.{made_by}
 use Rattle.rambo_node.specs.FullNodes.{beside_after}
 use Rattle.rambo_node.specs.declared.change.Change.TheVariants as change
 use Rattle.rambo_names.proofs.Errors.{err_ok, err_if_ok, on_err}
-use Rattle.rambo_node.proofs.Readiness.{starts_alone, starts_found}
 use Rattle.rambo_node.proofs.node.Node.advance.Goals as goal
 
 pub drop-deed-requires : goal.drop-deed-requires
@@ -31,11 +30,7 @@ pub returns-in_err-found-clause-err : goal.returns-in_err-found-clause-err
 returns-in_err-found-clause-err g c = on_err c.from_residual.result refl
 
 pub ready_advance-requires : goal.ready_advance-requires
-ready_advance-requires g c =
-    let m = c.of-moving.result in
-    let at = c.in_ok-found in
-    let found = starts_found c.args.id at.found m c.of-moving.ensures g.Q.Quorums.system c.args.self.now.state at.ensures.ok in
-    (c.requires-raw.1.1, (found, (starts_alone c.args.id at.found m c.of-moving.ensures, c.default-deed.ensures)))
+ready_advance-requires g c = (c.requires-raw.1.1, (c.in_ok-found.ensures.ok, (record { kept = refl; put = refl }, c.default-deed.ensures)))
 
 pub finish_advance-requires : goal.finish_advance-requires
 finish_advance-requires g c = (c.requires-raw.1.1, c.in_ok-ready_advance.ensures.moving)
@@ -46,14 +41,12 @@ returns-clause-judged g c = c.in_ok-found.ensures.ok.accepted
 pub returns-clause-node : goal.returns-clause-node
 returns-clause-node g c =
     let m = c.in_ok-ready_advance.ensures in
-    let own = m.id ∙ ap (λ m. m.id) c.of-moving.ensures in
-    c.finish_advance.ensures.node ∙ λ i. (made_by (m.same i) (change.Advance (own i))).node
+    c.finish_advance.ensures.node ∙ λ i. (made_by (m.same i) (change.Advance (m.id i))).node
 
 pub returns-clause-beside : goal.returns-clause-beside
 returns-clause-beside g c =
     let m = c.in_ok-ready_advance.ensures in
-    let own = m.id ∙ ap (λ m. m.id) c.of-moving.ensures in
-    c.finish_advance.ensures.beside ∙ λ i. beside_after (m.same i) (m.beside i) (change.Advance (own i))
+    c.finish_advance.ensures.beside ∙ λ i. beside_after (m.same i) (m.beside i) (change.Advance (m.id i))
 
 pub returns-in_err-found-clause-beside : goal.returns-in_err-found-clause-beside
 returns-in_err-found-clause-beside g c = err_ok c.from_residual.result _ _ c.from_residual.ensures.1

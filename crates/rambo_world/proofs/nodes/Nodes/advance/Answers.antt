@@ -8,7 +8,6 @@ use Rattle.rambo_logs.specs.NodeLogs.{extended}
 use Rattle.rambo_node.specs.Changes.{made_by}
 use Rattle.rambo_node.specs.declared.deed.Deed.{Deed}
 use Rattle.rambo_node.specs.declared.change.Change.TheVariants as change
-use Rattle.rambo_node.proofs.Readiness.{starts_alone, starts_found}
 use Rattle.rambo_world.specs.Kept.{kept_of, state_at, moved, SameBarRoom, AllGrow}
 use Rattle.rambo_world.specs.Logging.{listed}
 use Rattle.rambo_names.proofs.Sizes.{up_fits, back_fits}
@@ -29,9 +28,7 @@ ready_advance-requires g c =
     let x = c.index_mut-node.result.now in
     let below : c.place_of.result < length xs = subst (λ n. c.place_of.result < n) (sym c.self.invariant.0) c.place_of.ensures.within in
     let here = subst (λ now. state_at now c.args.id.name ≡ Some x.state) c.self.view_is (node_here xs ls c.place_of.result c.args.id.name x x c.place_of.ensures.place c.place_of.ensures.named.0 below c.index_mut-node.ensures.value) in
-    let m = c.of-moving in
-    let found = starts_found c.args.id c.args.found m.result m.ensures g.Q.Quorums.system x.state (c.requires.found x.state here) in
-    (back_fits _ _ _ (up_fits _ _ _ c.requires-raw.1.1.0), (found, (starts_alone c.args.id c.args.found m.result m.ensures, c.requires.quiet)))
+    (back_fits _ _ _ (up_fits _ _ _ c.requires-raw.1.1.0), (c.requires.found x.state here, (record { kept = refl; put = refl }, c.requires.quiet)))
 
 pub invariant_of-self : goal.invariant_of-self
 invariant_of-self g c = (length-set c.self.inside.list.items _ _ ∙ c.self.invariant.0, c.self.invariant.1)
@@ -76,16 +73,11 @@ finish_advance-requires g c = (back_fits _ _ _ (up_fits _ _ _ c.requires-raw.1.1
 pub log_copy-requires : goal.log_copy-requires
 log_copy-requires g c = c.in_ok-make_room.ensures.copy
 
-told : (g : _) (c : goal.Joined-moving-11 g) → c.ready_advance.new.deed ≡ (made_by c.index_mut-node.result.now.state (change.Advance c.args.id)).deed
-told g c = c.in_ok-ready_advance.ensures.deed ∙ ap (λ m. (made_by c.index_mut-node.result.now.state (change.Advance m.id)).deed) c.of-moving.ensures
-
 logs_after : (g : _) (c : goal.Joined-moving-11 g) → c.log_copy.new.logs.logs ≡ extended c.self.inside.logs.logs c.args.id.name (listed (made_by c.index_mut-node.result.now.state (change.Advance c.args.id)).deed.copy)
-logs_after g c = c.log_copy.ensures.logged ∙ λ i. extended (c.make_room.ensures.same i) c.args.id.name (listed (ap (λ d. d.copy) (told g c) i))
+logs_after g c = c.log_copy.ensures.logged ∙ λ i. extended (c.make_room.ensures.same i) c.args.id.name (listed (ap (λ d. d.copy) c.in_ok-ready_advance.ensures.deed i))
 
 made : (g : _) (c : goal.Joined-moving-11 g) → c.finish_advance.new.self.state ≡ (made_by c.index_mut-node.result.now.state (change.Advance c.args.id)).node
-made g c =
-    let own = c.in_ok-ready_advance.ensures.id ∙ ap (λ m. m.id) c.of-moving.ensures in
-    c.finish_advance.ensures.node ∙ λ i. (made_by (c.ready_advance.ensures.same i) (change.Advance (own i))).node
+made g c = c.finish_advance.ensures.node ∙ λ i. (made_by (c.ready_advance.ensures.same i) (change.Advance (c.in_ok-ready_advance.ensures.id i))).node
 
 pub invariant_of-self-2 : goal.invariant_of-self-2
 invariant_of-self-2 g c = (length-set c.self.inside.list.items _ _ ∙ c.self.invariant.0, ap length (logs_after g c) ∙ length-set c.self.inside.logs.logs _ _ ∙ c.self.invariant.1)
@@ -107,7 +99,7 @@ returns-clause-deed g c y found =
     let below : c.place_of.result < length xs = subst (λ n. c.place_of.result < n) (sym c.self.invariant.0) c.place_of.ensures.within in
     let here = subst (λ now. state_at now c.args.id.name ≡ Some x.state) c.self.view_is (node_here xs ls c.place_of.result c.args.id.name x x c.place_of.ensures.place c.place_of.ensures.named.0 below c.index_mut-node.ensures.value) in
     ap (λ o. record c.ready_advance.new.deed { copy = o }) c.log_copy.ensures.taken
-    ∙ ap (λ (d : Deed _). record d { copy = None }) (told g c ∙ ap (λ y. (made_by y (change.Advance c.args.id)).deed) (some_is x.state y (sym here ∙ found)))
+    ∙ ap (λ (d : Deed _). record d { copy = None }) (c.in_ok-ready_advance.ensures.deed ∙ ap (λ y. (made_by y (change.Advance c.args.id)).deed) (some_is x.state y (sym here ∙ found)))
 
 pub returns-clause-grow : goal.returns-clause-grow
 returns-clause-grow g c =
