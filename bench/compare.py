@@ -11,7 +11,7 @@ place of times, on scripts of an eighth of the length, by valgrind: these are th
 nothing.
 
 With --write it does both, and clients.py's part as well, and writes the tables into docs/BENCHMARKS.md and the picture
-docs/benchmarks.svg.
+docs/img/benchmarks.svg.
 """
 import os
 import platform
@@ -160,7 +160,7 @@ def write(programs):
     taken_on = machine()
     rows = timed(programs)
     lines = [taken_on, "", "## Replay and check", ""] + time_table(rows)
-    lines += ["", "![The ratios of the table as bars: of time and of memory, for each work.](benchmarks.svg)"]
+    lines += ["", "![The ratios of the table as bars: of time and of memory, for each work.](img/benchmarks.svg)"]
     lines += ["", "What twice the steps take, as a multiple (2.00 is in proportion):", ""] + growth_table(rows)
     clients_rows = clients.timed(programs)
     lines += ["", "## Commands of a client", "", clients.ABOUT, ""] + clients.time_table(clients_rows)
@@ -170,7 +170,7 @@ def write(programs):
     before, after = around_figures(path)
     with open(path, "w", encoding="utf-8") as writer:
         writer.write(before + "<!-- figures -->\n" + "\n".join(lines) + "\n<!-- end of figures -->\n" + after)
-    with open(os.path.join(DOCS, "benchmarks.svg"), "w", encoding="utf-8") as writer:
+    with open(os.path.join(DOCS, "img", "benchmarks.svg"), "w", encoding="utf-8") as writer:
         writer.write(bars.drawn([
             ("%s %s" % (row.word, row.name()), [(ratio([figure[part] for figure in row.figures]), row.aims[part]) for part in range(2)])
             for row in in_order(rows)]))
