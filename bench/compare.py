@@ -132,12 +132,6 @@ def time_table(rows):
         for row in in_order(rows)])
 
 
-def growth_table(rows):
-    return table(["Work", "Time", "of the other", "Memory", "of the other"], [
-        ["`%s` %s" % (row.word, row.name())] + ["%.2f" % (row.figures[place][part] / row.half[place][part]) for part in range(2) for place in range(2)]
-        for row in in_order(rows)])
-
-
 def count_table(rows):
     return table(["Work", "Instructions a line", "of the other", "ratio", "of half the steps"], [
         ["`%s` %s" % (row.word, row.name())] + ["{:,}".format(figure // row.lines) for figure in row.figures] + [
@@ -161,7 +155,6 @@ def write(programs):
     rows = timed(programs)
     lines = [taken_on, "", "## Replay and check", ""] + time_table(rows)
     lines += ["", "![The ratios of the table as bars: of time and of memory, for each work.](img/benchmarks.svg)"]
-    lines += ["", "What twice the steps take, as a multiple (2.00 is in proportion):", ""] + growth_table(rows)
     clients_rows = clients.timed(programs)
     lines += ["", "## Commands of a client", "", clients.ABOUT, ""] + clients.time_table(clients_rows)
     if shutil.which("valgrind"):
