@@ -1,7 +1,7 @@
-//! When a node asks others, and whom: what every part of a server that sends letters goes by.
+//! When a node asks others: what every part of a server that sends letters goes by.
 //!
 //! - `Desk`: the calls of a node that clients wait for, and whether it is time to ask.
-//! - `quorum_behind`: names that are enough to ask.
+//! - `Asks`: whether it asks nobody, a quorum, or all.
 //! - `no_entry_stays`: a call that nobody waits for any more is never waited for again.
 #![tactic(auto)]
 

@@ -20,7 +20,7 @@ pub(crate) struct SharedGossip<Q: Quorums> {
     number: u64,
     heard: u64,
     standing: Arc<Standing<Q>, Global>,
-    // None where there are none.
+    // None once they were left out.
     copies: Option<Arc<Pack, Global>>,
 }
 
