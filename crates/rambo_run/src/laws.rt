@@ -58,24 +58,24 @@ pub fn nodes_agree<Q: Quorums>()
 {}
 
 /// Each reply that a phase counts was told by a node that held all that the phase's node held when the phase began, and the
-/// phase's node holds all that its sender then held. Where another node told it, the phase's node had sent that one a letter
-/// since the phase began, which was delivered before; and the reply came in the letter that was sent then and was delivered
-/// since. The phase began with the map that its node had there, whose floor is its lowest place, and its sender told of no
-/// place above it.
+/// phase's node holds all that its sender then held. Where another node told it, that one had heard a letter that the
+/// phase's node sent it since the phase began, and the reply came in the letter that was sent then and was delivered since.
+/// The phase began with the map that its node had there, whose floor is its lowest place, and its sender told of no place
+/// above it.
 pub fn replies_are_fresh<Q: Quorums>()
     ensures fresh { RepliesAreFresh Q.system }
 {}
 
-/// The node of each name is what its own changes make, in their order, of the node that it was at first. They are those
-/// that the steps meant for it, of the steps that weren't refused.
+/// The node of each name is what its own changes make, in their order, of the node that it was at first: the changes of it
+/// that the steps meant which weren't refused.
 pub fn nodes_are_replayed<Q: Quorums>()
     ensures replayed { NodesAreReplayed Q.system }
 {}
 
 /// Each reply that an open collection counts was told by a node that held all that the collecting node held when the
-/// present question began, and the collecting node holds all that its sender then held. Where another node told it, the
-/// collecting node had sent that one a letter since the question began, which was delivered before; and the reply came in
-/// the letter that was sent then and was delivered since. Where the question began, the collecting node's was the only reply.
+/// present question began, and the collecting node holds all that its sender then held. Where another node told it, that one
+/// had heard a letter that the collecting node sent it since the question began, and the reply came in the letter that was
+/// sent then and was delivered since. As the question began, the collecting node's own reply was the only one.
 pub fn collection_replies_are_fresh<Q: Quorums>()
     ensures fresh { CollectionRepliesAreFresh Q.system }
 {}
