@@ -170,19 +170,26 @@ module _ {Q : Type 0} (s : QuorumSystem Q) (founders : Q) (ss : List (Step Q)) w
   other_step : (a b : ℕ) → ◌≡◌ {A = Option (Step Q)} (Some (step.AdvanceCollect a)) (Some (step.Collect b)) → ⊥
   other_step a b e = cc
 
-  never_falls : IsSound s → (until p : ℕ) (g : IsCollected s founders ss until (p + 1)) → (h : IsCollected s founders ss g.opened p) × (h.ended < g.began) × AtLeast h.turner g.turner
-  never_falls law until p g =
-      let o = removed_by g.opened g.node g.opener g.opener_is p (omega (arith, g.lowest)) in
-      let h = o.0 in
-      let over : h.ended < g.began = ⊎_elim (λ e. absurd (other_step h.node g.node (sym h.ends.0 ∙ ap (slice_get ss) e ∙ g.opens.0))) (λ l. l) (eq-or-lt_of_le (omega (arith, o.1, g.next_opened))) in
+  -- a collection of a next place that was opened after one of this place was over carries at least what that one did
+  pub carries : IsSound s → (until u p : ℕ) (h : IsCollected s founders ss until p) (g : IsCollected s founders ss u (p + 1)) → h.ended ≤ g.opened → AtLeast h.turner g.turner
+  carries law until u p h g order =
       let old : Q = h.second_quorum.met.config in
-      let same : old ≡ g.first_quorum.met.config = agreement s law founders then runs (p + 1) old g.first_quorum.met.config (second_held g.opened p h) (first_held until (p + 1) g) in
+      let same : old ≡ g.first_quorum.met.config = agreement s law founders then runs (p + 1) old g.first_quorum.met.config (second_held until p h) (first_held u (p + 1) g) in
       let r = law.share old h.second.repliers g.first.repliers h.second_quorum.met.quorum (subst (λ c. s.is_quorum c g.first.repliers ≡ true) (sym same) g.first_quorum.met.quorum) in
       let j : ℕ = r.0 in
       let t = h.second_told j r.2 in
       let u = g.first_told j r.3 in
-      let k = told_up (h.turned + 1) h.ended g.opened g.turned j h.turner g.opener t u.0 h.before in
-      (h, over, at_least h.turner g.turner (holds_trans h.turner t.replier g.turner (holds_all h.turner t.replier t.holds) (holds_trans t.replier u.0.replier g.turner k (holds_all u.0.replier g.turner u.1))))
+      let k = told_up (h.turned + 1) h.ended g.opened g.turned j h.turner g.opener t u.0 order in
+      at_least h.turner g.turner (holds_trans h.turner t.replier g.turner (holds_all h.turner t.replier t.holds) (holds_trans t.replier u.0.replier g.turner k (holds_all u.0.replier g.turner u.1)))
+
+  -- no step both ends one and opens another
+  pub over : (until u p q : ℕ) (h : IsCollected s founders ss until p) (g : IsCollected s founders ss u q) → h.ended < g.opened → h.ended < g.began
+  over until u p q h g l = ⊎_elim (λ e. absurd (other_step h.node g.node (sym h.ends.0 ∙ ap (slice_get ss) e ∙ g.opens.0))) (λ l. l) (eq-or-lt_of_le (omega (arith, l, g.next_opened)))
+
+  never_falls : IsSound s → (until p : ℕ) (g : IsCollected s founders ss until (p + 1)) → (h : IsCollected s founders ss g.opened p) × (h.ended < g.began) × AtLeast h.turner g.turner
+  never_falls law until p g =
+      let o = removed_by g.opened g.node g.opener g.opener_is p (omega (arith, g.lowest)) in
+      (o.0, over g.opened until p (p + 1) o.0 g o.1, carries law g.opened until p o.0 g o.0.before)
 
 -- a place that a node's map has removed was collected
 pub removed_places_are_collected : {Q : Type 0} (s : QuorumSystem Q) → RemovedPlacesAreCollected s

@@ -12,12 +12,13 @@ use Rattle.rambo_node.specs.Nodes.{NodeState, first_node, heard_from}
 use Rattle.rambo_run.specs.declared.step.Step.{Step}
 use Rattle.rambo_run.specs.Worlds.{WorldState, node_at}
 use Rattle.rambo_run.specs.Runs.{run}
-use Rattle.rambo_run.specs.Claims.{AtLeast, IsHeard, IsFresh, RepliesAreFresh}
+use Rattle.rambo_run.specs.Claims.{AtLeast, IsHeard, IsAsked, IsFresh, RepliesAreFresh}
 use Rattle.rambo_run.specs.Configurations.{begun, IsFreshAnswer, CollectionRepliesAreFresh}
 use Rattle.rambo_run.proofs.Lists.{Member, member_stands, stands_member}
 use Rattle.rambo_run.proofs.Turn.{Moments}
 use Rattle.rambo_run.proofs.Events.{none_or_some}
-use Rattle.rambo_run.proofs.Held.{HoldsAll, Fresh, get_or-replicate}
+use Rattle.rambo_run.proofs.Seen.{named_some}
+use Rattle.rambo_run.proofs.Held.{HoldsAll, Fresh, get_or-replicate, heard_of}
 use Rattle.rambo_run.proofs.Phases.{Replied, CountedReply, calls_at}
 use Rattle.rambo_run.proofs.Collections.{StageAt, CollectionAt, collection_at}
 use Rattle.rambo_run.proofs.Sights.{Worlds, Came, at}
@@ -60,9 +61,21 @@ module _ {Q : Type 0} (s : QuorumSystem Q) (founders : Q) (ss : List (Step Q)) w
   unfolding worlds
   came_heard m n u j h = record { active = h.active; sent = h.sent.happens; letter = h.letter; number = h.sent.number; heard_at = m; later = h.later; came = h.comes; content = h.content }
 
-  reply_heard : (m t u n j number : ℕ) → Replies s founders (moment s founders ss) (worlds s founders ss) n t m j u number
-      → ((j ≡ n) × (u ≡ t)) ⊎ ((number ≤ heard_from (node u j).heard n) × IsHeard s founders ss n j u (node u j))
-  reply_heard m t u n j number h = elim h [ inl o ↦ inl o | inr r ↦ inr (r.0, came_heard r.1 n u j r.3) ]
+  abbrev Asks : ℕ → ℕ → ℕ → ℕ → ℕ → Type 0
+  Asks n number t j u = IsAsked s founders ss n number t j u
+
+  -- who heard a number of n heard it in a letter that n sent since it took it
+  asked_before : (n number t u j : ℕ) → ((m : ℕ) → node_at (moment s founders ss m) n ≡ Some (node m n)) → 1 ≤ n → 1 ≤ number → Fresh node n number t → number ≤ heard_from (node u j).heard n → Asks n number t j u
+  unfolding came_heard
+  asked_before n number t u j there named positive f h =
+      let o = heard_of s founders node (run_of s founders (moment s founders ss) (worlds s founders ss)) u j n named in
+      let v = o.letter (omega (arith, positive, h)) in
+      let number : number ≤ (node o.moment n).number = omega (arith, h, o.was) in
+      record { sent_at = o.moment; since = f.by o.moment number; asker = node o.moment n; asker_is = there o.moment; number = number; letter = came_heard v.0 j o.moment n v.2; before = v.1 }
+
+  reply_heard : (m t u n j number : ℕ) → (number ≤ heard_from (node u j).heard n → Asks n number t j u) → Replies s founders (moment s founders ss) (worlds s founders ss) n t m j u number
+      → ((j ≡ n) × (u ≡ t)) ⊎ ((number ≤ heard_from (node u j).heard n) × Asks n number t j u × IsHeard s founders ss n j u (node u j))
+  reply_heard m t u n j number asks h = elim h [ inl o ↦ inl o | inr r ↦ inr (r.0, asks r.0, came_heard r.1 n u j r.3) ]
 
   abbrev Counted : ℕ → ℕ → ℕ → ℕ → Type 0
   Counted n t j asked = CountedReply (Came s founders (moment s founders ss) (worlds s founders ss)) node n t (length ss) j asked
@@ -90,7 +103,7 @@ module _ {Q : Type 0} (s : QuorumSystem Q) (founders : Q) (ss : List (Step Q)) w
         ];
         replier = node r.moment j;
         replier_is = replier_there s founders world all m t r.moment n j asked x here positive r.heard;
-        heard = reply_heard m t r.moment n j asked r.heard;
+        heard = reply_heard m t r.moment n j asked (asked_before n asked t r.moment j (λ u. node_stays s founders world all m u n x here) (named_some (world m) n x here) positive f) r.heard;
         holds = at_least (node t n) (node r.moment j) r.reply.told;
         kept = subst (AtLeast (node r.moment j)) (sym is_x) (at_least (node r.moment j) (node m n) r.reply.kept);
       }

@@ -62,10 +62,10 @@ pub up_to : (P : ℕ → Type 0) (m : ℕ) → ((s : ℕ) → s ≤ m → P s) �
 up_to P m f p s h = ⊎_elim (λ e. subst P (sym e) p) (λ l. f s (omega (arith, l))) (eq-or-lt_of_le h)
 
 -- the parts of a turn that the laws on held copies read
-pub data Growth {Q : Type 0} (at : Moments Q) (m : ℕ) (x y : NodeState Q) : Type 0 where
-  by_itself : HoldsAll x y → x.number ≤ y.number → y.heard ≡ x.heard → x.made ≤ y.made → Growth at m x y
-  by_letter : (u j : ℕ) → u ≤ m → HoldsAll x y → HoldsAll (at u j) y → x.number ≤ y.number
-      → ((k : ℕ) → 1 ≤ k → (heard_from y.heard k ≡ heard_from x.heard k) ⊎ ((k ≡ j) × (heard_from y.heard k ≡ max (heard_from x.heard k) (at u j).number))) → x.made ≤ y.made → Growth at m x y
+pub data Growth {Q : Type 0} (T : Telling) (at : Moments Q) (m n : ℕ) (x y : NodeState Q) : Type 0 where
+  by_itself : HoldsAll x y → x.number ≤ y.number → y.heard ≡ x.heard → x.made ≤ y.made → Growth T at m n x y
+  by_letter : (u j : ℕ) → u ≤ m → T m n u j → HoldsAll x y → HoldsAll (at u j) y → x.number ≤ y.number
+      → ((k : ℕ) → 1 ≤ k → (heard_from y.heard k ≡ heard_from x.heard k) ⊎ ((k ≡ j) × (heard_from y.heard k ≡ max (heard_from x.heard k) (at u j).number))) → x.made ≤ y.made → Growth T at m n x y
 
 pub get_or-replicate : (k i d : ℕ) → get_or (replicate k d) i d ≡ d
 get_or-replicate zero i d = refl
@@ -155,12 +155,14 @@ holds_altered s x y f a =
       top = m.2;
     }
 
--- a number that j heard of n was n's at some moment, and j holds what n held then
-pub record HeardOf {Q : Type 0} (at : Moments Q) (m j n number : ℕ) : Type 0 where
+-- a number that j heard of n was n's at some moment, and j holds what n held then; unless it is 0, it came in the letter
+-- that n told there
+pub record HeardOf {Q : Type 0} (T : Telling) (at : Moments Q) (m j n number : ℕ) : Type 0 where
   pub moment : ℕ
   pub before : moment ≤ m
   pub was : number ≤ (at moment n).number
   pub holds : HoldsAll (at moment n) (at m j)
+  pub letter : 1 ≤ number → (v : ℕ) × (v < m) × T v j moment n
 
 -- the number that a phase took when it began, at moment t
 pub record Fresh {Q : Type 0} (at : Moments Q) (n number t : ℕ) : Type 0 where
@@ -183,7 +185,7 @@ module _ {Q : Type 0} {T : Telling} (s : QuorumSystem Q) (founders : Q) (at : Mo
   names zero n = ap (λ x. x.name) (run.first n)
   names (suc m) n = name_turn s at m n (at m n) (at (suc m) n) (run.turn m n) ∙ names m n
 
-  growth : (m n : ℕ) → Turn s T at m n (at m n) (at (suc m) n) → Growth at m (at m n) (at (suc m) n)
+  growth : (m n : ℕ) → Turn s T at m n (at m n) (at (suc m) n) → Growth T at m n (at m n) (at (suc m) n)
   unfolding called query_answered call_closed called_again heard_gossip
   growth m n (stays e) = by_itself (holds_same _ _ (ap (λ y. y.registers) e) (ap (λ y. y.map) e)) (omega (arith, ap (λ y. y.number) e)) (ap (λ y. y.heard) e) (omega (arith, ap (λ y. y.made) e))
   growth m n (quiet st known e) = by_itself (holds_same _ _ (ap (λ y. y.registers) e) (ap (λ y. y.map) e)) (omega (arith, ap (λ y. y.number) e)) (ap (λ y. y.heard) e) (omega (arith, ap (λ y. y.made) e))
@@ -191,21 +193,21 @@ module _ {Q : Type 0} {T : Telling} (s : QuorumSystem Q) (founders : Q) (at : Mo
   growth m n (hears u j h b k t e) =
       let x = at m n in
       let g = gossip_for (at u j) n in
-      subst (Growth at m x) (sym e) (by_letter u j h (hear_left x j g (active m n) (active u j)) (hear_right x j n (at u j) (active m n) (active u j)) (number_up_after x g)
+      subst (Growth T at m n x) (sym e) (by_letter u j h t (hear_left x j g (active m n) (active u j)) (hear_right x j n (at u j) (active m n) (active u j)) (number_up_after x g)
       (λ k a. heard_cases x.heard j (at u j).number k a b) (omega arith))
   growth m n (queried c i p h e) =
-      subst (Growth at m (at m n)) (sym e) (by_itself (record { copies = put_keeps (at m n) c.op; tags = put_raises (at m n) c.op; floor = omega arith; top = omega arith }) (omega arith) refl (omega arith))
+      subst (Growth T at m n (at m n)) (sym e) (by_itself (record { copies = put_keeps (at m n) c.op; tags = put_raises (at m n) c.op; floor = omega arith; top = omega arith }) (omega arith) refl (omega arith))
   growth m n (answers c i p h e) = by_itself (holds_same _ _ (ap (λ y. y.registers) e) (ap (λ y. y.map) e)) (omega (arith, ap (λ y. y.number) e)) (ap (λ y. y.heard) e) (omega (arith, ap (λ y. y.made) e))
   growth m n (agains c i e) = by_itself (holds_same _ _ (ap (λ y. y.registers) e) (ap (λ y. y.map) e)) (omega (arith, ap (λ y. y.number) e)) (ap (λ y. y.heard) e) (omega (arith, ap (λ y. y.made) e))
   growth m n (alters a) =
       let k = altered_rest s (at m n) (at (suc m) n) a in
       by_itself (holds_altered s (at m n) (at (suc m) n) (formed s founders at run m n) a) k.number k.heard (omega (arith, k.made))
 
-  abbrev grows : (m n : ℕ) → Growth at m (at m n) (at (suc m) n)
+  abbrev grows : (m n : ℕ) → Growth T at m n (at m n) (at (suc m) n)
   grows m n = growth m n (run.turn m n)
 
   step_up : (m n : ℕ) → HoldsAll (at m n) (at (suc m) n) × ((at m n).number ≤ (at (suc m) n).number) × ((at m n).made ≤ (at (suc m) n).made)
-  step_up m n = elim (grows m n) [ by_itself a b c d ↦ (a, b, d) | by_letter u j h a b c d e ↦ (a, c, e) ]
+  step_up m n = elim (grows m n) [ by_itself a b c d ↦ (a, b, d) | by_letter u j h t a b c d e ↦ (a, c, e) ]
 
   -- what was held then is held now
   pub up : (m k n : ℕ) → m ≤ k → HoldsAll (at m n) (at k n)
@@ -225,26 +227,34 @@ module _ {Q : Type 0} {T : Telling} (s : QuorumSystem Q) (founders : Q) (at : Mo
   unfolding first_node
   none_heard j n = ap (λ x. heard_from x.heard n) (run.first j) ∙ get_or-replicate 64 (n - 1) 0
 
-  heard_on : (m j n : ℕ) → 1 ≤ n → Growth at m (at m j) (at (suc m) j) → HeardOf at m j n (heard_from (at m j).heard n) → HeardOf at (suc m) j n (heard_from (at (suc m) j).heard n)
+  heard_on : (m j n : ℕ) → 1 ≤ n → Growth T at m j (at m j) (at (suc m) j) → HeardOf T at m j n (heard_from (at m j).heard n) → HeardOf T at (suc m) j n (heard_from (at (suc m) j).heard n)
   heard_on m j n a (by_itself k b h w) o = record {
     moment = o.moment;
     before = omega (arith, o.before);
     was = subst (λ h. heard_from h n ≤ (at o.moment n).number) (sym h) o.was;
     holds = holds_trans (at o.moment n) (at m j) (at (suc m) j) o.holds k;
+    letter = λ p. let v = o.letter (subst (λ h. 1 ≤ heard_from h n) h p) in (v.0, omega (arith, v.1), v.2);
   }
-  heard_on m j n a (by_letter u i um k l b h w) o =
-      let old : heard_from (at (suc m) j).heard n ≤ heard_from (at m j).heard n → HeardOf at (suc m) j n (heard_from (at (suc m) j).heard n) =
-      λ e. record { moment = o.moment; before = omega (arith, o.before); was = omega (arith, e, o.was); holds = holds_trans (at o.moment n) (at m j) (at (suc m) j) o.holds k } in
+  heard_on m j n a (by_letter u i um t k l b h w) o =
+      let old : heard_from (at (suc m) j).heard n ≤ heard_from (at m j).heard n → HeardOf T at (suc m) j n (heard_from (at (suc m) j).heard n) =
+      λ e. record {
+        moment = o.moment;
+        before = omega (arith, o.before);
+        was = omega (arith, e, o.was);
+        holds = holds_trans (at o.moment n) (at m j) (at (suc m) j) o.holds k;
+        letter = λ p. let v = o.letter (omega (arith, e, p)) in (v.0, omega (arith, v.1), v.2);
+      } in
       elim (h n a) [
         | inl e ↦ old (omega (arith, e))
         | inr p ↦ elim (cases_lt (heard_from (at m j).heard n) (at u i).number) [
-          | inl lt ↦ subst (λ i. HeardOf at (suc m) j i (heard_from (at (suc m) j).heard n)) (sym p.0) (record { moment = u; before = omega arith; was = omega (arith, p.1, lt); holds = l })
+          | inl lt ↦ subst (λ i. HeardOf T at (suc m) j i (heard_from (at (suc m) j).heard n)) (sym p.0)
+              (record { moment = u; before = omega arith; was = omega (arith, p.1, lt); holds = l; letter = λ _. (m, omega arith, t) })
           | inr le ↦ old (omega (arith, p.1, le))
         ]
       ]
 
-  pub heard_of : (m j n : ℕ) → 1 ≤ n → HeardOf at m j n (heard_from (at m j).heard n)
-  heard_of zero j n a = record { moment = 0; before = omega arith; was = omega (arith, none_heard j n); holds = all_alike j n }
+  pub heard_of : (m j n : ℕ) → 1 ≤ n → HeardOf T at m j n (heard_from (at m j).heard n)
+  heard_of zero j n a = record { moment = 0; before = omega arith; was = omega (arith, none_heard j n); holds = all_alike j n; letter = λ p. absurd (omega (arith, p, none_heard j n)) }
   heard_of (suc m) j n a = heard_on m j n a (grows m j) (heard_of m j n a)
 
   pub fresh : (m n number : ℕ) → (at m n).number < number → Fresh at n number (suc m)

@@ -38,6 +38,7 @@ pub mod Effects
 pub mod Decisions
 pub mod ToldCollections
 pub mod Replays
+pub mod FirstCollections
 pub mod LaterClaims
 pub mod TagClaims
 pub mod Fitting
@@ -52,3 +53,4 @@ mod Rows
 mod ChangeRows
 pub mod WellFormed
 pub mod StoreOrder
+pub mod MarkClaims

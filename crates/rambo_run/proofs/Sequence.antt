@@ -101,7 +101,8 @@ module _ {Q : Type 0} (s : QuorumSystem Q) (law : IsSound s) (founders : Q) (wor
   abbrev hist : ℕ → List Event
   hist m = (world m).history
 
-  differs : (m : ℕ) (a b : Mark) → Member a (world m).marks → Member b (world m).marks → key_of a.op ≡ key_of b.op → (b.id ≡ a.id → ⊥) → Differs (hist m) a b
+  -- marks of a key of two calls differ in what the order sees
+  pub differs : (m : ℕ) (a b : Mark) → Member a (world m).marks → Member b (world m).marks → key_of a.op ≡ key_of b.op → (b.id ≡ a.id → ⊥) → Differs (hist m) a b
   differs m a b i j e n t r =
       let bk = books s law founders world worlds m in
       elim (pick (is_get a.op) (suc (call_place a.id (hist m))) zero) [

@@ -1,11 +1,12 @@
 -- What holds of every run
-use Rattle.std.specs.Prelude.{◌≡◌, ◌⊎◌, ℕ, ◌+◌, ◌<◌, ◌≤◌, List, ◌++◌, take, length, Some, None, slice_get}
+use Rattle.std.specs.Prelude.{◌≡◌, ◌≢◌, ◌⊎◌, ℕ, ◌+◌, ◌<◌, ◌≤◌, List, ◌++◌, take, length, Some, None, slice_get, AllPairs}
 use Rattle.std.specs.FinSet as set
 use Rattle.std.specs.FinMap as map
 use Rattle.std.specs.Prelude.{true, false}
 use Rattle.rambo_names.specs.Quorums.{QuorumSystem}
 use Rattle.rambo_tag.specs.Tags.{tag_lt, tag_of}
 use Rattle.rambo_tag.specs.Copies.{joined}
+use Rattle.rambo_history.specs.declared.event.CallId.{CallId}
 use Rattle.rambo_history.specs.Calls.{key_of, is_get}
 use Rattle.rambo_history.specs.Histories.{answered_before}
 use Rattle.rambo_history.specs.Proper.{IsProper, IsProperForAll, Stands}
@@ -20,6 +21,7 @@ use Rattle.rambo_run.specs.declared.step.Step.{Step}
 use Rattle.rambo_run.specs.declared.step.Step.TheVariants as step
 use Rattle.rambo_sequence.specs.declared.mark.Mark.{Mark}
 use Rattle.rambo_sequence.specs.Sequences.{sequence_of}
+use Rattle.rambo_sequence.specs.Laws.{marks_of, IsSequence, Differ}
 use Rattle.rambo_sequence.specs.StoreOrders.{IsOrder, NoTwice, all_calls}
 use Rattle.rambo_run.specs.Worlds.{WorldState, node_at, letter_at}
 use Rattle.rambo_run.specs.Steps.{refusal}
@@ -62,9 +64,19 @@ pub record IsHeard {Q : Type 0} (s : QuorumSystem Q) (founders : Q) (steps : Lis
   pub came : IsDone s founders steps heard_at (step.Deliver letter)
   pub content : letter_at (run s founders (take heard_at steps)).letters letter ≡ Some (letter_for replier n)
 
+-- n asked j: after `began` steps or later, with no lesser number than `asked`, it sent j a letter, which came before j told
+pub record IsAsked {Q : Type 0} (s : QuorumSystem Q) (founders : Q) (steps : List (Step Q)) (n asked began j told : ℕ) : Type 0 where
+  pub sent_at : ℕ
+  pub since : began ≤ sent_at
+  pub asker : NodeState Q
+  pub asker_is : node_at (run s founders (take sent_at steps)) n ≡ Some asker
+  pub number : asked ≤ asker.number
+  pub letter : IsHeard s founders steps j n sent_at asker
+  pub before : letter.heard_at < told
+
 -- j replied to what n, which is x now, asks under this number: n took the number after `began` steps, and j told after
--- `told` steps, when it had heard that number of n and held all that n held when it took it. What j told came to n, which
--- holds it. n itself replies as it begins to ask
+-- `told` steps, when it had heard that number of n, in a letter that n sent it since it took it, and held all that n held
+-- when it took it. What j told came to n, which holds it. n itself replies as it begins to ask
 pub record IsFresh {Q : Type 0} (s : QuorumSystem Q) (founders : Q) (steps : List (Step Q)) (n : ℕ) (x : NodeState Q) (asked j : ℕ) : Type 0 where
   pub began : ℕ
   pub told : ℕ
@@ -76,7 +88,7 @@ pub record IsFresh {Q : Type 0} (s : QuorumSystem Q) (founders : Q) (steps : Lis
   pub first : (m : ℕ) (x : NodeState Q) → m < began → node_at (run s founders (take m steps)) n ≡ Some x → x.number < asked
   pub replier : NodeState Q
   pub replier_is : node_at (run s founders (take told steps)) j ≡ Some replier
-  pub heard : ((j ≡ n) × (told ≡ began)) ⊎ ((asked ≤ heard_from replier.heard n) × IsHeard s founders steps n j told replier)
+  pub heard : ((j ≡ n) × (told ≡ began)) ⊎ ((asked ≤ heard_from replier.heard n) × IsAsked s founders steps n asked began j told × IsHeard s founders steps n j told replier)
   pub holds : AtLeast opener replier
   pub kept : AtLeast replier x
 
@@ -108,6 +120,24 @@ pub record HasOneOrder {Q : Type 0} (w : WorldState Q) : Type 0 where
 -- so it is of every run
 abbrev pub EveryRunHasOneOrder : {Q : Type 0} → QuorumSystem Q → Type 0
 EveryRunHasOneOrder {Q} s = (founders : Q) (steps : List (Step Q)) → HasOneOrder (run s founders steps)
+
+-- no two marks are of one call, and no two of one key tie
+pub record MarksDiffer {Q : Type 0} (w : WorldState Q) : Type 0 where
+  pub calls : AllPairs (λ a b. a.id ≢ b.id) w.marks
+  pub ties : (key : List ℕ) → AllPairs (Differ w.history) (marks_of key w.marks)
+
+-- so it is of every run
+abbrev pub EveryRunsMarksDiffer : {Q : Type 0} → QuorumSystem Q → Type 0
+EveryRunsMarksDiffer {Q} s = (founders : Q) (steps : List (Step Q)) → MarksDiffer (run s founders steps)
+
+-- the given sequence of each key is the only one that its marks have, and the given order the only one of the sequences
+pub record GivesNoOther {Q : Type 0} (w : WorldState Q) : Type 0 where
+  pub sequence : (key : List ℕ) (calls : List CallId) → IsSequence w.history w.marks key calls → calls ≡ sequence_of w.history w.marks key
+  pub order : (order : List CallId) → IsOrder w.history (given_sequences w) order → order ≡ given_order w
+
+-- so it is of every run
+abbrev pub EveryRunGivesNoOther : {Q : Type 0} → QuorumSystem Q → Type 0
+EveryRunGivesNoOther {Q} s = (founders : Q) (steps : List (Step Q)) → GivesNoOther (run s founders steps)
 
 -- and nodes hold the same configurations
 abbrev pub EveryRunAgrees : {Q : Type 0} → QuorumSystem Q → Type 0

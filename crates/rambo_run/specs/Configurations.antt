@@ -48,7 +48,7 @@ pub record HasTold {Q : Type 0} (s : QuorumSystem Q) (founders : Q) (steps : Lis
   pub replier_is : node_at (run s founders (take told steps)) j ≡ Some replier
   pub holds : AtLeast asker replier
 
--- within the first `until` steps a node collected place p. It opened the collection by a step when p was its lowest place
+-- a node collected place p, by the step after `until` steps at the latest. It opened the collection by a step when p was its lowest place
 -- and it knew the next one. When a quorum of p's configuration had told it of the next place, it turned by a step to the
 -- next place's configuration, and at last a quorum of that one had told that it holds all that the node held as it turned.
 -- Then a step of the node ended the collection: p was still its lowest place, and so was removed
@@ -103,6 +103,23 @@ CollectionsNeverFall {Q} s =
     (founders : Q) (steps : List (Step Q)) (until p : ℕ) (g : IsCollected s founders steps until (p + 1))
     → (h : IsCollected s founders steps g.opened p) × (h.ended < g.began) × AtLeast h.turner g.turner
 
+-- of all collections of its place none ended before this one
+abbrev pub EndedFirst : {Q : Type 0} (s : QuorumSystem Q) (founders : Q) (steps : List (Step Q)) (until p : ℕ) → IsCollected s founders steps until p → Type 0
+EndedFirst s founders steps until p g = (u : ℕ) (h : IsCollected s founders steps u p) → g.ended ≤ h.ended
+
+-- of the collections of a place that a node's map has removed one ended first, and was over before
+abbrev pub FirstCollectionsAre : {Q : Type 0} → QuorumSystem Q → Type 0
+FirstCollectionsAre {Q} s =
+    (founders : Q) (steps : List (Step Q)) (m n : ℕ) (x : NodeState Q) → node_at (run s founders (take m steps)) n ≡ Some x
+    → (p : ℕ) → p < x.map.floor → (g : IsCollected s founders steps m p) × (g.ended < m) × EndedFirst s founders steps m p g
+
+-- the one of a place that ended first was over before any collection of the next place was opened, and the node of that one
+-- held at least as much when it turned to its second quorum as the node of the first one did
+abbrev pub FirstCollectionsNeverFall : {Q : Type 0} → QuorumSystem Q → Type 0
+FirstCollectionsNeverFall {Q} s =
+    (founders : Q) (steps : List (Step Q)) (until p : ℕ) (g : IsCollected s founders steps until p) → EndedFirst s founders steps until p g
+    → (u : ℕ) (h : IsCollected s founders steps u (p + 1)) → (g.ended < h.began) × AtLeast g.turner h.turner
+
 -- the propagation of call c is met at node n after m steps, and the phase of call d, which is met at node k after u
 -- steps, began later than that: under a number that k hadn't reached then
 pub record IsLater {Q : Type 0} (s : QuorumSystem Q) (founders : Q) (steps : List (Step Q)) (m n : ℕ) (c : CallState Q) (u k : ℕ) (d : CallState Q) : Type 0 where
@@ -153,7 +170,7 @@ LaterPhasesMeet {Q} s =
     (founders : Q) (steps : List (Step Q)) (m n : ℕ) (c : CallState Q) (u k : ℕ) (d : CallState Q) → IsLater s founders steps m n c u k d
     → MeetsOrLiesAbove c.phase d.phase
 
--- a place that a step tells to be collected was collected, by the steps before
+-- a place that a step tells to be collected was collected, by that step or one before it
 abbrev pub ToldCollectionsAreWhole : {Q : Type 0} → QuorumSystem Q → Type 0
 ToldCollectionsAreWhole {Q} s =
     (founders : Q) (steps : List (Step Q)) (m n k p : ℕ) → IsDone s founders steps m (step.AdvanceCollect k)

@@ -2,6 +2,8 @@
 ghost use Rattle.rambo_run.specs.Claims.{
   EveryRunIsAtomic,
   EveryRunHasOneOrder,
+  EveryRunsMarksDiffer,
+  EveryRunGivesNoOther,
   EveryRunAgrees,
   RepliesAreFresh,
   OneTagOneCopy,
@@ -11,6 +13,8 @@ ghost use Rattle.rambo_run.specs.Configurations.{
   CollectionRepliesAreFresh,
   RemovedPlacesAreCollected,
   CollectionsNeverFall,
+  FirstCollectionsAre,
+  FirstCollectionsNeverFall,
   RemovedPlacesAreTold,
   ToldCollectionsAreWhole,
   DecisionsStand,
@@ -22,63 +26,87 @@ ghost use Rattle.rambo_run.specs.Journals.{NodesAreReplayed};
 ghost use Rattle.rambo_run.specs.Legal.{RunsGoOn, OthersStay, BeginningsHold, CopiesAreKept};
 
 use rambo_names::Quorums;
+use rambo_sequence::{one_sequence, one_store_order};
 
-/// For each key the given sequence of a run is a proper order: an ordinary map, asked in this order, gives each answer
-/// that was given, and what was answered before a call was made stands before it (Herlihy and Wing,
-/// "Linearizability", TOPLAS 1990).
+/// For each key the given sequence of a run is a proper order: each answered call of the key stands in it, none twice, and
+/// else only sets of the key; an ordinary map, asked in this order, gives each answer that was given; and what was answered
+/// before a call was made stands before it (Herlihy and Wing, "Linearizability", TOPLAS 1990).
 pub fn given_sequences_are_proper<Q: Quorums>()
     ensures proper { EveryRunIsAtomic Q.system }
 {}
 
 /// One order explains a run: no call stands twice in the given sequences, the given order is one order of them (and no
-/// other list is, as `one_store_order` of `rambo_sequence` says), and it is proper for all keys (Herlihy and Wing,
-/// "Linearizability", TOPLAS 1990).
+/// other list is, as `marks_differ` says), and it is proper for all keys (Herlihy and Wing, "Linearizability", TOPLAS 1990).
 pub fn one_order_explains<Q: Quorums>()
     ensures order { EveryRunHasOneOrder Q.system }
 {}
 
-/// Two nodes, at one moment of a run or at two, hold the same configuration at one place.
+/// No two marks of a run are of one call, and no two of one key tie: of one tag there is one set at most, and no two gets
+/// whose calls stand at one place. So the given sequence of a key is the only list that has the calls of its marks by their
+/// tags (`one_sequence` of `rambo_sequence`), and the given order the only one of the given sequences (`one_store_order`).
+pub fn marks_differ<Q: Quorums>()
+    ensures differ { EveryRunsMarksDiffer Q.system }
+    ensures alone { EveryRunGivesNoOther Q.system }
+{
+    one_sequence();
+    one_store_order();
+}
+
+/// Where two nodes, at one moment of a run or at two, hold a configuration at one place, it is the same.
 pub fn nodes_agree<Q: Quorums>()
     ensures agree { EveryRunAgrees Q.system }
 {}
 
-/// Each reply that a phase counts was told after its sender had heard a letter that was sent since the phase began,
-/// and then held all that the phase's node held when it began. Where another node told it, it came in the letter that
-/// was sent then and was delivered since; and the phase's node holds all that its sender then held. The phase began with
-/// the map that its node had there, whose floor is its lowest place, and its sender told of no place above it.
+/// Each reply that a phase counts was told by a node that held all that the phase's node held when the phase began, and the
+/// phase's node holds all that its sender then held. Where another node told it, that one had heard a letter that the
+/// phase's node sent it since the phase began, and the reply came in the letter that was sent then and was delivered since.
+/// The phase began with the map that its node had there, whose floor is its lowest place, and its sender told of no place
+/// above it.
 pub fn replies_are_fresh<Q: Quorums>()
     ensures fresh { RepliesAreFresh Q.system }
 {}
 
-/// Each node of a run is what its own changes make, in their order, of the node that it was at first: those of the
-/// steps that weren't refused.
+/// The node of each name is what its own changes make, in their order, of the node that it was at first: the changes of it
+/// that the steps meant which weren't refused.
 pub fn nodes_are_replayed<Q: Quorums>()
     ensures replayed { NodesAreReplayed Q.system }
 {}
 
-/// Each reply that an open collection counts was told after its sender had heard a letter that was sent since the
-/// present question began, and then held all that the collecting node held when it began to ask. Where another node told
-/// it, it came in the letter that was sent then and was delivered since. The question was opened, or turned, there.
+/// Each reply that an open collection counts was told by a node that held all that the collecting node held when the
+/// present question began, and the collecting node holds all that its sender then held. Where another node told it, that one
+/// had heard a letter that the collecting node sent it since the question began, and the reply came in the letter that was
+/// sent then and was delivered since. As the question began, the collecting node's own reply was the only one.
 pub fn collection_replies_are_fresh<Q: Quorums>()
     ensures fresh { CollectionRepliesAreFresh Q.system }
 {}
 
-/// A place that a node's map has removed was collected before: a quorum of the place's configuration told the collecting
-/// node of the next place, and a quorum of the next place's configuration then came to hold all that they had told. Steps
-/// of that node opened the collection, turned it to its second quorum and ended it, the last one before the place was seen
-/// as removed.
+/// A place that a node's map has removed was collected before. A step of the collecting node opened the collection, when the
+/// place was its lowest and it knew of the next one. A quorum of the place's configuration replied when each held all that
+/// the node had held then; the node held all that they had told when a step of it turned to a quorum of the next place's
+/// configuration. Each of those came to hold all that the node held as it turned, before a step of it ended the collection,
+/// when the place was still its lowest. That was before the place was seen as removed.
 pub fn removed_places_are_collected<Q: Quorums>()
     ensures collected { RemovedPlacesAreCollected Q.system }
 {}
 
 /// What collections carry from place to place never falls: each collection of a next place was opened after one of this
-/// place was over, and its node came to hold at least what the node of that one held.
+/// place was over, and its node held, when it turned to its second quorum, at least what the node of that one held when
+/// it did.
 pub fn collections_never_fall<Q: Quorums>()
     ensures carried { CollectionsNeverFall Q.system }
 {}
 
-/// A phase that begins after a call's propagation was met, whatever the configurations of the two, reads at least the
-/// tag that was propagated, once it is met.
+/// Of the collections of a place that a node's map has removed one ended first. Each collection of the next place was opened
+/// after that, and its node held, when it turned to its second quorum, at least what the node of the first one held when it
+/// did. So of the collections that ended first at their places each was over before the next one began, and what they carry
+/// never falls: no copy, no tag and no end of the map.
+pub fn first_collections_never_fall<Q: Quorums>()
+    ensures first { FirstCollectionsAre Q.system }
+    ensures carried { FirstCollectionsNeverFall Q.system }
+{}
+
+/// A phase that begins after a call's propagation was met, whatever the configurations of the two: once it is met, its node
+/// holds of the call's key at least the tag that was propagated.
 pub fn later_phases_read<Q: Quorums>()
     ensures read { LaterPhasesRead Q.system }
 {}
@@ -99,8 +127,8 @@ pub fn one_tag_one_copy<Q: Quorums>()
     ensures copy { OneTagOneCopy Q.system }
 {}
 
-/// Of two calls of a key, of which the first was answered before the second was made, the second has no lesser tag, and a
-/// greater one where it is a set.
+/// Of two marked calls of a key, of which the first was answered before the second was made, the second has no lesser tag,
+/// and a greater one where it is a set. Marked are the sets that took a tag and the gets that were answered.
 pub fn tags_follow_answers<Q: Quorums>()
     ensures follow { TagsFollowAnswers Q.system }
 {}
@@ -110,21 +138,22 @@ pub fn removed_places_are_told<Q: Quorums>()
     ensures told { RemovedPlacesAreTold Q.system }
 {}
 
-/// A place that a step tells to be collected was collected, by the steps before: as `removed_places_are_collected` says of
-/// a place that is removed.
+/// A place that a step tells to be collected was collected, by that step or one before it: as
+/// `removed_places_are_collected` says of a place that is removed.
 pub fn told_collections_are_whole<Q: Quorums>()
     ensures whole { ToldCollectionsAreWhole Q.system }
 {}
 
-/// The configuration that a step tells to be decided for a place stands there: the node that told it holds it, and so no
-/// node holds another one there (`nodes_agree`).
+/// The configuration that a step tells to be decided for a place stands there: the node that told it holds it after that
+/// step, and so no node holds another one there (`nodes_agree`).
 pub fn decisions_stand<Q: Quorums>()
     ensures stand { DecisionsStand Q.system }
 {}
 
 /// A run goes on by one step more that isn't refused: the world is then what that step makes of it, and a list of which
 /// no step is refused stays such a list. A step leaves each node as it is that it doesn't mean. Of a longer run, letters,
-/// calls and answers go on from those of its beginning, and each node holds at least the copies that it held there.
+/// calls and answers go on from those of its beginning, no step of which is refused if none of the longer one is, and each
+/// node holds at least the copies that it held there.
 pub fn runs_go_on<Q: Quorums>()
     ensures more { RunsGoOn Q.system }
     ensures others { OthersStay Q }
