@@ -9,5 +9,6 @@ pub mod Slots
 pub mod Rows
 pub mod Sweeps
 pub mod Tellings
+pub mod Lists
 pub mod Stampings
 pub mod Rooms

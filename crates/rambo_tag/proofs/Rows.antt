@@ -1,16 +1,16 @@
 -- The log of the changes of a table
-use Rattle.std.proofs.Common.{◌≡◌, ◌⊎◌, ℕ, zero, suc, ◌-◌, ◌≤◌, ◌<◌, nat_eq, true, List, [], ◌∷◌, ◌++◌, length, Option, Some, None, refl, sym, ap, ◌∙◌, subst, inl, inr, arith, true≢false}
+use Rattle.std.proofs.Common.{◌≡◌, ◌≢◌, ◌⊎◌, ℕ, zero, suc, ◌-◌, ◌≤◌, ◌<◌, nat_eq, true, false, List, [], ◌∷◌, ◌++◌, length, get_or, AllPairs, Option, Some, None, refl, sym, ap, ◌∙◌, subst, inl, inr, arith, true≢false}
 use Rattle.std.specs.Prelude.{slice_get}
 use Rattle.std.proofs.lemmas.Bool.Decides.{nat_tests}
+use Rattle.std.proofs.lemmas.List.Quantifiers.{all_pairs_push}
+use Rattle.std.proofs.lemmas.Option.{slice_get-get_or}
 use Rattle.std.specs.Str.{bytes_eq}
-use Rattle.std.specs.List.{IsDistinct}
-use Rattle.std.specs.Map.{keys_of}
 use Rattle.indexmap.specs.IndexMap.{insert_entry}
 use Rattle.rambo_tag.specs.declared.slot.Slot.{Slot}
 use Rattle.rambo_tag.specs.declared.slot.Row.{Row}
 use Rattle.rambo_tag.specs.Stamps.{AreAtMost}
-use Rattle.rambo_tag.specs.Rows.{Slots, slot_in, stamps_of, IsIndexed, told_at}
-use Rattle.rambo_tag.proofs.Slots.{some_inj, none-some, same_or_not, place_of, at_place, elsewhere, place_of-slot, numbers_at_most}
+use Rattle.rambo_tag.specs.Rows.{Slots, slot_in, stamps_of, IsLogOf, IsIndexed, told_at}
+use Rattle.rambo_tag.proofs.Slots.{some_inj, none-some, same_or_not, place_of, value_at, slot_at_place, at_place, elsewhere, place_of-slot, numbers_at_most}
 
 get-push_old : {A : Type 0} (xs : List A) (x : A) (i : ℕ) (r : A) → slice_get xs i ≡ Some r → slice_get (xs ++ x ∷ []) i ≡ Some r
 get-push_old [] x i r e = absurd (none-some r e)
@@ -32,9 +32,9 @@ within [] i r e = absurd (none-some r e)
 within (y ∷ xs) zero r e = omega (arith)
 within (y ∷ xs) (suc i) r e = let h = within xs i r e in omega (arith, h)
 
-indexed-written : (t : Slots) (log : List Row) (k : List ℕ) (s : Slot) → IsIndexed t log → ((p : ℕ) (e : List ℕ × Slot) → slice_get t p ≡ Some e → e.1.number ≤ s.number)
-    → IsDistinct bytes_eq (keys_of (insert_entry bytes_eq t k s)) → IsIndexed (insert_entry bytes_eq t k s) (log ++ record { place = place_of t k; number = s.number } ∷ [])
-indexed-written t log k s h late distinct = record { distinct = distinct; each = each; all = all; rising = rising }
+logged-written : (t : Slots) (log : List Row) (k : List ℕ) (s : Slot) → IsLogOf t log → ((p : ℕ) (e : List ℕ × Slot) → slice_get t p ≡ Some e → e.1.number ≤ s.number)
+    → told_at s.number (slot_in t k) ≡ false → IsLogOf (insert_entry bytes_eq t k s) (log ++ record { place = place_of t k; number = s.number } ∷ [])
+logged-written t log k s h late fresh = record { each = each; all = all; rising = rising; once = once }
   where
     reflexive : (n : ℕ) → n ≤ n
     reflexive n = omega (arith)
@@ -85,9 +85,21 @@ indexed-written t log k s h late distinct = record { distinct = distinct; each =
         past : (i j l : ℕ) → i ≤ j → i ≡ l → j < l → ⊥
         past i j l h e f = omega (arith, h, e, f)
 
-indexed-again : (t : Slots) (log : List Row) (k : List ℕ) (s : Slot) (now : ℕ) → IsIndexed t log → told_at now (slot_in t k) ≡ true → s.number ≡ now
-    → IsDistinct bytes_eq (keys_of (insert_entry bytes_eq t k s)) → IsIndexed (insert_entry bytes_eq t k s) log
-indexed-again t log k s now h told is distinct = go (slot_in t k) refl told
+    -- the key's last change was under a lesser number
+    apart : (r : Row) → (e : List ℕ × Slot) × (slice_get t r.place ≡ Some e) × (r.number ≤ e.1.number) → r ≡ record { place = place_of t k; number = s.number } → ⊥
+    apart r w same =
+        let at : slice_get t (place_of t k) ≡ Some w.0 = ap (λ x. slice_get t x.place) (sym same) ∙ w.1 in
+        let told = ap (told_at s.number) (sym (slot_at_place t k) ∙ value_at t (place_of t k) w.0 at) ∙ is_told w.0.1.number r.number s.number w.2 (ap (λ x. x.number) same) (late (place_of t k) w.0 at) in
+        true≢false (sym told ∙ fresh)
+      where
+        is_told : (a r s : ℕ) → r ≤ a → r ≡ s → a ≤ s → nat_eq a s ≡ true
+        is_told a r s h e i = grind (arith, nat_tests)
+
+    once : AllPairs (λ a b. a ≢ b) (log ++ record { place = place_of t k; number = s.number } ∷ [])
+    once = all_pairs_push (λ a b. a ≢ b) log (record { place = place_of t k; number = s.number }) h.once (λ i d inside. apart (get_or log i d) (h.each i (get_or log i d) (slice_get-get_or log i d inside)))
+
+logged-again : (t : Slots) (log : List Row) (k : List ℕ) (s : Slot) (now : ℕ) → IsLogOf t log → told_at now (slot_in t k) ≡ true → s.number ≡ now → IsLogOf (insert_entry bytes_eq t k s) log
+logged-again t log k s now h told is = go (slot_in t k) refl told
   where
     number : (o : Slot) → told_at now (Some o) ≡ true → o.number ≡ s.number
     number o f = same o.number now f ∙ sym is
@@ -98,9 +110,9 @@ indexed-again t log k s now h told is distinct = go (slot_in t k) refl told
     low : (a b c : ℕ) → a ≤ b → b ≡ c → a ≤ c
     low a b c h e = omega (arith, h, e)
 
-    go : (o : Option Slot) → slot_in t k ≡ o → told_at now o ≡ true → IsIndexed (insert_entry bytes_eq t k s) log
+    go : (o : Option Slot) → slot_in t k ≡ o → told_at now o ≡ true → IsLogOf (insert_entry bytes_eq t k s) log
     go None f told = absurd (true≢false (sym told))
-    go (Some o) f told = record { distinct = distinct; each = each; all = all; rising = h.rising }
+    go (Some o) f told = record { each = each; all = all; rising = h.rising; once = h.once }
       where
         each : (i : ℕ) (r : Row) → slice_get log i ≡ Some r → (e : List ℕ × Slot) × (slice_get (insert_entry bytes_eq t k s) r.place ≡ Some e) × (r.number ≤ e.1.number)
         each i r f1 =
@@ -129,21 +141,18 @@ indexed-again t log k s now h told is distinct = go (slot_in t k) refl told
           | inr other ↦ h.all p e (sym (elsewhere t k s p other) ∙ g)
         ]
 
--- the rows before one that is older than a number are so too
 -- a slot was written, and a row for it
-pub written-row : (t u : Slots) (log more : List Row) (k : List ℕ) (s : Slot) (p : ℕ) → IsIndexed t log → AreAtMost s.number (stamps_of t) → IsDistinct bytes_eq (keys_of u)
-    → u ≡ insert_entry bytes_eq t k s → p ≡ place_of t k → more ≡ log ++ record { place = p; number = s.number } ∷ [] → IsIndexed u more
-written-row t u log more k s p h late distinct is at grows =
-    let row = indexed-written t log k s h (numbers_at_most t s.number h.distinct late) (subst (λ u. IsDistinct bytes_eq (keys_of u)) is distinct) in
-    let rows : more ≡ log ++ record { place = place_of t k; number = s.number } ∷ [] = grows ∙ ap (λ n. log ++ record { place = n; number = s.number } ∷ []) at in
-    subst (IsIndexed u) (sym rows) (subst (λ u. IsIndexed u (log ++ record { place = place_of t k; number = s.number } ∷ [])) (sym is) row)
+pub written-row : (t u : Slots) (log : List Row) (k : List ℕ) (s : Slot) (p : ℕ) → IsIndexed t log → AreAtMost s.number (stamps_of t) → told_at s.number (slot_in t k) ≡ false
+    → u ≡ insert_entry bytes_eq t k s → p ≡ place_of t k → IsLogOf u (log ++ record { place = p; number = s.number } ∷ [])
+written-row t u log k s p h late fresh is at =
+    let row = logged-written t log k s h.logged (numbers_at_most t s.number h.distinct late) fresh in
+    subst (λ n. IsLogOf u (log ++ record { place = n; number = s.number } ∷ [])) (sym at) (subst (λ u. IsLogOf u (log ++ record { place = place_of t k; number = s.number } ∷ [])) (sym is) row)
 
 -- the row of the key's last change serves, where that was under the same number
-pub written-again : (t u : Slots) (log : List Row) (k : List ℕ) (s : Slot) → IsIndexed t log → told_at s.number (slot_in t k) ≡ true → IsDistinct bytes_eq (keys_of u)
-    → u ≡ insert_entry bytes_eq t k s → IsIndexed u log
-written-again t u log k s h told distinct is =
-    subst (λ u. IsIndexed u log) (sym is) (indexed-again t log k s s.number h told refl (subst (λ u. IsDistinct bytes_eq (keys_of u)) is distinct))
+pub written-again : (t u : Slots) (log : List Row) (k : List ℕ) (s : Slot) → IsLogOf t log → told_at s.number (slot_in t k) ≡ true → u ≡ insert_entry bytes_eq t k s → IsLogOf u log
+written-again t u log k s h told is = subst (λ u. IsLogOf u log) (sym is) (logged-again t log k s s.number h told refl)
 
-pub older_all : (t : Slots) (log : List Row) (left base : ℕ) (r : Row) → IsIndexed t log → 0 < left → slice_get log (left - 1) ≡ Some r → r.number < base
+-- the rows before one that is older than a number are so too
+pub older_all : (t : Slots) (log : List Row) (left base : ℕ) (r : Row) → IsLogOf t log → 0 < left → slice_get log (left - 1) ≡ Some r → r.number < base
     → (i : ℕ) (x : Row) → i < left → slice_get log i ≡ Some x → x.number < base
 older_all t log left base r h some at old i x below is = let up = h.rising i (left - 1) x r (omega (arith, some, below)) is at in omega (arith, up, old)

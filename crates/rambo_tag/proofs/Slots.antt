@@ -124,6 +124,11 @@ none_other q k [] same apart p e f = absurd (none-some e f)
 none_other q k (d ∷ t) same apart zero e f = ap (bytes_eq q) (ap (λ x. x.0) (sym (some_inj d e f))) ∙ ap (λ x. bytes_eq x d.0) (bytes_eq-true q k same) ∙ apart.0
 none_other q k (d ∷ t) same apart (suc p) e f = none_other q k t same apart.1 p e f
 
+once_more : (d e f : List ℕ × Slot) (t : Slots) (q : ℕ) → AllByRecursion (λ y. bytes_eq d.0 y ≡ false) (keys_of t) → d ≡ e → slice_get t q ≡ Some f → f.0 ≡ e.0 → ⊥
+once_more d e f t q apart is there same =
+    let key : f.0 ≡ d.0 = same ∙ ap (λ x. x.0) (sym is) in
+    true≢false (sym (bytes_eq-itself f.0) ∙ none_other f.0 d.0 t (ap (bytes_eq f.0) (sym key) ∙ bytes_eq-itself f.0) apart q f there)
+
 pub slot_in-at : (t : Slots) (p : ℕ) (e : List ℕ × Slot) → IsDistinct bytes_eq (keys_of t) → slice_get t p ≡ Some e → slot_in t e.0 ≡ Some e.1
 unfolding IsDistinct
 slot_in-at [] p e distinct f = absurd (none-some e f)
@@ -135,6 +140,19 @@ slot_in-at (d ∷ t) (suc p) e distinct f =
       | true ↦ λ same. absurd (true≢false (sym (bytes_eq-itself e.0) ∙ none_other e.0 d.0 t same distinct.0 p e f))
       | false ↦ λ _. slot_in-at t p e distinct.1 f
     ] refl
+
+pub value_at : (t : Slots) (p : ℕ) (e : List ℕ × Slot) → slice_get t p ≡ Some e → slice_get (values_of t) p ≡ Some e.1
+value_at [] p e f = absurd (none-some e f)
+value_at (d ∷ t) zero e f = ap (λ x. Some x.1) (some_inj d e f)
+value_at (d ∷ t) (suc p) e f = value_at t p e f
+
+pub same_place : (t : Slots) (p q : ℕ) (e f : List ℕ × Slot) → IsDistinct bytes_eq (keys_of t) → slice_get t p ≡ Some e → slice_get t q ≡ Some f → e.0 ≡ f.0 → p ≡ q
+unfolding IsDistinct
+same_place [] p q e f distinct at there same = absurd (none-some e at)
+same_place (d ∷ t) zero zero e f distinct at there same = refl
+same_place (d ∷ t) zero (suc q) e f distinct at there same = absurd (once_more d e f t q distinct.0 (some_inj d e at) there (sym same))
+same_place (d ∷ t) (suc p) zero e f distinct at there same = absurd (once_more d f e t p distinct.0 (some_inj d f there) at same)
+same_place (d ∷ t) (suc p) (suc q) e f distinct at there same = ap suc (same_place t p q e f distinct.1 at there same)
 
 -- and the slot that a key has stands somewhere
 pub slot_in-place : (t : Slots) (q : List ℕ) (s : Slot) → slot_in t q ≡ Some s → (p : ℕ) × (e : List ℕ × Slot) × (slice_get t p ≡ Some e) × (e.0 ≡ q) × (e.1 ≡ s)
@@ -269,6 +287,11 @@ keys_of-set (e ∷ t) (suc i) s = ap (λ ks. e.0 ∷ ks) (keys_of-set t i s)
 pub written_over : (t : Slots) (k : List ℕ) (s o : Slot) (p : ℕ) → Some p ≡ place_in t k → slice_get (values_of t) p ≡ Some o → set_value_at t p s ≡ insert_entry bytes_eq t k s
 written_over t k s o p found there =
     ap (λ n. set_value_at t n s) (place_found t k p found) ∙ written_at t k s o (sym (found_slot t k p found) ∙ there)
+
+pub length-set : (t : Slots) (i : ℕ) (s : Slot) → length (set_value_at t i s) ≡ length t
+length-set [] i s = refl
+length-set (e ∷ t) zero s = refl
+length-set (e ∷ t) (suc i) s = ap suc (length-set t i s)
 
 pub keys_apart : (t : Slots) (p : ℕ) (s : Slot) → IsDistinct bytes_eq (keys_of t) → IsDistinct bytes_eq (keys_of (set_value_at t p s))
 keys_apart t p s distinct = subst (IsDistinct bytes_eq) (sym (keys_of-set t p s)) distinct

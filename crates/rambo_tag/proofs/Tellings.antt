@@ -13,7 +13,7 @@ use Rattle.rambo_tag.specs.declared.keyed_version.KeyedVersion.{KeyedVersion}
 use Rattle.rambo_tag.specs.Tags.{is_newer, greater}
 use Rattle.rambo_tag.specs.Logs.{greatest_of}
 use Rattle.rambo_tag.specs.Stamps.{stamp_or_zero, IsSince}
-use Rattle.rambo_tag.specs.Rows.{Slots, slot_in, copies_of, stamps_of, IsIndexed}
+use Rattle.rambo_tag.specs.Rows.{Slots, slot_in, copies_of, stamps_of, IsLogOf}
 use Rattle.rambo_tag.proofs.Joins.{get-with_newer}
 use Rattle.rambo_tag.proofs.Logged.{greatest_of-push, greatest_of-nil}
 use Rattle.rambo_tag.proofs.Keys.{key_cmp, same_key, same_key-true, same_key-itself}
@@ -109,7 +109,7 @@ Tells-fresh t log left base out more r e c distinct h at there late key version 
     ]
 
 -- all rows since a number were gone through
-pub Tells-end : (t : Slots) (log : List Row) (left base : ℕ) (out : List KeyedVersion) → IsIndexed t log → Tells t log left base out
+pub Tells-end : (t : Slots) (log : List Row) (left base : ℕ) (out : List KeyedVersion) → IsLogOf t log → Tells t log left base out
     → ((i : ℕ) (r : Row) → i < left → slice_get log i ≡ Some r → r.number < base) → IsSince (copies_of t) (stamps_of t) base (greatest_of out)
 Tells-end t log left base out indexed h older q =
     since (get (greatest_of out) q) (slot_in t q) refl refl

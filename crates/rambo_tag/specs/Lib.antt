@@ -3,4 +3,5 @@ pub mod Copies
 pub mod Logs
 pub mod Merging
 pub mod Stamps
+pub mod Changes
 pub mod Rows

@@ -1,5 +1,5 @@
 -- A table of copies with stamps, and the log of its changes
-use Rattle.std.specs.Prelude.{◌≡◌, ℕ, ◌-◌, min, Bool, false, nat_eq, ◌≤◌, if◌then◌else◌, List, [], ◌∷◌, Option, Some, None, slice_get, position, Vec}
+use Rattle.std.specs.Prelude.{◌≡◌, ◌≢◌, ℕ, ◌*◌, ◌-◌, min, Bool, false, nat_eq, ◌≤◌, if◌then◌else◌, List, [], ◌∷◌, length, AllPairs, Option, Some, None, slice_get, position, Vec}
 use Rattle.std.specs.FinMap.{empty, insert, get}
 use Rattle.std.specs.List.{IsDistinct}
 use Rattle.std.specs.Map.{lookup, keys_of}
@@ -36,12 +36,22 @@ unfoldable pub stamps_of : Slots → Stamps
 stamps_of [] = empty
 stamps_of (e ∷ t) = insert (stamps_of t) e.0 e.1.number
 
--- a key stands once, each row tells of a change of a key, each key's last change has a row, and numbers don't fall
-pub record IsIndexed (t : Slots) (log : List Row) : Type 0 where
-  pub distinct : IsDistinct bytes_eq (keys_of t)
+-- each row tells of a change of a key, each key's last change has a row, numbers don't fall, and no row stands twice
+pub record IsLogOf (t : Slots) (log : List Row) : Type 0 where
   pub each : (i : ℕ) (r : Row) → slice_get log i ≡ Some r → (e : List ℕ × Slot) × (slice_get t r.place ≡ Some e) × (r.number ≤ e.1.number)
   pub all : (p : ℕ) (e : List ℕ × Slot) → slice_get t p ≡ Some e → (i : ℕ) × (slice_get log i ≡ Some (record { place = p; number = e.1.number }))
   pub rising : (i j : ℕ) (a b : Row) → i ≤ j → slice_get log i ≡ Some a → slice_get log j ≡ Some b → a.number ≤ b.number
+  pub once : AllPairs (λ a b. a ≢ b) log
+
+-- the log is at most twice as long as the table
+abbrev pub IsShortFor : Slots → List Row → Type 0
+IsShortFor t log = length log ≤ 2 * length t
+
+-- a key stands once, and its changes in a short log
+pub record IsIndexed (t : Slots) (log : List Row) : Type 0 where
+  pub distinct : IsDistinct bytes_eq (keys_of t)
+  pub logged : IsLogOf t log
+  pub short : IsShortFor t log
 
 -- what the table keeps of a key changed under this number
 abbrev pub told_at : ℕ → Option Slot → Bool
@@ -56,9 +66,13 @@ has_number n (Some e) = nat_eq e.1.number n
 abbrev pub is_current : Slots → Row → Bool
 is_current t r = has_number r.number (slice_get t r.place)
 
+-- for how many more rows there is room
+abbrev pub room_behind : Vec Row Global → ℕ
+room_behind log = vec_capacity log - vec_len log
+
 -- for how many more changes there is room, in the table and in the log
 abbrev pub room_in : {S : Type 0} → IndexMap (List ℕ) Slot S → Vec Row Global → ℕ
-room_in table log = min (spare table) (vec_capacity log - vec_len log)
+room_in table log = min (spare table) (room_behind log)
 
 -- the stamps after copies of a list came, one after the other
 abbrev pub stamps_after : ℕ → Copies → Stamps → List KeyedVersion → Stamps

@@ -1,13 +1,13 @@
 //! Copies in a hash table, and the log of their changes.
-ghost use Rattle.std.specs.Prelude.{◌≡◌, ◌+◌, ◌<◌, ◌≤◌, true, false, ℕ, List, [], ◌∷◌, filter, if◌then◌else◌, IsOk, IfOk, IfErr, OnOk, OnErr};
+ghost use Rattle.std.specs.Prelude.{◌≡◌, ◌+◌, ◌<◌, ◌≤◌, true, false, ℕ, List, [], ◌∷◌, ◌++◌, filter, if◌then◌else◌, IsOk, IfOk, IfErr, OnOk, OnErr};
 ghost use Rattle.std.specs.FinMap.{empty, get, insert};
 ghost use Rattle.std.specs.Str.{bytes_eq};
-ghost use Rattle.std.specs.Vec.{vec_len, vec_capacity};
 ghost use Rattle.rambo_tag.specs.Tags.{is_newer};
 ghost use Rattle.rambo_tag.specs.Copies.{joined, HasRoom};
 ghost use Rattle.rambo_tag.specs.Logs.{greatest_after, greatest_of};
-ghost use Rattle.rambo_tag.specs.Stamps.{AreAtMost, AreStampedAlike, stamps_merged};
-ghost use Rattle.rambo_tag.specs.Rows.{slot_in, place_in, copies_of, stamps_of, stamps_after, told_at, is_current, room_in, IsIndexed};
+ghost use Rattle.rambo_tag.specs.Stamps.{AreAtMost, AreStampedAlike, IsSince, stamps_merged};
+ghost use Rattle.rambo_tag.specs.Changes.{HasEachKeyOnce, IsLatestFirst};
+ghost use Rattle.rambo_tag.specs.Rows.{slot_in, place_in, copies_of, stamps_of, stamps_after, told_at, is_current, room_in, room_behind, IsLogOf, IsShortFor, IsIndexed};
 
 use crate::borrowed_key::BorrowedKey;
 use crate::keyed_version::KeyedVersion;
@@ -28,7 +28,7 @@ use std::marker::Model;
 pub struct Registers<H: BuildHasher> {
     // Packs share the keys and the values. A key keeps its place.
     table: IndexMap<Bytes, Slot, H>,
-    // The changes, oldest first: what changed since a number is the end of it.
+    // The changes, oldest first: what changed since a number is the end of it. It's at most twice as long as the table.
     log: Vec<Row>,
 }
 
@@ -57,6 +57,33 @@ impl<H: BuildHasher> Registers<H> {
             table: IndexMap::with_hasher(alloc, hasher),
             log: Vec::new(alloc),
         }
+    }
+
+    /// The copies with a stamp of at least a base: each key once, and what changed last comes first. No key and no value
+    /// is copied.
+    ///
+    /// `OutOfMemory` where there is no room for the list of them.
+    pub fn changes_since(&self, base: u64) -> Result<Vec<KeyedVersion>, Refusal>
+        ensures since { IfOk result (λ changes. IsSince self.now.copies self.now.stamps base (greatest_of changes.items)) }
+        ensures once { IfOk result (λ changes. HasEachKeyOnce changes.items) }
+        ensures latest_first { IfOk result (λ changes. IsLatestFirst self.now.stamps changes.items) }
+        ensures refused { IfErr result (λ r. r ≡ Refusal.OutOfMemory) }
+    {
+        let mut changes = Vec::new(*self.table.allocator());
+        let mut left = self.log.len();
+        while left > 0 && self.log[left - 1].number >= base {
+            left -= 1;
+            let row = self.log[left];
+            if let Some((key, slot)) = self.table.get_index(row.place) {
+                if slot.number == row.number {
+                    changes.push(KeyedVersion {
+                        key: key.clone()?,
+                        version: slot.version.clone()?,
+                    })?;
+                }
+            }
+        }
+        Ok(changes)
     }
 
     // Takes one copy, where it is newer than what its key holds here. A key that stands here is looked up once.
@@ -188,21 +215,8 @@ impl<H: BuildHasher + Clone + Drop> Replica for Registers<H> {
     }
 
     fn pack_since(&self, base: u64) -> Result<Pack, Refusal> {
-        let mut copies = Vec::new(*self.table.allocator());
-        let mut left = self.log.len();
-        while left > 0 && self.log[left - 1].number >= base {
-            left -= 1;
-            let row = self.log[left];
-            if let Some((key, slot)) = self.table.get_index(row.place) {
-                if slot.number == row.number {
-                    copies.push(KeyedVersion {
-                        key: key.clone()?,
-                        version: slot.version.clone()?,
-                    })?;
-                }
-            }
-        }
-        Ok(Pack::new(copies))
+        let changes = self.changes_since(base)?;
+        Ok(Pack::new(changes))
     }
 
     fn pack(&self) -> Result<Pack, Refusal> {
@@ -224,15 +238,14 @@ fn find<H: BuildHasher>(
     }
 }
 
-// Makes room for so many more changes. Stale rows are swept before, where they are as many as the table's keys.
+// Makes room for so many more changes.
 fn make_room<H: BuildHasher>(
     table: &mut IndexMap<Bytes, Slot, H>,
     log: &mut Vec<Row>,
     more: usize,
 ) -> Result<(), Refusal>
-    requires { IsIndexed table.old.entries log.old.items }
     ensures entries { table.new.entries ≡ table.old.entries }
-    ensures indexed { IsIndexed table.old.entries log.new.items }
+    ensures rows { log.new.items ≡ log.old.items }
     ensures kept { room_in table.old log.old ≤ room_in table.new log.new }
     ensures ok { OnOk result (more ≤ room_in table.new log.new) }
     ensures idle { more ≡ 0 → IsOk result }
@@ -241,18 +254,30 @@ fn make_room<H: BuildHasher>(
     if more == 0 {
         return Ok(());
     }
-    if log.len() / 2 >= table.len() {
-        sweep(table, log);
-    }
     table.reserve(more)?;
     log.reserve(more)?;
     Ok(())
 }
 
+// Writes a row behind the log, which has room for it. Where the log is then twice as long as the table its stale rows are
+// swept. It needs no memory.
+fn write_row<H: BuildHasher>(table: &IndexMap<Bytes, Slot, H>, log: &mut Vec<Row>, row: Row)
+    requires room { 0 < room_behind log.old }
+    requires logged { IsLogOf table.now.entries (log.old.items ++ row ∷ []) }
+    ensures logged { IsLogOf table.now.entries log.new.items }
+    ensures short { IsShortFor table.now.entries log.new.items }
+    ensures room { room_behind log.old ≤ room_behind log.new + 1 }
+{
+    let _done = log.push(row);
+    if log.len() / 2 >= table.len() {
+        sweep(table, log);
+    }
+}
+
 // Drops the stale rows. It needs no memory.
 fn sweep<H: BuildHasher>(table: &IndexMap<Bytes, Slot, H>, log: &mut Vec<Row>)
     ensures rows { log.new.items ≡ filter (is_current table.now.entries) log.old.items }
-    ensures room { room_in table.now log.old ≤ room_in table.now log.new }
+    ensures room { room_behind log.old ≤ room_behind log.new }
 {
     log.retain(|row| is_current(table, *row));
 }
@@ -297,12 +322,12 @@ fn write<H: BuildHasher>(
             let told = table[place].number == now;
             table[place] = slot;
             if !told {
-                let _done = log.push(Row { place, number: now });
+                write_row(table, log, Row { place, number: now });
             }
         }
         None => {
             if let Ok((place, _old)) = table.insert_full(key, slot) {
-                let _done = log.push(Row { place, number: now });
+                write_row(table, log, Row { place, number: now });
             }
         }
     }

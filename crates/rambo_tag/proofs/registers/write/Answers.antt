@@ -1,19 +1,15 @@
-use Rattle.std.proofs.Common.{ℕ, ◌-◌, ◌<◌, true≢false, sym, ap, ◌∙◌, ◌++◌, ◌∷◌, [], arith}
-use Rattle.std.specs.Prelude.{if◌then◌else◌, min}
-use Rattle.std.specs.Vec.{vec_len, vec_capacity}
+use Rattle.std.proofs.Common.{ℕ, ◌*◌, ◌<◌, ◌≤◌, true≢false, length, sym, ◌∙◌, subst, arith}
+use Rattle.std.specs.Prelude.{min}
 use Rattle.indexmap.specs.IndexMap.{spare}
-use Rattle.rambo_tag.specs.declared.slot.Row.{Row}
 use Rattle.rambo_tag.specs.declared.slot.Slot.{Slot}
-use Rattle.rambo_tag.proofs.Slots.{place_found, written_over, keys_apart, written-copies, written-stamps, written-told, found_told, found_not_told, none_told}
+use Rattle.rambo_tag.specs.Rows.{room_behind}
+use Rattle.rambo_tag.proofs.Slots.{place_found, written_over, length-set, keys_apart, written-copies, written-stamps, written-told, found_told, found_not_told, none_told}
 use Rattle.rambo_tag.proofs.Rows.{written-row, written-again}
 use Rattle.rambo_tag.proofs.registers.write.Goals as goal
 
--- room for a change is room in the table, and room in the log
-in_table : (s c l : ℕ) → 0 < min s (c - l) → 0 < s
-in_table s c l h = omega (arith, h)
-
-in_log : (s c l : ℕ) → 0 < min s (c - l) → l < c
-in_log s c l h = omega (arith, h)
+-- room for a change is room in the log
+in_log : (s r : ℕ) → 0 < min s r → 0 < r
+in_log s r h = omega (arith, h)
 
 -- ---- the key stands there, and its last change was under another number
 pub returns-then-not-told-clause-copies : goal.returns-then-not-told-clause-copies
@@ -37,17 +33,23 @@ returns-then-not-told-clause-told g c =
 pub returns-then-not-told-clause-indexed : goal.returns-then-not-told-clause-indexed
 returns-then-not-told-clause-indexed g c =
     let t = c.args.table.now.entries in
-    let log = c.args.log.now in
+    record { distinct = keys_apart t c.in-Some.place (record { version = c.args.copy.version; number = c.args.now }) c.requires.indexed.distinct; logged = c.write_row.ensures.logged; short = c.write_row.ensures.short }
+
+pub write_row-requires-clause-logged : goal.write_row-requires-clause-logged
+write_row-requires-clause-logged g c =
+    let t = c.args.table.now.entries in
     let key = c.args.copy.key in
     let s : Slot = record { version = c.args.copy.version; number = c.args.now } in
     let place = c.in-Some.place in
     let found = sym c.in-Some.is ∙ c.requires.place in
-    let row : Row = record { place = place; number = c.args.now } in
-    let room = c.requires.room (found_not_told t key c.index.result.now place c.args.now found c.index.ensures c.if-not-told.true) in
-    let pushed = c.push-done.ensures.succeeds (in_log (spare c.args.table.now) (vec_capacity log) (vec_len log) room) in
-    written-row t _ log.items _ key s place c.requires.indexed c.requires.late (keys_apart t place s c.requires.indexed.distinct)
+    written-row t _ c.args.log.now.items key s place c.requires.indexed c.requires.late (found_not_told t key c.index.result.now place c.args.now found c.index.ensures c.if-not-told.true)
     (written_over t key s c.index.result.now place found c.index.ensures) (place_found t key place found)
-    (c.push-done.ensures.items ∙ ap (λ b. if b then log.items ++ row ∷ [] else log.items) pushed)
+
+pub write_row-requires-clause-room : goal.write_row-requires-clause-room
+write_row-requires-clause-room g c =
+    let t = c.args.table.now.entries in
+    let found = sym c.in-Some.is ∙ c.requires.place in
+    in_log (spare c.args.table.now) (room_behind c.args.log.now) (c.requires.room (found_not_told t c.args.copy.key c.index.result.now c.in-Some.place c.args.now found c.index.ensures c.if-not-told.true))
 
 pub returns-then-not-told-clause-again : goal.returns-then-not-told-clause-again
 returns-then-not-told-clause-again g c told =
@@ -82,8 +84,9 @@ returns-in-Some-clause-indexed g c =
     let place = c.in-Some.place in
     let found = sym c.in-Some.is ∙ c.requires.place in
     let told = found_told t key c.index.result.now place c.args.now found c.index.ensures c.if-not-told.false in
-    written-again t _ c.args.log.now.items key s c.requires.indexed told (keys_apart t place s c.requires.indexed.distinct)
-    (written_over t key s c.index.result.now place found c.index.ensures)
+    let logged = written-again t _ c.args.log.now.items key s c.requires.indexed.logged told (written_over t key s c.index.result.now place found c.index.ensures) in
+    let short = subst (λ n. length c.args.log.now.items ≤ 2 * n) (sym (length-set t place s)) c.requires.indexed.short in
+    record { distinct = keys_apart t place s c.requires.indexed.distinct; logged = logged; short = short }
 
 -- ---- the key is a new one
 pub returns-in-Ok-clause-copies : goal.returns-in-Ok-clause-copies
@@ -100,12 +103,15 @@ returns-in-Ok-clause-told g c =
 
 pub returns-in-Ok-clause-indexed : goal.returns-in-Ok-clause-indexed
 returns-in-Ok-clause-indexed g c =
+    record { distinct = c.in-Ok.ensures.unique; logged = c.write_row-in-Ok.ensures.logged; short = c.write_row-in-Ok.ensures.short }
+
+pub write_row-requires-in-Ok-clause-logged : goal.write_row-requires-in-Ok-clause-logged
+write_row-requires-in-Ok-clause-logged g c =
     let t = c.args.table.now.entries in
-    let log = c.args.log.now in
     let key = c.args.copy.key in
     let s : Slot = record { version = c.args.copy.version; number = c.args.now } in
-    let row : Row = record { place = c.in-Ok.place; number = c.args.now } in
-    let room = c.requires.room (none_told t key c.args.now (sym c.in-None.is ∙ c.requires.place)) in
-    let pushed = c.push-done-in-Ok.ensures.succeeds (in_log (spare c.args.table.now) (vec_capacity log) (vec_len log) room) in
-    written-row t _ log.items _ key s c.in-Ok.place c.requires.indexed c.requires.late c.in-Ok.ensures.unique c.in-Ok.ensures.entries c.in-Ok.ensures.index
-    (c.push-done-in-Ok.ensures.items ∙ ap (λ b. if b then log.items ++ row ∷ [] else log.items) pushed)
+    written-row t _ c.args.log.now.items key s c.in-Ok.place c.requires.indexed c.requires.late (none_told t key c.args.now (sym c.in-None.is ∙ c.requires.place)) c.in-Ok.ensures.entries c.in-Ok.ensures.index
+
+pub write_row-requires-in-Ok-clause-room : goal.write_row-requires-in-Ok-clause-room
+write_row-requires-in-Ok-clause-room g c =
+    in_log (spare c.args.table.now) (room_behind c.args.log.now) (c.requires.room (none_told c.args.table.now.entries c.args.copy.key c.args.now (sym c.in-None.is ∙ c.requires.place)))
