@@ -101,8 +101,9 @@ class Progress:
         return max(sum(left.values()) / rate, max(map(chain, left)) / (speed * OF_ONE)) + self.behind
 
     def line(self):
+        done = set(self.done)
         return "%d of %d crates, %s of %s s of a processor, about %d min left" % (
-            len(self.done), len(self.seconds), format(round(self.sum_of(self.done)), ","),
+            len(done), len(self.seconds), format(round(self.sum_of(done)), ","),
             format(round(sum(self.seconds.values())), ","), max(1, math.ceil(self.left() / 60)))
 
     def tell(self):
