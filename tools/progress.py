@@ -97,8 +97,8 @@ class Progress:
                 chains[name] = left.get(name, 0) + max(map(chain, self.above[name]), default=0)
             return chains[name]
 
-        speed = min(1, rate / PROCESSORS)
-        return max(sum(left.values()) / rate, max(map(chain, left)) / (speed * OF_ONE)) + self.behind
+        of_each = rate / PROCESSORS
+        return max(sum(left.values()) / rate, max(map(chain, left)) / (of_each * OF_ONE)) + self.behind
 
     def line(self):
         done = set(self.done)
