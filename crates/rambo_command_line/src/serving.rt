@@ -39,9 +39,13 @@ CONF such names with weights, each behind a colon, from 2 to 15; a name with
 none weighs 1.
 
 What happens is kept in a book of steps. The default 100,000 steps hold some
-9,000 gets and sets; where the book is full each command is refused 23. At the
-end the book is written to standard output, as a script: replay gives the
-answers that the clients got.
+9,000 gets and sets; where the book is full each command is refused 23. After
+RAMBO SHUTDOWN, and then alone, the book is written to standard output, as a
+script: replay gives the answers that the clients got. A signal ends the server
+at once, and the trace is lost.
+
+Where as many clients are served as --clients tells, a further connection, by
+default the ninth, gets no reply until another ends: RAMBO SHUTDOWN waits too.
 
 Example:
   rambo serve --port 7379 >trace &
