@@ -1,5 +1,12 @@
 //! What a client has the nodes do.
-ghost use Rattle.std.specs.Prelude.{◌≡◌, []};
+ghost use Rattle.std.specs.Prelude.{◌≡◌, ◌⊎◌, [], Some, length, OnOk, OnErr, IfErr};
+ghost use mathlib.Core.List.{IsPrefix};
+ghost use Rattle.rambo_names.specs.Weights.{Weights, weighted_majorities};
+ghost use Rattle.rambo_node.specs.declared.effect.Effect.{Effect};
+ghost use Rattle.rambo_run.specs.Steps.{refusal};
+ghost use Rattle.rambo_run.specs.Runs.{run};
+ghost use Rattle.rambo_book.specs.Kept.{Told};
+ghost use Rattle.rambo_pass.specs.Passes.{Acted};
 
 use crate::hub::Hub;
 use crate::visits::names_in;
@@ -141,14 +148,19 @@ impl<J: Terms<Weighted>> Hub<J> {
         }
     }
 
-    /// Has a node take a step that a client asks for, and has its worker go on with it.
+    /// Has a node take a step that a client asks for, and has its worker go on with it. Refused is what the post refuses.
     pub(crate) fn change<R: Wait>(
         &self,
         rt: &R,
         pass: &mut Pass<J, Weighted>,
         name: Name,
         step: Step<Weighted>,
-    ) -> Result<(), Refusal> {
+    ) -> Result<(), Refusal>
+        ensures acted { OnOk result ((f : Weights) → J.founders ≡ Some f → (e : Effect Weights) × Acted weighted_majorities f pass.old pass.new step e) }
+        ensures begins { IsPrefix pass.old.seen pass.new.seen }
+        ensures err { OnErr result (pass.new.mine ≡ pass.old.mine) }
+        ensures cause { IfErr result (λ r. (f : Weights) → J.founders ≡ Some f → (r ≡ Refusal.OutOfMemory) ⊎ Told (refusal weighted_majorities (run weighted_majorities f pass.new.seen) step) (length pass.new.seen) J.capacity r) }
+    {
         let _effect = self.post.act(rt, pass, step)?;
         self.rooms.of(name).desk.lock(rt).remind();
         self.rooms.of(name).bell.ring(rt);

@@ -1,6 +1,7 @@
 //! One connection.
 ghost use Rattle.std.specs.Prelude.{◌≤◌, length};
 
+use crate::asking::asked_of;
 use crate::buffers::{Buffers, PIECE};
 use crate::hub::Hub;
 use bytes::BytesMut;
@@ -143,14 +144,15 @@ impl<'h, J: Terms<Weighted>, G: Gate, R: Wait + Clock> Session<'h, J, G, R> {
                 self.name = *name;
                 append(&Reply::Ok, out)
             }
-            ServerRequest::Join(name, contacts) => {
-                self.change(*name, Step::Join(*name, *contacts), out)
+            ServerRequest::Join(_, _)
+            | ServerRequest::Recon(_)
+            | ServerRequest::Collect
+            | ServerRequest::Stop(_) => {
+                let Some((name, step)) = asked_of(self.name, request) else {
+                    unreachable!();
+                };
+                self.change(name, step, out)
             }
-            ServerRequest::Recon(wish) => {
-                self.change(self.name, Step::Recon(self.name, *wish), out)
-            }
-            ServerRequest::Collect => self.change(self.name, Step::Collect(self.name), out),
-            ServerRequest::Stop(name) => self.change(*name, Step::Stop(*name), out),
             ServerRequest::Config => self.tell_map(out),
             ServerRequest::Shutdown => {
                 let _ = append_reply(&Reply::Ok, out);

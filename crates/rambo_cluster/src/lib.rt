@@ -5,6 +5,7 @@
 //! - `ServeFault`: why nothing was served.
 #![tactic(auto)]
 
+mod asking;
 mod buffers;
 mod clients;
 mod connection;

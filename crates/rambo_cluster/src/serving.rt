@@ -15,7 +15,7 @@ use crate::options::Options;
 use crossbeam_channel::{Receiver, Sender, bounded};
 use rambo_atomic::Wrapped;
 use rambo_names::{Name, Quorums, Refusal, Weighted};
-use rambo_post::{Actor, Closed, Gate, Pass, Post, Terms};
+use rambo_post::{Actor, Closed, Gate, Left, Pass, Post, Terms};
 use rambo_roll::Opened;
 use rambo_run::Step;
 use std::alloc::Global;
@@ -49,7 +49,7 @@ pub fn serve<G: Gate, R>(
     listener: &TcpListener,
     options: &Options<Weighted>,
     gate: &G,
-) -> Result<Closed<Weighted>, ServeFault>
+) -> Result<Left<Weighted>, ServeFault>
 where
     R: Net<Listener = TcpListener, Stream = TcpStream>
         + Threads
@@ -57,13 +57,13 @@ where
         + Clock
         + RandomSource
         + Sync,
-    ensures legal { IfOk result (λ c. IsLegal weighted_majorities options.now.founders c.steps.items) }
-    ensures fits { IfOk result (λ c. length c.steps.items ≤ options.now.steps) }
-    ensures order { IfOk result (λ c. IfSome c.order (λ o. o.items ≡ given_order (run weighted_majorities options.now.founders c.steps.items))) }
-    ensures explained { IfOk result (λ c. IfSome c.order (λ o. IsProperForAll (run weighted_majorities options.now.founders c.steps.items).history o.items)) }
+    ensures legal { IfOk result (λ l. IsLegal weighted_majorities options.now.founders l.steps) }
+    ensures fits { IfOk result (λ l. length l.steps ≤ options.now.steps) }
+    ensures order { IfOk result (λ l. IfSome l.order (λ o. o ≡ given_order (run weighted_majorities options.now.founders l.steps))) }
+    ensures explained { IfOk result (λ l. IfSome l.order (λ o. IsProperForAll (run weighted_majorities options.now.founders l.steps).history o)) }
 {
     let opened = Opened::new(alloc)?;
-    serve_as::<Brand, G, R>(
+    serve_named::<Brand, G, R>(
         rt,
         alloc,
         opened,
@@ -75,7 +75,8 @@ where
     )
 }
 
-fn serve_as<J: Terms<Weighted> + Send + Sync, G: Gate, R>(
+// The same by a post of this name: what it leaves once it is closed.
+fn serve_named<J: Terms<Weighted> + Send + Sync, G: Gate, R>(
     rt: &R,
     alloc: Global,
     opened: Opened<Step<Weighted>, Actor>,
@@ -84,7 +85,7 @@ fn serve_as<J: Terms<Weighted> + Send + Sync, G: Gate, R>(
     founders: Weighted,
     steps: usize,
     gate: &G,
-) -> Result<Closed<Weighted>, ServeFault>
+) -> Result<Left<Weighted>, ServeFault>
 where
     R: Net<Listener = TcpListener, Stream = TcpStream>
         + Threads
@@ -95,16 +96,55 @@ where
     requires name { opened ≡ J.table }
     requires founders { J.founders ≡ Some founders }
     requires capacity { steps ≡ J.capacity }
-    ensures legal { IfOk result (λ c. IsLegal weighted_majorities founders c.steps.items) }
-    ensures fits { IfOk result (λ c. length c.steps.items ≤ steps) }
-    ensures order { IfOk result (λ c. IfSome c.order (λ o. o.items ≡ given_order (run weighted_majorities founders c.steps.items))) }
-    ensures explained { IfOk result (λ c. IfSome c.order (λ o. IsProperForAll (run weighted_majorities founders c.steps.items).history o.items)) }
+    ensures legal { IfOk result (λ l. IsLegal weighted_majorities founders l.steps) }
+    ensures fits { IfOk result (λ l. length l.steps ≤ steps) }
+    ensures order { IfOk result (λ l. IfSome l.order (λ o. o ≡ given_order (run weighted_majorities founders l.steps))) }
+    ensures explained { IfOk result (λ l. IfSome l.order (λ o. IsProperForAll (run weighted_majorities founders l.steps).history o)) }
+{
+    let closed = serve_as::<J, G, R>(rt, alloc, opened, listener, options, founders, steps, gate)?;
+    Ok(left_by(closed, founders))
+}
+
+// What a closed post of these founders leaves.
+fn left_by<J: Terms<Weighted>>(closed: Closed<J, Weighted>, founders: Weighted) -> Left<Weighted>
+    requires { J.founders ≡ Some founders }
+    ensures same { result ≡ closed }
+    ensures legal { IsLegal weighted_majorities founders result.steps }
+    ensures fits { length result.steps ≤ J.capacity }
+    ensures order { IfSome result.order (λ o. o ≡ given_order (run weighted_majorities founders result.steps)) }
+    ensures explained { IfSome result.order (λ o. IsProperForAll (run weighted_majorities founders result.steps).history o) }
+{
+    closed.into_left()
+}
+
+// The same: the post of this name once it is closed. There is no other of this name, since that takes the one roll that was
+// opened for it, and nothing but its close gives this.
+fn serve_as<J: Terms<Weighted> + Send + Sync, G: Gate, R>(
+    rt: &R,
+    alloc: Global,
+    opened: Opened<Step<Weighted>, Actor>,
+    listener: &TcpListener,
+    options: &Options<Weighted>,
+    founders: Weighted,
+    steps: usize,
+    gate: &G,
+) -> Result<Closed<J, Weighted>, ServeFault>
+where
+    R: Net<Listener = TcpListener, Stream = TcpStream>
+        + Threads
+        + Wait
+        + Clock
+        + RandomSource
+        + Sync,
+    requires name { opened ≡ J.table }
+    requires founders { J.founders ≡ Some founders }
+    requires capacity { steps ≡ J.capacity }
 {
     let own = listener.local_addr()?;
     let hasher = RandomState::new(rt)?;
     let (hub, mut passes) = set_up::<J, R>(rt, alloc, opened, options, founders, steps, hasher)?;
     serve_clients(rt, gate, alloc, &hub, listener, own, &mut passes)?;
-    Ok(end(hub, passes, founders))
+    Ok(end(hub, passes))
 }
 
 // What all threads share, whose clients begin at the lowest founder and have a bell, a door and buffers each; and a pass for
@@ -181,18 +221,9 @@ fn passes_of<J: Terms<Weighted>, R: Wait>(
     Ok(passes)
 }
 
-// All steps, once no thread works any more: what the pass of each client has seen begins them.
-fn end<J: Terms<Weighted>>(
-    hub: Hub<J>,
-    passes: Vec<Pass<J, Weighted>>,
-    founders: Weighted,
-) -> Closed<Weighted>
-    requires { J.founders ≡ Some founders }
-    ensures legal { IsLegal weighted_majorities founders result.steps.items }
-    ensures fits { length result.steps.items ≤ J.capacity }
-    ensures begins { All (λ p. IsPrefix p.seen result.steps.items) passes.items }
-    ensures order { IfSome result.order (λ o. o.items ≡ given_order (run weighted_majorities founders result.steps.items)) }
-    ensures explained { IfSome result.order (λ o. IsProperForAll (run weighted_majorities founders result.steps.items).history o.items) }
+// The post, closed once no thread works any more: what the pass of each client has seen begins its steps.
+fn end<J: Terms<Weighted>>(hub: Hub<J>, passes: Vec<Pass<J, Weighted>>) -> Closed<J, Weighted>
+    ensures begins { All (λ p. IsPrefix p.seen result.steps) passes.items }
 {
     let Hub { post, .. } = hub;
     post.close(passes)

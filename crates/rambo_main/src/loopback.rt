@@ -1,5 +1,7 @@
 //! Many clients are served, on the sockets of this machine.
-ghost use Rattle.std.specs.Prelude.{◌≡◌, IfOk};
+ghost use Rattle.std.specs.Prelude.{◌≡◌, [], ◌∷◌, IfOk};
+ghost use Rattle.std.specs.Net.Addr.{ipv4_octets};
+ghost use Rattle.std.specs.Net.Socket.{v4_ip, v4_port};
 ghost use Rattle.rambo_telling.specs.Telling.{stream};
 ghost use Rattle.rambo_serving.specs.Endings.{Fails};
 ghost use Rattle.rambo_main.specs.Servers.{GivesTo, ListensOn, ServesTo, server_line};
@@ -14,7 +16,7 @@ use rambo_telling::{tell, tell_listening, tell_socket};
 use rambo_text::ReplayFault;
 use std::alloc::Global;
 use std::io;
-use std::net::{Ipv4Addr, Net, TcpListener, TcpStream};
+use std::net::{Ipv4Addr, Net, SocketAddrV4, TcpListener, TcpStream};
 use std::random::RandomSource;
 use std::sync::Wait;
 use std::thread::Threads;
@@ -73,7 +75,7 @@ where
         (stream E.taken E.failures errors.old errors.new) }
 {
     match serve(rt, alloc, listener, &options_of(founders, serving), &NoGate) {
-        Ok(closed) => write_steps(alloc, founders, closed.steps.as_slice(), writer, errors),
+        Ok(left) => write_steps(alloc, founders, left.steps(), writer, errors),
         Err(fault) => unserved(fault, errors),
     }
 }
@@ -105,13 +107,21 @@ fn unserved<E: Sink>(fault: ServeFault, errors: &mut E) -> Ending
     }
 }
 
+// Where a server listens that is asked for a port: at 127.0.0.1.
+fn address_of(port: u16) -> SocketAddrV4
+    ensures octets { ipv4_octets (v4_ip result) ≡ 127 ∷ 0 ∷ 0 ∷ 1 ∷ [] }
+    ensures port { v4_port result ≡ port }
+{
+    SocketAddrV4::new(Ipv4Addr::new(127, 0, 0, 1), port)
+}
+
 // A listener on a port of 127.0.0.1, or where it is 0 on one that the system chooses, and the port.
 fn bound<R>(rt: &R, port: u16) -> io::Result<(TcpListener, u16)>
 where
     R: Net<Listener = TcpListener, Stream = TcpStream>,
     ensures { IfOk result (λ made. ListensOn port made.1) }
 {
-    let listener = TcpListener::bind(rt, (Ipv4Addr::LOCALHOST, port))?;
+    let listener = TcpListener::bind(rt, address_of(port))?;
     if port != 0 {
         return Ok((listener, port));
     }

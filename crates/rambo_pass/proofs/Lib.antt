@@ -1,4 +1,5 @@
 pub mod Acts
+mod Closes
 pub mod Taken
 pub mod Found
 pub mod Told

@@ -1,1 +1,2 @@
+pub mod Leavings
 pub mod Passes

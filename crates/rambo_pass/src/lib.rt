@@ -2,17 +2,20 @@
 //!
 //! - `Pass`: what one client has seen, and its calls; `Entry`: one of these.
 //! - `named`: of whose node a step is.
-//! - `act_in`, `act_ready_in`, `call_in`, `take_given`, `take_in`, `meet_in`: what a client does; `close_in`: the end, `Closed`.
+//! - `act_in`, `act_ready_in`, `call_in`, `take_given`, `take_in`, `meet_in`: what a client does.
+//! - `close_in`: the end, `Closed`; `Left`: what that leaves.
 #![tactic(auto)]
 
 mod answer;
 mod closing;
+mod left;
 mod mine;
 mod naming;
 mod pass;
 
 pub use answer::{take_given, take_in};
 pub use closing::{Closed, close_in};
+pub use left::Left;
 pub use mine::Entry;
 pub use naming::named;
 pub use pass::{Pass, act_in, act_ready_in, call_in, meet_in};

@@ -4,7 +4,8 @@ use rambo_names::Name;
 
 /// Is told of each turn, by the thread that takes it.
 pub trait Gate: Sync {
-    /// The turn of this name has taken its mail. It has its keeper's lock, and the book's is free; the node hasn't changed.
+    /// The turn of this name has taken its mail, or as much of it as there was room for. It has its keeper's lock, and the
+    /// book's is free; the node hasn't changed.
     fn working(&self, name: Name);
 
     /// The turn of this name has what it needs for its step, its keeper's lock and not the book's; the node hasn't changed.

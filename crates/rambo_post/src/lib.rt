@@ -14,5 +14,5 @@ mod post;
 pub use gate::{Gate, NoGate};
 pub use post::Post;
 pub use rambo_book::{Actor, Book, Keeper, Terms, commit, may_commit};
-pub use rambo_pass::{Closed, Entry, Pass};
+pub use rambo_pass::{Closed, Entry, Left, Pass};
 pub use rambo_turn::{Turn, pick};

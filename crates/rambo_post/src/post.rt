@@ -312,9 +312,10 @@ impl<J: Terms<Q>, Q: Quorums, S: Replica> Post<J, Q, S> {
     /// The node of this name takes its mail, and does what it then picks. The book is free while the node picks, and makes the
     /// first half of that.
     ///
-    /// The gate is told when the mail was taken, when the first half is made, if there is something to do, and when both locks
-    /// are free again, whatever the turn answers. Refused is 23 where the book is full and there is something to do, 22 where
-    /// there is no room; the letters that it took stay in its tray.
+    /// The gate is told when the mail was taken, all of it or as much as there was room for; when the first half is made, if there
+    /// is something to do; and when both locks are free again. The first and the last it is told whatever the turn answers.
+    /// Refused is 23 where the book is full and there is something to do, 22 where there is no room; the letters that it took
+    /// stay in its tray.
     pub fn turn<R: Wait, G: Gate>(&self, rt: &R, name: Name, gate: &G) -> Result<Turn<Q>, Refusal> {
         let done = self.turn_held(rt, name, gate);
         gate.ended(name);
@@ -329,8 +330,9 @@ impl<J: Terms<Q>, Q: Quorums, S: Replica> Post<J, Q, S> {
         gate: &G,
     ) -> Result<Turn<Q>, Refusal> {
         let mut keeper = self.keeper_of(rt, name);
-        self.begin(rt, &mut keeper)?;
+        let begun = self.begin(rt, &mut keeper);
         gate.working(name);
+        begun?;
         let Ok(next) = ready_next(*self.keepers.allocator(), &mut keeper) else {
             return Err(self.book.lock(rt).no_room());
         };
@@ -376,12 +378,12 @@ impl<J: Terms<Q>, Q: Quorums, S: Replica> Post<J, Q, S> {
 
     /// All steps: none was refused in its turn, and what each client has seen begins them. And the one order of the calls in
     /// them, which is None where there is no room for it; nothing else here takes memory.
-    pub fn close(self, passes: Vec<Pass<J, Q>>) -> Closed<Q>
-        ensures legal { (f : Q) → J.founders ≡ Some f → IsLegal Q.system f result.steps.items }
-        ensures fits { length result.steps.items ≤ J.capacity }
-        ensures begins { All (λ p. IsPrefix p.seen result.steps.items) passes.items }
-        ensures order { IfSome result.order (λ o. (f : Q) → J.founders ≡ Some f → o.items ≡ given_order (run Q.system f result.steps.items)) }
-        ensures explained { IfSome result.order (λ o. (f : Q) → J.founders ≡ Some f → IsProperForAll (run Q.system f result.steps.items).history o.items) }
+    pub fn close(self, passes: Vec<Pass<J, Q>>) -> Closed<J, Q>
+        ensures legal { (f : Q) → J.founders ≡ Some f → IsLegal Q.system f result.steps }
+        ensures fits { length result.steps ≤ J.capacity }
+        ensures begins { All (λ p. IsPrefix p.seen result.steps) passes.items }
+        ensures order { IfSome result.order (λ o. (f : Q) → J.founders ≡ Some f → o ≡ given_order (run Q.system f result.steps)) }
+        ensures explained { IfSome result.order (λ o. (f : Q) → J.founders ≡ Some f → IsProperForAll (run Q.system f result.steps).history o) }
     {
         let Post {
             keepers: _keepers,

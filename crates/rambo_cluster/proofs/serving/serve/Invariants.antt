@@ -1,8 +1,8 @@
 use Rattle.std.proofs.Common.{Some}
 use Rattle.rambo_cluster.proofs.serving.serve.Given as goal
 
-abbrev pub ghosts-serve_as-J-Naming : goal.ghosts-serve_as-J-Naming
-ghosts-serve_as-J-Naming g a = record { table = a.opened }
+abbrev pub ghosts-serve_named-J-Naming : goal.ghosts-serve_named-J-Naming
+ghosts-serve_named-J-Naming g a = record { table = a.opened }
 
-abbrev pub ghosts-serve_as-J-Terms : goal.ghosts-serve_as-J-Terms
-ghosts-serve_as-J-Terms g a = record { founders = Some a.founders; capacity = a.steps }
+abbrev pub ghosts-serve_named-J-Terms : goal.ghosts-serve_named-J-Terms
+ghosts-serve_named-J-Terms g a = record { founders = Some a.founders; capacity = a.steps }

@@ -8,8 +8,8 @@ use Rattle.rambo_post.proofs.post.Post.turn_held.Goals as goal
 pub keeper_of-keeper-requires : goal.keeper_of-keeper-requires
 keeper_of-keeper-requires g c = let post = c.requires-raw.1.1.1.1.1.1 in (post, back_fits _ _ _ (up_fits _ _ _ (back_fits _ _ _ (up_fits _ _ _ (variant_fits _ _ _ _ (back_fits _ _ _ (up_fits _ _ _ post)))))))
 
-pub begin-requires : goal.begin-requires
-begin-requires g c = let post = c.requires-raw.1.1.1.1.1.1 in (post, back_fits _ _ _ (up_fits _ _ _ (back_fits _ _ _ (up_fits _ _ _ (variant_fits _ _ _ _ (back_fits _ _ _ (up_fits _ _ _ post)))))))
+pub begin-begun-requires : goal.begin-begun-requires
+begin-begun-requires g c = let post = c.requires-raw.1.1.1.1.1.1 in (post, back_fits _ _ _ (up_fits _ _ _ (back_fits _ _ _ (up_fits _ _ _ (variant_fits _ _ _ _ (back_fits _ _ _ (up_fits _ _ _ post)))))))
 
 pub ready_next-requires : goal.ready_next-requires
 ready_next-requires g c = let post = c.requires-raw.1.1.1.1.1.1 in back_fits _ _ _ (up_fits _ _ _ (back_fits _ _ _ (up_fits _ _ _ (variant_fits _ _ _ _ (back_fits _ _ _ (up_fits _ _ _ post))))))

@@ -1,0 +1,19 @@
+-- Which step a client asks for
+use Rattle.std.specs.Prelude.{ℕ, Option, None, Some}
+use Rattle.rambo_names.specs.Weights.{Weights}
+use Rattle.rambo_run.specs.declared.step.Step.{Step}
+use Rattle.rambo_run.specs.declared.step.Step.TheVariants as step
+use Rattle.rambo_commands.specs.declared.server_request.ServerRequest.{ServerRequest}
+use Rattle.rambo_commands.specs.declared.server_request.ServerRequest.TheVariants.{Common, Use, Join, Recon, Collect, Stop, Config, Shutdown}
+
+-- of whose node a step is that a request asks for, and the step: the client's own node has a configuration chosen, or its
+-- lowest place removed; who joins or stops is named
+abbrev pub asked_of : ℕ → ServerRequest → Option (ℕ × Step Weights)
+asked_of used (Join name known) = Some (name, step.Join name known)
+asked_of used (Recon wish) = Some (used, step.Recon used wish)
+asked_of used Collect = Some (used, step.Collect used)
+asked_of used (Stop name) = Some (name, step.Stop name)
+asked_of used (Common request) = None
+asked_of used (Use name) = None
+asked_of used Config = None
+asked_of used Shutdown = None
