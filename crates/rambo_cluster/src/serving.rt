@@ -95,6 +95,8 @@ where
     requires name { opened ≡ J.table }
     requires founders { J.founders ≡ Some founders }
     requires capacity { steps ≡ J.capacity }
+    requires lose { options.now.lose ≡ J.lose }
+    requires twice { options.now.twice ≡ J.twice }
     ensures legal { IfOk result (λ c. IsLegal weighted_majorities founders c.steps.items) }
     ensures fits { IfOk result (λ c. length c.steps.items ≤ steps) }
     ensures order { IfOk result (λ c. IfSome c.order (λ o. o.items ≡ given_order (run weighted_majorities founders c.steps.items))) }
@@ -121,6 +123,8 @@ fn set_up<J: Terms<Weighted>, R: Wait>(
     requires name { opened ≡ J.table }
     requires founders { J.founders ≡ Some founders }
     requires capacity { steps ≡ J.capacity }
+    requires lose { options.now.lose ≡ J.lose }
+    requires twice { options.now.twice ≡ J.twice }
     ensures first { IfOk result (λ s. slice_get (names (members_of founders)) 0 ≡ Some s.0.first) }
     ensures bells { IfOk result (λ s. vec_len s.0.bells ≡ options.now.clients) }
     ensures doors { IfOk result (λ s. s.0.doors ≡ options.now.clients) }
@@ -148,6 +152,8 @@ fn post_of<J: Terms<Weighted>>(
     requires name { opened ≡ J.table }
     requires founders { J.founders ≡ Some founders }
     requires capacity { steps ≡ J.capacity }
+    requires lose { options.now.lose ≡ J.lose }
+    requires twice { options.now.twice ≡ J.twice }
     ensures fault { IfErr result (λ f. f ≡ ServeFault.Memory) }
 {
     let copies = Copies::new(alloc, hasher);

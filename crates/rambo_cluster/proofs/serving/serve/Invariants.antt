@@ -5,4 +5,4 @@ abbrev pub ghosts-serve_as-J-Naming : goal.ghosts-serve_as-J-Naming
 ghosts-serve_as-J-Naming g a = record { table = a.opened }
 
 abbrev pub ghosts-serve_as-J-Terms : goal.ghosts-serve_as-J-Terms
-ghosts-serve_as-J-Terms g a = record { founders = Some a.founders; capacity = a.steps }
+ghosts-serve_as-J-Terms g a = record { founders = Some a.founders; capacity = a.steps; lose = a.options.now.lose; twice = a.options.now.twice }
