@@ -60,7 +60,7 @@ module _ {Q : Type 0} (s : QuorumSystem Q) (agreed : Option Q) (b : BookView Q) 
       → IfErr r (λ r. (f : Q) → agreed ≡ Some f → ((r ≡ OutOfMemory) × IsOne before.mine id × IsAnsweredLater s f before.seen id) ⊎ ((r ≡ NoSuchCall) × IsNone before.mine id))
   why_ungiven (Ok a) legal answered h = tt
   why_ungiven (Err r) legal answered h = λ f e. elim h [
-    | inl m ↦ inl (m.0, (m.1, subst (λ f. IsAnsweredLater s f before.seen id) (some_inj b.founders f (sym founded ∙ e)) (answered_later legal (answered m.0))))
+    | inl m ↦ inl (m.0, m.1, subst (λ f. IsAnsweredLater s f before.seen id) (some_inj b.founders f (sym founded ∙ e)) (answered_later legal (answered m.0)))
     | inr n ↦ inr n
   ]
 
