@@ -73,7 +73,7 @@ book_same {s = s} {f = f} {steps = steps} {capacity = capacity} rolled' steps' l
 
 module _ {Q : Type 0} {s : QuorumSystem Q} {agreed : Option Q} {most : ℕ} {rolled : List (Step Q)} {f : Q} {steps : List (Step Q)} {letters : List (Letter Q)} {history : List Event} {marks : List Mark} {capacity : ℕ}
     {holds name : ℕ} {node : FullNode Q} {tray : List (Mail Q)} {seen : List (Step Q)}
-    (b : IsBook s agreed most rolled f steps letters history marks capacity) (k : IsKeeper s agreed holds name node tray seen) (idle : Idle actor holds seen rolled)
+    (b : IsBook s agreed most rolled f steps letters history marks capacity) (k : IsKeeper s agreed most holds name node tray seen) (idle : Idle actor holds seen rolled)
     (st : Step Q) (served : IsServedBy (run s f steps) st name) where
   judged_here : Judged s f steps st name node.state letters
   judged_here = judged_by s agreed most rolled f steps letters history marks capacity holds name node tray seen b k idle st served
@@ -102,7 +102,7 @@ module _ {Q : Type 0} {s : QuorumSystem Q} {agreed : Option Q} {most : ℕ} {rol
 
 module _ {Q : Type 0} {s : QuorumSystem Q} {agreed : Option Q} {most : ℕ} {rolled : List (Step Q)} {f : Q} {steps : List (Step Q)} {letters : List (Letter Q)} {history : List Event} {marks : List Mark} {capacity : ℕ}
     {holds name : ℕ} {node : FullNode Q} {tray : List (Mail Q)} {seen : List (Step Q)}
-    (b : IsBook s agreed most rolled f steps letters history marks capacity) (k : IsKeeper s agreed holds name node tray seen) (idle : Idle actor holds seen rolled)
+    (b : IsBook s agreed most rolled f steps letters history marks capacity) (k : IsKeeper s agreed most holds name node tray seen) (idle : Idle actor holds seen rolled)
     (st : Step Q) where
   module _ (room : Room Q) (held : List (Mail Q)) (looked : List (Step Q)) (half : Half Q) where
     -- the keeper's node, with this room in it
@@ -154,10 +154,11 @@ module _ {Q : Type 0} {s : QuorumSystem Q} {agreed : Option Q} {most : ℕ} {rol
         } in
         book_same rolled' steps' letters' history' marks' more r e l v m
 
-    pub keeper_after : (held : ℕ) (longer : List (Step Q)) → held ≡ holds → longer ≡ steps ++ st ∷ [] → IsKeeper s agreed held name new tray longer
-    keeper_after held longer same e =
+    pub keeper_after : (held : ℕ) (longer : List (Step Q)) → length steps < capacity → held ≡ holds → longer ≡ steps ++ st ∷ [] → IsKeeper s agreed most held name new tray longer
+    keeper_after held longer less same e =
         let p : IsPrefix seen (steps ++ st ∷ []) = prefix_trans seen steps (steps ++ st ∷ []) (begun s agreed most rolled f steps letters history marks capacity holds name node tray seen b k idle) (st ∷ [], refl) in
-        subst (IsKeeper s agreed held name new tray) (sym e) (kept_on s agreed f holds held name node new tray seen (steps ++ st ∷ []) b.founded k same p h.node h.full)
+        let fits : length (steps ++ st ∷ []) ≤ most = omega (arith, less, b.terms, length-append steps (st ∷ [])) in
+        subst (IsKeeper s agreed most held name new tray) (sym e) (kept_on s agreed most f holds held name node new tray seen (steps ++ st ∷ []) b.founded k same p h.legal fits h.node h.full)
 
 -- the letters that are kept are as many as were sent
 pub counted_light : {Q : Type 0} {s : QuorumSystem Q} {f : Q} {steps : List (Step Q)} {st : Step Q} {name : ℕ} {letters : List (Letter Q)} {history : List Event} {marks : List Mark} {new : FullNode Q} {d : Done Q}

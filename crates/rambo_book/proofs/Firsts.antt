@@ -8,7 +8,7 @@ use Rattle.rambo_node.specs.FullNodes.{FullNode, first_full}
 use Rattle.rambo_node.specs.Nodes.{NodeState, first_node}
 use Rattle.rambo_run.specs.declared.step.Step.{Step}
 use Rattle.rambo_run.specs.Worlds.{WorldState, node_at, first_world}
-use Rattle.rambo_run.specs.Steps.{meant_in}
+use Rattle.rambo_run.specs.Steps.{Meant, meant, meant_in}
 use Rattle.rambo_run.specs.Journals.{journal, journal_from}
 use Rattle.rambo_run.specs.Runs.{run}
 use Rattle.rambo_run.proofs.FirstWorlds.{first_named}
@@ -55,10 +55,12 @@ none_full : {Q : Type 0} (s : QuorumSystem Q) (f : Q) (n : ℕ) → full_at s f 
 unfolding full_at journal journal_from
 none_full s f n = refl
 
-pub first_keeper : {Q : Type 0} (s : QuorumSystem Q) (agreed : Option Q) (f : Q) (holds name : ℕ) (node : FullNode Q) (tray : List (Mail Q)) (seen : List (Step Q))
-    → agreed ≡ Some f → IsName name → holds ≡ name → node ≡ first_full s f name → tray ≡ [] → seen ≡ [] → IsKeeper s agreed holds name node tray seen
-first_keeper s agreed f holds name node tray seen founded is same first empty none = record {
+pub first_keeper : {Q : Type 0} (s : QuorumSystem Q) (agreed : Option Q) (most : ℕ) (f : Q) (holds name : ℕ) (node : FullNode Q) (tray : List (Mail Q)) (seen : List (Step Q))
+    → agreed ≡ Some f → IsName name → holds ≡ name → node ≡ first_full s f name → tray ≡ [] → seen ≡ [] → IsKeeper s agreed most holds name node tray seen
+first_keeper s agreed most f holds name node tray seen founded is same first empty none = record {
   named = same;
+  legal = λ g e. subst (IsLegal s g) (sym none) (legal_none s g);
+  fits = omega (arith, ap length none);
   replays = λ g e.
       let fg = some_inj f g (sym founded ∙ e) in
       ap (λ l. node_at (run s g l) name) none ∙ ap (λ w. node_at w name) (run_none s g) ∙ first_named s g name is ∙ ap Some (ap (λ g. first_node s g name) (sym fg) ∙ sym (ap (λ (v : FullNode _). v.state) first));
@@ -71,6 +73,25 @@ serving w ls st own name sent is same m e = some_inj m.name name (sym (ap Some (
 
 pub unserved : {Q : Type 0} (w : WorldState Q) (ls : List (Letter Q)) (st : Step Q) (name : ℕ) → AreSent w ls → None ≡ name_in (meant_in ls st) → IsServedBy w st name
 unserved w ls st name sent is m e = absurd (none-some m.name (is ∙ same_name w ls st sent ∙ ap name_in e))
+
+-- what has a name means it
+means_one : {Q : Type 0} (o : Option (Meant Q)) (n : ℕ) → Some n ≡ name_in o → (m : Meant Q) × ((o ≡ Some m) × (m.name ≡ n))
+means_one None n e = absurd (none-some n (sym e))
+means_one (Some m) n e = (m, (refl, some_inj m.name n (sym e)))
+
+-- and the other way round, the name that serves it is that of the node which the letters tell
+pub served_own : {Q : Type 0} (w : WorldState Q) (ls : List (Letter Q)) (st : Step Q) (own name : ℕ) → AreSent w ls → Some own ≡ name_in (meant_in ls st) → IsServedBy w st name → own ≡ name
+served_own w ls st own name sent is served =
+    let one = means_one (meant w st) own (is ∙ same_name w ls st sent) in
+    sym one.1.1 ∙ served one.0 one.1.0
+
+-- a step without a name means none
+pub unnamed : {Q : Type 0} (w : WorldState Q) (ls : List (Letter Q)) (st : Step Q) (m : Meant Q) → AreSent w ls → None ≡ name_in (meant_in ls st) → meant w st ≡ Some m → ⊥
+unnamed w ls st m sent is e = none-some m.name (is ∙ same_name w ls st sent ∙ ap name_in e)
+
+-- a step that means none has no name
+pub none_named : {Q A : Type 0} (w : WorldState Q) (ls : List (Letter Q)) (st : Step Q) (own : ℕ) → AreSent w ls → Some own ≡ name_in (meant_in ls st) → meant w st ≡ None → A
+none_named w ls st own sent is none = absurd (none-some own (sym (is ∙ same_name w ls st sent ∙ ap name_in none)))
 
 -- who has a node in a run has a name
 pub is_named : {Q : Type 0} (w : WorldState Q) (n : ℕ) (x : NodeState Q) → length w.nodes ≡ 64 → node_at w n ≡ Some x → IsName n

@@ -1,5 +1,5 @@
 -- What a keeper's node says of a step is what the run of the book says
-use Rattle.std.proofs.Common.{◌≡◌, ℕ, List, [], ◌∷◌, ◌++◌, Option, None, Some, is_some, slice_set, ◌-◌, refl, sym, ap, ◌∙◌, subst}
+use Rattle.std.proofs.Common.{◌≡◌, ℕ, List, [], ◌∷◌, ◌++◌, length, ◌≤◌, Option, None, Some, is_some, slice_set, ◌-◌, refl, sym, ap, ◌∙◌, subst}
 use Rattle.std.proofs.lemmas.Bool.{true≢false}
 use mathlib.Core.List.{IsPrefix}
 use Rattle.rambo_names.specs.Quorums.{QuorumSystem}
@@ -57,7 +57,7 @@ pub record Judged {Q : Type 0} (s : QuorumSystem Q) (f : Q) (steps : List (Step 
 
 module _ {Q : Type 0} (s : QuorumSystem Q) (agreed : Option Q) (most : ℕ) (rolled : List (Step Q)) (f : Q) (steps : List (Step Q)) (letters : List (Letter Q)) (history : List Event) (marks : List Mark) (capacity : ℕ)
     (holds name : ℕ) (node : FullNode Q) (tray : List (Mail Q)) (seen : List (Step Q))
-    (b : IsBook s agreed most rolled f steps letters history marks capacity) (k : IsKeeper s agreed holds name node tray seen) (idle : Idle actor holds seen rolled) where
+    (b : IsBook s agreed most rolled f steps letters history marks capacity) (k : IsKeeper s agreed most holds name node tray seen) (idle : Idle actor holds seen rolled) where
   legal_rolled : IsLegal s f rolled
   legal_rolled = subst (IsLegal s f) (sym b.all) b.legal
 
@@ -178,10 +178,12 @@ module _ {Q : Type 0} (s : QuorumSystem Q) (f : Q) (steps : List (Step Q)) (st :
       }
 
 -- a keeper that has seen more, whose node is that of what it has seen
-pub kept_on : {Q : Type 0} (s : QuorumSystem Q) (agreed : Option Q) (f : Q) (holds held name : ℕ) (node new : FullNode Q) (tray : List (Mail Q)) (seen longer : List (Step Q))
-    → agreed ≡ Some f → IsKeeper s agreed holds name node tray seen → held ≡ holds → IsPrefix seen longer → node_at (run s f longer) name ≡ Some new.state → full_at s f longer name ≡ new → IsKeeper s agreed held name new tray longer
-kept_on s agreed f holds held name node new tray seen longer founded k same p there whole = record {
+pub kept_on : {Q : Type 0} (s : QuorumSystem Q) (agreed : Option Q) (most : ℕ) (f : Q) (holds held name : ℕ) (node new : FullNode Q) (tray : List (Mail Q)) (seen longer : List (Step Q))
+    → agreed ≡ Some f → IsKeeper s agreed most holds name node tray seen → held ≡ holds → IsPrefix seen longer → IsLegal s f longer → length longer ≤ most → node_at (run s f longer) name ≡ Some new.state → full_at s f longer name ≡ new → IsKeeper s agreed most held name new tray longer
+kept_on s agreed most f holds held name node new tray seen longer founded k same p legal fits there whole = record {
   named = same ∙ k.named;
+  legal = λ g e. subst (λ g. IsLegal s g longer) (some_inj f g (sym founded ∙ e)) legal;
+  fits = fits;
   replays = λ g e. subst (λ g. node_at (run s g longer) name ≡ Some new.state) (some_inj f g (sym founded ∙ e)) there;
   full = λ g e. subst (λ g. full_at s g longer name ≡ new) (some_inj f g (sym founded ∙ e)) whole;
   mail = λ g e. mail_longer s g seen longer p name tray (k.mail g e);

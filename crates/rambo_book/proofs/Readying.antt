@@ -284,15 +284,15 @@ ready_longer s f steps k r legal idle h =
     }
 
 -- a keeper whose node has more room
-pub keeper_roomy : {Q : Type 0} {s : QuorumSystem Q} {agreed : Option Q} {holds held name : ℕ} {node x : FullNode Q} {tray : List (Mail Q)} {seen looked : List (Step Q)}
-    → IsKeeper s agreed holds name node tray seen → held ≡ holds → looked ≡ seen → x ≡ node → IsKeeper s agreed held name x tray looked
-keeper_roomy {s = s} {agreed = agreed} {held = held} {name = name} {node = node} {x = x} {tray = tray} {seen = seen} k h l e =
-    subst (λ looked. IsKeeper s agreed held name x tray looked) (sym l)
-    (subst (λ x. IsKeeper s agreed held name x tray seen) (sym e)
-    (subst (λ held. IsKeeper s agreed held name node tray seen) (sym h) k))
+pub keeper_roomy : {Q : Type 0} {s : QuorumSystem Q} {agreed : Option Q} {most holds held name : ℕ} {node x : FullNode Q} {tray : List (Mail Q)} {seen looked : List (Step Q)}
+    → IsKeeper s agreed most holds name node tray seen → held ≡ holds → looked ≡ seen → x ≡ node → IsKeeper s agreed most held name x tray looked
+keeper_roomy {s = s} {agreed = agreed} {most = most} {held = held} {name = name} {node = node} {x = x} {tray = tray} {seen = seen} k h l e =
+    subst (λ looked. IsKeeper s agreed most held name x tray looked) (sym l)
+    (subst (λ x. IsKeeper s agreed most held name x tray seen) (sym e)
+    (subst (λ held. IsKeeper s agreed most held name node tray seen) (sym h) k))
 
 -- what a keeper makes ready by its tray is ready
-module _ {Q : Type 0} {s : QuorumSystem Q} {agreed : Option Q} {holds name : ℕ} {node : FullNode Q} {tray : List (Mail Q)} {seen : List (Step Q)} (k : IsKeeper s agreed holds name node tray seen) (st : Step Q)
+module _ {Q : Type 0} {s : QuorumSystem Q} {agreed : Option Q} {most holds name : ℕ} {node : FullNode Q} {tray : List (Mail Q)} {seen : List (Step Q)} (k : IsKeeper s agreed most holds name node tray seen) (st : Step Q)
     (own : (f : Q) → agreed ≡ Some f → (m : Meant Q) → meant_in [] st ≡ Some m → m.name ≡ name) (there : (n : ℕ) → st ≡ step.Deliver n → IsIn tray n) where
   pub tray_judged : (o : Option (Letter Q)) → o ≡ came_in tray st → (f : Q) → agreed ≡ Some f → refusal s (run s f seen) st ≡ judged s node.state (meant_by o st)
   tray_judged o is f e = tray_verdict s (run s f seen) name node.state tray (k.replays f e) (k.mail f e) st (own f e) there ∙ ap (λ o. judged s node.state (meant_by o st)) (sym is)

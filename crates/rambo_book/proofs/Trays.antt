@@ -17,11 +17,13 @@ use Rattle.rambo_book.proofs.Standing.{letters_paired, goes_alike}
 
 pub tray_more : {Q : Type 0} {s : QuorumSystem Q} {agreed : Option Q} {most : ℕ} {rolled : List (Step Q)} {f : Q} {steps : List (Step Q)} {letters : List (Letter Q)} {history : List Event} {marks : List Mark} {capacity : ℕ}
     {holds name : ℕ} {node : FullNode Q} {tray : List (Mail Q)} {seen : List (Step Q)}
-    → IsBook s agreed most rolled f steps letters history marks capacity → IsKeeper s agreed holds name node tray seen → seen ≡ steps
+    → IsBook s agreed most rolled f steps letters history marks capacity → IsKeeper s agreed most holds name node tray seen → seen ≡ steps
     → (number : ℕ) (l : Letter Q) (longer : List (Mail Q)) → letter_at letters number ≡ Some l → l.addressee ≡ name → longer ≡ tray ++ record { number = number; letter = l } ∷ []
-    → IsKeeper s agreed holds name node longer seen
+    → IsKeeper s agreed most holds name node longer seen
 tray_more {s = s} {f = f} {steps = steps} {letters = letters} {name = name} {tray = tray} {seen = seen} b k same number l longer there own e = record {
   named = k.named;
+  legal = k.legal;
+  fits = k.fits;
   replays = k.replays;
   full = k.full;
   mail = λ g is.

@@ -69,10 +69,12 @@ lightened letters (Some number) = lightened_at letters number (letter_at letters
 abbrev pub IsMailOf : {Q : Type 0} → WorldState Q → ℕ → Mail Q → Type 0
 IsMailOf {Q} w name m = (whole : Letter Q) × (letter_at w.letters m.number ≡ Some whole) × StandsFor w m.letter whole × (whole.addressee ≡ name)
 
--- the node of a keeper, with what it keeps beside, is that of the run of what it has seen, and its letters were sent to it
--- there
-pub record IsKeeper {Q : Type 0} (s : QuorumSystem Q) (agreed : Option Q) (holds name : ℕ) (node : FullNode Q) (tray : List (Mail Q)) (seen : List (Step Q)) : Type 0 where
+-- what a keeper has seen is legal, and at most as many steps as are agreed; its node, with what it keeps beside, is that of
+-- their run, and its letters were sent to it there
+pub record IsKeeper {Q : Type 0} (s : QuorumSystem Q) (agreed : Option Q) (most : ℕ) (holds name : ℕ) (node : FullNode Q) (tray : List (Mail Q)) (seen : List (Step Q)) : Type 0 where
   pub named : holds ≡ name
+  pub legal : (f : Q) → agreed ≡ Some f → IsLegal s f seen
+  pub fits : length seen ≤ most
   pub replays : (f : Q) → agreed ≡ Some f → node_at (run s f seen) name ≡ Some node.state
   pub full : (f : Q) → agreed ≡ Some f → full_at s f seen name ≡ node
   pub mail : (f : Q) → agreed ≡ Some f → All (IsMailOf (run s f seen) name) tray

@@ -1,11 +1,12 @@
 //! The list of all steps, with the letters, the history and the marks that they gave.
-ghost use Rattle.std.specs.Prelude.{◌≡◌, ◌<◌, ◌≤◌, [], length, None, Some, true};
+ghost use Rattle.std.specs.Prelude.{◌≡◌, ◌-◌, ◌<◌, ◌≤◌, [], length, None, Some, true};
 ghost use Rattle.std.specs.Option.{option_copied};
 ghost use Rattle.rambo_history.specs.Histories.{answer_in};
 ghost use Rattle.rambo_book.specs.Kept.{AreSent, IsServedBy, Told, state};
 ghost use Rattle.rambo_roll.specs.Rolls.{Idle};
 ghost use Rattle.rambo_run.specs.Actors.{actor};
 ghost use Rattle.rambo_run.specs.Runs.{run};
+ghost use Rattle.rambo_run.specs.Steps.{Meant, meant};
 ghost use Rattle.rambo_run.specs.Worlds.{node_at};
 ghost use Rattle.rambo_run.specs.Legal.{IsLegal};
 
@@ -36,6 +37,7 @@ pub struct Book<J: Terms<Q>, Q: Quorums> {
 }
 
 impl<J: Terms<Q>, Q: Quorums> Model for Book<J, Q> {
+    ghost use Rattle.std.specs.Prelude.{◌≡◌};
     ghost use Rattle.std.specs.Coded.{codes};
     ghost use Rattle.rambo_names.specs.Names.{names_code};
     ghost use Rattle.rambo_book.specs.Kept.{BookView, IsBook};
@@ -46,7 +48,7 @@ impl<J: Terms<Q>, Q: Quorums> Model for Book<J, Q> {
 
     ghost view = { λ b. record { founders = b.founders; steps = b.steps.items; capacity = b.capacity; waiting = b.mails.waiting; lose = b.mails.lose; twice = b.mails.twice } };
 
-    ghost invariant = { λ b. IsBook Q.system J.founders J.capacity b.roll.1 b.founders b.steps.items b.letters.items b.history.events b.marks.items b.capacity };
+    ghost invariant = { λ b. IsBook Q.system J.founders J.capacity b.roll.1 b.founders b.steps.items b.letters.items b.history.events b.marks.items b.capacity × (b.mails.lose ≡ J.lose) × (b.mails.twice ≡ J.twice) };
 }
 
 impl<J: Terms<Q>, Q: Quorums> Book<J, Q> {
@@ -61,6 +63,8 @@ impl<J: Terms<Q>, Q: Quorums> Book<J, Q> {
         requires roll { roll.1 ≡ [] }
         requires founders { J.founders ≡ Some founders }
         requires capacity { capacity ≡ J.capacity }
+        requires lose { mails.lose ≡ J.lose }
+        requires twice { mails.twice ≡ J.twice }
         ensures { result ≡ record { founders = founders; steps = []; capacity = capacity; waiting = mails.waiting; lose = mails.lose; twice = mails.twice } }
     {
         Book {
@@ -75,9 +79,11 @@ impl<J: Terms<Q>, Q: Quorums> Book<J, Q> {
         }
     }
 
-    /// Of whose keeper a step is, by its place among the 64: any one for a letter that was never sent.
+    /// Of whose keeper a step is, by its place among the 64: the first for a letter that was never sent.
     pub fn place_of(&self, step: &Step<Q>) -> usize
-        ensures { result < 64 }
+        ensures within { result < 64 }
+        ensures own { (m : Meant Q) → meant (state Q.system self.now) step.now ≡ Some m → result ≡ m.name - 1 }
+        ensures other { meant (state Q.system self.now) step.now ≡ None → result ≡ 0 }
     {
         match named_by(self.letters.as_slice(), step) {
             Some(name) => name.number() as usize - 1,
@@ -87,7 +93,8 @@ impl<J: Terms<Q>, Q: Quorums> Book<J, Q> {
 
     /// Whether a step is of the node of this name, or of none.
     pub fn serves(&self, step: &Step<Q>, name: Name) -> bool
-        ensures { result ≡ true → IsServedBy (state Q.system self.now) step.now name }
+        ensures served { result ≡ true → IsServedBy (state Q.system self.now) step.now name }
+        ensures unserved { IsServedBy (state Q.system self.now) step.now name → result ≡ true }
     {
         match named_by(self.letters.as_slice(), step) {
             Some(own) => own == name,
@@ -99,6 +106,8 @@ impl<J: Terms<Q>, Q: Quorums> Book<J, Q> {
     pub fn facts(&self)
         ensures founders { J.founders ≡ Some self.now.founders }
         ensures capacity { self.now.capacity ≡ J.capacity }
+        ensures lose { self.now.lose ≡ J.lose }
+        ensures twice { self.now.twice ≡ J.twice }
         ensures fits { length self.now.steps ≤ self.now.capacity }
         ensures legal { IsLegal Q.system self.now.founders self.now.steps }
     {
@@ -139,7 +148,10 @@ impl<J: Terms<Q>, Q: Quorums> Book<J, Q> {
 
     /// What is told where there is no room for a step: that the book is full where it is, else want of memory.
     pub fn no_room(&self) -> Refusal
-        ensures { Told None (length self.now.steps) self.now.capacity result }
+        ensures told { Told None (length self.now.steps) self.now.capacity result }
+        ensures founders { J.founders ≡ Some self.now.founders }
+        ensures capacity { self.now.capacity ≡ J.capacity }
+        ensures legal { IsLegal Q.system self.now.founders self.now.steps }
     {
         if self.steps.len() >= self.capacity {
             Refusal::HistoryFull

@@ -1,6 +1,7 @@
 //! A step goes into the book, and its node takes it.
 ghost use Rattle.std.specs.Prelude.{◌≡◌, ◌≢◌, ◌<◌, ℕ, ◌++◌, ◌∷◌, [], None, Some, length, option_to_list, OnOk, OnErr, IfOk, IfErr};
 ghost use Rattle.std.specs.Vec.{vec_len, vec_capacity};
+ghost use mathlib.Core.List.{IsPrefix};
 ghost use Rattle.rambo_names.specs.Refusals.{IsRefusal};
 ghost use Rattle.rambo_run.specs.Actors.{sent_by};
 ghost use Rattle.rambo_run.specs.Runs.{run};
@@ -88,7 +89,9 @@ pub fn commit_ready<J: Terms<Q>, Q: Quorums, S: Replica>(
     ready: Ready<Q>,
 ) -> Result<Effect<Q>, Refusal>
     requires { IsReadyFor Q.system J.founders keeper.old ready }
+    ensures between { IsPrefix keeper.old.seen book.old.steps }
     ensures legal { refusal Q.system (state Q.system book.old) ready.step ≡ None }
+    ensures room { OnOk result (length book.old.steps < book.old.capacity) }
     ensures effect { IfOk result (λ e. e ≡ (turn (state Q.system book.old) ready.step).effect) }
     ensures book { OnOk result (book.new ≡ record book.old { steps = book.old.steps ++ ready.step ∷ []; waiting = book.new.waiting }) }
     ensures waiting { OnOk result (book.new.waiting ≡ waiting_after book.old (sent_by ready.step) (length (state Q.system book.new).letters)) }
@@ -141,6 +144,7 @@ fn enter<J: Terms<Q>, Q: Quorums, S: Replica>(
     ready: Ready<Q>,
 ) -> Result<Effect<Q>, Refusal>
     requires { IsReadyIn Q.system (state Q.system book.old) keeper.old ready }
+    ensures room { OnOk result (length book.old.steps < book.old.capacity) }
     ensures effect { IfOk result (λ e. e ≡ (turn (state Q.system book.old) ready.step).effect) }
     ensures book { OnOk result (book.new ≡ record book.old { steps = book.old.steps ++ ready.step ∷ []; waiting = book.new.waiting }) }
     ensures waiting { OnOk result (book.new.waiting ≡ waiting_after book.old (sent_by ready.step) (length (state Q.system book.new).letters)) }

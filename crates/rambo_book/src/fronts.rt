@@ -40,6 +40,7 @@ impl<J: Terms<Q>, Q: Quorums> Book<J, Q> {
         ensures seen { seen.new ≡ seen.old }
         ensures begins { IsPrefix seen.old self.old.steps }
         ensures count { result ≡ length self.old.steps }
+        ensures legal { IsLegal Q.system self.old.founders self.old.steps }
         ensures founders { J.founders ≡ Some self.old.founders }
         ensures capacity { self.old.capacity ≡ J.capacity }
     {

@@ -1,11 +1,13 @@
 //! One node with its mail, and what it has seen.
-ghost use Rattle.std.specs.Prelude.{◌≡◌, [], Some, All};
+ghost use Rattle.std.specs.Prelude.{◌≡◌, ◌≤◌, [], Some, length, All};
 ghost use Rattle.std.specs.FinMap as map;
 ghost use Rattle.rambo_names.specs.Names.{IsName};
 ghost use Rattle.rambo_joiner.specs.Statuses.{is_stopped};
 ghost use Rattle.rambo_node.specs.Changes.{replayed};
+ghost use Rattle.rambo_node.specs.FullNodes.{first_beside};
 ghost use Rattle.rambo_node.specs.Nodes.{first_node};
 ghost use Rattle.rambo_run.specs.Journals.{journal};
+ghost use Rattle.rambo_run.specs.Legal.{IsLegal};
 ghost use Rattle.rambo_run.specs.Runs.{run};
 ghost use Rattle.rambo_run.specs.Worlds.{node_at};
 ghost use Rattle.rambo_book.specs.Kept.{AreBasesOf, AreStampsOf, IsMailOf};
@@ -63,7 +65,7 @@ impl<J: Terms<Q>, Q: Quorums, S: Replica> Model for Keeper<J, Q, S> {
 
     ghost view = { λ k. record { name = k.name; node = k.worker.state; room = k.worker.room; beside = k.worker.beside; tray = k.tray.items; seen = k.holder.1 } };
 
-    ghost invariant = { λ k. IsKeeper Q.system J.founders k.holder.0 k.name (record { state = k.worker.state; stamps = k.worker.beside.stamps; bases = k.worker.beside.bases }) k.tray.items k.holder.1 };
+    ghost invariant = { λ k. IsKeeper Q.system J.founders J.capacity k.holder.0 k.name (record { state = k.worker.state; stamps = k.worker.beside.stamps; bases = k.worker.beside.bases }) k.tray.items k.holder.1 };
 }
 
 impl<J: Terms<Q>, Q: Quorums, S: Replica> Keeper<J, Q, S> {
@@ -80,6 +82,7 @@ impl<J: Terms<Q>, Q: Quorums, S: Replica> Keeper<J, Q, S> {
         requires stamps { S.stamps registers ≡ map.empty }
         requires holder { holder ≡ (name, []) }
         requires founders { J.founders ≡ Some founders }
+        ensures { result ≡ record { name = name; node = first_node Q.system founders name; room = result.room; beside = first_beside; tray = []; seen = [] } }
     {
         Keeper {
             worker: Worker::new(Node::new(alloc, name, founders, registers)),
@@ -89,11 +92,13 @@ impl<J: Terms<Q>, Q: Quorums, S: Replica> Keeper<J, Q, S> {
         }
     }
 
-    /// What holds of every keeper, whatever happened before: its node is that of the run of what it has seen, which is the
-    /// replay of its own changes in that run; each letter of its tray stands for one that was sent to it there; each stamp is
-    /// the node's phase number before the step that last changed the copy; and each base is the greatest heard number that
-    /// letters of that name carried to it.
+    /// What holds of every keeper, whatever happened before: what it has seen is legal, and at most as many steps as its post
+    /// takes; its node is that of the run of what it has seen, which is the replay of its own changes in that run; each letter
+    /// of its tray stands for one that was sent to it there; each stamp is the node's phase number before the step that last
+    /// changed the copy; and each base is the greatest heard number that letters of that name carried to it.
     pub fn facts(&self)
+        ensures legal { (f : Q) → J.founders ≡ Some f → IsLegal Q.system f self.now.seen }
+        ensures fits { length self.now.seen ≤ J.capacity }
         ensures node { (f : Q) → J.founders ≡ Some f → node_at (run Q.system f self.now.seen) self.now.name ≡ Some self.now.node }
         ensures replay { (f : Q) → J.founders ≡ Some f → self.now.node ≡ replayed (first_node Q.system f self.now.name) (journal Q.system f self.now.name self.now.seen) }
         ensures stamps { (f : Q) → J.founders ≡ Some f → AreStampsOf Q.system f self.now }

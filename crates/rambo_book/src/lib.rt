@@ -4,7 +4,7 @@
 //! - `commit`: a step goes into the book, and its node takes it; `may_commit`: why not.
 //! - `ready` and `commit_ready`: the same in two halves, of which the first needs no book.
 //! - `see_all`, `take_mail`, `take_letter`: what a keeper takes from the book.
-//! - `Terms`: of which founders a post is, and how many steps it takes.
+//! - `Terms`: of which founders a post is, how many steps it takes, and which letters are lost or come twice.
 #![tactic(auto)]
 
 mod book;

@@ -1,12 +1,9 @@
 //! What a client has the nodes do.
-ghost use Rattle.std.specs.Prelude.{◌≡◌, ◌⊎◌, [], Some, length, OnOk, OnErr, IfErr};
+ghost use Rattle.std.specs.Prelude.{◌≡◌, [], Some, OnOk, OnErr, IfErr};
 ghost use mathlib.Core.List.{IsPrefix};
 ghost use Rattle.rambo_names.specs.Weights.{Weights, weighted_majorities};
 ghost use Rattle.rambo_node.specs.declared.effect.Effect.{Effect};
-ghost use Rattle.rambo_run.specs.Steps.{refusal};
-ghost use Rattle.rambo_run.specs.Runs.{run};
-ghost use Rattle.rambo_book.specs.Kept.{Told};
-ghost use Rattle.rambo_pass.specs.Passes.{Acted};
+ghost use Rattle.rambo_pass.specs.Passes.{Acted, WhyUndone};
 
 use crate::hub::Hub;
 use crate::visits::names_in;
@@ -159,7 +156,7 @@ impl<J: Terms<Weighted>> Hub<J> {
         ensures acted { OnOk result ((f : Weights) → J.founders ≡ Some f → (e : Effect Weights) × Acted weighted_majorities f pass.old pass.new step e) }
         ensures begins { IsPrefix pass.old.seen pass.new.seen }
         ensures err { OnErr result (pass.new.mine ≡ pass.old.mine) }
-        ensures cause { IfErr result (λ r. (f : Weights) → J.founders ≡ Some f → (r ≡ Refusal.OutOfMemory) ⊎ Told (refusal weighted_majorities (run weighted_majorities f pass.new.seen) step) (length pass.new.seen) J.capacity r) }
+        ensures cause { IfErr result (λ r. (f : Weights) → J.founders ≡ Some f → WhyUndone weighted_majorities f J.capacity pass.old pass.new step r) }
     {
         let _effect = self.post.act(rt, pass, step)?;
         self.rooms.of(name).desk.lock(rt).remind();

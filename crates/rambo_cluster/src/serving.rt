@@ -96,6 +96,8 @@ where
     requires name { opened ≡ J.table }
     requires founders { J.founders ≡ Some founders }
     requires capacity { steps ≡ J.capacity }
+    requires lose { options.now.lose ≡ J.lose }
+    requires twice { options.now.twice ≡ J.twice }
     ensures legal { IfOk result (λ l. IsLegal weighted_majorities founders l.steps) }
     ensures fits { IfOk result (λ l. length l.steps ≤ steps) }
     ensures order { IfOk result (λ l. IfSome l.order (λ o. o ≡ given_order (run weighted_majorities founders l.steps))) }
@@ -139,6 +141,8 @@ where
     requires name { opened ≡ J.table }
     requires founders { J.founders ≡ Some founders }
     requires capacity { steps ≡ J.capacity }
+    requires lose { options.now.lose ≡ J.lose }
+    requires twice { options.now.twice ≡ J.twice }
 {
     let own = listener.local_addr()?;
     let hasher = RandomState::new(rt)?;
@@ -161,6 +165,8 @@ fn set_up<J: Terms<Weighted>, R: Wait>(
     requires name { opened ≡ J.table }
     requires founders { J.founders ≡ Some founders }
     requires capacity { steps ≡ J.capacity }
+    requires lose { options.now.lose ≡ J.lose }
+    requires twice { options.now.twice ≡ J.twice }
     ensures first { IfOk result (λ s. slice_get (names (members_of founders)) 0 ≡ Some s.0.first) }
     ensures bells { IfOk result (λ s. vec_len s.0.bells ≡ options.now.clients) }
     ensures doors { IfOk result (λ s. s.0.doors ≡ options.now.clients) }
@@ -188,6 +194,8 @@ fn post_of<J: Terms<Weighted>>(
     requires name { opened ≡ J.table }
     requires founders { J.founders ≡ Some founders }
     requires capacity { steps ≡ J.capacity }
+    requires lose { options.now.lose ≡ J.lose }
+    requires twice { options.now.twice ≡ J.twice }
     ensures fault { IfErr result (λ f. f ≡ ServeFault.Memory) }
 {
     let copies = Copies::new(alloc, hasher);

@@ -1,19 +1,25 @@
 -- What a client learns of its step
-use Rattle.std.proofs.Common.{◌≡◌, ◌⊎◌, inl, inr, ⊎_elim, ℕ, List, [], ◌∷◌, ◌++◌, length, Option, None, Some, Result, Ok, Err, OnOk, IfOk, IfErr, sym, ap, ◌∙◌, subst}
+use Rattle.std.proofs.Common.{◌≡◌, ◌≢◌, ◌<◌, ◌⊎◌, inl, inr, ⊎_elim, ℕ, List, [], ◌∷◌, ◌++◌, length, Option, None, Some, Result, Ok, Err, OnOk, IfOk, IfErr, refl, sym, ap, ◌∙◌, subst, arith}
 use mathlib.Core.List.{IsPrefix}
 use Rattle.rambo_names.specs.declared.refusal.Refusal.{Refusal}
-use Rattle.rambo_names.specs.declared.refusal.Refusal.TheVariants.{OutOfMemory}
+use Rattle.rambo_names.specs.declared.refusal.Refusal.TheVariants.{NotActive, NoSuchLetter, OutOfMemory, HistoryFull}
 use Rattle.rambo_names.specs.Quorums.{QuorumSystem}
+use Rattle.rambo_names.specs.Refusals.{least}
 use Rattle.rambo_history.specs.declared.event.CallId.{CallId}
+use Rattle.rambo_node.specs.declared.change.Change.{Change}
 use Rattle.rambo_node.specs.declared.effect.Effect.{Effect}
 use Rattle.rambo_node.specs.declared.effect.Effect.TheVariants as effect
+use Rattle.rambo_node.specs.Nodes.{NodeState}
 use Rattle.rambo_run.specs.declared.step.Step.{Step}
-use Rattle.rambo_run.specs.Steps.{refusal, turn}
+use Rattle.rambo_run.specs.Steps.{Meant, meant, causes_at, causes_of, refusal, turn}
+use Rattle.rambo_run.specs.Worlds.{WorldState, node_at}
 use Rattle.rambo_run.specs.Runs.{run}
+use Rattle.rambo_run.proofs.Causes.{never_memory, no_letter_differs}
 use Rattle.rambo_run.proofs.Lists.{some_inj}
+use Rattle.rambo_book.proofs.Judging.{refusal_is}
 use Rattle.rambo_book.specs.Kept.{BookView, Told, state}
 use Rattle.rambo_run.specs.Legal.{IsLegal}
-use Rattle.rambo_pass.specs.Passes.{PassView, Acted, mine_with}
+use Rattle.rambo_pass.specs.Passes.{PassView, Acted, WhyUndone, mine_with}
 
 pub acted : {Q : Type 0} (s : QuorumSystem Q) (agreed : Option Q) (b : BookView Q) (r : Result (Effect Q) Refusal) (before after : PassView Q) (st : Step Q)
     → agreed ≡ Some b.founders → IsPrefix before.seen b.steps → OnOk r (after.seen ≡ b.steps ++ st ∷ []) → OnOk r (IsLegal s b.founders after.seen) → OnOk r (refusal s (state s b) st ≡ None)
@@ -38,13 +44,45 @@ pub called : {Q : Type 0} (s : QuorumSystem Q) (agreed : Option Q) (b : BookView
 called s agreed b (Ok id) before after st founded p last legal accepted told mine = acted s agreed b (Ok (effect.Called id)) before after st founded p last legal accepted told mine
 called s agreed b (Err r) before after st founded p last legal accepted told mine = tt
 
-pub caused : {Q A : Type 0} (s : QuorumSystem Q) (agreed : Option Q) (most : ℕ) (b : BookView Q) (r : Result A Refusal) (seen : List (Step Q)) (st : Step Q)
-    → agreed ≡ Some b.founders → b.capacity ≡ most → IfErr r (λ r. (r ≡ OutOfMemory) ⊎ ((seen ≡ b.steps) × Told (refusal s (state s b) st) (length b.steps) b.capacity r))
-    → IfErr r (λ r. (f : Q) → agreed ≡ Some f → (r ≡ OutOfMemory) ⊎ Told (refusal s (run s f seen) st) (length seen) most r)
-caused s agreed most b (Ok a) seen st founded terms h = tt
-caused s agreed most b (Err r) seen st founded terms h = λ f is.
-    ⊎_elim inl
-    (λ (t : (seen ≡ b.steps) × Told (refusal s (state s b) st) (length b.steps) b.capacity r).
-    inr (subst (λ f. Told (refusal s (run s f seen) st) (length seen) most r) (some_inj b.founders f (sym founded ∙ is))
-    (subst (λ l. Told (refusal s (run s b.founders l) st) (length l) most r) (sym t.0) (subst (λ n. Told (refusal s (state s b) st) (length b.steps) n r) terms t.1))))
-    h
+-- want of memory is no cause by the rules of a step
+never_at : {Q : Type 0} (s : QuorumSystem Q) (o : Option (NodeState Q)) (c : Change Q) (d : Refusal) → least (causes_at s o c) ≡ Some d → d ≢ OutOfMemory
+never_at s None c d e = subst (λ r. r ≢ OutOfMemory) (some_inj NotActive d e) (λ e. absurd cc)
+never_at s (Some x) c d e = never_memory s x c d e
+
+never_of : {Q : Type 0} (s : QuorumSystem Q) (w : WorldState Q) (o : Option (Meant Q)) (d : Refusal) → least (causes_of s w o) ≡ Some d → d ≢ OutOfMemory
+never_of s w None d e = subst (λ r. r ≢ OutOfMemory) (some_inj NoSuchLetter d e) no_letter_differs
+never_of s w (Some m) d e = never_at s (node_at w m.name) m.change d e
+
+-- a full book is told by another number
+full_differs : OutOfMemory ≢ HistoryFull
+full_differs e = absurd cc
+
+short_by : (o : Option Refusal) (count capacity : ℕ) → ((d : Refusal) → o ≡ Some d → d ≢ OutOfMemory) → Told o count capacity OutOfMemory → (o ≡ None) × (count < capacity)
+short_by None count capacity never h = ⊎_elim (λ (f : (OutOfMemory ≡ HistoryFull) × (count ≡ capacity)). absurd (full_differs f.0)) (λ (f : (OutOfMemory ≡ OutOfMemory) × (count < capacity)). (refl, f.1)) h
+short_by (Some d) count capacity never h = absurd (never d refl (sym h))
+
+-- so where it is told the step isn't refused, and there is room for it
+pub short_of : {Q : Type 0} (s : QuorumSystem Q) (w : WorldState Q) (st : Step Q) (count capacity : ℕ) (r : Refusal) → r ≡ OutOfMemory → Told (refusal s w st) count capacity r → (refusal s w st ≡ None) × (count < capacity)
+short_of s w st count capacity r is h = short_by (refusal s w st) count capacity (λ d e. never_of s w (meant w st) d (sym (refusal_is s w st) ∙ e)) (subst (Told (refusal s w st) count capacity) is h)
+
+-- and the other way round
+pub told_short : (o : Option Refusal) (count capacity : ℕ) → o ≡ None → count < capacity → Told o count capacity OutOfMemory
+told_short o count capacity none less = subst (λ o. Told o count capacity OutOfMemory) (sym none) (inr (refl, less))
+
+-- why a step isn't done, as its client sees it
+module _ {Q : Type 0} (s : QuorumSystem Q) (agreed : Option Q) (most : ℕ) (b : BookView Q) (before after : PassView Q) (st : Step Q)
+    (founded : agreed ≡ Some b.founders) (terms : b.capacity ≡ most) (begins : IsPrefix before.seen b.steps) (legal : IsLegal s b.founders b.steps) where
+  undone : (r : Refusal) → Told (refusal s (state s b) st) (length b.steps) b.capacity r → (r ≡ OutOfMemory) ⊎ (after.seen ≡ b.steps) → WhyUndone s b.founders most before after st r
+  undone r told shown =
+      ⊎_elim
+      (λ (is : r ≡ OutOfMemory).
+      let short = short_of s (state s b) st (length b.steps) b.capacity r is told in
+      inl (is, record { later = b.steps; begins = begins; legal = legal; accepted = short.0; room = omega (arith, short.1, terms) }))
+      (λ (seen : after.seen ≡ b.steps).
+      inr (subst (λ l. Told (refusal s (run s b.founders l) st) (length l) most r) (sym seen) (subst (λ n. Told (refusal s (state s b) st) (length b.steps) n r) terms told)))
+      shown
+
+  pub caused : {A : Type 0} (r : Result A Refusal) → IfErr r (Told (refusal s (state s b) st) (length b.steps) b.capacity) → IfErr r (λ r. (r ≡ OutOfMemory) ⊎ (after.seen ≡ b.steps))
+      → IfErr r (λ r. (f : Q) → agreed ≡ Some f → WhyUndone s f most before after st r)
+  caused (Ok a) told shown = tt
+  caused (Err r) told shown = λ f is. subst (λ f. WhyUndone s f most before after st r) (some_inj b.founders f (sym founded ∙ is)) (undone r told shown)

@@ -11,7 +11,7 @@ use Rattle.rambo_run.specs.Runs.{run}
 use Rattle.rambo_run.proofs.Lists.{some_inj}
 use Rattle.rambo_book.specs.Kept.{BookView, state}
 use Rattle.rambo_run.specs.Legal.{IsLegal}
-use Rattle.rambo_pass.specs.Passes.{PassView, IsNone, HasStopped, WhyNot}
+use Rattle.rambo_pass.specs.Passes.{PassView, IsNone, IsOne, HasStopped, IsGoing, IsAnswered, IsAnsweredLater, WhyNot}
 
 module _ {Q : Type 0} (s : QuorumSystem Q) (agreed : Option Q) (b : BookView Q) (before after : PassView Q) (id : CallId) (founded : agreed ≡ Some b.founders) where
   pub legal_of : {A : Type 0} (r : Result A Refusal) → OnOk r (IsLegal s b.founders after.seen) → OnOk r ((f : Q) → agreed ≡ Some f → IsLegal s f after.seen)
@@ -29,38 +29,53 @@ module _ {Q : Type 0} (s : QuorumSystem Q) (agreed : Option Q) (b : BookView Q) 
       (subst (λ l. IsLegal s b.founders l × (answer_in (run s b.founders l).history id ≡ Some a)) (sym seen) (h, sym is))
   given_of (Err r) seen h is = tt
 
-  pub why_not : {A : Type 0} (r : Result A Refusal)
-      → IfErr r (λ r. ((r ≡ OutOfMemory) × (after ≡ before))
+  pub going_of : (r : Result (Option Answer) Refusal) → OnOk r (after.seen ≡ b.steps) → IfOk r (λ a. a ≡ None → IsGoing (state s b) id.name) → IfOk r (λ a. (f : Q) → agreed ≡ Some f → a ≡ None → IsGoing (run s f after.seen) id.name)
+  going_of (Ok a) seen h = λ f e none. subst (λ f. IsGoing (run s f after.seen) id.name) (some_inj b.founders f (sym founded ∙ e)) (subst (λ l. IsGoing (run s b.founders l) id.name) (sym seen) (h none))
+  going_of (Err r) seen h = h
+
+  -- of want of memory it is told where the call has an answer in the steps of the book
+  answered_later : IsLegal s b.founders b.steps → IsPrefix before.seen b.steps × IsAnswered (state s b) id → IsAnsweredLater s b.founders before.seen id
+  answered_later legal h = record { later = b.steps; begins = h.0; legal = legal; answered = h.1 }
+
+  pub why_not : {A : Type 0} (r : Result A Refusal) → IsLegal s b.founders b.steps → IfErr r (λ r. r ≡ OutOfMemory → IsPrefix before.seen b.steps × IsAnswered (state s b) id)
+      → IfErr r (λ r. ((r ≡ OutOfMemory) × (after ≡ before) × IsOne before.mine id)
       ⊎ (((r ≡ NoSuchCall) × (after ≡ before) × IsNone before.mine id)
-      ⊎ ((r ≡ Stopped) × (after.seen ≡ b.steps) × IsPrefix before.seen after.seen × (answer_in (state s b).history id ≡ None) × HasStopped (state s b) id.name)))
+      ⊎ ((r ≡ Stopped) × IsOne before.mine id × (after.seen ≡ b.steps) × IsPrefix before.seen after.seen × (answer_in (state s b).history id ≡ None) × HasStopped (state s b) id.name)))
       → IfErr r (λ r. (f : Q) → agreed ≡ Some f → WhyNot s f before after id r)
-  why_not (Ok a) h = tt
-  why_not (Err r) h = λ f e. elim h [
-    | inl m ↦ inl m
+  why_not (Ok a) legal answered h = tt
+  why_not (Err r) legal answered h = λ f e. subst (λ f. WhyNot s f before after id r) (some_inj b.founders f (sym founded ∙ e)) (elim h [
+    | inl m ↦ inl (m.0, (m.1, (m.2, answered_later legal (answered m.0))))
     | inr rest ↦ elim rest [
       | inl n ↦ inr (inl (n.0, (n.1, n.2)))
       | inr t ↦ inr (inr (
         t.0,
-        (
-          t.2,
-          subst (λ l. (answer_in (run s f l).history id ≡ None) × HasStopped (run s f l) id.name) (sym t.1)
-              (subst (λ f. (answer_in (run s f b.steps).history id ≡ None) × HasStopped (run s f b.steps) id.name) (some_inj b.founders f (sym founded ∙ e)) (t.3, t.4)),
-        ),
+        (t.1, (t.3, subst (λ l. (answer_in (run s b.founders l).history id ≡ None) × HasStopped (run s b.founders l) id.name) (sym t.2) (t.4, t.5))),
       ))
     ]
+  ])
+
+  -- the same where the pass stays
+  pub why_ungiven : {A : Type 0} (r : Result A Refusal) → IsLegal s b.founders b.steps → IfErr r (λ r. r ≡ OutOfMemory → IsPrefix before.seen b.steps × IsAnswered (state s b) id)
+      → IfErr r (λ r. ((r ≡ OutOfMemory) × IsOne before.mine id) ⊎ ((r ≡ NoSuchCall) × IsNone before.mine id))
+      → IfErr r (λ r. (f : Q) → agreed ≡ Some f → ((r ≡ OutOfMemory) × IsOne before.mine id × IsAnsweredLater s f before.seen id) ⊎ ((r ≡ NoSuchCall) × IsNone before.mine id))
+  why_ungiven (Ok a) legal answered h = tt
+  why_ungiven (Err r) legal answered h = λ f e. elim h [
+    | inl m ↦ inl (m.0, m.1, subst (λ f. IsAnsweredLater s f before.seen id) (some_inj b.founders f (sym founded ∙ e)) (answered_later legal (answered m.0)))
+    | inr n ↦ inr n
   ]
 
 -- where an answer isn't given, the pass stays; so is told by a client who takes it
-pub refused_so : {Q : Type 0} {before after : PassView Q} {id : CallId} {r : Refusal} {X : Type 0} → after ≡ before → (r ≡ OutOfMemory) ⊎ ((r ≡ NoSuchCall) × IsNone before.mine id)
-    → ((r ≡ OutOfMemory) × (after ≡ before)) ⊎ (((r ≡ NoSuchCall) × (after ≡ before) × IsNone before.mine id) ⊎ X)
+pub refused_so : {Q : Type 0} {before after : PassView Q} {id : CallId} {r : Refusal} {X : Type 0} → after ≡ before → ((r ≡ OutOfMemory) × IsOne before.mine id) ⊎ ((r ≡ NoSuchCall) × IsNone before.mine id)
+    → ((r ≡ OutOfMemory) × (after ≡ before) × IsOne before.mine id) ⊎ (((r ≡ NoSuchCall) × (after ≡ before) × IsNone before.mine id) ⊎ X)
 refused_so same h = elim h [
-  | inl m ↦ inl (m, same)
+  | inl m ↦ inl (m.0, same, m.1)
   | inr n ↦ inr (inl (n.0, same, n.1))
 ]
 
 -- so is told by a client who takes it from the run that the steps give
-pub why_ungiven : {Q : Type 0} (s : QuorumSystem Q) (f : Q) {before after : PassView Q} {id : CallId} {r : Refusal} → after ≡ before → (r ≡ OutOfMemory) ⊎ ((r ≡ NoSuchCall) × IsNone before.mine id) → WhyNot s f before after id r
-why_ungiven s f same h = elim h [
-  | inl m ↦ inl (m, same)
+pub why_not_given : {Q : Type 0} (s : QuorumSystem Q) (f : Q) {before after : PassView Q} {id : CallId} {r : Refusal} → after ≡ before
+    → ((r ≡ OutOfMemory) × IsOne before.mine id × IsAnsweredLater s f before.seen id) ⊎ ((r ≡ NoSuchCall) × IsNone before.mine id) → WhyNot s f before after id r
+why_not_given s f same h = elim h [
+  | inl m ↦ inl (m.0, (same, (m.1, m.2)))
   | inr n ↦ inr (inl (n.0, (same, n.1)))
 ]

@@ -1,6 +1,6 @@
 -- What a client has seen
 use mathlib.Core.List.{IsPrefix}
-use Rattle.std.specs.Prelude.{◌≡◌, ◌⊎◌, ℕ, List, [], ◌∷◌, ◌++◌, ◌<◌, ◌≢◌, true, length, slice_set, slice_index_or, All, MatchOption, Option, None, Some, Result, IfOk, IfErr}
+use Rattle.std.specs.Prelude.{◌≡◌, ◌⊎◌, ℕ, List, [], ◌∷◌, ◌++◌, ◌<◌, ◌≢◌, true, false, length, slice_set, slice_index_or, All, MatchOption, Option, None, Some, is_some, Result, IfOk, IfErr}
 use Rattle.std.specs.Map.{lookup}
 use Rattle.rambo_history.specs.declared.operation.Answer.{Answer}
 use Rattle.rambo_names.specs.declared.refusal.Refusal.{Refusal}
@@ -19,7 +19,7 @@ use Rattle.rambo_run.specs.declared.step.Step.{Step}
 use Rattle.rambo_run.specs.Steps.{meant_in, refusal, turn}
 use Rattle.rambo_run.specs.Runs.{run}
 use Rattle.rambo_deeds.specs.Deeds.{name_in}
-use Rattle.rambo_book.specs.Kept.{KeeperView}
+use Rattle.rambo_book.specs.Kept.{KeeperView, Told}
 use Rattle.rambo_book.specs.declared.readied.Ready.{Ready}
 use Rattle.rambo_pass.specs.declared.mine.Entry.{Entry}
 use Rattle.rambo_run.specs.Legal.{IsLegal}
@@ -59,6 +59,20 @@ pub record IsHalf {Q : Type 0} (s : QuorumSystem Q) (agreed : Option Q) (k : Kee
   pub made : IfOk half (λ r. r.step ≡ st)
   pub refused : IfErr half (IsRefusedHalf s agreed k st)
 
+-- after some legal steps that these begin a step isn't refused, and there is room for it
+pub record CouldGo {Q : Type 0} (s : QuorumSystem Q) (founders : Q) (most : ℕ) (seen : List (Step Q)) (st : Step Q) : Type 0 where
+  pub later : List (Step Q)
+  pub begins : IsPrefix seen later
+  pub legal : IsLegal s founders later
+  pub accepted : refusal s (run s founders later) st ≡ None
+  pub room : length later < most
+
+-- why a client's step isn't done: want of memory, where it could go; or what is told of it in what the client has then seen
+abbrev pub WhyUndone : {Q : Type 0} → QuorumSystem Q → Q → ℕ → PassView Q → PassView Q → Step Q → Refusal → Type 0
+WhyUndone s founders most before after st r =
+    ((r ≡ refused.OutOfMemory) × CouldGo s founders most before.seen st)
+    ⊎ Told (refusal s (run s founders after.seen) st) (length after.seen) most r
+
 -- a client's calls, and whether there is room for one more
 pub record MineState : Type 0 where
   pub entries : List Entry
@@ -90,6 +104,10 @@ IsNoted es id a later = (at : ℕ) × (IsEntry es id at × (later ≡ noted es a
 abbrev pub IsNone : List Entry → CallId → Type 0
 IsNone es id = All (λ e. e.id ≢ id) es
 
+-- one of these entries is that of the call
+abbrev pub IsOne : List Entry → CallId → Type 0
+IsOne es id = (at : ℕ) × IsEntry es id at
+
 -- the places tell where each call stands that is one of these
 abbrev pub AreFound : List Entry → List (CallId × ℕ) → Type 0
 AreFound es places = (id : CallId) → MatchOption (lookup (same_call id) places) (IsNone es id) (IsEntry es id)
@@ -98,10 +116,25 @@ AreFound es places = (id : CallId) → MatchOption (lookup (same_call id) places
 abbrev pub HasStopped : {Q : Type 0} → WorldState Q → ℕ → Type 0
 HasStopped {Q} w name = (x : NodeState Q) × ((node_at w name ≡ Some x) × (is_stopped x.status ≡ true))
 
--- why there is no answer: want of memory; or the call isn't this client's; or its node has stopped in what was seen, where
--- it has no answer
+-- and it hasn't
+abbrev pub IsGoing : {Q : Type 0} → WorldState Q → ℕ → Type 0
+IsGoing {Q} w name = (x : NodeState Q) × ((node_at w name ≡ Some x) × (is_stopped x.status ≡ false))
+
+-- the call has an answer
+abbrev pub IsAnswered : {Q : Type 0} → WorldState Q → CallId → Type 0
+IsAnswered w id = is_some (answer_in w.history id) ≡ true
+
+-- it has one after some legal steps that these begin
+pub record IsAnsweredLater {Q : Type 0} (s : QuorumSystem Q) (founders : Q) (seen : List (Step Q)) (id : CallId) : Type 0 where
+  pub later : List (Step Q)
+  pub begins : IsPrefix seen later
+  pub legal : IsLegal s founders later
+  pub answered : IsAnswered (run s founders later) id
+
+-- why there is no answer: want of memory, where the call is this client's and has one; or it isn't this client's; or it is,
+-- and its node has stopped in what was seen, where it has no answer
 abbrev pub WhyNot : {Q : Type 0} → QuorumSystem Q → Q → PassView Q → PassView Q → CallId → Refusal → Type 0
 WhyNot s founders before after id r =
-    ((r ≡ refused.OutOfMemory) × (after ≡ before))
+    ((r ≡ refused.OutOfMemory) × ((after ≡ before) × (IsOne before.mine id × IsAnsweredLater s founders before.seen id)))
     ⊎ (((r ≡ refused.NoSuchCall) × ((after ≡ before) × IsNone before.mine id))
-    ⊎ ((r ≡ refused.Stopped) × (IsPrefix before.seen after.seen × ((answer_in (run s founders after.seen).history id ≡ None) × HasStopped (run s founders after.seen) id.name))))
+    ⊎ ((r ≡ refused.Stopped) × (IsOne before.mine id × (IsPrefix before.seen after.seen × ((answer_in (run s founders after.seen).history id ≡ None) × HasStopped (run s founders after.seen) id.name)))))

@@ -1,5 +1,5 @@
 //! What was answered, as a client sees it.
-ghost use Rattle.std.specs.Prelude.{◌≡◌, ◌⊎◌, Some, None, true, MatchOption, OnOk, OnErr, IfOk, IfErr};
+ghost use Rattle.std.specs.Prelude.{◌≡◌, ◌⊎◌, Some, None, true, is_some, option_map, MatchOption, OnOk, OnErr, IfOk, IfErr};
 ghost use Rattle.std.specs.Option.{option_copied};
 ghost use mathlib.Core.List.{IsPrefix};
 ghost use Rattle.rambo_history.specs.Histories.{answer_in};
@@ -7,7 +7,7 @@ ghost use Rattle.rambo_book.specs.Kept.{state};
 ghost use Rattle.rambo_run.specs.Worlds.{node_at};
 ghost use Rattle.rambo_joiner.specs.Statuses.{is_stopped};
 ghost use Rattle.rambo_run.specs.Legal.{IsLegal};
-ghost use Rattle.rambo_pass.specs.Passes.{IsNoted, IsNone, HasStopped};
+ghost use Rattle.rambo_pass.specs.Passes.{IsNoted, IsNone, IsOne, HasStopped, IsGoing, IsAnswered};
 
 use crate::pass::Pass;
 use rambo_book::{Book, Keeper, Terms};
@@ -15,13 +15,13 @@ use rambo_history::{Answer, CallId};
 use rambo_names::{Quorums, Refusal};
 use rambo_tag::Replica;
 
-// The same answer, if there is one, which shares its bytes.
-fn share(answer: Option<&Answer>) -> Result<Option<Answer>, Refusal>
-    ensures same { IfOk result (λ a. a ≡ option_copied answer.entry) }
-    ensures refused { IfErr result (λ r. r ≡ Refusal.OutOfMemory) }
+// Twice the same answer, if there is one, which shares its bytes.
+fn share_twice(answer: Option<&Answer>) -> Result<Option<(Answer, Answer)>, Refusal>
+    ensures same { IfOk result (λ b. b ≡ option_map (λ a. (a, a)) (option_copied answer.entry)) }
+    ensures given { OnErr result (is_some answer.entry ≡ true) }
 {
     match answer {
-        Some(answer) => Ok(Some(answer.clone()?)),
+        Some(answer) => Ok(Some((answer.clone()?, answer.clone()?))),
         None => Ok(None),
     }
 }
@@ -42,21 +42,24 @@ pub fn take_given<J: Terms<Q>, Q: Quorums>(
     ensures answer { IfOk result (λ a. a ≡ answer_in (state Q.system book.old).history id.now) }
     ensures mine { IfOk result (λ a. IsNoted pass.old.mine id.now a pass.new.mine) }
     ensures err { OnErr result (pass.new ≡ pass.old) }
-    ensures cause { IfErr result (λ r. (r ≡ Refusal.OutOfMemory) ⊎ ((r ≡ Refusal.NoSuchCall) × IsNone pass.old.mine id.now)) }
+    ensures cause { IfErr result (λ r. ((r ≡ Refusal.OutOfMemory) × IsOne pass.old.mine id.now) ⊎ ((r ≡ Refusal.NoSuchCall) × IsNone pass.old.mine id.now)) }
+    ensures answered { IfErr result (λ r. r ≡ Refusal.OutOfMemory → IsPrefix pass.old.seen book.old.steps × IsAnswered (state Q.system book.old) id.now) }
 {
     book.facts();
     let Pass { seen, count, mine } = pass;
     let Some(at) = mine.find(id) else {
         return Err(Refusal::NoSuchCall);
     };
-    let answer = share(book.answer(id))?;
-    let kept = share(answer.as_ref())?;
-    if answer.is_none() {
+    let Ok(given) = share_twice(book.answer(id)) else {
+        book.begun(seen);
+        return Err(Refusal::OutOfMemory);
+    };
+    let Some(both) = given else {
         return Ok(None);
-    }
+    };
     *count = book.show(seen);
-    mine.note(at, kept);
-    Ok(answer)
+    mine.note(at, Some(both.0));
+    Ok(Some(both.1))
 }
 
 // Whether the node of the keeper has stopped.
@@ -75,7 +78,7 @@ fn has_stopped<J: Terms<Q>, Q: Quorums, S: Replica>(
 /// The answer of a call of this client, who has then seen all steps.
 ///
 /// `NoSuchCall` where the call isn't this client's; `Stopped` where it has no answer and its node has stopped;
-/// `OutOfMemory` where the answer can't be shared. None where the steps have no answer of it yet.
+/// `OutOfMemory` where the answer can't be shared. None where the steps have no answer of it yet, and its node goes on.
 pub fn take_in<J: Terms<Q>, Q: Quorums, S: Replica>(
     book: &mut Book<J, Q>,
     keeper: &mut Keeper<J, Q, S>,
@@ -84,6 +87,7 @@ pub fn take_in<J: Terms<Q>, Q: Quorums, S: Replica>(
 ) -> Result<Option<Answer>, Refusal>
     requires { keeper.old.name ≡ id.name }
     ensures founders { J.founders ≡ Some book.old.founders }
+    ensures before { IsLegal Q.system book.old.founders book.old.steps }
     ensures same { (book.new ≡ book.old) × (keeper.new ≡ keeper.old) }
     ensures seen { OnOk result (pass.new.seen ≡ book.old.steps) }
     ensures begins { OnOk result (IsPrefix pass.old.seen pass.new.seen) }
@@ -91,9 +95,11 @@ pub fn take_in<J: Terms<Q>, Q: Quorums, S: Replica>(
     ensures answer { IfOk result (λ a. a ≡ answer_in (state Q.system book.old).history id) }
     ensures mine { IfOk result (λ a. IsNoted pass.old.mine id a pass.new.mine) }
     ensures err { OnErr result (pass.new.mine ≡ pass.old.mine) }
-    ensures cause { IfErr result (λ r. ((r ≡ Refusal.OutOfMemory) × (pass.new ≡ pass.old))
+    ensures going { IfOk result (λ a. a ≡ None → IsGoing (state Q.system book.old) id.name) }
+    ensures answered { IfErr result (λ r. r ≡ Refusal.OutOfMemory → IsPrefix pass.old.seen book.old.steps × IsAnswered (state Q.system book.old) id) }
+    ensures cause { IfErr result (λ r. ((r ≡ Refusal.OutOfMemory) × (pass.new ≡ pass.old) × IsOne pass.old.mine id)
         ⊎ ((r ≡ Refusal.NoSuchCall) × (pass.new ≡ pass.old) × IsNone pass.old.mine id)
-        ⊎ ((r ≡ Refusal.Stopped) × (pass.new.seen ≡ book.old.steps) × IsPrefix pass.old.seen pass.new.seen × (answer_in (state Q.system book.old).history id ≡ None) × HasStopped (state Q.system book.old) id.name)) }
+        ⊎ ((r ≡ Refusal.Stopped) × IsOne pass.old.mine id × (pass.new.seen ≡ book.old.steps) × IsPrefix pass.old.seen pass.new.seen × (answer_in (state Q.system book.old).history id ≡ None) × HasStopped (state Q.system book.old) id.name)) }
 {
     book.facts();
     if let Some(answer) = take_given(book, pass, &id)? {

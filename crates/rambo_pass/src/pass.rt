@@ -112,6 +112,9 @@ fn note_call<Q: Quorums>(mine: &mut Mine, place: usize, effect: &Effect<Q>)
 }
 
 /// Does a step for this client, who has then seen it.
+///
+/// Refused is what the rules of the step's kind say, by the least number; else 23 where the book is full; else 22. After 22
+/// the pass is as before; after another number its calls are, and it has seen all steps.
 pub fn act_in<J: Terms<Q>, Q: Quorums, S: Replica>(
     book: &mut Book<J, Q>,
     keeper: &mut Keeper<J, Q, S>,
@@ -122,6 +125,7 @@ pub fn act_in<J: Terms<Q>, Q: Quorums, S: Replica>(
     ensures begins { IsPrefix pass.old.seen pass.new.seen }
     ensures between { IsPrefix pass.old.seen book.old.steps }
     ensures terms { (J.founders ≡ Some book.old.founders) × (book.old.capacity ≡ J.capacity) }
+    ensures before { IsLegal Q.system book.old.founders book.old.steps }
     ensures last { OnOk result (pass.new.seen ≡ book.old.steps ++ step ∷ []) }
     ensures legal { OnOk result (IsLegal Q.system book.old.founders pass.new.seen) }
     ensures accepted { OnOk result (refusal Q.system (state Q.system book.old) step ≡ None) }
@@ -129,7 +133,8 @@ pub fn act_in<J: Terms<Q>, Q: Quorums, S: Replica>(
     ensures mine { IfOk result (λ e. pass.new.mine ≡ mine_with pass.old.mine (length book.old.steps) e) }
     ensures err { OnErr result (pass.new.mine ≡ pass.old.mine) }
     ensures memory { IfErr result (λ r. r ≡ Refusal.OutOfMemory → pass.new ≡ pass.old) }
-    ensures cause { IfErr result (λ r. (r ≡ Refusal.OutOfMemory) ⊎ ((pass.new.seen ≡ book.old.steps) × Told (refusal Q.system (state Q.system book.old) step) (length book.old.steps) book.old.capacity r)) }
+    ensures shown { IfErr result (λ r. (r ≡ Refusal.OutOfMemory) ⊎ (pass.new.seen ≡ book.old.steps)) }
+    ensures cause { IfErr result (λ r. Told (refusal Q.system (state Q.system book.old) step) (length book.old.steps) book.old.capacity r) }
 {
     let Pass { seen, count, mine } = pass;
     let place = book.begun(seen);
@@ -206,6 +211,7 @@ pub fn act_ready_in<J: Terms<Q>, Q: Quorums, S: Replica>(
     ensures begins { IsPrefix pass.old.seen pass.new.seen }
     ensures between { IsPrefix pass.old.seen book.old.steps }
     ensures terms { (J.founders ≡ Some book.old.founders) × (book.old.capacity ≡ J.capacity) }
+    ensures before { IsLegal Q.system book.old.founders book.old.steps }
     ensures last { (st : Step Q) → IsHalf Q.system J.founders keeper.old st ready → OnOk result (pass.new.seen ≡ book.old.steps ++ st ∷ []) }
     ensures legal { OnOk result (IsLegal Q.system book.old.founders pass.new.seen) }
     ensures accepted { (st : Step Q) → IsHalf Q.system J.founders keeper.old st ready → OnOk result (refusal Q.system (state Q.system book.old) st ≡ None) }
@@ -213,7 +219,8 @@ pub fn act_ready_in<J: Terms<Q>, Q: Quorums, S: Replica>(
     ensures mine { IfOk result (λ e. pass.new.mine ≡ mine_with pass.old.mine (length book.old.steps) e) }
     ensures err { OnErr result (pass.new.mine ≡ pass.old.mine) }
     ensures memory { IfErr result (λ r. r ≡ Refusal.OutOfMemory → pass.new ≡ pass.old) }
-    ensures cause { (st : Step Q) → IsHalf Q.system J.founders keeper.old st ready → IfErr result (λ r. (r ≡ Refusal.OutOfMemory) ⊎ ((pass.new.seen ≡ book.old.steps) × Told (refusal Q.system (state Q.system book.old) st) (length book.old.steps) book.old.capacity r)) }
+    ensures shown { IfErr result (λ r. (r ≡ Refusal.OutOfMemory) ⊎ (pass.new.seen ≡ book.old.steps)) }
+    ensures cause { (st : Step Q) → IsHalf Q.system J.founders keeper.old st ready → IfErr result (λ r. Told (refusal Q.system (state Q.system book.old) st) (length book.old.steps) book.old.capacity r) }
 {
     let Pass { seen, count, mine } = pass;
     let place = book.begun(seen);
@@ -245,6 +252,7 @@ pub fn call_in<J: Terms<Q>, Q: Quorums, S: Replica>(
     ensures begins { IsPrefix pass.old.seen pass.new.seen }
     ensures between { IsPrefix pass.old.seen book.old.steps }
     ensures terms { (J.founders ≡ Some book.old.founders) × (book.old.capacity ≡ J.capacity) }
+    ensures before { IsLegal Q.system book.old.founders book.old.steps }
     ensures last { (op : Op) → IsHalf Q.system J.founders keeper.old (Step.Call name op) ready → OnOk result (pass.new.seen ≡ book.old.steps ++ Step.Call name op ∷ []) }
     ensures legal { OnOk result (IsLegal Q.system book.old.founders pass.new.seen) }
     ensures accepted { (op : Op) → IsHalf Q.system J.founders keeper.old (Step.Call name op) ready → OnOk result (refusal Q.system (state Q.system book.old) (Step.Call name op) ≡ None) }
@@ -252,7 +260,8 @@ pub fn call_in<J: Terms<Q>, Q: Quorums, S: Replica>(
     ensures mine { IfOk result (λ id. pass.new.mine ≡ pass.old.mine ++ record { place = length book.old.steps; id = id; answer = None } ∷ []) }
     ensures err { OnErr result (pass.new.mine ≡ pass.old.mine) }
     ensures memory { IfErr result (λ r. r ≡ Refusal.OutOfMemory → pass.new ≡ pass.old) }
-    ensures cause { (op : Op) → IsHalf Q.system J.founders keeper.old (Step.Call name op) ready → IfErr result (λ r. (r ≡ Refusal.OutOfMemory) ⊎ ((pass.new.seen ≡ book.old.steps) × Told (refusal Q.system (state Q.system book.old) (Step.Call name op)) (length book.old.steps) book.old.capacity r)) }
+    ensures shown { IfErr result (λ r. (r ≡ Refusal.OutOfMemory) ⊎ (pass.new.seen ≡ book.old.steps)) }
+    ensures cause { (op : Op) → IsHalf Q.system J.founders keeper.old (Step.Call name op) ready → IfErr result (λ r. Told (refusal Q.system (state Q.system book.old) (Step.Call name op)) (length book.old.steps) book.old.capacity r) }
 {
     match act_ready_in(book, keeper, pass, ready)? {
         Effect::Called(id) => Ok(id),

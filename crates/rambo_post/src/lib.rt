@@ -13,6 +13,7 @@ mod post;
 
 pub use gate::{Gate, NoGate};
 pub use post::Post;
-pub use rambo_book::{Actor, Book, Keeper, Terms, commit, may_commit};
+pub use rambo_book::{Actor, Book, Keeper, Ready, Terms, commit, commit_ready, may_commit, ready};
 pub use rambo_pass::{Closed, Entry, Left, Pass};
+pub use rambo_roll::Opened;
 pub use rambo_turn::{Turn, pick};

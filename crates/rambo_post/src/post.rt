@@ -12,7 +12,8 @@ ghost use Rattle.rambo_book.specs.Kept.{IsServedBy, Told, state};
 ghost use Rattle.rambo_run.specs.Legal.{IsLegal};
 ghost use Rattle.rambo_history.specs.Histories.{answer_in};
 ghost use Rattle.rambo_history.specs.Proper.{IsProperForAll};
-ghost use Rattle.rambo_pass.specs.Passes.{Acted, IsNone, IsNoted, WhyNot};
+ghost use Rattle.rambo_pass.specs.Passes.{Acted, IsAnsweredLater, IsGoing, IsNone, IsNoted, IsOne, WhyNot, WhyUndone};
+ghost use Rattle.rambo_post.specs.Happened.{Happened, HasMap, HasTurned, IsHeldUp, IsLast};
 
 use crate::gate::Gate;
 use rambo_book::{Actor, Book, Keeper, Terms, ready};
@@ -58,6 +59,8 @@ impl<J: Terms<Q>, Q: Quorums, S: Replica> Post<J, Q, S> {
         requires name { opened ≡ J.table }
         requires founders { J.founders ≡ Some founders }
         requires capacity { capacity ≡ J.capacity }
+        requires lose { J.lose ≡ 0 }
+        requires twice { J.twice ≡ 0 }
         ensures founded { OnOk result (least (founding_causes Q.system founders) ≡ None) }
         ensures refused { IfErr result (IsRefusal (least (founding_causes Q.system founders))) }
     {
@@ -78,6 +81,8 @@ impl<J: Terms<Q>, Q: Quorums, S: Replica> Post<J, Q, S> {
         requires name { opened ≡ J.table }
         requires founders { J.founders ≡ Some founders }
         requires capacity { capacity ≡ J.capacity }
+        requires lose { lose ≡ J.lose }
+        requires twice { twice ≡ J.twice }
         ensures founded { OnOk result (least (founding_causes Q.system founders) ≡ None) }
         ensures refused { IfErr result (IsRefusal (least (founding_causes Q.system founders))) }
     {
@@ -107,7 +112,8 @@ impl<J: Terms<Q>, Q: Quorums, S: Replica> Post<J, Q, S> {
     ///
     /// `NoPassLeft` where 32 were given.
     pub fn pass<R: Wait>(&self, rt: &R, alloc: Global) -> Result<Pass<J, Q>, Refusal>
-        ensures { IfOk result (λ p. p ≡ record { seen = []; mine = [] }) }
+        ensures pass { IfOk result (λ p. p ≡ record { seen = []; mine = [] }) }
+        ensures refused { IfErr result (λ r. r ≡ Refusal.NoPassLeft) }
     {
         Pass::new(alloc, &mut self.book.lock(rt))
     }
@@ -128,7 +134,7 @@ impl<J: Terms<Q>, Q: Quorums, S: Replica> Post<J, Q, S> {
         ensures begins { IsPrefix pass.old.seen pass.new.seen }
         ensures err { OnErr result (pass.new.mine ≡ pass.old.mine) }
         ensures memory { IfErr result (λ r. r ≡ Refusal.OutOfMemory → pass.new ≡ pass.old) }
-        ensures cause { IfErr result (λ r. (f : Q) → J.founders ≡ Some f → (r ≡ Refusal.OutOfMemory) ⊎ Told (refusal Q.system (run Q.system f pass.new.seen) (Step.Call name op)) (length pass.new.seen) J.capacity r) }
+        ensures cause { IfErr result (λ r. (f : Q) → J.founders ≡ Some f → WhyUndone Q.system f J.capacity pass.old pass.new (Step.Call name op) r) }
     {
         self.call_noted(rt, pass, name, op, |_| {})
     }
@@ -150,7 +156,7 @@ impl<J: Terms<Q>, Q: Quorums, S: Replica> Post<J, Q, S> {
         ensures begins { IsPrefix pass.old.seen pass.new.seen }
         ensures err { OnErr result (pass.new.mine ≡ pass.old.mine) }
         ensures memory { IfErr result (λ r. r ≡ Refusal.OutOfMemory → pass.new ≡ pass.old) }
-        ensures cause { IfErr result (λ r. (f : Q) → J.founders ≡ Some f → (r ≡ Refusal.OutOfMemory) ⊎ Told (refusal Q.system (run Q.system f pass.new.seen) (Step.Call name op)) (length pass.new.seen) J.capacity r) }
+        ensures cause { IfErr result (λ r. (f : Q) → J.founders ≡ Some f → WhyUndone Q.system f J.capacity pass.old pass.new (Step.Call name op) r) }
     {
         let mut keeper = self.keeper_of(rt, name);
         let half = ready(*self.keepers.allocator(), &mut keeper, Step::Call(name, op));
@@ -178,7 +184,7 @@ impl<J: Terms<Q>, Q: Quorums, S: Replica> Post<J, Q, S> {
         ensures begins { IsPrefix pass.old.seen pass.new.seen }
         ensures err { OnErr result (pass.new.mine ≡ pass.old.mine) }
         ensures memory { IfErr result (λ r. r ≡ Refusal.OutOfMemory → pass.new ≡ pass.old) }
-        ensures cause { IfErr result (λ r. (f : Q) → J.founders ≡ Some f → (r ≡ Refusal.OutOfMemory) ⊎ Told (refusal Q.system (run Q.system f pass.new.seen) step) (length pass.new.seen) J.capacity r) }
+        ensures cause { IfErr result (λ r. (f : Q) → J.founders ≡ Some f → WhyUndone Q.system f J.capacity pass.old pass.new step r) }
     {
         let Some(name) = named(&step) else {
             let (mut keeper, mut book) = self.both(rt, &step);
@@ -194,7 +200,10 @@ impl<J: Terms<Q>, Q: Quorums, S: Replica> Post<J, Q, S> {
     ///
     /// Refused is what the rules of a send say, by the least number; else 23 where the book is full; else 22 where there is no
     /// room.
-    pub fn send<R: Wait>(&self, rt: &R, from: Name, to: Name) -> Result<u64, Refusal> {
+    pub fn send<R: Wait>(&self, rt: &R, from: Name, to: Name) -> Result<u64, Refusal>
+        ensures sent { IfOk result (λ number. (f : Q) → J.founders ≡ Some f → Happened Q.system f J.capacity (IsLast Q.system f (Step.Send from to) (Effect.Sent number))) }
+        ensures told { IfErr result (λ r. (f : Q) → J.founders ≡ Some f → Happened Q.system f J.capacity (λ l. Told (refusal Q.system (run Q.system f l) (Step.Send from to)) (length l) J.capacity r)) }
+    {
         let mut keeper = self.keeper_of(rt, from);
         let half = ready(*self.keepers.allocator(), &mut keeper, Step::Send(from, to));
         let mut book = self.book.lock(rt);
@@ -251,7 +260,8 @@ impl<J: Terms<Q>, Q: Quorums, S: Replica> Post<J, Q, S> {
         unreachable!()
     }
 
-    /// The answer of a call of this client, who has then seen all steps. None where they have no answer of it yet.
+    /// The answer of a call of this client, who has then seen all steps. None where they have no answer of it yet, and its node
+    /// hasn't stopped.
     ///
     /// `NoSuchCall` where the call isn't this client's; `Stopped` where it has no answer and its node has stopped;
     /// `OutOfMemory` where the answer can't be shared. After 22 and 7 the pass is as before, after 4 its calls are.
@@ -264,6 +274,7 @@ impl<J: Terms<Q>, Q: Quorums, S: Replica> Post<J, Q, S> {
         ensures begins { OnOk result (IsPrefix pass.old.seen pass.new.seen) }
         ensures legal { OnOk result ((f : Q) → J.founders ≡ Some f → IsLegal Q.system f pass.new.seen) }
         ensures answer { IfOk result (λ a. (f : Q) → J.founders ≡ Some f → a ≡ answer_in (run Q.system f pass.new.seen).history id) }
+        ensures going { IfOk result (λ a. (f : Q) → J.founders ≡ Some f → a ≡ None → IsGoing (run Q.system f pass.new.seen) id.name) }
         ensures mine { IfOk result (λ a. IsNoted pass.old.mine id a pass.new.mine) }
         ensures err { OnErr result (pass.new.mine ≡ pass.old.mine) }
         ensures cause { IfErr result (λ r. (f : Q) → J.founders ≡ Some f → WhyNot Q.system f pass.old pass.new id r) }
@@ -284,6 +295,7 @@ impl<J: Terms<Q>, Q: Quorums, S: Replica> Post<J, Q, S> {
         ensures begins { OnOk result (IsPrefix pass.old.seen pass.new.seen) }
         ensures legal { OnOk result ((f : Q) → J.founders ≡ Some f → IsLegal Q.system f pass.new.seen) }
         ensures answer { IfOk result (λ a. (f : Q) → J.founders ≡ Some f → a ≡ answer_in (run Q.system f pass.new.seen).history id) }
+        ensures going { IfOk result (λ a. (f : Q) → J.founders ≡ Some f → a ≡ None → IsGoing (run Q.system f pass.new.seen) id.name) }
         ensures mine { IfOk result (λ a. IsNoted pass.old.mine id a pass.new.mine) }
         ensures err { OnErr result (pass.new.mine ≡ pass.old.mine) }
         ensures cause { IfErr result (λ r. (f : Q) → J.founders ≡ Some f → WhyNot Q.system f pass.old pass.new id r) }
@@ -304,7 +316,7 @@ impl<J: Terms<Q>, Q: Quorums, S: Replica> Post<J, Q, S> {
         ensures begins { OnOk result (IsPrefix pass.old.seen pass.new.seen) }
         ensures mine { IfOk result (λ a. IsNoted pass.old.mine id.now a pass.new.mine) }
         ensures err { OnErr result (pass.new ≡ pass.old) }
-        ensures cause { IfErr result (λ r. (r ≡ Refusal.OutOfMemory) ⊎ ((r ≡ Refusal.NoSuchCall) × IsNone pass.old.mine id.now)) }
+        ensures cause { IfErr result (λ r. (f : Q) → J.founders ≡ Some f → ((r ≡ Refusal.OutOfMemory) × IsOne pass.old.mine id.now × IsAnsweredLater Q.system f pass.old.seen id.now) ⊎ ((r ≡ Refusal.NoSuchCall) × IsNone pass.old.mine id.now)) }
     {
         take_given(&mut self.book.lock(rt), pass, id)
     }
@@ -316,23 +328,25 @@ impl<J: Terms<Q>, Q: Quorums, S: Replica> Post<J, Q, S> {
     /// is something to do; and when both locks are free again. The first and the last it is told whatever the turn answers.
     /// Refused is 23 where the book is full and there is something to do, 22 where there is no room; the letters that it took
     /// stay in its tray.
-    pub fn turn<R: Wait, G: Gate>(&self, rt: &R, name: Name, gate: &G) -> Result<Turn<Q>, Refusal> {
+    pub fn turn<R: Wait, G: Gate>(&self, rt: &R, name: Name, gate: &G) -> Result<Turn<Q>, Refusal>
+        ensures told { IfOk result (λ t. (f : Q) → J.founders ≡ Some f → HasTurned Q.system f J.capacity name t) }
+        ensures cause { IfErr result (λ r. (r ≡ Refusal.OutOfMemory) ⊎ ((r ≡ Refusal.HistoryFull) × ((f : Q) → J.founders ≡ Some f → IsHeldUp Q.system f J.capacity name))) }
+    {
         let done = self.turn_held(rt, name, gate);
         gate.ended(name);
         done
     }
 
     // What it does with its keeper's lock held.
-    fn turn_held<R: Wait, G: Gate>(
-        &self,
-        rt: &R,
-        name: Name,
-        gate: &G,
-    ) -> Result<Turn<Q>, Refusal> {
+    fn turn_held<R: Wait, G: Gate>(&self, rt: &R, name: Name, gate: &G) -> Result<Turn<Q>, Refusal>
+        ensures told { IfOk result (λ t. (f : Q) → J.founders ≡ Some f → HasTurned Q.system f J.capacity name t) }
+        ensures cause { IfErr result (λ r. (r ≡ Refusal.OutOfMemory) ⊎ ((r ≡ Refusal.HistoryFull) × ((f : Q) → J.founders ≡ Some f → IsHeldUp Q.system f J.capacity name))) }
+    {
         let mut keeper = self.keeper_of(rt, name);
         let begun = self.begin(rt, &mut keeper);
         gate.working(name);
         begun?;
+        keeper.facts();
         let Ok(next) = ready_next(*self.keepers.allocator(), &mut keeper) else {
             return Err(self.book.lock(rt).no_room());
         };
@@ -345,7 +359,10 @@ impl<J: Terms<Q>, Q: Quorums, S: Replica> Post<J, Q, S> {
     }
 
     // The keeper takes its mail.
-    fn begin<R: Wait>(&self, rt: &R, keeper: &mut Keeper<J, Q, S>) -> Result<(), Refusal> {
+    fn begin<R: Wait>(&self, rt: &R, keeper: &mut Keeper<J, Q, S>) -> Result<(), Refusal>
+        ensures name { keeper.new.name ≡ keeper.old.name }
+        ensures refused { IfErr result (λ r. r ≡ Refusal.OutOfMemory) }
+    {
         begin_in(&mut self.book.lock(rt), keeper)
     }
 
@@ -356,8 +373,12 @@ impl<J: Terms<Q>, Q: Quorums, S: Replica> Post<J, Q, S> {
     }
 
     /// The map of the node of this name. It takes no memory.
-    pub fn map<R: Wait>(&self, rt: &R, name: Name) -> ConfigMap<Q> {
-        self.keeper_of(rt, name).map()
+    pub fn map<R: Wait>(&self, rt: &R, name: Name) -> ConfigMap<Q>
+        ensures { (f : Q) → J.founders ≡ Some f → Happened Q.system f J.capacity (λ l. HasMap (run Q.system f l) name result) }
+    {
+        let keeper = self.keeper_of(rt, name);
+        keeper.facts();
+        keeper.map()
     }
 
     /// Two clients meet: both have then seen what the one had that had seen more, which what the other had seen begins. So

@@ -1,16 +1,16 @@
 -- What a keeper does by itself: the first step of a list that isn't refused
-use Rattle.std.specs.Prelude.{◌≡◌, ◌≢◌, ℕ, List, [], ◌∷◌, ◌++◌, map, find, Option, is_none}
+use Rattle.std.specs.Prelude.{◌≡◌, ◌≢◌, ℕ, List, [], ◌∷◌, ◌++◌, map, find, All, Option, Some, is_none}
 use Rattle.rambo_names.specs.Quorums.{QuorumSystem}
 use Rattle.rambo_history.specs.declared.operation.Op.{Op}
 use Rattle.rambo_node.specs.Nodes.{NodeState}
 use Rattle.rambo_run.specs.declared.step.Step.{Step}
 use Rattle.rambo_run.specs.declared.step.Step.TheVariants as step
-use Rattle.rambo_run.specs.Worlds.{WorldState}
+use Rattle.rambo_run.specs.Worlds.{WorldState, node_at}
 use Rattle.rambo_run.specs.Actors.{sent_by}
 use Rattle.rambo_run.specs.Runs.{run}
 use Rattle.rambo_run.specs.Steps.{refusal}
 use Rattle.rambo_deeds.specs.declared.mail.Mail.{Mail}
-use Rattle.rambo_book.specs.Kept.{BookView, KeeperView}
+use Rattle.rambo_book.specs.Kept.{BookView, KeeperView, IsMailOf}
 use Rattle.rambo_book.specs.Mailing.{without}
 use Rattle.rambo_pick.specs.Picking.{Candidate, candidates}
 
@@ -44,6 +44,15 @@ cleared tray (step.Stop n) = tray
 -- what a keeper does next by what it has seen, if there is something to do
 abbrev pub next_of : {Q : Type 0} → QuorumSystem Q → Q → KeeperView Q → Option (Step Q)
 next_of s f k = first_of s (run s f k.seen) (steps_of k.node k.tray)
+
+-- what the node of a name does next by itself after these steps, if there is something to do, with some of the letters that
+-- were sent to it
+pub record IsNext {Q : Type 0} (s : QuorumSystem Q) (founders : Q) (name : ℕ) (next : Option (Step Q)) (seen : List (Step Q)) : Type 0 where
+  pub node : NodeState Q
+  pub here : node_at (run s founders seen) name ≡ Some node
+  pub tray : List (Mail Q)
+  pub mail : All (IsMailOf (run s founders seen) name) tray
+  pub first : next ≡ first_of s (run s founders seen) (steps_of node tray)
 
 -- it has no bytes, and sends no letter
 pub record IsQuiet {Q : Type 0} (st : Step Q) : Type 0 where

@@ -1,5 +1,6 @@
 //! A letter is sent.
-ghost use Rattle.std.specs.Prelude.{◌≡◌, ◌++◌, ◌∷◌, [], None, length, OnOk, OnErr, IfOk, IfErr};
+ghost use Rattle.std.specs.Prelude.{◌≡◌, ◌<◌, ◌≤◌, ◌++◌, ◌∷◌, [], None, Some, length, OnOk, OnErr, IfOk, IfErr};
+ghost use Rattle.rambo_run.specs.Legal.{IsLegal};
 ghost use Rattle.rambo_run.specs.Steps.{refusal, turn};
 ghost use Rattle.rambo_book.specs.Readying.{IsReadyFor};
 ghost use Rattle.rambo_book.specs.Kept.{IsServedBy, Told, state};
@@ -41,11 +42,17 @@ pub fn send_in<J: Terms<Q>, Q: Quorums, S: Replica>(
     requires name { keeper.old.name ≡ from }
     requires step { IfOk ready (λ r. r.step ≡ Step.Send from to) }
     requires ready { IfOk ready (IsReadyFor Q.system J.founders keeper.old) }
+    ensures terms { (J.founders ≡ Some book.old.founders) × (book.old.capacity ≡ J.capacity) }
+    ensures before { IsLegal Q.system book.old.founders book.old.steps }
+    ensures fits { length book.old.steps ≤ book.old.capacity }
+    ensures accepted { OnOk result (refusal Q.system (state Q.system book.old) (Step.Send from to) ≡ None) }
+    ensures room { OnOk result (length book.old.steps < book.old.capacity) }
     ensures effect { IfOk result (λ number. Effect.Sent number ≡ (turn (state Q.system book.old) (Step.Send from to)).effect) }
     ensures book { OnOk result (book.new ≡ record book.old { steps = book.old.steps ++ Step.Send from to ∷ []; waiting = waiting_after book.old (to ∷ []) (length (state Q.system book.new).letters) }) }
     ensures same { OnErr result ((book.new ≡ book.old) × (keeper.new ≡ keeper.old)) }
     ensures told { IfErr result (λ r. Told (refusal Q.system (state Q.system book.old) (Step.Send from to)) (length book.old.steps) book.old.capacity r) }
 {
+    book.facts();
     let Ok(ready) = ready else {
         return Err(why_not(book, keeper, &Step::Send(from, to)));
     };

@@ -1,5 +1,7 @@
 //! A turn: what a keeper does by itself.
 ghost use Rattle.std.specs.Prelude.{◌≡◌, ◌<◌, ℕ, None, Some, length, option_map, OnOk, OnErr, IfOk, IfErr, IfSome};
+ghost use mathlib.Core.List.{IsPrefix};
+ghost use Rattle.rambo_run.specs.Legal.{IsLegal};
 ghost use Rattle.rambo_run.specs.Steps.{refusal};
 ghost use Rattle.rambo_run.specs.Worlds.{node_at};
 ghost use Rattle.rambo_book.specs.Readying.{IsReadyFor};
@@ -83,6 +85,10 @@ pub fn commit_next<J: Terms<Q>, Q: Quorums, S: Replica>(
 ) -> Result<Turn<Q>, Refusal>
     requires ready { IsReadyFor Q.system J.founders keeper.old ready }
     requires quiet { IsQuiet ready.step }
+    ensures terms { (J.founders ≡ Some book.old.founders) × (book.old.capacity ≡ J.capacity) }
+    ensures before { IsLegal Q.system book.old.founders book.old.steps }
+    ensures between { IsPrefix keeper.old.seen book.old.steps }
+    ensures room { OnOk result (length book.old.steps < book.old.capacity) }
     ensures did { IfOk result (λ t. t ≡ Turn.Did ready.step) }
     ensures legal { OnOk result (refusal Q.system (state Q.system book.old) ready.step ≡ None) }
     ensures book { OnOk result (book.new ≡ longer book.old ready.step) }
@@ -91,6 +97,7 @@ pub fn commit_next<J: Terms<Q>, Q: Quorums, S: Replica>(
     ensures same { OnErr result ((book.new ≡ book.old) × (keeper.new ≡ keeper.old)) }
     ensures told { IfErr result (λ r. Told None (length book.old.steps) book.old.capacity r) }
 {
+    book.facts();
     let Ok(told) = ready.step.clone() else {
         // (what it picks has no bytes, so that this can't fail)
         unreachable!();

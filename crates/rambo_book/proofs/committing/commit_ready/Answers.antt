@@ -1,4 +1,4 @@
-use Rattle.std.proofs.Common.{◌≡◌, ◌++◌, ◌∷◌, [], None, Some, OnOk, OnErr, IfOk, IfErr, length, subst}
+use Rattle.std.proofs.Common.{◌≡◌, ◌++◌, ◌∷◌, [], None, Some, OnOk, OnErr, IfOk, IfErr, ◌<◌, length, subst}
 use Rattle.rambo_run.specs.Actors.{sent_by}
 use Rattle.rambo_run.specs.Steps.{turn}
 use Rattle.rambo_run.specs.Worlds.{node_at}
@@ -22,6 +22,12 @@ pub returns-clause-legal : goal.returns-clause-legal
 returns-clause-legal g c =
     let b = c.args.book.now in
     (ready_longer g.Q.Quorums.system b.founders b.steps c.args.keeper.now c.args.ready c.facts.ensures.legal c.agree.ensures.idle (c.requires b.founders c.facts.ensures.founders)).accepted
+
+pub returns-clause-between : goal.returns-clause-between
+returns-clause-between g c = (c.agree.ensures.idle.0, c.agree.ensures.idle.1)
+
+pub returns-clause-room : goal.returns-clause-room
+returns-clause-room g c = subst (λ (b : BookView _). OnOk c.enter.result (length b.steps < b.capacity)) c.agree.ensures.same.0 c.enter.ensures.room
 
 pub returns-clause-effect : goal.returns-clause-effect
 returns-clause-effect g c =

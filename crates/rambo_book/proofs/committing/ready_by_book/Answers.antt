@@ -32,25 +32,25 @@ returns-clause-legal g c =
     let s = g.Q.Quorums.system in
     let served = served_inside s _ _ _ _ c.args.step c.book.view_is c.keeper.view_is c.requires in
     ap (λ b. refusal s (state s b) c.args.step) (sym c.book.view_is)
-    ∙ verdict c.book.invariant c.keeper.invariant c.agree.ensures.idle c.args.step served (option_copied c.letter_named-letter.result) c.as_slice.result.now c.as_slice.ensures.value c.letter_named-letter.ensures.meant
+    ∙ verdict c.book.invariant.0 c.keeper.invariant c.agree.ensures.idle c.args.step served (option_copied c.letter_named-letter.result) c.as_slice.result.now c.as_slice.ensures.value c.letter_named-letter.ensures.meant
     ∙ c.in_ok-half.ensures.judged
 
 pub returns-clause-ready : goal.returns-clause-ready
 returns-clause-ready g c =
     let s = g.Q.Quorums.system in
     let served = served_inside s _ _ _ _ c.args.step c.book.view_is c.keeper.view_is c.requires in
-    let legal = verdict c.book.invariant c.keeper.invariant c.agree.ensures.idle c.args.step served (option_copied c.letter_named-letter.result) c.as_slice.result.now c.as_slice.ensures.value c.letter_named-letter.ensures.meant ∙ c.in_ok-half.ensures.judged in
+    let legal = verdict c.book.invariant.0 c.keeper.invariant c.agree.ensures.idle c.args.step served (option_copied c.letter_named-letter.result) c.as_slice.result.now c.as_slice.ensures.value c.letter_named-letter.ensures.meant ∙ c.in_ok-half.ensures.judged in
     let letter = c.letter_named-letter.ensures.letter ∙ ap (λ ls. letter_in ls c.args.step) c.as_slice.ensures.value in
     let named = c.letter_named-letter.ensures.meant ∙ ap (λ ls. meant_in ls c.args.step) c.as_slice.ensures.value in
     subst (λ b. IsReadyIn s (state s b) (record { name = c.keeper.inside.name; node = c.ready.new.self.state; room = c.ready.new.self.room; beside = c.ready.new.self.beside; tray = c.keeper.inside.tray.items; seen = c.agree.new.keeper.1 }) (record { step = c.args.step; half = c.in_ok-half.half })) c.book.view_is
-    (ready_here c.book.invariant c.keeper.invariant c.agree.ensures.idle c.args.step served (option_copied c.letter_named-letter.result) c.in_ok-half.half c.ready.new.self c.keeper.inside.tray.items c.agree.new.keeper.1 c.ready.ensures.same letter named legal c.in_ok-half.ensures.ready)
+    (ready_here c.book.invariant.0 c.keeper.invariant c.agree.ensures.idle c.args.step served (option_copied c.letter_named-letter.result) c.in_ok-half.half c.ready.new.self c.keeper.inside.tray.items c.agree.new.keeper.1 c.ready.ensures.same letter named legal c.in_ok-half.ensures.ready)
 
 pub returns-in_err-half-clause-refused : goal.returns-in_err-half-clause-refused
 returns-in_err-half-clause-refused g c =
     let s = g.Q.Quorums.system in
     let served = served_inside s _ _ _ _ c.args.step c.book.view_is c.keeper.view_is c.requires in
     let same = ap (λ b. refusal s (state s b) c.args.step) (sym c.book.view_is)
-    ∙ verdict c.book.invariant c.keeper.invariant c.agree.ensures.idle c.args.step served (option_copied c.letter_named-letter.result) c.as_slice.result.now c.as_slice.ensures.value c.letter_named-letter.ensures.meant in
+    ∙ verdict c.book.invariant.0 c.keeper.invariant c.agree.ensures.idle c.args.step served (option_copied c.letter_named-letter.result) c.as_slice.result.now c.as_slice.ensures.value c.letter_named-letter.ensures.meant in
     err_kept c.from_residual.result (IsRefusal (refusal s (state s c.args.book.now) c.args.step)) _ c.from_residual.ensures.1 (refused_alike _ _ _ same c.in_err-half.ensures.refused)
 
 pub returns-in_err-half-clause-memory : goal.returns-in_err-half-clause-memory
@@ -58,6 +58,6 @@ returns-in_err-half-clause-memory g c =
     let s = g.Q.Quorums.system in
     let served = served_inside s _ _ _ _ c.args.step c.book.view_is c.keeper.view_is c.requires in
     let same = ap (λ b. refusal s (state s b) c.args.step) (sym c.book.view_is)
-    ∙ verdict c.book.invariant c.keeper.invariant c.agree.ensures.idle c.args.step served (option_copied c.letter_named-letter.result) c.as_slice.result.now c.as_slice.ensures.value c.letter_named-letter.ensures.meant in
+    ∙ verdict c.book.invariant.0 c.keeper.invariant c.agree.ensures.idle c.args.step served (option_copied c.letter_named-letter.result) c.as_slice.result.now c.as_slice.ensures.value c.letter_named-letter.ensures.meant in
     err_kept c.from_residual.result (λ r. r ≡ OutOfMemory → refusal s (state s c.args.book.now) c.args.step ≡ None) _ c.from_residual.ensures.1
     (λ short. same ∙ none_for_memory s c.keeper.inside.worker.state (meant_by (option_copied c.letter_named-letter.result) c.args.step) _ short c.in_err-half.ensures.refused)

@@ -1,5 +1,6 @@
-use Rattle.std.proofs.Common.{◌≡◌, sym, ap, ◌∙◌, subst}
+use Rattle.std.proofs.Common.{◌≡◌, length, sym, ap, ◌∙◌, subst, arith}
 use mathlib.Core.List.{IsPrefix}
+use Rattle.rambo_run.specs.Legal.{IsLegal}
 use Rattle.rambo_run.specs.Runs.{run}
 use Rattle.rambo_run.specs.Worlds.{node_at}
 use Rattle.rambo_node.specs.FullNodes.{FullNode}
@@ -10,14 +11,16 @@ use Rattle.rambo_book.proofs.mail.see_all.Goals as goal
 pub invariant_of-keeper : goal.invariant_of-keeper
 invariant_of-keeper g c =
     let s = g.Q.Quorums.system in
-    let b = c.book.invariant in
+    let b = c.book.invariant.0 in
     let k = c.keeper.invariant in
     let idle = c.agree.ensures.idle in
     let all : c.catch_up.new.keeper.1 ≡ c.book.inside.steps.items = ap (λ h. h.1) c.catch_up.ensures.keeper ∙ ap (λ r. r.1) c.agree.ensures.roll ∙ b.all in
     let w = c.keeper.inside.worker in
     let node : FullNode _ = record { state = w.state; stamps = w.beside.stamps; bases = w.beside.bases } in
-    kept_on s g.J.Terms.founders c.book.inside.founders c.keeper.inside.holder.0 c.catch_up.new.keeper.0 c.keeper.inside.name node node c.keeper.inside.tray.items c.keeper.inside.holder.1 c.catch_up.new.keeper.1
+    kept_on s g.J.Terms.founders g.J.Terms.capacity c.book.inside.founders c.keeper.inside.holder.0 c.catch_up.new.keeper.0 c.keeper.inside.name node node c.keeper.inside.tray.items c.keeper.inside.holder.1 c.catch_up.new.keeper.1
     b.founded k (ap (λ h. h.0) c.catch_up.ensures.keeper ∙ ap (λ h. h.0) c.agree.ensures.keeper)
     (subst (IsPrefix c.keeper.inside.holder.1) (sym all) (begun _ _ _ _ _ _ _ _ _ _ _ _ _ _ _ b k idle))
+    (subst (IsLegal s c.book.inside.founders) (sym all) b.legal)
+    (omega (arith, ap length all, b.fits, b.terms))
     (ap (λ l. node_at (run s c.book.inside.founders l) c.keeper.inside.name) all ∙ still _ _ _ _ _ _ _ _ _ _ _ _ _ _ _ b k idle)
     (ap (λ l. full_at s c.book.inside.founders l c.keeper.inside.name) all ∙ still_full _ _ _ _ _ _ _ _ _ _ _ _ _ _ _ b k idle)

@@ -5,4 +5,4 @@ abbrev pub ghosts-serve_named-J-Naming : goal.ghosts-serve_named-J-Naming
 ghosts-serve_named-J-Naming g a = record { table = a.opened }
 
 abbrev pub ghosts-serve_named-J-Terms : goal.ghosts-serve_named-J-Terms
-ghosts-serve_named-J-Terms g a = record { founders = Some a.founders; capacity = a.steps }
+ghosts-serve_named-J-Terms g a = record { founders = Some a.founders; capacity = a.steps; lose = a.options.now.lose; twice = a.options.now.twice }

@@ -12,6 +12,15 @@ use Rattle.rambo_pass.proofs.answer.take_in.Goals as goal
 pub returns-in_err-answer-clause-cause : goal.returns-in_err-answer-clause-cause
 returns-in_err-answer-clause-cause g c = err_kept c.from_residual.result _ _ c.from_residual.ensures.1 (refused_so c.in_err-answer.ensures.err c.in_err-answer.ensures.cause)
 
+pub returns-in_err-answer-clause-answered : goal.returns-in_err-answer-clause-answered
+returns-in_err-answer-clause-answered g c = err_kept c.from_residual.result _ _ c.from_residual.ensures.1 c.in_err-answer.ensures.answered
+
+pub returns-in-Some-clause-going : goal.returns-in-Some-clause-going
+returns-in-Some-clause-going g c = λ none. absurd cc
+
+pub returns-then-stopped-clause-answered : goal.returns-then-stopped-clause-answered
+returns-then-stopped-clause-answered g c = λ short. absurd cc
+
 pub returns-in-Some-clause-legal : goal.returns-in-Some-clause-legal
 returns-in-Some-clause-legal g c =
     let after = c.take_given.new.pass in
@@ -34,7 +43,8 @@ returns-then-stopped-clause-cause g c =
     let begins = subst (λ (v : PassView _). IsPrefix v.seen after.seen) stays (subst (IsPrefix given.seen) (sym seen) c.see_all.ensures.begins) in
     let none = sym c.in_ok-answer.ensures.answer ∙ c.in_default.is in
     let there = subst (λ n. node_at (state s now) n ≡ Some x) c.requires (subst (λ b. node_at (state s b) c.args.keeper.now.name ≡ Some x) c.take_given.ensures.book c.has_stopped-stopped.ensures.node) in
-    inr (inr (refl, all, begins, none, (x, (there, sym c.has_stopped-stopped.ensures.stopped ∙ c.if-stopped.true))))
+    let noted = c.in_ok-answer.ensures.mine in
+    inr (inr (refl, (noted.0, noted.1.0), all, begins, none, (x, (there, sym c.has_stopped-stopped.ensures.stopped ∙ c.if-stopped.true))))
 
 pub returns-clause-begins : goal.returns-clause-begins
 returns-clause-begins g c =
@@ -42,6 +52,14 @@ returns-clause-begins g c =
     let after = c.see_all.new.self in
     let stays = subst (λ a. MatchOption a (given ≡ c.args.pass.now) (λ _. given.seen ≡ c.args.book.now.steps)) c.in_default.is c.in_ok-answer.ensures.seen in
     subst (λ (v : PassView _). IsPrefix v.seen after.seen) stays (subst (IsPrefix given.seen) (sym (ap (λ (v : PassView _). v.seen) c.see_all.ensures.pass)) c.see_all.ensures.begins)
+
+pub returns-clause-going : goal.returns-clause-going
+returns-clause-going g c = λ none.
+    let s = g.Q.Quorums.system in
+    let now = c.args.book.now in
+    let x = c.args.keeper.now.node in
+    let there = subst (λ n. node_at (state s now) n ≡ Some x) c.requires (subst (λ b. node_at (state s b) c.args.keeper.now.name ≡ Some x) c.take_given.ensures.book c.has_stopped-stopped.ensures.node) in
+    (x, (there, sym c.has_stopped-stopped.ensures.stopped ∙ c.if-stopped.false))
 
 pub returns-clause-legal : goal.returns-clause-legal
 returns-clause-legal g c =

@@ -29,10 +29,10 @@ returns-in_default-clause-memory g c = λ is. absurd (c.in_default.not-OutOfMemo
 pub returns-in_default-clause-cause : goal.returns-in_default-clause-cause
 returns-in_default-clause-cause g c = λ st half.
     let s = g.Q.Quorums.system in
-    inr (
-      c.show.ensures.seen ∙ ap (λ (b : BookView _). b.steps) (c.in-Err.ensures.same ∙ c.begun-place.ensures.book),
-      subst (λ b. Told (refusal s (state s b) st) (length b.steps) b.capacity c.in-Err.cause) c.begun-place.ensures.book (c.in-Err.ensures.told st half),
-    )
+    subst (λ b. Told (refusal s (state s b) st) (length b.steps) b.capacity c.in-Err.cause) c.begun-place.ensures.book (c.in-Err.ensures.told st half)
+
+pub returns-in_default-clause-shown : goal.returns-in_default-clause-shown
+returns-in_default-clause-shown g c = inr (c.show.ensures.seen ∙ ap (λ (b : BookView _). b.steps) (c.in-Err.ensures.same ∙ c.begun-place.ensures.book))
 
 pub returns-clause-begins : goal.returns-clause-begins
 returns-clause-begins g c =
@@ -65,7 +65,12 @@ pub returns-clause-mine : goal.returns-clause-mine
 returns-clause-mine g c = c.note_call.ensures ∙ λ i. mine_with ((c.in-Ok.ensures.mine ∙ ap (λ (v : PassView _). v.mine) c.pass.view_is) i) (c.begun-place.ensures.count i) c.in-Ok.effect
 
 pub returns-in-OutOfMemory-clause-cause : goal.returns-in-OutOfMemory-clause-cause
-returns-in-OutOfMemory-clause-cause g c = λ st half. inl c.in-OutOfMemory.is
+returns-in-OutOfMemory-clause-cause g c = λ st half.
+    let s = g.Q.Quorums.system in
+    subst (λ b. Told (refusal s (state s b) st) (length b.steps) b.capacity c.in-Err.cause) c.begun-place.ensures.book (c.in-Err.ensures.told st half)
+
+pub returns-in-OutOfMemory-clause-shown : goal.returns-in-OutOfMemory-clause-shown
+returns-in-OutOfMemory-clause-shown g c = inl c.in-OutOfMemory.is
 
 pub finish_in-requires : goal.finish_in-requires
 finish_in-requires g c = assumption

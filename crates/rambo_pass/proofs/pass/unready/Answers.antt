@@ -17,7 +17,7 @@ returns-in-OutOfMemory-clause-told g c = λ st named half.
     let founded = c.facts.ensures.founders ∙ ap (λ (b : BookView _). Some b.founders) c.agree.ensures.same.0 in
     let here = subst (λ k. node_at (run s f k.seen) k.name ≡ Some k.node) c.agree.ensures.same.1 (c.facts-2.ensures.node f founded) in
     told_memory s w (state s b) k.name k.node here c.agree.ensures.node st named c.no_room.result (length b.steps) b.capacity (subst (IsRefusal (refusal s w st)) c.in-OutOfMemory.is (half f founded))
-    (subst (λ (b : BookView _). Told None (length b.steps) b.capacity c.no_room.result) c.agree.ensures.same.0 c.no_room.ensures)
+    (subst (λ (b : BookView _). Told None (length b.steps) b.capacity c.no_room.result) c.agree.ensures.same.0 c.no_room.ensures.told)
 
 pub returns-in_default-clause-told : goal.returns-in_default-clause-told
 returns-in_default-clause-told g c = λ st named half.

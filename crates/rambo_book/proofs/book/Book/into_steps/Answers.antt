@@ -4,7 +4,7 @@ use Rattle.rambo_book.specs.Kept.{BookView}
 use Rattle.rambo_book.proofs.book.Book.into_steps.Goals as goal
 
 pub returns-clause-legal : goal.returns-clause-legal
-returns-clause-legal g c = subst (λ (b : BookView _). IsLegal g.Q.Quorums.system b.founders c.self.inside.steps.items) c.self.view_is c.self.invariant.legal
+returns-clause-legal g c = subst (λ (b : BookView _). IsLegal g.Q.Quorums.system b.founders c.self.inside.steps.items) c.self.view_is c.self.invariant.0.legal
 
 pub returns-clause-fits : goal.returns-clause-fits
-returns-clause-fits g c = omega (arith, c.self.invariant.fits, c.self.invariant.terms)
+returns-clause-fits g c = omega (arith, c.self.invariant.0.fits, c.self.invariant.0.terms)

@@ -9,14 +9,14 @@ pub one_order-requires : goal.one_order-requires
 one_order-requires g c =
     let b = c.self.inside in
     let ss = c.as_slice-2.ensures.value ∙ c.in_ok-sequences.ensures.given ∙ ap (sequences_of b.history.events) c.as_slice.ensures.value in
-    once g.Q.Quorums.system g.met.Q.Quorums.sound b.founders b.steps.items b.history.events b.marks.items c.self.invariant.told c.self.invariant.marked c.as_slice-2.result.now ss
+    once g.Q.Quorums.system g.met.Q.Quorums.sound b.founders b.steps.items b.history.events b.marks.items c.self.invariant.0.told c.self.invariant.0.marked c.as_slice-2.result.now ss
 
 pub returns-clause-given : goal.returns-clause-given
 returns-clause-given g c =
     let s = g.Q.Quorums.system in
     let b = c.self.inside in
     let ss = c.as_slice-2.ensures.value ∙ c.in_ok-sequences.ensures.given ∙ ap (sequences_of b.history.events) c.as_slice.ensures.value in
-    let is = order_is s g.met.Q.Quorums.sound b.founders b.steps.items b.history.events b.marks.items c.self.invariant.told c.self.invariant.marked c.as_slice-2.result.now ss in
+    let is = order_is s g.met.Q.Quorums.sound b.founders b.steps.items b.history.events b.marks.items c.self.invariant.0.told c.self.invariant.0.marked c.as_slice-2.result.now ss in
     subst (λ l. IfOk c.one_order.result (λ o. o.items ≡ l)) (is ∙ ap (λ b. given_order (state s b)) c.self.view_is) c.one_order.ensures.given
 
 pub returns-clause-explained : goal.returns-clause-explained

@@ -1,10 +1,11 @@
-use Rattle.std.proofs.Common.{◌≡◌, ℕ, List, Some, All, sym, ap, ◌∙◌, subst}
+use Rattle.std.proofs.Common.{◌≡◌, ◌≤◌, ℕ, List, length, Some, All, sym, ap, ◌∙◌, subst}
 use Rattle.std.specs.FinMap as copies
 use Rattle.rambo_names.specs.Names.{IsName}
 use Rattle.rambo_names.specs.Quorums.{QuorumSystem}
 use Rattle.rambo_tag.specs.declared.version.Version.{Version}
 use Rattle.rambo_node.specs.FullNodes.{FullNode, full}
 use Rattle.rambo_node.specs.Nodes.{NodeState, heard_from}
+use Rattle.rambo_run.specs.Legal.{IsLegal}
 use Rattle.rambo_run.specs.Runs.{run}
 use Rattle.rambo_run.specs.Worlds.{node_at}
 use Rattle.rambo_deltas.specs.Bases.{IsLastChange}
@@ -18,6 +19,12 @@ use Rattle.rambo_run.proofs.NodeLists.{nodes_count}
 use Rattle.rambo_run.proofs.Replays.{replays}
 use Rattle.rambo_book.proofs.Firsts.{is_named}
 use Rattle.rambo_book.proofs.keeper.Keeper.facts.Goals as goal
+
+pub returns-clause-legal : goal.returns-clause-legal
+returns-clause-legal g c = λ f e. subst (λ (v : KeeperView _). IsLegal g.Q.Quorums.system f v.seen) c.self.view_is (c.self.invariant.legal f e)
+
+pub returns-clause-fits : goal.returns-clause-fits
+returns-clause-fits g c = subst (λ (v : KeeperView _). length v.seen ≤ g.J.Terms.capacity) c.self.view_is c.self.invariant.fits
 
 pub returns-clause-node : goal.returns-clause-node
 returns-clause-node g c = λ f e. subst (λ (v : KeeperView _). node_at (run g.Q.Quorums.system f v.seen) v.name ≡ Some v.node) c.self.view_is (c.self.invariant.replays f e)

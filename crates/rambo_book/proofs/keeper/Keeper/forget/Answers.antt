@@ -11,6 +11,8 @@ invariant_of-self g c =
     let k = c.self.invariant in
     record {
       named = k.named;
+      legal = k.legal;
+      fits = k.fits;
       replays = k.replays;
       full = k.full;
       mail = λ f e.

@@ -17,5 +17,5 @@ invariant_of-result g c =
     let worker = c.new-2.result in
     let state = ap (λ (v : RoomyNode _). v.state) c.new-2.ensures ∙ c.new.ensures.state in
     let beside = ap (λ (v : RoomyNode _). v.beside) c.new-2.ensures ∙ c.new.ensures.beside in
-    first_keeper g.Q.Quorums.system g.J.Terms.founders c.args.founders c.args.holder.0 c.args.name (record { state = worker.state; stamps = worker.beside.stamps; bases = worker.beside.bases }) c.new-3.result.items c.args.holder.1
+    first_keeper g.Q.Quorums.system g.J.Terms.founders g.J.Terms.capacity c.args.founders c.args.holder.0 c.args.name (record { state = worker.state; stamps = worker.beside.stamps; bases = worker.beside.bases }) c.new-3.result.items c.args.holder.1
     c.requires.founders c.requires.named (ap (λ h. h.0) c.requires.holder) (λ i. record { state = state i; stamps = (beside i).stamps; bases = (beside i).bases }) c.new-3.ensures.items (ap (λ h. h.1) c.requires.holder)

@@ -33,7 +33,7 @@ returns-in_default-clause-acted g c =
 pub returns-in_default-clause-cause : goal.returns-in_default-clause-cause
 returns-in_default-clause-cause g c =
     let h = c.act_in.ensures in
-    caused g.Q.Quorums.system g.J.Terms.founders g.J.Terms.capacity c.deref_mut.result.now c.act_in.result c.act_in.new.pass.seen c.args.step h.terms.0 h.terms.1 h.cause
+    caused g.Q.Quorums.system g.J.Terms.founders g.J.Terms.capacity c.deref_mut.result.now c.args.pass.now c.act_in.new.pass c.args.step h.terms.0 h.terms.1 h.between h.before c.act_in.result h.cause h.shown
 
 pub keeper_of-keeper-requires : goal.keeper_of-keeper-requires
 keeper_of-keeper-requires g c = let post = c.requires-raw.1.1.1.1 in (post, back_fits _ _ _ (up_fits _ _ _ (back_fits _ _ _ (up_fits _ _ _ (variant_fits _ _ _ _ (back_fits _ _ _ (up_fits _ _ _ post)))))))
@@ -66,4 +66,4 @@ returns-clause-cause g c =
     let name = ap (λ (k : KeeperView _). k.name) c.deref_mut-2.ensures.value ∙ c.keeper_of-keeper.ensures in
     let half = half_of g.Q.Quorums.system g.J.Terms.founders c.deref_mut-2.result.now c.ready-half.new.keeper c.args.step c.ready-half.result c.ready-half.ensures.same (named ∙ ap Some (sym name)) c.ready-half.ensures.step c.ready-half.ensures.refused in
     let here = subst (λ k. IsHalf g.Q.Quorums.system g.J.Terms.founders k c.args.step c.ready-half.result) (sym c.deref_mut-4.ensures.value) half in
-    caused g.Q.Quorums.system g.J.Terms.founders g.J.Terms.capacity c.deref_mut-3.result.now c.act_ready_in.result c.act_ready_in.new.pass.seen c.args.step h.terms.0 h.terms.1 (h.cause c.args.step here)
+    caused g.Q.Quorums.system g.J.Terms.founders g.J.Terms.capacity c.deref_mut-3.result.now c.args.pass.now c.act_ready_in.new.pass c.args.step h.terms.0 h.terms.1 h.between h.before c.act_ready_in.result (h.cause c.args.step here) h.shown

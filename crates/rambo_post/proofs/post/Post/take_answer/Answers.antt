@@ -6,11 +6,11 @@ use Rattle.rambo_history.specs.Histories.{answer_in}
 use Rattle.rambo_run.specs.Runs.{run}
 use Rattle.rambo_run.specs.Legal.{IsLegal}
 use Rattle.rambo_pass.specs.Passes.{PassView, IsNoted, WhyNot}
-use Rattle.rambo_pass.proofs.Taken.{why_ungiven}
+use Rattle.rambo_pass.proofs.Taken.{why_not_given}
 use Rattle.rambo_post.proofs.post.Post.take_answer.Goals as goal
 
 pub returns-in_err-answer-clause-cause : goal.returns-in_err-answer-clause-cause
-returns-in_err-answer-clause-cause g c = err_kept c.from_residual.result _ _ c.from_residual.ensures.1 (λ f e. why_ungiven g.Q.Quorums.system f c.in_err-answer.ensures.err c.in_err-answer.ensures.cause)
+returns-in_err-answer-clause-cause g c = err_kept c.from_residual.result _ _ c.from_residual.ensures.1 (λ f e. why_not_given g.Q.Quorums.system f c.in_err-answer.ensures.err (c.in_err-answer.ensures.cause f e))
 
 pub returns-in-Some-clause-legal : goal.returns-in-Some-clause-legal
 returns-in-Some-clause-legal g c =
@@ -25,6 +25,9 @@ returns-in-Some-clause-answer g c =
     let after = c.given.new.pass in
     let told = subst (λ a. MatchOption a (after ≡ c.args.pass.now) (λ b. (f : g.row.Q.Denot) → g.J.Terms.founders ≡ Some f → IsLegal s f after.seen × (answer_in (run s f after.seen).history c.args.id ≡ Some b))) c.in-Some.is c.in_ok-answer.ensures.given in
     λ f e. sym (told f e).1
+
+pub returns-in-Some-clause-going : goal.returns-in-Some-clause-going
+returns-in-Some-clause-going g c = λ f e none. absurd cc
 
 pub returns-in-Some-clause-mine : goal.returns-in-Some-clause-mine
 returns-in-Some-clause-mine g c = subst (λ a. IsNoted c.args.pass.now.mine c.args.id a c.given.new.pass.mine) c.in-Some.is c.in_ok-answer.ensures.mine

@@ -1,7 +1,7 @@
 use Rattle.std.proofs.Common.{ap, ◌∙◌}
 use Rattle.rambo_names.proofs.Sizes.{up_fits, back_fits, variant_fits}
 use Rattle.rambo_book.specs.Kept.{KeeperView}
-use Rattle.rambo_pass.proofs.Taken.{legal_of, answer_of, why_not}
+use Rattle.rambo_pass.proofs.Taken.{legal_of, answer_of, going_of, why_not}
 use Rattle.rambo_post.proofs.post.Post.ungiven.Goals as goal
 
 pub keeper_of-keeper-requires : goal.keeper_of-keeper-requires
@@ -20,4 +20,7 @@ pub returns-clause-answer : goal.returns-clause-answer
 returns-clause-answer g c = answer_of g.Q.Quorums.system g.J.Terms.founders c.deref_mut.result.now c.args.pass.now c.take_in.new.pass c.args.id c.take_in.ensures.founders c.take_in.result c.take_in.ensures.seen c.take_in.ensures.answer
 
 pub returns-clause-cause : goal.returns-clause-cause
-returns-clause-cause g c = why_not g.Q.Quorums.system g.J.Terms.founders c.deref_mut.result.now c.args.pass.now c.take_in.new.pass c.args.id c.take_in.ensures.founders c.take_in.result c.take_in.ensures.cause
+returns-clause-cause g c = why_not g.Q.Quorums.system g.J.Terms.founders c.deref_mut.result.now c.args.pass.now c.take_in.new.pass c.args.id c.take_in.ensures.founders c.take_in.result c.take_in.ensures.before c.take_in.ensures.answered c.take_in.ensures.cause
+
+pub returns-clause-going : goal.returns-clause-going
+returns-clause-going g c = going_of g.Q.Quorums.system g.J.Terms.founders c.deref_mut.result.now c.args.pass.now c.take_in.new.pass c.args.id c.take_in.ensures.founders c.take_in.result c.take_in.ensures.seen c.take_in.ensures.going

@@ -4,6 +4,7 @@ use Rattle.rambo_names.specs.declared.refusal.Refusal.TheVariants.{OutOfMemory}
 use Rattle.rambo_names.specs.Names.{IsName}
 use Rattle.rambo_names.specs.Refusals.{IsRefusal}
 use Rattle.rambo_names.proofs.Sizes.{up_fits, back_fits, variant_fits}
+use Rattle.rambo_mail.specs.Waiting.{MailState}
 use Rattle.rambo_post.proofs.post.Post.with_mail.Goals as goal
 
 pub drop-keepers-requires-room-T-Destruct : goal.drop-keepers-requires-room-T-Destruct
@@ -37,7 +38,13 @@ loop-place-preserved g c = record {
 }
 
 pub new-requires-2 : goal.new-requires-2
-new-requires-2 g c = record { roll = ap (λ r. r.1) c.loop-place.invariant.made; founders = c.requires.founders; capacity = c.requires.capacity }
+new-requires-2 g c = record {
+  roll = ap (λ r. r.1) c.loop-place.invariant.made;
+  founders = c.requires.founders;
+  capacity = c.requires.capacity;
+  lose = ap (λ (m : MailState). m.lose) c.in_ok-mails.ensures.none ∙ c.requires.lose;
+  twice = ap (λ (m : MailState). m.twice) c.in_ok-mails.ensures.none ∙ c.requires.twice;
+}
 
 pub invariant_of-result : goal.invariant_of-result
 invariant_of-result g c = record { names = omega (arith, c.loop-place.invariant.each, c.loop-place-test.false, c.loop-place.auto.place-end) }
