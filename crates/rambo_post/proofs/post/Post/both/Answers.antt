@@ -21,7 +21,7 @@ pub returns-then-serves : goal.returns-then-serves
 returns-then-serves g c =
     let s = g.Q.Quorums.system in
     subst (IsServedBy (state s (mutex_guard_value c.lock-book.result)) c.args.step.now) (c.name.ensures ∙ ap (λ (k : KeeperView _). k.name) c.deref-in-loop-2.ensures)
-    (subst (λ b. IsServedBy (state s b) c.args.step.now c.name.result) c.deref-in-loop.ensures (c.serves.ensures c.if-serves.true))
+    (subst (λ b. IsServedBy (state s b) c.args.step.now c.name.result) c.deref-in-loop.ensures (c.serves.ensures.served c.if-serves.true))
 
 pub index-requires : goal.index-requires
 index-requires g c = omega arith

@@ -14,6 +14,9 @@ keeper_of-keeper-requires g c = let post = c.requires-raw.1.1.1.1.1.1 in (post, 
 pub begin-begun-requires : goal.begin-begun-requires
 begin-begun-requires g c = let post = c.requires-raw.1.1.1.1.1.1 in (post, back_fits _ _ _ (up_fits _ _ _ (back_fits _ _ _ (up_fits _ _ _ (variant_fits _ _ _ _ (back_fits _ _ _ (up_fits _ _ _ post)))))))
 
+pub facts-requires : goal.facts-requires
+facts-requires g c = let post = c.requires-raw.1.1.1.1.1.1 in back_fits _ _ _ (up_fits _ _ _ (back_fits _ _ _ (up_fits _ _ _ (variant_fits _ _ _ _ (back_fits _ _ _ (up_fits _ _ _ post))))))
+
 pub ready_next-requires : goal.ready_next-requires
 ready_next-requires g c = let post = c.requires-raw.1.1.1.1.1.1 in back_fits _ _ _ (up_fits _ _ _ (back_fits _ _ _ (up_fits _ _ _ (variant_fits _ _ _ _ (back_fits _ _ _ (up_fits _ _ _ post))))))
 
@@ -49,7 +52,7 @@ returns-in_default-clause-cause g c =
     let b = c.no_room.ensures in
     let it = c.in_default.ensures.something in
     let something = something_then s agreed most name k named h.legal h.fits h.node h.tray it.0 (λ f is. it.1 f is ∙ ap (next_of s f) (sym same)) in
-    held s agreed most c.deref-2.result.now b.founders b.capacity b.legal name c.no_room.result b.told something
+    held s agreed most c.deref-in_default.result.now b.founders b.capacity b.legal name c.no_room.result b.told something
 
 pub returns-in_default-next-clause-told : goal.returns-in_default-next-clause-told
 returns-in_default-next-clause-told g c =
