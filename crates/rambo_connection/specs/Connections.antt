@@ -80,6 +80,10 @@ Settles command r c d =
     ((asked : ServerRequest) × Asks command asked × (own_reply asked ≡ Some r) × (d ≡ settled asked (replied r c)))
     ⊎ ((r ≡ no_memory) × (d ≡ owing OutOfMemory c))
 
+-- another node is used, or there was no memory for the reply to that
+abbrev pub Using : ℕ → ConnectionState → ConnectionState → Type 0
+Using node c d = (d ≡ record (replied reply.Ok c) { node = node }) ⊎ (d ≡ owing OutOfMemory c)
+
 -- a command asks the server for this
 abbrev pub AsksServer : List (List ℕ) → ServerRequest → Type 0
 AsksServer command asked = Asks command asked × (own_reply asked ≡ None)

@@ -1,6 +1,7 @@
 -- What happens to a connection
 use Rattle.std.specs.Prelude.{◌≡◌, ◌≢◌, ◌⊎◌, ℕ, ◌≤◌, Bool, true, false, List, ◌++◌, length, Option, None, Some, Ok, Err}
 use Rattle.rambo_names.specs.declared.refusal.Refusal.{Refusal}
+use Rattle.rambo_names.specs.declared.refusal.Refusal.TheVariants.{OutOfMemory}
 use Rattle.rambo_resp.specs.declared.fault.Fault.{Fault}
 use Rattle.rambo_resp.specs.declared.reply.Reply.{Reply}
 use Rattle.rambo_resp.specs.declared.reply.Reply.TheVariants as reply
@@ -12,7 +13,7 @@ use Rattle.rambo_commands.specs.declared.server_request.ServerRequest.TheVariant
 use Rattle.rambo_connection.specs.declared.next.Next.{Next}
 use Rattle.rambo_connection.specs.declared.next.Next.TheVariants as next
 use Rattle.rambo_connection.specs.Incoming.{Feeds}
-use Rattle.rambo_connection.specs.Connections.{ConnectionState, IsFree, Tells, Settles, AsksServer, replied, no_memory, next_taken, faulted}
+use Rattle.rambo_connection.specs.Connections.{ConnectionState, IsFree, Tells, Settles, AsksServer, replied, owing, no_memory, next_taken, faulted}
 
 -- a piece comes; the server is asked for a command; a command is replied to by the connection itself; the reply to the
 -- command under way comes; a refusal that was owed is put; the fault of the stream is told; bytes are written
@@ -47,6 +48,14 @@ Goes next.Replied c d = (((command : List (List ℕ)) × (r : Reply) × Happens 
 Goes next.Waits c d = IsWaiting c × (c.ended ≡ false) × (d ≡ c)
 Goes next.Ends c d = ((c.ended ≡ true) × (d ≡ c)) ⊎ ((fault : Fault) × Happens (Faulted fault) c d)
 Goes next.EndsAll c d = (command : List (List ℕ)) × Asks command Shutdown × Happens (Settled command reply.Ok) c d × (d.ended ≡ true)
+
+-- all ends, or there was no memory for the reply to that
+abbrev pub EndingAll : Next → ConnectionState → ConnectionState → Type 0
+EndingAll (next.Asks asked) c d = ⊥
+EndingAll next.Replied c d = d ≡ owing OutOfMemory c
+EndingAll next.Waits c d = ⊥
+EndingAll next.Ends c d = ⊥
+EndingAll next.EndsAll c d = d ≡ record (replied reply.Ok c) { ended = true }
 
 -- what is done with a command that was taken out
 abbrev pub TakesOn : List (List ℕ) → Next → ConnectionState → ConnectionState → Type 0

@@ -1,9 +1,9 @@
 //! Connections.
-ghost use Rattle.std.specs.Prelude.{◌≡◌, false, take, drop, IfOk, IfErr, OnErr};
+ghost use Rattle.std.specs.Prelude.{◌≡◌, Some, false, take, drop, IfOk, IfErr, OnErr};
 ghost use Rattle.std.specs.Bool.{OnTrue, OnFalse};
 ghost use Rattle.std.specs.Option.{is_some};
-ghost use Rattle.rambo_connection.specs.Connections.{IsFree, fresh, replied, owing, wants_input};
-ghost use Rattle.rambo_connection.specs.Events.{Fed, Written, Happens, Goes, TakesOn, Answers, Refuses};
+ghost use Rattle.rambo_connection.specs.Connections.{IsFree, Using, fresh, replied, owing, wants_input};
+ghost use Rattle.rambo_connection.specs.Events.{Fed, Written, Happens, Goes, TakesOn, EndingAll, Answers, Refuses};
 
 use crate::incoming::Incoming;
 use crate::next::Next;
@@ -137,32 +137,55 @@ impl Connection {
         requires goes_on { self.old.ended ≡ false }
         ensures { TakesOn command result self.old self.new }
     {
-        match ServerRequest::of(self.alloc, &command) {
-            Ok(ServerRequest::Common(Request::Says(reply))) => {
-                self.say(&reply);
-                Next::Replied
-            }
-            Ok(ServerRequest::Use(node)) => {
-                if self.say(&Reply::Ok) {
-                    self.node = node;
+        let Ok(request) = ServerRequest::of(self.alloc, &command) else {
+            self.owed = Some(Refusal::OutOfMemory);
+            return Next::Replied;
+        };
+        match &request {
+            ServerRequest::Common(common) => match common {
+                Request::Says(words) => {
+                    self.say(words);
+                    Next::Replied
                 }
+                Request::Does(_) => self.ask(command, request),
+            },
+            ServerRequest::Use(node) => {
+                self.use_node(*node);
                 Next::Replied
             }
-            Ok(ServerRequest::Shutdown) => {
-                if !self.say(&Reply::Ok) {
-                    return Next::Replied;
-                }
-                self.ended = true;
-                Next::EndsAll
-            }
-            Ok(request) => {
-                self.under_way = Some(command);
-                Next::Asks(request)
-            }
-            Err(_) => {
-                self.owed = Some(Refusal::OutOfMemory);
-                Next::Replied
-            }
+            ServerRequest::Shutdown => self.end_all(),
+            _ => self.ask(command, request),
+        }
+    }
+
+    // The server is asked for a command.
+    fn ask(&mut self, command: Command, request: ServerRequest) -> Next
+        ensures asks { result ≡ Next.Asks request }
+        ensures under_way { self.new ≡ record self.old { under_way = Some command } }
+    {
+        self.under_way = Some(command);
+        Next::Asks(request)
+    }
+
+    // Uses another node, and tells that.
+    fn use_node(&mut self, node: Name)
+        ensures { Using node self.old self.new }
+    {
+        if self.say(&Reply::Ok) {
+            self.node = node;
+        }
+    }
+
+    // Ends, and tells that.
+    fn end_all(&mut self) -> Next
+        requires { self.old.ended ≡ false }
+        ensures { EndingAll result self.old self.new }
+    {
+        if self.say(&Reply::Ok) {
+            self.ended = true;
+            Next::EndsAll
+        } else {
+            Next::Replied
         }
     }
 
