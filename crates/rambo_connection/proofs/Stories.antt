@@ -20,7 +20,7 @@ use Rattle.rambo_commands.proofs.OneRequest.{one_request}
 use Rattle.rambo_connection.specs.Incoming.{Feeds}
 use Rattle.rambo_connection.specs.Connections.{ConnectionState, fresh, replied, owing, Tells, no_memory, next_taken, IsFree, own_reply, settled, Settles, AsksServer, faulted}
 use Rattle.rambo_connection.specs.Events.{Event, Fed, Begun, Settled, Answered, Paid, Faulted, Written, Happens}
-use Rattle.rambo_connection.specs.Laws.{Happen, Exchange, command_of, Story, no_story, exchanged, told_on, story_of, reply_text, fault_text, text_of, owed_text, AreFirst, HasOwnReply, InOrder, RepliesInOrder}
+use Rattle.rambo_connection.specs.Laws.{Happen, Exchange, command_of, Story, no_story, exchanged, told_on, story_of, reply_text, fault_text, text_of, owed_text, AreFirst, HasOwnReply, InOrder, RepliesInOrder, NothingBehindTheEnd}
 use Rattle.rambo_connection.proofs.Standing.{StandsBehind, stands_fed, stands_next, stands_first, nothing_stands}
 
 -- a command under way is one that the server is asked for, and nothing is owed meanwhile
@@ -277,3 +277,35 @@ in_order_of s c h = record {
 
 pub in_order : RepliesInOrder
 in_order node es c e = in_order_of (story_of es) c (events es no_story (fresh node) c (holds_at_first node) e)
+
+-- ---- the end
+is_over : (under_way : Option (List (List ℕ))) (owed : Option Refusal) (ended : Bool) → Stays under_way owed ended → ended ≡ true → under_way ≡ None
+is_over None owed ended h is = refl
+is_over (Some command) owed ended h is = let u : IsUnderWay command owed ended = h in let e : ended ≡ false = u.goes_on in cc
+
+-- a connection that has ended, and what was told
+record IsOver (s t : Story) (c : ConnectionState) : Type 0 where
+  pub ended : c.ended ≡ true
+  pub idle : c.under_way ≡ None
+  pub same : text_of t ≡ text_of s
+
+not_free : (c : ConnectionState) → IsFree c → c.ended ≡ true → ⊥
+not_free c free is = let e : c.ended ≡ false = free.goes_on in cc
+
+over_still : (s t : Story) (e : Event) (c d : ConnectionState) → IsOver s t c → Happens e c d → IsOver s (told_on t e) d
+over_still s t (Fed piece) c d o h = record { ended = ap (λ (x : ConnectionState). x.ended) h.1 ∙ o.ended; idle = ap (λ (x : ConnectionState). x.under_way) h.1 ∙ o.idle; same = o.same }
+over_still s t (Begun command) c d o h = absurd (not_free c h.0 o.ended)
+over_still s t (Settled command r) c d o h = absurd (not_free c h.0 o.ended)
+over_still s t (Answered command r) c d o h = let e : Some command ≡ None = sym h.0 ∙ o.idle in cc
+over_still s t Paid c d o h = record { ended = ap (λ (x : ConnectionState). x.ended) h.2 ∙ o.ended; idle = ap (λ (x : ConnectionState). x.under_way) h.2 ∙ o.idle; same = o.same }
+over_still s t (Faulted fault) c d o h = absurd (not_free c h.0 o.ended)
+over_still s t (Written bytes) c d o h = record { ended = ap (λ (x : ConnectionState). x.ended) h.1 ∙ o.ended; idle = ap (λ (x : ConnectionState). x.under_way) h.1 ∙ o.idle; same = o.same }
+
+all_over : (es : List Event) (s t : Story) (c d : ConnectionState) → IsOver s t c → Happen es c d → IsOver s (fold told_on t es) d
+all_over [] s t c d o h = subst (IsOver s t) (sym h) o
+all_over (e ∷ es) s t c d o h = all_over es s (told_on t e) h.0 d (over_still s t e c h.0 o h.1) h.2
+
+pub nothing_behind : NothingBehindTheEnd
+nothing_behind node before later c d first is h =
+    let k : HoldsOf (story_of before) c = events before no_story (fresh node) c (holds_at_first node) first in
+    let o = all_over later (story_of before) (story_of before) c d (record { ended = is; idle = is_over c.under_way c.owed c.ended k.stays is; same = refl }) h in (o.idle, o.same)

@@ -1,5 +1,5 @@
 -- The replies to the commands of a connection, in their order
-use Rattle.std.specs.Prelude.{◌≡◌, ◌⊎◌, ℕ, List, [], ◌∷◌, ◌++◌, fold, map, flat_map, Option, None, Some, option_to_list}
+use Rattle.std.specs.Prelude.{◌≡◌, ◌⊎◌, ℕ, true, List, [], ◌∷◌, ◌++◌, fold, map, flat_map, Option, None, Some, option_to_list}
 use Rattle.std.specs.List.{AllByRecursion}
 use Rattle.rambo_names.specs.declared.refusal.Refusal.{Refusal}
 use Rattle.rambo_resp.specs.declared.fault.Fault.{Fault}
@@ -86,3 +86,8 @@ pub record InOrder (s : Story) (c : ConnectionState) : Type 0 where
 -- so it is of every connection, whatever happens
 abbrev pub RepliesInOrder : Type 0
 RepliesInOrder = (node : ℕ) (es : List Event) (c : ConnectionState) → Happen es (fresh node) c → InOrder (story_of es) c
+
+-- once a connection ends, no command is taken on or replied to, and no fault is told, whatever happens
+abbrev pub NothingBehindTheEnd : Type 0
+NothingBehindTheEnd = (node : ℕ) (before later : List Event) (c d : ConnectionState) → Happen before (fresh node) c → c.ended ≡ true → Happen later c d
+    → (d.under_way ≡ None) × (text_of (fold told_on (story_of before) later) ≡ text_of (story_of before))
