@@ -1,8 +1,7 @@
 -- The commands that were taken, and those that wait, are the first of the stream
-use Rattle.std.proofs.Common.{◌≡◌, ◌⊎◌, ℕ, ◌+◌, ◌≤◌, List, [], ◌∷◌, ◌++◌, length, drop, Option, Some, None, Result, Ok, Err, inl, inr, refl, sym, ap, ◌∙◌, subst, arith, append_assoc, append-nil}
+use Rattle.std.proofs.Common.{◌≡◌, ◌⊎◌, ℕ, List, [], ◌∷◌, ◌++◌, length, drop, Some, Ok, inl, inr, refl, sym, ap, ◌∙◌, subst, arith, append_assoc, append-nil}
 use Rattle.std.proofs.lemmas.List.{length-append}
 use Rattle.std.proofs.Math.Seq.{drop-append_seam}
-use Rattle.rambo_resp.specs.declared.fault.Fault.{Fault}
 use Rattle.rambo_resp.specs.declared.fault.Fault.TheVariants.{OutOfMemory}
 use Rattle.rambo_resp.specs.Streams.{Ending, open_at, faulty, Reads}
 use Rattle.rambo_resp.specs.Decoders.{DecoderState, HasTaken, failed, oldest_of, oldest, without_oldest}

@@ -1,5 +1,5 @@
 -- What holds of a connection after each event
-use Rattle.std.proofs.Common.{◌≡◌, ◌⊎◌, ℕ, Bool, true, false, List, [], ◌∷◌, ◌++◌, fold, map, Option, Some, None, Ok, inl, inr, refl, sym, ap, ◌∙◌, subst, append_assoc, append-nil}
+use Rattle.std.proofs.Common.{◌≡◌, ℕ, Bool, true, false, List, [], ◌∷◌, ◌++◌, fold, map, Option, Some, None, Ok, inl, inr, refl, sym, ap, ◌∙◌, subst, append_assoc, append-nil}
 use Rattle.std.specs.Prelude.{flat_map, option_to_list}
 use Rattle.std.specs.List.{AllByRecursion}
 use Rattle.std.proofs.lemmas.List.{map-append}
@@ -11,16 +11,15 @@ use Rattle.rambo_resp.specs.declared.reply.Reply.{Reply}
 use Rattle.rambo_resp.specs.Decoders.{DecoderState, oldest, without_oldest}
 use Rattle.rambo_resp.specs.Replies.{reply_spelling}
 use Rattle.rambo_commands.specs.Administration.{Asks}
-use Rattle.rambo_commands.specs.Replies.{refusal_reply, fault_reply}
-use Rattle.rambo_commands.specs.declared.request.Request.{Request}
+use Rattle.rambo_commands.specs.Replies.{refusal_reply}
 use Rattle.rambo_commands.specs.declared.request.Request.TheVariants.{Says, Does}
 use Rattle.rambo_commands.specs.declared.server_request.ServerRequest.{ServerRequest}
 use Rattle.rambo_commands.specs.declared.server_request.ServerRequest.TheVariants.{Common, Use, Join, Recon, Collect, Stop, Config, Shutdown}
-use Rattle.rambo_commands.proofs.OneRequest.{one_request}
+use Rattle.rambo_commands.proofs.OneRequest.{asks_once}
 use Rattle.rambo_connection.specs.Incoming.{Feeds}
 use Rattle.rambo_connection.specs.Connections.{ConnectionState, fresh, replied, owing, Tells, no_memory, next_taken, IsFree, own_reply, settled, Settles, AsksServer, faulted}
 use Rattle.rambo_connection.specs.Events.{Event, Fed, Begun, Settled, Answered, Paid, Faulted, Written, Happens}
-use Rattle.rambo_connection.specs.Laws.{Happen, Exchange, command_of, Story, no_story, exchanged, told_on, story_of, reply_text, fault_text, text_of, owed_text, AreFirst, HasOwnReply, InOrder, RepliesInOrder, NothingBehindTheEnd}
+use Rattle.rambo_connection.specs.Laws.{Happen, Exchange, command_of, Story, no_story, exchanged, told_on, story_of, reply_text, fault_text, text_of, owed_text, HasOwnReply, InOrder, RepliesInOrder, NothingBehindTheEnd}
 use Rattle.rambo_connection.proofs.Standing.{StandsBehind, stands_fed, stands_next, stands_first, nothing_stands}
 
 -- a command under way is one that the server is asked for, and nothing is owed meanwhile
@@ -125,7 +124,7 @@ settled_holds Shutdown s c h = h true
 -- the reply of a command that the connection itself replied to
 own_settled : (command : List (List ℕ)) (r : Reply) (asked : ServerRequest) → Asks command asked → own_reply asked ≡ Some r → HasOwnReply (record { command = command; reply = r })
 own_settled command r asked asks is = λ other x asks_other is_other.
-    let same : asked ≡ other = one_request command asked other asks asks_other in
+    let same : asked ≡ other = asks_once command asked other asks asks_other in
     let e : Some r ≡ Some x = sym is ∙ ap own_reply same ∙ is_other in
     inl (cc)
 
@@ -134,7 +133,7 @@ own_refused command r is = λ other x asks_other is_other. inr is
 
 own_answered : (command : List (List ℕ)) (r : Reply) → (asked : ServerRequest) × AsksServer command asked → HasOwnReply (record { command = command; reply = r })
 own_answered command r a = λ other x asks_other is_other.
-    let same : a.0 ≡ other = one_request command a.0 other a.1.0 asks_other in
+    let same : a.0 ≡ other = asks_once command a.0 other a.1.0 asks_other in
     let e : None ≡ Some x = sym a.1.1 ∙ ap own_reply same ∙ is_other in cc
 
 -- ---- a connection that may take on a command

@@ -1,5 +1,5 @@
 -- What becomes of a command that was taken out
-use Rattle.std.proofs.Common.{◌≡◌, ℕ, Bool, true, false, List, Some, inl, inr, refl, sym, ap, ◌∙◌, subst}
+use Rattle.std.proofs.Common.{◌≡◌, ℕ, Bool, true, false, List, inl, inr, refl, ap, ◌∙◌}
 use Rattle.std.specs.Bool.{OnTrue, OnFalse}
 use Rattle.rambo_names.specs.declared.refusal.Refusal.TheVariants.{OutOfMemory}
 use Rattle.rambo_resp.specs.declared.reply.Reply.{Reply}

@@ -1,11 +1,11 @@
 -- Connections
-use Rattle.std.specs.Prelude.{◌≡◌, ◌≢◌, ◌⊎◌, ℕ, ◌<◌, ◌≤◌, Bool, true, false, not, ◌&&◌, nat_lt, List, [], ◌∷◌, ◌++◌, length, Option, None, Some, Ok, Err}
+use Rattle.std.specs.Prelude.{◌≡◌, ◌⊎◌, ℕ, ◌<◌, Bool, true, false, not, ◌&&◌, nat_lt, List, [], ◌++◌, length, Option, None, Some}
 use Rattle.rambo_names.specs.declared.refusal.Refusal.{Refusal}
 use Rattle.rambo_names.specs.declared.refusal.Refusal.TheVariants.{OutOfMemory}
 use Rattle.rambo_resp.specs.declared.fault.Fault.{Fault}
 use Rattle.rambo_resp.specs.declared.reply.Reply.{Reply}
 use Rattle.rambo_resp.specs.declared.reply.Reply.TheVariants as reply
-use Rattle.rambo_resp.specs.Decoders.{DecoderState, oldest, without_oldest}
+use Rattle.rambo_resp.specs.Decoders.{DecoderState, without_oldest}
 use Rattle.rambo_resp.specs.Replies.{reply_spelling}
 use Rattle.rambo_resp.specs.Streams.{open_at}
 use Rattle.rambo_commands.specs.Administration.{Asks}
@@ -13,7 +13,7 @@ use Rattle.rambo_commands.specs.Replies.{refusal_reply, fault_reply}
 use Rattle.rambo_commands.specs.declared.request.Request.TheVariants.{Says, Does}
 use Rattle.rambo_commands.specs.declared.server_request.ServerRequest.{ServerRequest}
 use Rattle.rambo_commands.specs.declared.server_request.ServerRequest.TheVariants.{Common, Use, Join, Recon, Collect, Stop, Config, Shutdown}
-use Rattle.rambo_connection.specs.Incoming.{Feeds, has_command}
+use Rattle.rambo_connection.specs.Incoming.{has_command}
 
 -- the node that its commands are asked of; what came in; the command that the server is asked for; the bytes that are to be
 -- written, and the refusal that is still to be put behind them; and whether it is closed once they are written

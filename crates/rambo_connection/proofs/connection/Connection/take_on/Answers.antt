@@ -10,7 +10,6 @@ use Rattle.rambo_connection.proofs.connection.Connection.take_on.Goals as goal
 pub returns-in_default : goal.returns-in_default
 returns-in_default c = refused c.args.command c.args.self.now _ c.requires.goes_on (ap (owing OutOfMemory) c.self.view_is)
 
-
 pub returns-in-Use : goal.returns-in-Use
 returns-in-Use c =
     used c.args.command c.args.self.now c.use_node.new.self c.requires.goes_on c.in-Use.node (subst (Asks c.args.command) c.in-Use.is c.in-Ok.ensures.ok) c.use_node.ensures
