@@ -37,7 +37,7 @@ replied r c = record c { out = c.out ++ reply_spelling r }
 abbrev pub owing : Refusal → ConnectionState → ConnectionState
 owing refusal c = record c { owed = Some refusal }
 
--- one of these was done for a reply
+-- a reply was put behind the others, or it is a refusal, and owed
 abbrev pub Tells : Reply → ConnectionState → ConnectionState → Type 0
 Tells r c d = (d ≡ replied r c) ⊎ ((refusal : Refusal) × (r ≡ refusal_reply refusal) × (d ≡ owing refusal c))
 

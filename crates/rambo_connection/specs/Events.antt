@@ -26,6 +26,7 @@ pub data Event : Type 0 where
   Faulted : Fault → Event
   Written : List ℕ → Event
 
+-- an event leads from a connection to what becomes of it
 abbrev pub Happens : Event → ConnectionState → ConnectionState → Type 0
 Happens (Fed piece) c d = Feeds c.incoming piece d.incoming × (d ≡ record c { incoming = d.incoming })
 Happens (Begun command) c d =
@@ -73,7 +74,7 @@ AnswersIf (Some command) r c d = Happens (Answered command r) c d ⊎ Happens (A
 abbrev pub Answers : Reply → ConnectionState → ConnectionState → Type 0
 Answers r c d = AnswersIf c.under_way r c d
 
--- the same of a refusal, for which there is always memory
+-- the command under way is refused, which is told whatever memory there is
 abbrev pub RefusesIf : Option (List (List ℕ)) → Refusal → ConnectionState → ConnectionState → Type 0
 RefusesIf None refusal c d = d ≡ c
 RefusesIf (Some command) refusal c d = Happens (Answered command (refusal_reply refusal)) c d

@@ -25,7 +25,8 @@ const ROOM: usize = 64;
 ///
 /// Its commands are taken on one after another, in the order of the stream: the next one when the one before it was
 /// replied to. What needs no node is replied to at once. The replies stand in that order. Behind the reply to a fault of
-/// the stream, or to `SHUTDOWN`, nothing is taken on.
+/// the stream, or to `SHUTDOWN`, nothing is taken on. A connection that is given up is dropped: `is_waiting` tells whether the
+/// server was asked for a command of it that is then to be given up too.
 #[derive(Drop)]
 pub struct Connection {
     alloc: Global,
@@ -203,7 +204,7 @@ impl Connection {
 
     /// The reply to the command under way comes. Without one nothing happens.
     ///
-    /// Where there is no memory for it, the command is told that it is refused for want of memory.
+    /// Where there is no memory for it, the command is told, by the next call of `next`, that it is refused for want of memory.
     pub fn answer(&mut self, reply: &Reply)
         ensures { Answers reply.now self.old self.new }
     {
@@ -214,6 +215,8 @@ impl Connection {
     }
 
     /// The command under way is refused. Without one nothing happens.
+    ///
+    /// It takes no memory, as room for it was had when the command was taken on. Were there none, it would be told later.
     pub fn refuse(&mut self, refusal: Refusal)
         ensures { Refuses refusal self.old self.new }
     {
