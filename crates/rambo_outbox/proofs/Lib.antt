@@ -1,1 +1,5 @@
 pub mod Lists
+pub mod FoundLists
+pub mod Sizes
+pub mod LooksAgain
+pub mod HeldBack

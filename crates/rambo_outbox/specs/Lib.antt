@@ -7,3 +7,4 @@ pub mod Outboxes
 pub mod Wishes
 pub mod Asking
 pub mod Rounds
+pub mod Laws

@@ -12,7 +12,7 @@ use Rattle.rambo_outbox.specs.Asking.{first_asked}
 use Rattle.rambo_outbox.specs.Bids.{is_asked_bid}
 use Rattle.rambo_outbox.specs.Outboxes.{OutboxState, OpenedState}
 use Rattle.rambo_outbox.specs.Pauses.{pause, more, later, patience}
-use Rattle.rambo_outbox.specs.Wishes.{wished, greatest, has_wish, asks_of}
+use Rattle.rambo_outbox.specs.Wishes.{wished, greatest, has_wished, asks_of}
 
 abbrev pub choice_of : {Q : Type 0} → OutboxState → OpenedState Q → Choice
 choice_of b o = record { me = o.me; reach = o.reach; silent = b.silent; turn = b.turn }
@@ -48,57 +48,28 @@ rebid_after b o now = if begins b o now then later now (patience b.stood b.bids 
 abbrev pub bids_after : {Q : Type 0} → OutboxState → OpenedState Q → ℕ → ℕ
 bids_after b o now = if is_some o.bid then (if begins b o now then more b.bids else b.bids) else 0
 
--- when something is to be done at the latest: a reminder, or a bid anew
-abbrev pub next_time : {Q : Type 0} → OutboxState → OpenedState Q → Asks → ℕ → ℕ
-next_time b o a now = if is_some o.bid then min (due_after b a now) (rebid_after b o now) else due_after b a now
+-- what is asked for counts as asked, all that is wished for with it; who was asked first and said nothing until it is asked
+-- again counts as silent, and then it is the next one's turn
+abbrev pub noted : OutboxState → Asks → NameSet → ℕ → OutboxState
+noted b Nothing asked last = b
+noted b More asked last = record b { asked = max b.asked last; first = asked }
+noted b First asked last = record b { asked = max b.asked last; first = asked }
+noted b Again asked last = record b { asked = max b.asked last; first = set.empty; silent = set.union b.silent b.first; turn = (b.turn + 1) % 2 ^ 64; stood = more b.stood }
 
-abbrev pub asked_after : {Q : Type 0} → OutboxState → OpenedState Q → Asks → ℕ
-asked_after b o Nothing = b.asked
-asked_after b o More = max b.asked (greatest (wished b o))
-asked_after b o First = max b.asked (greatest (wished b o))
-asked_after b o Again = max b.asked (greatest (wished b o))
-
--- who was asked first: at a reminder those that said nothing are silent
-abbrev pub first_after : OutboxState → Asks → NameSet → NameSet
-first_after b Nothing asked = b.first
-first_after b More asked = asked
-first_after b First asked = asked
-first_after b Again asked = set.empty
-
-abbrev pub silent_after : OutboxState → Asks → NameSet
-silent_after b Again = set.union b.silent b.first
-silent_after b _ = b.silent
-
-abbrev pub turn_after : OutboxState → Asks → ℕ
-turn_after b Again = (b.turn + 1) % 2 ^ 64
-turn_after b _ = b.turn
-
-abbrev pub stood_after : OutboxState → Asks → ℕ
-stood_after b Again = more b.stood
-stood_after b _ = b.stood
+-- when to look again at the latest: never where nobody wishes for anything
+abbrev pub wake_of : {Q : Type 0} → Bool → OpenedState Q → ℕ → ℕ → Option ℕ
+wake_of some o due rebid_at = if is_some o.bid then Some (min due rebid_at) else (if some || o.joins then Some due else None)
 
 abbrev pub round_by : {Q : Type 0} → QuorumSystem Q → OutboxState → OpenedState Q → Asks → ℕ → Round
-round_by s b o a now = record { asked = whom s b o a; owed = set.intersection b.owes o.reach; wake = if has_wish b o then Some (next_time b o a now) else None }
+round_by s b o a now = record { asked = whom s b o a; owed = set.intersection b.owes o.reach; wake = wake_of (has_wished b o) o (due_after b a now) (rebid_after b o now) }
 
 abbrev pub after_by : {Q : Type 0} → QuorumSystem Q → OutboxState → OpenedState Q → Asks → ℕ → OutboxState
-after_by s b o a now = record b {
-  asked = asked_after b o a;
-  bid = o.bid;
-  joins = o.joins;
-  owes = set.empty;
-  first = first_after b a (whom s b o a);
-  silent = silent_after b a;
-  turn = turn_after b a;
-  stood = stood_after b a;
-  due = due_after b a now;
-  bids = bids_after b o now;
-  rebid_at = rebid_after b o now;
-}
+after_by s b o a now = record (noted b a (whom s b o a) (greatest (wished b o))) { bid = o.bid; joins = o.joins; owes = set.empty; due = due_after b a now; bids = bids_after b o now; rebid_at = rebid_after b o now }
 
 -- whom a node writes to now, and when it looks again at the latest
 abbrev pub round_of : {Q : Type 0} → QuorumSystem Q → OutboxState → OpenedState Q → ℕ → Round
 round_of s b o now = round_by s b o (asks_of b o now) now
 
--- what an outbox holds then: all that is wished for counts as asked, where anything was
+-- what an outbox holds then
 abbrev pub after_round : {Q : Type 0} → QuorumSystem Q → OutboxState → OpenedState Q → ℕ → OutboxState
 after_round s b o now = after_by s b o (asks_of b o now) now

@@ -35,12 +35,18 @@ has_asked b o = is_under_way b o || is_asked_bid b.bid o.bid || (o.joins && b.jo
 abbrev pub is_new : {Q : Type 0} → OutboxState → OpenedState Q → Bool
 is_new b o = is_new_bid b.bid o.bid || (o.joins && not b.joins) || (not (is_under_way b o) && nat_lt b.asked (greatest (wished b o)))
 
--- somebody wishes for something: a call or a collection, an attempt, or to join
-abbrev pub has_wish : {Q : Type 0} → OutboxState → OpenedState Q → Bool
-has_wish b o = list_any (λ n. true) (wished b o) || is_some o.bid || o.joins
+-- somebody wishes for something: for what has a phase; or that, an attempt, or to join
+abbrev pub has_wished : {Q : Type 0} → OutboxState → OpenedState Q → Bool
+has_wished b o = list_any (λ n. true) (wished b o)
 
--- what the node asks for
+abbrev pub has_wish : {Q : Type 0} → OutboxState → OpenedState Q → Bool
+has_wish b o = is_some o.bid || has_wished b o || o.joins
+
+-- what a node asks for: whether something was asked for, whether that is due, and whether something is new
+abbrev pub asks_by : Bool → Bool → Bool → Asks
+asks_by has_asked is_due is_new =
+    if has_asked && is_due then Again
+    else (if is_new then (if has_asked then More else First) else Nothing)
+
 abbrev pub asks_of : {Q : Type 0} → OutboxState → OpenedState Q → ℕ → Asks
-asks_of b o now =
-    if has_asked b o && nat_le b.due now then Again
-    else (if is_new b o then (if has_asked b o then More else First) else Nothing)
+asks_of b o now = asks_by (has_asked b o) (nat_le b.due now) (is_new b o)
