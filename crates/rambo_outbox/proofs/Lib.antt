@@ -3,3 +3,4 @@ pub mod FoundLists
 pub mod Sizes
 pub mod LooksAgain
 pub mod HeldBack
+pub mod Reached
