@@ -1,5 +1,5 @@
 -- What a book that is lent says of what happened under its lock
-use Rattle.std.proofs.Common.{◌≡◌, ◌⊎◌, inl, inr, ⊎_elim, ℕ, ◌≤◌, ◌<◌, List, [], ◌∷◌, ◌++◌, All, length, Option, None, Some, option_map, Result, Ok, Err, OnOk, IfOk, IfErr, refl, sym, ap, ◌∙◌, subst, arith}
+use Rattle.std.proofs.Common.{◌≡◌, ◌⊎◌, inl, inr, ⊎_elim, ℕ, ◌≤◌, ◌<◌, List, [], ◌∷◌, ◌++◌, All, length, Option, None, Some, Result, Ok, Err, OnOk, IfOk, IfErr, refl, sym, ◌∙◌, subst, arith}
 use Rattle.std.proofs.lemmas.List.{length-append}
 use mathlib.Core.List.{IsPrefix}
 use Rattle.rambo_names.specs.declared.refusal.Refusal.{Refusal}
@@ -15,7 +15,6 @@ use Rattle.rambo_run.specs.Worlds.{node_at}
 use Rattle.rambo_run.proofs.Legal.{legal-more}
 use Rattle.rambo_run.proofs.Lists.{some_inj}
 use Rattle.rambo_book.specs.Kept.{BookView, KeeperView, IsMailOf, Told, state}
-use Rattle.rambo_book.specs.declared.readied.Ready.{Ready}
 use Rattle.rambo_turn.specs.Turns.{IsNext, next_of}
 use Rattle.rambo_turn.specs.declared.turn.Turn.{Turn}
 use Rattle.rambo_turn.specs.declared.turn.Turn.TheVariants as turned

@@ -1,6 +1,6 @@
 -- What is told of what was done under the locks: it is so after some steps of the post
 use mathlib.Core.List.{IsPrefix}
-use Rattle.std.specs.Prelude.{◌≡◌, ℕ, ◌≤◌, List, [], ◌∷◌, ◌++◌, length, Option, None, Some}
+use Rattle.std.specs.Prelude.{◌≡◌, ℕ, ◌≤◌, List, [], ◌∷◌, ◌++◌, length, None, Some}
 use Rattle.rambo_names.specs.Quorums.{QuorumSystem}
 use Rattle.rambo_config_map.specs.Maps.{MapState}
 use Rattle.rambo_node.specs.Nodes.{NodeState}

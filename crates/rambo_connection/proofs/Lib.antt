@@ -1,0 +1,4 @@
+pub mod Ahead
+pub mod Taking
+pub mod Standing
+pub mod Stories

@@ -1,0 +1,4 @@
+pub mod Incoming
+pub mod Connections
+pub mod Events
+pub mod Laws

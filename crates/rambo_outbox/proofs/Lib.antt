@@ -1,0 +1,6 @@
+pub mod Lists
+pub mod FoundLists
+pub mod Sizes
+pub mod LooksAgain
+pub mod HeldBack
+pub mod Reached

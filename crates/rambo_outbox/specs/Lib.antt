@@ -1,0 +1,10 @@
+pub mod Waiting
+pub mod Pauses
+pub mod Carrying
+pub mod Bids
+pub mod Found
+pub mod Outboxes
+pub mod Wishes
+pub mod Asking
+pub mod Rounds
+pub mod Laws
