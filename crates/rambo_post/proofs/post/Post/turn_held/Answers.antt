@@ -48,7 +48,7 @@ returns-in_default-clause-cause g c =
     let k = c.deref.result.now in
     let h = c.facts.ensures in
     let same : k ≡ c.deref_mut-2.result.now = c.deref.ensures ∙ sym c.deref_mut-2.ensures.value in
-    let named : k.name ≡ name = ap (λ (k : KeeperView _). k.name) c.deref.ensures ∙ c.begin.ensures.name ∙ ap (λ (k : KeeperView _). k.name) c.deref_mut.ensures.value ∙ c.keeper_of-keeper.ensures in
+    let named : k.name ≡ name = ap (λ (k : KeeperView _). k.name) c.deref.ensures ∙ c.begin-begun.ensures.name ∙ ap (λ (k : KeeperView _). k.name) c.deref_mut.ensures.value ∙ c.keeper_of-keeper.ensures in
     let b = c.no_room.ensures in
     let it = c.in_default.ensures.something in
     let something = something_then s agreed most name k named h.legal h.fits h.node h.tray it.0 (λ f is. it.1 f is ∙ ap (next_of s f) (sym same)) in
@@ -63,7 +63,7 @@ returns-in_default-next-clause-told g c =
     let k = c.deref.result.now in
     let h = c.facts.ensures in
     let same : k ≡ c.deref_mut-2.result.now = c.deref.ensures ∙ sym c.deref_mut-2.ensures.value in
-    let named : k.name ≡ name = ap (λ (k : KeeperView _). k.name) c.deref.ensures ∙ c.begin.ensures.name ∙ ap (λ (k : KeeperView _). k.name) c.deref_mut.ensures.value ∙ c.keeper_of-keeper.ensures in
+    let named : k.name ≡ name = ap (λ (k : KeeperView _). k.name) c.deref.ensures ∙ c.begin-begun.ensures.name ∙ ap (λ (k : KeeperView _). k.name) c.deref_mut.ensures.value ∙ c.keeper_of-keeper.ensures in
     next_then s agreed most name k named h.legal h.fits h.node h.tray None
     (λ f is. sym (ap (option_map (λ (r : Ready _). r.step)) c.in_default-next.is) ∙ c.in-Ok.ensures.picked f is ∙ ap (next_of s f) (sym same))
 
@@ -76,7 +76,7 @@ returns-clause-told g c =
     let k = c.deref.result.now in
     let h = c.facts.ensures in
     let same : k ≡ c.deref_mut-2.result.now = c.deref.ensures ∙ sym c.deref_mut-2.ensures.value in
-    let named : k.name ≡ name = ap (λ (k : KeeperView _). k.name) c.deref.ensures ∙ c.begin.ensures.name ∙ ap (λ (k : KeeperView _). k.name) c.deref_mut.ensures.value ∙ c.keeper_of-keeper.ensures in
+    let named : k.name ≡ name = ap (λ (k : KeeperView _). k.name) c.deref.ensures ∙ c.begin-begun.ensures.name ∙ ap (λ (k : KeeperView _). k.name) c.deref_mut.ensures.value ∙ c.keeper_of-keeper.ensures in
     let done = c.commit_next.ensures in
     let b = c.deref_mut-3.result.now in
     let st = c.in-Some.half.step in
@@ -95,7 +95,7 @@ returns-clause-cause g c =
     let k = c.deref.result.now in
     let h = c.facts.ensures in
     let same : k ≡ c.deref_mut-2.result.now = c.deref.ensures ∙ sym c.deref_mut-2.ensures.value in
-    let named : k.name ≡ name = ap (λ (k : KeeperView _). k.name) c.deref.ensures ∙ c.begin.ensures.name ∙ ap (λ (k : KeeperView _). k.name) c.deref_mut.ensures.value ∙ c.keeper_of-keeper.ensures in
+    let named : k.name ≡ name = ap (λ (k : KeeperView _). k.name) c.deref.ensures ∙ c.begin-begun.ensures.name ∙ ap (λ (k : KeeperView _). k.name) c.deref_mut.ensures.value ∙ c.keeper_of-keeper.ensures in
     let done = c.commit_next.ensures in
     let st = c.in-Some.half.step in
     let first : (f : _) → agreed ≡ Some f → Some st ≡ next_of s f k = λ f is. sym (ap (option_map (λ (r : Ready _). r.step)) c.in-Some.is) ∙ c.in-Ok.ensures.picked f is ∙ ap (next_of s f) (sym same) in
