@@ -133,9 +133,9 @@ def time_table(rows):
 
 
 def count_table(rows):
-    return table(["Work", "Instructions a line", "of the other", "ratio", "of half the steps"], [
+    return table(["Work", "Instructions a line", "of the other", "ratio"], [
         ["`%s` %s" % (row.word, row.name())] + ["{:,}".format(figure // row.lines) for figure in row.figures] + [
-         "**%.2f**" % ratio(row.figures), "%.2f" % (row.figures[0] / row.half[0])]
+         "**%.2f**" % ratio(row.figures)]
         for row in in_order(rows)])
 
 
