@@ -66,6 +66,13 @@ impl Collection {
         self.place
     }
 
+    /// The phase number under which it asks.
+    pub fn number(&self) -> u64
+        ensures { result ≡ self.now.number }
+    {
+        self.number
+    }
+
     /// Hears a letter of a node that had heard the number `heard`: it is a reply where that is at least the
     /// collection's own number.
     pub fn hear(&mut self, from: Name, heard: u64)

@@ -154,6 +154,34 @@ impl<Q: Quorums, S: Replica> Node<Q, S> {
         self.status
     }
 
+    /// The names that it knows.
+    pub fn known(&self) -> Members
+        ensures { result ≡ self.now.state.known }
+    {
+        self.known
+    }
+
+    /// The phase number.
+    pub fn number(&self) -> u64
+        ensures { result ≡ self.now.state.number }
+    {
+        self.number
+    }
+
+    /// Its collection of the lowest place, if it is open.
+    pub fn collection(&self) -> Option<Collection>
+        ensures { result ≡ self.now.state.collection }
+    {
+        self.collection
+    }
+
+    /// Its attempt to have a configuration chosen, if one is open.
+    pub fn attempt(&self) -> Option<Attempt<Q>>
+        ensures { result ≡ self.now.state.attempt }
+    {
+        self.attempt
+    }
+
     // The place of the open call of an id, or how many are open where there is no such call.
     pub(crate) fn place_of(&self, id: &CallId) -> usize
         ensures found { slice_get self.now.state.calls result ≡ open_call self.now.state id.now }
