@@ -1,5 +1,5 @@
 -- Words of the forms of a kind, or not
-use Rattle.std.proofs.Common.{◌≡◌, ◌≢◌, ◌⊎◌, ℕ, ◌+◌, Bool, true, false, cond, List, [], ◌∷◌, length, filter, codes, Option, None, Some, inl, inr, refl, sym, ap, subst, ◌∙◌}
+use Rattle.std.proofs.Common.{◌≡◌, ◌≢◌, ◌⊎◌, ℕ, List, [], ◌∷◌, length, codes, Option, inl, inr, refl, ap, subst, ◌∙◌}
 use Rattle.rambo_text.specs.declared.fault.Fault.{Fault}
 use Rattle.rambo_text.specs.declared.fault.Fault.TheVariants.{NoFounders, UnknownWord, WrongCount, BadHex, OutOfMemory}
 use Rattle.rambo_text.specs.Forms.{Conf, Hex, IsSpelt, IsBadWord}
@@ -9,7 +9,6 @@ use Rattle.rambo_lines.specs.declared.kind.StepKind.{StepKind}
 use Rattle.rambo_lines.specs.StepLines.{word_of, forms_of}
 use Rattle.rambo_lines.specs.Scripts.{IsShort}
 use Rattle.rambo_lines.specs.Faults.{IsLineFault, TellNoStep, TellNoFounders, TellsBytes, AreUnfit}
-use Rattle.std.specs.FinSet.{contains}
 use Rattle.rambo_names.specs.Names.{count_of}
 use Rattle.rambo_names.specs.Signs.{conf_text}
 use Rattle.rambo_names.specs.Weights.{Weights, members_of}

@@ -1,5 +1,5 @@
 -- A text is that of one script, and has no fault then
-use Rattle.std.proofs.Common.{◌≡◌, ◌≢◌, ℕ, ◌+◌, List, [], ◌∷◌, ◌++◌, length, codes, inl, inr, refl, sym, ap, subst, ◌∙◌, arith, lit<, append_assoc}
+use Rattle.std.proofs.Common.{◌≡◌, ◌≢◌, ℕ, List, [], ◌∷◌, ◌++◌, length, codes, inl, inr, refl, sym, ap, subst, ◌∙◌, arith, lit<, append_assoc}
 use Rattle.std.specs.List.{AllByRecursion}
 use Rattle.rambo_names.specs.Names.{count_of}
 use Rattle.rambo_names.specs.Signs.{conf_text}

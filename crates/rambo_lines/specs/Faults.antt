@@ -15,13 +15,13 @@ use Rattle.rambo_lines.specs.Scripts.{ScriptState, script_text, IsShort, HasLine
 abbrev pub AreUnfit : List Form → List (List ℕ) → Fault → Type 0
 AreUnfit forms words f = ((length words ≢ length forms) × (f ≡ WrongCount)) ⊎ ((length words ≡ length forms) × IsBadWord forms words f)
 
--- words tell no step: the first has no meaning, or those behind it are unfit
+-- words give no step: the first has no meaning, or those after it are unfit
 abbrev pub TellNoStep : List (List ℕ) → Fault → Type 0
 TellNoStep words f =
     (((kind : StepKind) (others : List (List ℕ)) → words ≢ word_of kind ∷ others) × (f ≡ UnknownWord))
     ⊎ ((kind : StepKind) × (others : List (List ℕ)) × (words ≡ word_of kind ∷ others) × AreUnfit (forms_of kind) others f)
 
--- words tell no founders: the first is another one, those behind it are unfit, or there is no founder
+-- words give no founders: the first is another one, those after it are unfit, or there is no founder
 abbrev pub TellNoFounders : List (List ℕ) → Fault → Type 0
 TellNoFounders words f =
     (((others : List (List ℕ)) → words ≢ codes "founders" ∷ others) × (f ≡ NoFounders))
@@ -38,11 +38,11 @@ abbrev pub AreNamed : List (List ℕ) → Type 0
 AreNamed [] = ⊥
 AreNamed (w ∷ ws) = IsSpelt Name w
 
--- words behind the first tell bytes: they are as many as a get or a set has, and a name stands before the bytes
+-- words after the first have bytes: they are as many as a get or a set has, and a name comes before the bytes
 abbrev pub TellBytes : StepKind → List (List ℕ) → Type 0
 TellBytes kind others = HoldsBytes kind × (length others ≡ length (forms_of kind)) × AreNamed others
 
--- a line tells bytes, and has no fault before them
+-- a line has bytes, and has no fault before them
 pub record TellsBytes (line : List ℕ) : Type 0 where
   pub short : IsShort line
   pub kind : StepKind
@@ -50,7 +50,7 @@ pub record TellsBytes (line : List ℕ) : Type 0 where
   pub words : AreWords line (word_of kind ∷ others)
   pub tell : TellBytes kind others
 
--- a line tells bytes, or a whole step
+-- a line has bytes, or a whole step
 abbrev pub TellsBytesOrStep : List ℕ → Type 0
 TellsBytesOrStep line = TellsBytes line ⊎ ((st : Step Weights) × HasLine st × (line ≡ step_line st))
 
@@ -62,7 +62,7 @@ pub record IsFirstFault (bytes : List ℕ) (f : ScriptFault) : Type 0 where
   pub fault : IsLineFault TellNoFounders line f.fault
   pub number : f.line ≡ 1
 
--- a line stands behind the lines of a script, and has this number
+-- a line comes after the lines of a script, and has this number
 pub record IsNextLine (bytes line : List ℕ) (number : ℕ) : Type 0 where
   pub before : ScriptState
   pub behind : List ℕ

@@ -5,7 +5,7 @@ use Rattle.rambo_text.specs.declared.version.Version.{Version}
 use Rattle.rambo_lines.specs.Scripts.{ScriptState, HasLines}
 use Rattle.rambo_lines.specs.Versions.{IsScriptIn, IsFaultIn, text_in}
 
--- bytes are the text of one script at most, in one version
+-- no bytes are the text of two scripts, nor of one in two versions
 abbrev pub OneReading : Type 0
 OneReading = (bytes : List ℕ) (version other : Version) (s t : ScriptState) → IsScriptIn version bytes s → IsScriptIn other bytes t → (version ≡ other) × (s ≡ t)
 

@@ -1,6 +1,7 @@
 pub mod StepLines
 pub mod Scripts
 pub mod Faults
+pub mod Fronts
 pub mod Parts
 pub mod Pushes
 pub mod Places

@@ -1,4 +1,4 @@
--- What the words behind the first tell
+-- What the words after the first give
 use Rattle.std.specs.Prelude.{◌≡◌, ◌⊎◌, ℕ, List, ◌∷◌, Option}
 use Rattle.rambo_names.specs.Weights.{Weights}
 use Rattle.rambo_run.specs.declared.step.Step.{Step}
@@ -14,7 +14,7 @@ use Rattle.rambo_lines.specs.Faults.{AreUnfit, TellBytes}
 abbrev pub IsUnspelt : Form → List ℕ → Fault → Type 0
 IsUnspelt m word f = ¬ (IsSpelt m word) × (f ≡ form_fault m)
 
--- the words behind the first tell this step of a kind
+-- the words after the first give this step of a kind
 pub record TellStep (kind : StepKind) (more : Option (List ℕ)) (st : Step Weights) : Type 0 where
   pub others : List (List ℕ)
   pub are : AreMore more others
@@ -29,6 +29,6 @@ TellUnfit kind more f = (others : List (List ℕ)) × AreMore more others × Are
 abbrev pub TellFault : StepKind → Option (List ℕ) → Fault → Type 0
 TellFault kind more f = (f ≡ OutOfMemory) ⊎ TellUnfit kind more f
 
--- they tell bytes, for which there may be no room
+-- they have bytes, for which there may be no room
 abbrev pub NeedRoom : StepKind → Option (List ℕ) → Type 0
 NeedRoom kind more = (others : List (List ℕ)) × AreMore more others × TellBytes kind others

@@ -1,4 +1,4 @@
--- Where lines of a script stand
+-- The places of lines of a script
 use Rattle.std.specs.Prelude.{ℕ, ◌+◌}
 use Rattle.rambo_text.specs.declared.version.Version.{Version}
 use Rattle.rambo_text.specs.Versions.{head_lines}

@@ -14,6 +14,6 @@ pub record PushesStep (old new : List (Step Weights)) (line : List ℕ) : Type 0
   pub has_line : HasLine step
   pub line_is : line ≡ step_line step
 
--- bytes are no script, or memory ran out while a line that tells bytes or a step was read
+-- bytes are no script, or memory ran out while a line that has bytes or a step was read
 abbrev pub IsNoScript : List ℕ → ScriptFault → Type 0
 IsNoScript bytes f = IsScriptFault bytes f ⊎ RanOut TellsBytesOrStep bytes f

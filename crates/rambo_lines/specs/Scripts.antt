@@ -8,7 +8,7 @@ use Rattle.rambo_run.specs.declared.step.Step.{Step}
 use Rattle.rambo_text.specs.Words.{words_text}
 use Rattle.rambo_lines.specs.StepLines.{step_line, IsStep}
 
--- a script without where it lies in memory
+-- a script, whatever its place in memory
 pub record ScriptState : Type 0 where
   pub founders : Weights
   pub steps : List (Step Weights)
@@ -30,7 +30,7 @@ steps_text (st ∷ sts) = step_line st ++ 10 ∷ steps_text sts
 abbrev pub script_text : ScriptState → List ℕ
 script_text s = founders_line s.founders ++ 10 ∷ steps_text s.steps
 
--- a line has a length that it may have
+-- a line isn't too long
 abbrev pub IsShort : List ℕ → Type 0
 IsShort line = length line ≤ 16384
 
@@ -45,7 +45,7 @@ pub record HasLine (st : Step Weights) : Type 0 where
   pub is_step : IsStep st
   pub short : IsShort (step_line st)
 
--- a script whose lines may all stand
+-- a script whose lines are all allowed
 pub record HasLines (s : ScriptState) : Type 0 where
   pub founders : AreFounders s.founders
   pub steps : AllByRecursion HasLine s.steps

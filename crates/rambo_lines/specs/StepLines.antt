@@ -29,7 +29,7 @@ word_of kind.Rebid = codes "rebid"
 word_of kind.AdvanceRecon = codes "advance-recon"
 word_of kind.Stop = codes "stop"
 
--- the forms of the words behind it
+-- the forms of the words after it
 abbrev pub forms_of : StepKind → List Form
 forms_of kind.Join = Name ∷ Set ∷ []
 forms_of kind.Get = Name ∷ Hex ∷ []

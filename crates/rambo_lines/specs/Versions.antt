@@ -15,7 +15,7 @@ IsScriptIn version bytes s = (behind : List ℕ) × IsBehindHead version bytes b
 abbrev pub text_in : Version → ScriptState → List ℕ
 text_in version s = head_text version ++ script_text s
 
--- the first line is too long, or should tell the version and doesn't
+-- the first line is too long, or should give the version and doesn't
 pub record IsHeadFault (bytes : List ℕ) (f : ScriptFault) : Type 0 where
   pub line : List ℕ
   pub rest : List ℕ
@@ -23,6 +23,6 @@ pub record IsHeadFault (bytes : List ℕ) (f : ScriptFault) : Type 0 where
   pub fault : IsLineFault TellNoVersion line f.fault
   pub number : f.line ≡ 1
 
--- bytes are a script in no version: the fault of the head, or the first fault behind it
+-- bytes are a script in no version: the fault of the head, or the first fault after it
 abbrev pub IsFaultIn : List ℕ → ScriptFault → Type 0
 IsFaultIn bytes f = IsHeadFault bytes f ⊎ BehindHead (λ version. IsScriptFault) bytes f

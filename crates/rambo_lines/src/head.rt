@@ -7,10 +7,10 @@ ghost use Rattle.rambo_lines.specs.Versions.{IsHeadFault};
 use crate::script::{LINE_LIMIT, at_line};
 use rambo_text::{Fault, ScriptFault, Version, next_line};
 
-/// The version of a script, and what is behind the line that tells it.
+/// The version of a script, and what is after the line that gives it.
 ///
-/// A text of version 1 has no such line. `LineTooLong` where the first line is too long; else `WrongCount` or `BadNumber`
-/// where its first word is `rambo`, and the version isn't told.
+/// A text of version 1 has no such line. `LineTooLong` where the first line is too long; else `WrongCount` or
+/// `BadNumber` where its first word is `rambo`, and it gives no version.
 pub fn read_head(text: &[u8]) -> Result<(Version, &[u8]), ScriptFault>
     ensures found { IfOk result (λ found. IsBehindHead found.0 text.now found.1.now) }
     ensures fault { IfErr result (λ f. IsHeadFault text.now f) }

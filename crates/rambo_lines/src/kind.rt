@@ -1,7 +1,7 @@
 //! Kinds of steps.
 ghost use Rattle.std.specs.Prelude.{◌≡◌, ◌≢◌, Some, IfSome, IfNone};
 
-/// What a line of a script tells, by its first word.
+/// What a line of a script says, by its first word.
 #[derive(Clone, Copy, PartialEq, Eq, Debug)]
 pub enum StepKind {
     /// An idle node begins to join.
@@ -14,19 +14,19 @@ pub enum StepKind {
     Send,
     /// A letter comes to its addressee.
     Deliver,
-    /// A call goes on.
+    /// A call advances.
     Advance,
-    /// The phase of a call begins anew.
+    /// The phase of a call restarts.
     Again,
     /// A node begins to remove the configuration of its lowest place.
     Collect,
-    /// That goes on.
+    /// That advances.
     AdvanceCollect,
     /// A node begins to have the next configuration chosen.
     Recon,
-    /// It begins anew, with a higher ballot.
+    /// It is retried with a higher ballot.
     Rebid,
-    /// It goes on.
+    /// It advances.
     AdvanceRecon,
     /// A node stops.
     Stop,

@@ -1,7 +1,7 @@
 //! What is true of every text.
 ghost use Rattle.rambo_lines.specs.Laws.{OneReading, WrittenReadsBack, NoScriptIsFaulty, OneFault};
 
-/// Bytes are the text of one script at most, in one version.
+/// No bytes are the text of two scripts, nor of one in two versions.
 pub fn one_reading()
     ensures { OneReading }
 {}

@@ -1,4 +1,4 @@
-//! The words behind the first of a line, each in its form.
+//! The words after the first of a line, each in its form.
 ghost use Rattle.std.specs.Prelude.{◌≡◌, ◌≢◌, ◌⊎◌, ℕ, List, [], ◌∷◌, ◌<◌, ◌^◌, length, decimal, IfOk, IfErr};
 ghost use Rattle.std.specs.Option.{option_copied};
 ghost use Rattle.rambo_names.specs.Names.{IsName, AreNames};
@@ -12,7 +12,7 @@ use rambo_history::CallId;
 use rambo_names::{Members, Name, Weighted, read_conf, read_num, read_set};
 use rambo_text::{Fault, one_word, read_call, read_name, three_words, two_words};
 
-/// The word behind the first, where it is the only one; else `WrongCount`.
+/// The word after the first, where it is the only one; else `WrongCount`.
 pub fn one(more: Option<&[u8]>) -> Result<&[u8], Fault>
     ensures found { IfOk result (λ word. AreMore (option_copied more.entry) (word.now ∷ [])) }
     ensures fault { IfErr result (λ f. (f ≡ Fault.WrongCount)
@@ -21,7 +21,7 @@ pub fn one(more: Option<&[u8]>) -> Result<&[u8], Fault>
     one_word(more).ok_or(Fault::WrongCount)
 }
 
-/// The words behind the first, where they are two; else `WrongCount`.
+/// The words after the first, where they are two; else `WrongCount`.
 pub fn two(more: Option<&[u8]>) -> Result<(&[u8], &[u8]), Fault>
     ensures found { IfOk result (λ words. AreMore (option_copied more.entry) (words.0.now ∷ words.1.now ∷ [])) }
     ensures fault { IfErr result (λ f. (f ≡ Fault.WrongCount)
@@ -30,7 +30,7 @@ pub fn two(more: Option<&[u8]>) -> Result<(&[u8], &[u8]), Fault>
     two_words(more).ok_or(Fault::WrongCount)
 }
 
-/// The words behind the first, where they are three; else `WrongCount`.
+/// The words after the first, where they are three; else `WrongCount`.
 pub fn three(more: Option<&[u8]>) -> Result<(&[u8], &[u8], &[u8]), Fault>
     ensures found { IfOk result (λ words. AreMore (option_copied more.entry) (words.0.now ∷ words.1.now ∷ words.2.now ∷ [])) }
     ensures fault { IfErr result (λ f. (f ≡ Fault.WrongCount)

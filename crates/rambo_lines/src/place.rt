@@ -1,20 +1,20 @@
-//! Where lines stand.
+//! The places of lines.
 ghost use Rattle.std.specs.Prelude.{◌≡◌, ◌+◌, ◌<◌, ◌^◌};
 ghost use Rattle.rambo_lines.specs.Places.{place_of};
 
 use rambo_text::Version;
 
-/// Where a line of a script stands.
+/// The place of a line of a script.
 #[derive(Clone, Copy, PartialEq, Eq, Debug)]
 pub struct Place {
-    /// The number of the line, from 1, with the line that tells the version.
+    /// The number of the line, from 1, counting the line that gives the version.
     pub line: u64,
-    /// The number of the step that the line tells, from 1, or 0 for the founders.
+    /// The number of the step on the line, from 1, or 0 for the founders.
     pub step: u64,
 }
 
 impl Place {
-    /// The place of the line that tells the founders.
+    /// The place of the line with the founders.
     pub fn first(version: Version) -> Place
         ensures { result ≡ place_of version 0 }
     {
@@ -24,7 +24,7 @@ impl Place {
         }
     }
 
-    /// The place of the line behind.
+    /// The place of the next line.
     pub fn next(self) -> Place
         requires line { self.line + 1 < 2 ^ 64 }
         requires step { self.step + 1 < 2 ^ 64 }

@@ -10,18 +10,17 @@ ghost use Rattle.rambo_lines.specs.StepLines.{step_line, word_of};
 
 use crate::kind::StepKind;
 use crate::parts::{call_of, conf_of, name_of, number_of, one, set_of, three, two};
-use crate::plain::{frequent_kind, plain_call, plain_letter, plain_names};
 use crate::script::LINE_LIMIT;
-use rambo_history::{CallId, Op};
+use rambo_history::Op;
 use rambo_names::{Name, Weighted};
 use rambo_run::Step;
 use rambo_text::{Fault, next_word, read_hex};
 use std::alloc::Global;
 
-/// The step that a line tells.
+/// The step of a line.
 ///
-/// `OutOfMemory` where there is no room for the bytes of a get or a set, and no fault stands before these: a step that
-/// holds no bytes needs no memory. Else the first fault of the line.
+/// `OutOfMemory` where there is no room for the bytes of a get or a set, and no fault comes before these: a step that
+/// holds no bytes allocates nothing. Else the first fault of the line.
 pub fn read_step(alloc: Global, line: &[u8]) -> Result<Step<Weighted>, Fault>
     ensures found { IfOk result (λ st. HasLine st × (line.now ≡ step_line st)) }
     ensures fault { IfErr result (λ f. (f ≡ Fault.OutOfMemory) ⊎ IsLineFault TellNoStep line.now f) }
@@ -31,7 +30,7 @@ pub fn read_step(alloc: Global, line: &[u8]) -> Result<Step<Weighted>, Fault>
     read_parts(alloc, kind, more)
 }
 
-/// The kind of the step that a line tells, and the words behind the first.
+/// The kind of the step of a line, and the words after the first.
 ///
 /// `LineTooLong` where the line is too long; else `UnknownWord` where its first word begins no step.
 pub fn read_kind(line: &[u8]) -> Result<(StepKind, Option<&[u8]>), Fault>
@@ -42,9 +41,6 @@ pub fn read_kind(line: &[u8]) -> Result<(StepKind, Option<&[u8]>), Fault>
     if line.len() > LINE_LIMIT {
         return Err(Fault::LineTooLong);
     }
-    if let Some((kind, more)) = frequent_kind(line) {
-        return Ok((kind, Some(more)));
-    }
     let (word, more) = next_word(line);
     match StepKind::of(word) {
         Some(kind) => Ok((kind, more)),
@@ -52,10 +48,10 @@ pub fn read_kind(line: &[u8]) -> Result<(StepKind, Option<&[u8]>), Fault>
     }
 }
 
-/// The step of a kind that the words behind the first tell.
+/// The step of a kind that the words after the first give.
 ///
-/// `OutOfMemory` where there is no room for the bytes of a get or a set, and no fault stands before these; else the first
-/// fault of the words.
+/// `OutOfMemory` where there is no room for the bytes of a get or a set, and no fault comes before these; else the
+/// first fault of the words.
 pub fn read_parts(
     alloc: Global,
     kind: StepKind,
@@ -99,9 +95,9 @@ fn read_get(alloc: Global, more: Option<&[u8]>) -> Result<Step<Weighted>, Fault>
     Ok(Step::Call(name, op))
 }
 
-/// The node and the get that the words behind the first tell.
+/// The node and the get that the words after the first give.
 ///
-/// `OutOfMemory` where there is no room for the bytes of the key, and no fault stands before these; else the first fault
+/// `OutOfMemory` where there is no room for the bytes of the key, and no fault comes before these; else the first fault
 /// of the words.
 pub fn get_asked(alloc: Global, more: Option<&[u8]>) -> Result<(Name, Op), Fault>
     ensures found { IfOk result (λ found. TellStep StepKind.Get (option_copied more.entry) (step.Call found.0 found.1)) }
@@ -123,10 +119,10 @@ fn read_put(alloc: Global, more: Option<&[u8]>) -> Result<Step<Weighted>, Fault>
     Ok(Step::Call(name, op))
 }
 
-/// The node and the set that the words behind the first tell.
+/// The node and the set that the words after the first give.
 ///
-/// `OutOfMemory` where there is no room for the bytes of the key or the value, and no fault stands before these; else the
-/// first fault of the words.
+/// `OutOfMemory` where there is no room for the bytes of the key or the value, and no fault comes before these; else
+/// the first fault of the words.
 pub fn set_asked(alloc: Global, more: Option<&[u8]>) -> Result<(Name, Op), Fault>
     ensures found { IfOk result (λ found. TellStep StepKind.Set (option_copied more.entry) (step.Call found.0 found.1)) }
     ensures fault { IfErr result (λ f. TellFault StepKind.Set (option_copied more.entry) f) }
@@ -143,58 +139,24 @@ fn read_send(more: Option<&[u8]>) -> Result<Step<Weighted>, Fault>
     ensures found { IfOk result (λ st. TellStep StepKind.Send (option_copied more.entry) st) }
     ensures fault { IfErr result (λ f. TellUnfit StepKind.Send (option_copied more.entry) f) }
 {
-    let (from, to) = read_names(more)?;
-    Ok(Step::Send(from, to))
-}
-
-/// The two names of a sending that the words behind the first tell; else their first fault.
-pub fn read_names(more: Option<&[u8]>) -> Result<(Name, Name), Fault>
-    ensures found { IfOk result (λ names. TellStep StepKind.Send (option_copied more.entry) (step.Send names.0 names.1)) }
-    ensures fault { IfErr result (λ f. TellUnfit StepKind.Send (option_copied more.entry) f) }
-{
-    if let Some(names) = plain_names(more) {
-        return Ok(names);
-    }
     let (from, to) = two(more)?;
-    Ok((name_of(from)?, name_of(to)?))
+    Ok(Step::Send(name_of(from)?, name_of(to)?))
 }
 
 fn read_deliver(more: Option<&[u8]>) -> Result<Step<Weighted>, Fault>
     ensures found { IfOk result (λ st. TellStep StepKind.Deliver (option_copied more.entry) st) }
     ensures fault { IfErr result (λ f. TellUnfit StepKind.Deliver (option_copied more.entry) f) }
 {
-    Ok(Step::Deliver(read_letter(more)?))
-}
-
-/// The number of a delivered letter that the words behind the first tell; else their first fault.
-pub fn read_letter(more: Option<&[u8]>) -> Result<u64, Fault>
-    ensures found { IfOk result (λ number. TellStep StepKind.Deliver (option_copied more.entry) (step.Deliver number)) }
-    ensures fault { IfErr result (λ f. TellUnfit StepKind.Deliver (option_copied more.entry) f) }
-{
-    if let Some(letter) = plain_letter(more) {
-        return Ok(letter);
-    }
     let letter = one(more)?;
-    number_of(letter)
+    Ok(Step::Deliver(number_of(letter)?))
 }
 
 fn read_advance(more: Option<&[u8]>) -> Result<Step<Weighted>, Fault>
     ensures found { IfOk result (λ st. TellStep StepKind.Advance (option_copied more.entry) st) }
     ensures fault { IfErr result (λ f. TellUnfit StepKind.Advance (option_copied more.entry) f) }
 {
-    Ok(Step::Advance(read_call(more)?))
-}
-
-/// The call that goes on, which the words behind the first tell; else their first fault.
-pub fn read_call(more: Option<&[u8]>) -> Result<CallId, Fault>
-    ensures found { IfOk result (λ id. TellStep StepKind.Advance (option_copied more.entry) (step.Advance id)) }
-    ensures fault { IfErr result (λ f. TellUnfit StepKind.Advance (option_copied more.entry) f) }
-{
-    if let Some(id) = plain_call(more) {
-        return Ok(id);
-    }
     let call = one(more)?;
-    call_of(call)
+    Ok(Step::Advance(call_of(call)?))
 }
 
 fn read_again(more: Option<&[u8]>) -> Result<Step<Weighted>, Fault>

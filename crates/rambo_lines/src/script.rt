@@ -40,7 +40,7 @@ impl Model for Script {
     ghost view = { λ s. record { founders = s.founders; steps = s.steps.items } };
 }
 
-/// The script that a text of either version tells.
+/// The script of a text of either version.
 ///
 /// Else the first faulty line with its first fault; `OutOfMemory` where there is no room for a step or for its bytes,
 /// with the line that was read then, which has no fault before its bytes.
@@ -52,7 +52,7 @@ pub fn read_script(alloc: Global, text: &[u8]) -> Result<Script, ScriptFault>
     read_behind(alloc, version, behind)
 }
 
-// The script that the text behind a head tells.
+// The script that the text after a head tells.
 fn read_behind(alloc: Global, version: Version, text: &[u8]) -> Result<Script, ScriptFault>
     ensures script { IfOk result (λ s. IsScript text.now s) }
     ensures fault { IfErr result (λ f. (g : ScriptFault) × IsNoScript text.now g × (f ≡ in_whole version g)) }
@@ -70,7 +70,7 @@ fn read_behind(alloc: Global, version: Version, text: &[u8]) -> Result<Script, S
     Ok(Script { founders, steps })
 }
 
-/// What the line of this number tells; a fault with that number.
+/// What the line of this number gives; a fault with that number.
 pub fn at_line<T>(line: u64, told: Result<T, Fault>) -> Result<T, ScriptFault>
     ensures ok { IfOk result (λ x. told ≡ Ok x) }
     ensures fault { IfErr result (λ f. (f.line ≡ line) × (told ≡ Err f.fault)) }
@@ -78,10 +78,10 @@ pub fn at_line<T>(line: u64, told: Result<T, Fault>) -> Result<T, ScriptFault>
     told.map_err(|fault| ScriptFault { fault, line })
 }
 
-/// The founders that the first line of a script tells.
+/// The founders on the first line of a script.
 ///
 /// `LineTooLong` where the line is too long; `NoFounders` where its first word is another one, or there is no founder;
-/// else the first fault of the words behind the first.
+/// else the first fault of the words after the first.
 pub fn read_founders(line: &[u8]) -> Result<Weighted, Fault>
     ensures found { IfOk result (λ c. AreFounders c × (line.now ≡ founders_line c)) }
     ensures fault { IfErr result (λ f. IsLineFault TellNoFounders line.now f) }

@@ -13,7 +13,7 @@ use rambo_text::{write_call, write_hex, write_name, write_num};
 
 /// Appends the line of a step, with its line feed.
 ///
-/// `OutOfMemory` where the text can't grow; it is then as before.
+/// `OutOfMemory` where the text can't grow; it is then unchanged.
 pub fn step_text(step: &Step<Weighted>, out: &mut Vec<u8>) -> Result<(), Refusal>
     ensures ok { OnOk result (out.new.items ≡ out.old.items ++ step_line step.now ++ 10 ∷ []) }
     ensures err { OnErr result (out.new.items ≡ out.old.items) }
@@ -119,7 +119,7 @@ fn append_called(kind: StepKind, id: &CallId, out: &mut Vec<u8>) -> Result<(), R
     append_id(id, out)
 }
 
-// Each further word stands behind a space.
+// Each further word stands after a space.
 fn append_name(name: Name, out: &mut Vec<u8>) -> Result<(), Refusal>
     ensures ok { OnOk result (out.new.items ≡ out.old.items ++ 32 ∷ decimal name) }
     ensures err { OnErr result (Grows out.old.items out.new.items) }

@@ -21,7 +21,7 @@ abbrev pub call_items : CallId → Option Op → List Item
 call_items c None = []
 call_items c (Some o) = Happened (event.Call c o) ∷ []
 
--- what is told of a step: a call, an answer, the end of a collection or of an attempt, or a refusal
+-- what is reported of a step: a call, an answer, the end of a collection or of an attempt, or a refusal
 abbrev pub step_items : List Event → ℕ → Result (Effect Weights) Refusal → List Item
 step_items h n (Ok effect.Done) = []
 step_items h n (Ok (effect.Called c)) = call_items c (call_in h c)
@@ -46,7 +46,7 @@ abbrev pub order_items : List CallId → List Item
 order_items [] = []
 order_items (c ∷ cs) = OrderedAll (c ∷ cs) ∷ []
 
--- it is told in version 2 alone
+-- it is reported in version 2 alone
 abbrev pub order_items_in : Version → List CallId → List Item
 order_items_in One calls = []
 order_items_in Two calls = order_items calls

@@ -1,6 +1,6 @@
 //! Writing lines.
 //!
-//! After a refusal the text of an `append_` function is what it was, maybe with some bytes behind it.
+//! After a refusal the text of an `append_` function is what it was, maybe with some bytes after it.
 ghost use Rattle.std.specs.Prelude.{◌≡◌, ◌++◌, ◌∷◌, map, decimal, OnOk, OnErr, IfErr};
 ghost use Rattle.rambo_history.specs.declared.event.Event.TheVariants as event;
 ghost use Rattle.rambo_text.specs.Words.{more_words};
@@ -83,7 +83,7 @@ fn append_answer(answer: &Answer, out: &mut Vec<u8>) -> Result<(), Refusal>
     Ok(())
 }
 
-// Appends a word with the space behind it, a name and a number.
+// Appends a word with the space after it, a name and a number.
 fn append_front(word: &[u8], name: Name, number: u64, out: &mut Vec<u8>) -> Result<(), Refusal>
     ensures ok { OnOk result (out.new.items ≡ out.old.items ++ word.now ++ decimal name ++ 32 ∷ decimal number) }
     ensures err { OnErr result (Grows out.old.items out.new.items) }

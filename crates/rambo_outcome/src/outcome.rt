@@ -17,9 +17,9 @@ use rambo_sequence::KeySequence;
 use rambo_text::Version;
 use std::alloc::Global;
 
-/// The text of an outcome: a line for each call, answer, ended collection, ended attempt and refusal in the order of the
-/// steps, then one for each sequence, then one for each map. In version 2 the line `rambo 2` stands before these, and one
-/// for the order of the calls of all keys before the maps, where it has a call.
+/// The text of an outcome: a line for each call, answer, ended collection, ended attempt and refusal, in the order of
+/// the steps. Then come a line for each sequence, and one for each map. In version 2 the line `rambo 2` comes before
+/// these. A line for the order of the calls of all keys comes before the maps, where that has a call.
 ///
 /// `OutOfMemory` where there is no room for it.
 pub fn outcome_text(
@@ -39,9 +39,9 @@ pub fn outcome_text(
     Ok(out)
 }
 
-/// Appends the line that tells the version of a text. Version 1 has none.
+/// Appends the line that gives the version of a text. Version 1 has none.
 ///
-/// `OutOfMemory` where the text can't grow; it is then as before.
+/// `OutOfMemory` where the text can't grow; it is then unchanged.
 pub fn write_head(version: Version, out: &mut Vec<u8>) -> Result<(), Refusal>
     ensures ok { OnOk result (out.new.items ≡ out.old.items ++ head_text version) }
     ensures err { OnErr result (out.new.items ≡ out.old.items) }
@@ -69,7 +69,7 @@ fn write_order_in(version: Version, calls: &[CallId], out: &mut Vec<u8>) -> Resu
 
 /// Appends the line of the order of all keys' calls, or nothing where there is none.
 ///
-/// `OutOfMemory` where the text can't grow; it is then as before.
+/// `OutOfMemory` where the text can't grow; it is then unchanged.
 pub fn write_order(calls: &[CallId], out: &mut Vec<u8>) -> Result<(), Refusal>
     ensures ok { OnOk result (out.new.items ≡ out.old.items ++ items_text (order_items calls.now)) }
     ensures err { OnErr result (out.new.items ≡ out.old.items) }
@@ -102,10 +102,10 @@ fn append_steps(
     Ok(())
 }
 
-/// Appends what is told of a step, by its number: the line of a call, an answer, an ended collection, an ended attempt or
-/// a refusal, or none. What a call asked is looked up in the history.
+/// Appends what is reported of a step, by its number: the line of a call, an answer, an ended collection, an ended
+/// attempt or a refusal, or none. What a call asked is looked up in the history.
 ///
-/// `OutOfMemory` where the text can't grow; it is then as before.
+/// `OutOfMemory` where the text can't grow; it is then unchanged.
 pub fn write_step(
     step: u64,
     told: &Result<Effect<Weighted>, Refusal>,
@@ -150,7 +150,7 @@ fn append_step(
 
 /// Appends a line for each sequence.
 ///
-/// `OutOfMemory` where the text can't grow; it is then as before.
+/// `OutOfMemory` where the text can't grow; it is then unchanged.
 pub fn write_sequences(sequences: &[KeySequence], out: &mut Vec<u8>) -> Result<(), Refusal>
     ensures ok { OnOk result (out.new.items ≡ out.old.items ++ items_text (map Ordered sequences.now)) }
     ensures err { OnErr result (out.new.items ≡ out.old.items) }
@@ -178,7 +178,7 @@ fn append_sequences(sequences: &[KeySequence], out: &mut Vec<u8>) -> Result<(), 
 
 /// Appends a line for each map.
 ///
-/// `OutOfMemory` where the text can't grow; it is then as before.
+/// `OutOfMemory` where the text can't grow; it is then unchanged.
 pub fn write_maps(maps: &[NodeMap<Weighted>], out: &mut Vec<u8>) -> Result<(), Refusal>
     ensures ok { OnOk result (out.new.items ≡ out.old.items ++ items_text (map map_item maps.now)) }
     ensures err { OnErr result (out.new.items ≡ out.old.items) }

@@ -10,7 +10,7 @@ use rambo_names::Refusal;
 
 /// Appends the line of a call that was made.
 ///
-/// `OutOfMemory` where the text can't grow; it is then as before.
+/// `OutOfMemory` where the text can't grow; it is then unchanged.
 pub fn write_called(id: &CallId, op: &Op, out: &mut Vec<u8>) -> Result<(), Refusal>
     ensures ok { OnOk result (out.new.items ≡ out.old.items ++ item_line (Happened (event.Call id.now op.now))) }
     ensures err { OnErr result (out.new.items ≡ out.old.items) }
@@ -26,7 +26,7 @@ pub fn write_called(id: &CallId, op: &Op, out: &mut Vec<u8>) -> Result<(), Refus
 
 /// Appends the line of a call that was answered.
 ///
-/// `OutOfMemory` where the text can't grow; it is then as before.
+/// `OutOfMemory` where the text can't grow; it is then unchanged.
 pub fn write_answered(id: &CallId, answer: &Answer, out: &mut Vec<u8>) -> Result<(), Refusal>
     ensures ok { OnOk result (out.new.items ≡ out.old.items ++ item_line (Happened (event.Answer id.now answer.now))) }
     ensures err { OnErr result (out.new.items ≡ out.old.items) }
@@ -42,7 +42,7 @@ pub fn write_answered(id: &CallId, answer: &Answer, out: &mut Vec<u8>) -> Result
 
 /// Appends the line of a step of this number that was refused.
 ///
-/// `OutOfMemory` where the text can't grow; it is then as before.
+/// `OutOfMemory` where the text can't grow; it is then unchanged.
 pub fn write_refused(step: u64, refusal: Refusal, out: &mut Vec<u8>) -> Result<(), Refusal>
     ensures ok { OnOk result (out.new.items ≡ out.old.items ++ item_line (Refused step (number_of refusal))) }
     ensures err { OnErr result (out.new.items ≡ out.old.items) }

@@ -1,6 +1,6 @@
 //! Scripts that are run: `replay`, from a script to the text of what its run gives.
 //!
-//! `rambo_script` gives it on, beside all else that is known of scripts. It stands alone so that the program needs only
+//! `rambo_script` re-exports it, with all else about scripts. It has a crate of its own, so that the program needs only
 //! what it mentions: a source, a sink and a fault.
 #![tactic(auto)]
 

@@ -1,13 +1,19 @@
 //! From a script to the text of what its run gives.
-ghost use Rattle.std.specs.Prelude.{◌≡◌, OnOk, IfOk, IfErr};
+ghost use Rattle.std.specs.Prelude.{◌≡◌, ◌≢◌, ◌⊎◌, ◌++◌, ℕ, List, [], true, false, OnOk, OnErr, IfOk, IfErr};
 ghost use Rattle.std.specs.Io.KnownBytes.{IsAtEnd};
+ghost use Rattle.rambo_atomic.specs.Unreads.{KnowsEnd, TakesIn, HasFeed};
+ghost use Rattle.rambo_text.specs.declared.fault.ScriptFault.{ScriptFault};
+ghost use Rattle.rambo_text.specs.Versions.{IsBehindHead};
+ghost use Rattle.rambo_check.specs.Checks.{IsLeft};
+ghost use Rattle.rambo_check.specs.Readings.{IsMore};
+ghost use Rattle.rambo_lines.specs.Versions.{IsHeadFault};
 ghost use Rattle.rambo_steps.specs.Replays.{IsReplay, Replays, Leaves, GivesUp, reads_failed, writes_failed};
-ghost use Rattle.rambo_steps.specs.Runs.{IsFounded, IsReplayBehind, GivesUpBehind};
+ghost use Rattle.rambo_steps.specs.Runs.{IsFounded, GivesUpBehind, IsOfWhole, FoundsNone};
 
-use rambo_atomic::{Sink, Source, read_all, write_all};
+use rambo_atomic::{Sink, Source, Unread, write_all};
 use rambo_lines::read_head;
 use rambo_names::Weighted;
-use rambo_steps::{founders_in, in_memory, run_through};
+use rambo_steps::{founders_in, in_memory, run_through, told_at_end};
 use rambo_tag::Registers;
 use rambo_text::{ReplayFault, Version};
 use rambo_world::Running;
@@ -20,10 +26,11 @@ type WeightedRun = Running<Weighted, Registers<BuildHasherDefault<FoldHasher>>>;
 /// Reads a script of either version, runs it over weighted majorities, and writes the text of what the run gives, in the
 /// script's version.
 ///
-/// The whole input is read and run before the first byte is written. Each step is taken as its line is read: neither
-/// the steps nor what they did are kept. `Script` where the input is no script, or where there is no room for the bytes
-/// of a get or a set; `Read` and `Write` where a call of that stream fails; `Memory` where there is no room for the
-/// input, the run or its text. After `Write` a beginning of the text was written, and after another fault nothing.
+/// The whole input is read and run before the first byte is written. It is read piece by piece, and each step is taken
+/// as its line is read: neither the input nor the steps nor what they did are kept. `Script` where the input is no
+/// script, or where there is no room for the bytes of a get or a set; `Read` and `Write` where a call of that stream
+/// fails; `Memory` where there is no room for a piece of the input, the run or its text. After `Write` a prefix of the
+/// text was written, and after another fault nothing.
 pub fn replay<R: Source, W: Sink>(
     alloc: Global,
     reader: &mut R,
@@ -37,34 +44,88 @@ pub fn replay<R: Source, W: Sink>(
     ensures reads { IfErr result (λ f. R.failures reader.new ≡ reads_failed f (R.failures reader.old)) }
     ensures writes { IfErr result (λ f. W.failures writer.new ≡ writes_failed f (W.failures writer.old)) }
 {
-    let input = read_all(alloc, reader)?;
-    let text = replayed(alloc, input.as_slice())?;
+    let text = replayed(alloc, reader)?;
     write_all(writer, text.as_slice())?;
     Ok(())
 }
 
-// The text of what the run of a script gives.
-fn replayed(alloc: Global, input: &[u8]) -> Result<Vec<u8>, ReplayFault>
-    ensures ok { IfOk result (λ text. IsReplay input.now text.items) }
-    ensures fault { IfErr result (λ f. GivesUp input.now f) }
+// The text of what the run of the script that a reader has left gives. It is read to its end, also after a fault of the
+// script, and never held as a whole.
+fn replayed<R: Source>(alloc: Global, reader: &mut R) -> Result<Vec<u8>, ReplayFault>
+    ensures ok { IfOk result (λ text. (bytes : List ℕ) × IsLeft (R.left reader.old) bytes × IsReplay bytes text.items) }
+    ensures end { OnOk result (IsAtEnd (R.left reader.new)) }
+    ensures fine { OnOk result (R.failures reader.new ≡ R.failures reader.old) }
+    ensures script { IfErr result (λ f. (g : ScriptFault) → f ≡ ReplayFault.Script g → (bytes : List ℕ) × IsLeft (R.left reader.old) bytes × GivesUp bytes f) }
+    ensures reads { IfErr result (λ f. R.failures reader.new ≡ reads_failed f (R.failures reader.old)) }
+    ensures unwritten { IfErr result (λ f. f ≢ ReplayFault.Write) }
 {
-    let (version, behind) = read_head(input)?;
-    run_of(alloc, version, behind)
+    let mut unread = Unread::new(alloc);
+    let version = read_version(reader, &mut unread)?;
+    let mut running = founded(alloc, version, reader, &mut unread)?;
+    run_through(alloc, version, reader, &mut unread, &mut running)
 }
 
-// The text of what the run of a script gives, of which this is what stands behind the head.
-fn run_of(alloc: Global, version: Version, input: &[u8]) -> Result<Vec<u8>, ReplayFault>
-    ensures ok { IfOk result (λ text. IsReplayBehind version input.now text.items) }
-    ensures fault { IfErr result (λ f. GivesUpBehind version input.now f) }
+// The version of the script that a reader has left. Of it the line that tells the version is used, and no more.
+fn read_version<R: Source>(reader: &mut R, unread: &mut Unread) -> Result<Version, ReplayFault>
+    requires { unread.old ≡ record { held = []; ended = false } }
+    ensures knows { OnOk result (KnowsEnd unread.new (R.left reader.new)) }
+    ensures head { IfOk result (λ version. (more : List ℕ) → IsMore unread.new (R.left reader.new) more
+        → (bytes : List ℕ) × IsLeft (R.left reader.old) bytes × IsBehindHead version bytes (unread.new.held ++ more)) }
+    ensures fine { OnOk result (R.failures reader.new ≡ R.failures reader.old) }
+    ensures script { IfErr result (λ f. (g : ScriptFault) → f ≡ ReplayFault.Script g → (bytes : List ℕ) × IsLeft (R.left reader.old) bytes × GivesUp bytes f) }
+    ensures reads { IfErr result (λ f. R.failures reader.new ≡ reads_failed f (R.failures reader.old)) }
+    ensures unwritten { IfErr result (λ f. f ≢ ReplayFault.Write) }
 {
-    let mut running = founded(alloc, version, input)?;
-    run_through(alloc, version, input, &mut running)
+    unread.find_line(reader)?;
+    match take_head(unread) {
+        Ok(version) => Ok(version),
+        Err(fault) => Err(told_at_end(fault, unread, reader)),
+    }
 }
 
-// The run of the founders that the first line behind the head tells, before any step.
-fn founded(alloc: Global, version: Version, input: &[u8]) -> Result<WeightedRun, ReplayFault>
+// The version that the first line that is held tells. A line that tells version 2 is forgotten.
+fn take_head(unread: &mut Unread) -> Result<Version, ReplayFault>
+    ensures head { IfOk result (λ version. IsBehindHead version unread.old.held unread.new.held) }
+    ensures ended { unread.new.ended ≡ unread.old.ended }
+    ensures kept { OnErr result (unread.new ≡ unread.old) }
+    ensures fault { IfErr result (λ f. (g : ScriptFault) × (f ≡ ReplayFault.Script g) × IsHeadFault unread.old.held g) }
+{
+    let held = unread.as_slice();
+    let (version, behind) = read_head(held)?;
+    let used = held.len() - behind.len();
+    unread.forget(used);
+    Ok(version)
+}
+
+// The run of the founders that the first line behind the head tells, before any step. The line is held then.
+fn founded<R: Source>(
+    alloc: Global,
+    version: Version,
+    reader: &mut R,
+    unread: &mut Unread,
+) -> Result<WeightedRun, ReplayFault>
+    requires knows { KnowsEnd unread.old (R.left reader.old) }
+    ensures knows { OnOk result (KnowsEnd unread.new (R.left reader.new)) }
+    ensures held { OnOk result (TakesIn (R.left reader.old) (R.left reader.new) unread.old.held unread.new.held) }
+    ensures same { OnOk result (unread.old.ended ≡ true → unread.new ≡ unread.old) }
+    ensures line { OnOk result (HasFeed unread.new.held ⊎ (unread.new.ended ≡ true)) }
+    ensures founded { IfOk result (λ r. IsFounded unread.new.held r) }
+    ensures fine { OnOk result (R.failures reader.new ≡ R.failures reader.old) }
+    ensures script { IfErr result (λ f. (g : ScriptFault) → f ≡ ReplayFault.Script g → IsOfWhole (λ bytes. GivesUpBehind version bytes f) unread.old (R.left reader.old)) }
+    ensures reads { IfErr result (λ f. R.failures reader.new ≡ reads_failed f (R.failures reader.old)) }
+    ensures unwritten { IfErr result (λ f. f ≢ ReplayFault.Write) }
+{
+    unread.find_line(reader)?;
+    match founded_by(alloc, version, unread.as_slice()) {
+        Ok(running) => Ok(running),
+        Err(fault) => Err(told_at_end(fault, unread, reader)),
+    }
+}
+
+// The run of the founders that the first line tells, before any step.
+fn founded_by(alloc: Global, version: Version, input: &[u8]) -> Result<WeightedRun, ReplayFault>
     ensures founded { IfOk result (λ r. IsFounded input.now r) }
-    ensures fault { IfErr result (λ f. GivesUpBehind version input.now f) }
+    ensures fault { IfErr result (λ f. FoundsNone version input.now f) }
 {
     let founders = founders_in(version, input)?;
     let replica = Registers::new(alloc, BuildHasherDefault::<FoldHasher>::new());

@@ -1,1 +1,2 @@
-mod RunAlong
+pub mod Pieces
+pub mod RunAlong

@@ -1,5 +1,5 @@
 -- A run that goes on as the lines of a script are read
-use Rattle.std.proofs.Common.{◌≡◌, ◌≢◌, ◌⊎◌, ℕ, ◌+◌, ◌<◌, ◌≤◌, ◌^◌, List, [], ◌∷◌, ◌++◌, Option, length, inl, inr, refl, sym, ap, subst, ◌∙◌, arith, length-append, append-nil, map}
+use Rattle.std.proofs.Common.{◌≡◌, ◌≢◌, ◌⊎◌, ℕ, ◌+◌, ◌-◌, ◌<◌, ◌^◌, List, [], ◌∷◌, ◌++◌, Option, length, inl, inr, refl, sym, ap, subst, ◌∙◌, arith, append-nil, map}
 use Rattle.std.specs.Prelude.{Result, Ok, OnOk}
 use Rattle.rambo_names.specs.Weights.{Weights, weighted_majorities}
 use Rattle.rambo_history.specs.declared.event.Event.{Event}
@@ -12,7 +12,7 @@ use Rattle.rambo_sequence.proofs.Outcomes.{sequences_apart}
 use Rattle.rambo_run.specs.declared.step.Step.{Step}
 use Rattle.rambo_run.specs.Worlds.{first_world}
 use Rattle.rambo_run.specs.Steps.{refusal}
-use Rattle.rambo_run.specs.Runs.{after, maps_of, given_sequences, given_order, result_of, run_from}
+use Rattle.rambo_run.specs.Runs.{after, given_sequences, given_order, result_of, run_from}
 use Rattle.rambo_run.specs.Ongoing.{RunningOf}
 use Rattle.rambo_run.proofs.Runs.{run_from-more, run_from-none}
 use Rattle.rambo_text.specs.declared.fault.Fault.{Fault}
@@ -21,7 +21,7 @@ use Rattle.rambo_text.specs.declared.fault.ReplayFault.{ReplayFault}
 use Rattle.rambo_text.specs.declared.fault.ReplayFault.TheVariants.{Script}
 use Rattle.rambo_text.specs.declared.fault.ScriptFault.{ScriptFault}
 use Rattle.rambo_text.specs.declared.version.Version.{Version}
-use Rattle.rambo_text.specs.Versions.{head_text, head_lines}
+use Rattle.rambo_text.specs.Versions.{head_text}
 use Rattle.rambo_text.specs.Words.{IsFirstLine, IsFirstWord}
 use Rattle.rambo_text.proofs.Heads.{same_lines}
 use Rattle.rambo_text.proofs.WordSplits.{words_joined}
@@ -32,10 +32,10 @@ use Rattle.rambo_lines.specs.declared.kind.StepKind.{StepKind}
 use Rattle.rambo_lines.specs.StepLines.{word_of}
 use Rattle.rambo_lines.specs.Scripts.{founders_line, IsShort}
 use Rattle.rambo_lines.specs.Faults.{IsLineFault, TellNoFounders, TellNoStep, TellsBytes}
-use Rattle.rambo_steps.specs.Runs.{IsFounded, TakesStep, IsPartsFault, IsFaultAt, IsReplayBehind, GivesUpBehind, ended}
+use Rattle.rambo_steps.specs.Runs.{IsFounded, TakesStep, IsPartsFault, IsFaultAt, IsReplayBehind, GivesUpBehind, FoundsNone, ended}
 use Rattle.rambo_lines.proofs.Fitting.{line_needs}
-use Rattle.rambo_lines.proofs.LineByLine.{Reads, script, nothing, less_left, reads-first, reads-next, reads-all, first_in_whole, later_in_whole}
-use Rattle.rambo_lines.proofs.Placing.{few_heads, place_next, place_pushed}
+use Rattle.rambo_lines.proofs.LineByLine.{Reads, script, nothing, reads-first, reads-next, reads-all, later_in_whole}
+use Rattle.rambo_lines.proofs.Placing.{place_next, place_pushed, fault_there}
 use Rattle.rambo_lines.specs.declared.place.Place.{Place}
 use Rattle.rambo_lines.specs.Places.{place_of}
 
@@ -46,21 +46,13 @@ pub record Runs (version : Version) (bytes : List ℕ) (r : RunningOf Weights) (
   pub ran : r.state ≡ run_from weighted_majorities (first_world weighted_majorities r.founders) steps
   pub told : text ≡ head_text version ++ items_text (told_along weighted_majorities (first_world weighted_majorities r.founders) 1 steps)
   pub at : place ≡ place_of version (length steps)
-  pub within : length steps + length rest ≤ length bytes
 
 -- a result that is there meets what is said of it
 pub when_ok : {T E : Type 0} (r : Result T E) (x : T) (P : Type 0) → r ≡ Ok x → OnOk r P → P
 when_ok r x P is holds = subst (λ s. OnOk s P) is holds
 
--- no more is left than there was
-rest_within : (bytes line rest : List ℕ) → IsFirstLine bytes line rest → length rest ≤ length bytes
-rest_within bytes line rest first = elim first.whole [
-  | inl feed ↦ omega (arith, length-append line (10 ∷ rest), ap length feed)
-  | inr last ↦ (let none : length rest ≡ 0 = ap length last.1 in omega (arith, none))
-]
-
 -- the first line was read
-pub runs_first : (version : Version) (bytes line rest : List ℕ) (r : RunningOf Weights) (place : Place) (text : List ℕ) → IsFirstLine bytes line rest → IsFounded bytes r → text ≡ head_text version
+abbrev pub runs_first : (version : Version) (bytes line rest : List ℕ) (r : RunningOf Weights) (place : Place) (text : List ℕ) → IsFirstLine bytes line rest → IsFounded bytes r → text ≡ head_text version
     → place ≡ place_of version 0 → Runs version bytes r place text rest
 runs_first version bytes line rest r place text first founded head at =
     let is : line ≡ founders_line r.founders = (same_lines bytes line rest founded.0.line founded.0.rest first founded.0.is_first).0 ∙ founded.0.line_is in
@@ -70,11 +62,10 @@ runs_first version bytes line rest r place text first founded head at =
       ran = founded.1 ∙ sym (run_from-none weighted_majorities (first_world weighted_majorities r.founders));
       told = head ∙ sym (append-nil (head_text version));
       at = at;
-      within = let h = rest_within bytes line rest first in omega (arith, h);
     }
 
 -- the step of one line more was taken
-pub runs_next : (version : Version) (bytes rest line more : List ℕ) (r new : RunningOf Weights) (place next : Place) (text longer : List ℕ) → Runs version bytes r place text rest → rest ≢ []
+abbrev pub runs_next : (version : Version) (bytes rest line more : List ℕ) (r new : RunningOf Weights) (place next : Place) (text longer : List ℕ) → Runs version bytes r place text rest → rest ≢ []
     → IsFirstLine rest line more → next ≡ record { line = place.line + 1; step = place.step + 1 } → TakesStep line next.step r new text longer → Runs version bytes new next longer more
 runs_next version bytes rest line more r new place next text longer now some first is takes =
     let s = weighted_majorities in
@@ -83,7 +74,6 @@ runs_next version bytes rest line more r new place next text longer now some fir
     let founders : new.founders ≡ r.founders = ap (λ (v : RunningOf Weights). v.founders) takes.takes.taken in
     let state : new.state ≡ after s r.state st = ap (λ (v : RunningOf Weights). v.state) takes.takes.taken in
     let first_w = first_world s r.founders in
-    let fewer = less_left rest line more some first in
     let behind = place_next version (length now.steps) place next now.at is in
     record {
       steps = steps;
@@ -93,18 +83,15 @@ runs_next version bytes rest line more r new place next text longer now some fir
       told = text_more s (head_text version) first_w now.steps st r.state new.state (result_of (refusal s r.state st) r.state st) next.step text longer now.ran state refl (ap (λ (p : Place). p.step) behind) now.told takes.takes.told
           ∙ ap (λ f. head_text version ++ items_text (told_along s (first_world s f) 1 steps)) (sym founders);
       at = place_pushed version now.steps steps line next behind (record { step = st; new_is = refl; has_line = takes.has_line; line_is = takes.line_is });
-      within = let h = now.within in omega (arith, h, fewer, length-append now.steps (st ∷ []));
     }
 
--- there is a place behind
-pub place_fits : (version : Version) (bytes rest : List ℕ) (r : RunningOf Weights) (place : Place) (text : List ℕ) → Runs version bytes r place text rest → length bytes < 2 ^ 63
+-- there is a place behind, where the last line's number isn't the greatest
+pub place_fits : (version : Version) (bytes rest : List ℕ) (r : RunningOf Weights) (place : Place) (text : List ℕ) → Runs version bytes r place text rest → place.line ≢ 2 ^ 64 - 1 → place.line < 2 ^ 64
     → (place.line + 1 < 2 ^ 64) × (place.step + 1 < 2 ^ 64)
-place_fits version bytes rest r place text now few =
-    let within = now.within in
+place_fits version bytes rest r place text now less fits =
     let line = ap (λ (p : Place). p.line) now.at in
     let step = ap (λ (p : Place). p.step) now.at in
-    let head = few_heads version in
-    (omega (arith, line, head, within, few), omega (arith, step, within, few))
+    (omega (arith, less, fits), omega (arith, less, fits, line, step))
 
 -- no call stands twice in the given sequences
 pub given_once : (h : List Event) (marks : List Mark) (ss told : List SequenceOf) → ss ≡ sequences_of h marks → ((key : List ℕ) → IsProper h key (sequence_in ss key)) → told ≡ ss
@@ -124,10 +111,10 @@ runs_all version bytes rest r place text whole now none is =
 
 -- the first line has a fault
 pub first_fault : (version : Version) (bytes line rest : List ℕ) (place : Place) (g : ScriptFault) → IsFirstLine bytes line rest → place ≡ place_of version 0 → g.line ≡ place.line
-    → IsLineFault TellNoFounders line g.fault → GivesUpBehind version bytes (Script g)
+    → IsLineFault TellNoFounders line g.fault → FoundsNone version bytes (Script g)
 first_fault version bytes line rest place g first at number fault =
-    let there = first_in_whole TellsBytes version bytes line rest place g first at number fault in
-    inr (there.0, ap Script there.2, there.1)
+    let there : ScriptFault = record { fault = g.fault; line = 1 } in
+    inr (there, ap Script (fault_there version 0 place g at number), record { line = line; rest = rest; is_first = first; fault = fault; number = refl })
 
 -- a later line has one, or there was no room for its step
 pub later_fault : (version : Version) (bytes rest line more : List ℕ) (r : RunningOf Weights) (place next : Place) (text : List ℕ) (f : ReplayFault) → Runs version bytes r place text rest → rest ≢ []

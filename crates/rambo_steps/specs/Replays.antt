@@ -31,17 +31,17 @@ pub record Replays (input old new : Option (List ℕ)) : Type 0 where
   pub is_replay : IfSome input (λ bytes. IsReplay bytes text)
   pub written : Appends old new text
 
--- a beginning of that text was written
+-- a prefix of that text was written
 pub record Stops (input old new : Option (List ℕ)) : Type 0 where
   pub text : List ℕ
   pub is_replay : IfSome input (λ bytes. IsReplay bytes text)
   pub written : Begins old new text
 
--- what is behind a head is no script, or memory ran out while a line that tells bytes was read
+-- what is after a head is no script, or memory ran out while a line that has bytes was read
 abbrev pub IsFaultyBehind : List ℕ → ScriptFault → Type 0
 IsFaultyBehind bytes f = IsScriptFault bytes f ⊎ RanOut TellsBytes bytes f
 
--- what was read is no script: the head is faulty, or what is behind it
+-- what was read is no script: the head is faulty, or what is after it
 abbrev pub IsNoScript : List ℕ → ScriptFault → Type 0
 IsNoScript bytes f = IsHeadFault bytes f ⊎ BehindHead (λ version. IsFaultyBehind) bytes f
 

@@ -14,15 +14,18 @@ use Rattle.rambo_text.specs.declared.fault.ReplayFault.TheVariants.{Script, Memo
 use Rattle.rambo_text.specs.declared.version.Version.{Version}
 use Rattle.rambo_text.specs.Versions.{in_whole}
 use Rattle.rambo_text.specs.Words.{IsFirstLine}
+use Rattle.rambo_atomic.specs.Unreads.{UnreadState}
+use Rattle.rambo_check.specs.Readings.{IsMore}
 use Rattle.rambo_check.specs.Lines.{Ordered, items_text}
 use Rattle.rambo_outcome.specs.Outcomes.{step_items, order_items_in, map_item}
 use Rattle.rambo_lines.specs.declared.kind.StepKind.{StepKind}
 use Rattle.rambo_lines.specs.Parts.{NeedRoom, TellStep, TellUnfit}
 use Rattle.rambo_lines.specs.StepLines.{step_line}
+use Rattle.rambo_lines.specs.Faults.{IsFirstFault, IsLineFault, TellNoStep, TellsBytes}
 use Rattle.rambo_lines.specs.Scripts.{ScriptState, AreFounders, HasLine, IsScript, founders_line}
 use Rattle.rambo_steps.specs.Replays.{replayed, IsFaultyBehind}
 
--- the first line of what is behind a head tells founders
+-- the first line of what is after a head has founders
 pub record TellsFounders (bytes : List ℕ) (c : Weights) : Type 0 where
   pub line : List ℕ
   pub rest : List ℕ
@@ -34,41 +37,66 @@ pub record TellsFounders (bytes : List ℕ) (c : Weights) : Type 0 where
 abbrev pub IsFounded : List ℕ → RunningOf Weights → Type 0
 IsFounded bytes r = TellsFounders bytes r.founders × (r.state ≡ first_world weighted_majorities r.founders)
 
--- a run took a step of this number, and what is told of it came to the end of a text
+-- a run took a step of this number, and what is reported of it came to the end of a text
 pub record Takes (step : Step Weights) (number : ℕ) (old new : RunningOf Weights) (text longer : List ℕ) : Type 0 where
   pub taken : new ≡ record old { state = after weighted_majorities old.state step }
   pub told : longer ≡ text ++ items_text (step_items new.state.history number (result_of (refusal weighted_majorities old.state step) old.state step))
 
--- a line tells it
+-- a line gives it
 pub record TakesStep (line : List ℕ) (number : ℕ) (old new : RunningOf Weights) (text longer : List ℕ) : Type 0 where
   pub step : Step Weights
   pub has_line : HasLine step
   pub line_is : line ≡ step_line step
   pub takes : Takes step number old new text longer
 
--- the words behind the first one, which is that of a kind, tell it
+-- the words after the first one, which is that of a kind, give it
 pub record TakesTold (kind : StepKind) (more : Option (List ℕ)) (number : ℕ) (old new : RunningOf Weights) (text longer : List ℕ) : Type 0 where
   pub step : Step Weights
   pub tell : TellStep kind more step
   pub takes : Takes step number old new text longer
 
--- or they tell none, or there is no room for the bytes that they tell
+-- or they give none, or there is no room for the bytes that they have
 abbrev pub IsPartsFault : StepKind → Option (List ℕ) → Fault → Type 0
 IsPartsFault kind more f = ((f ≡ OutOfMemory) × NeedRoom kind more) ⊎ TellUnfit kind more f
 
--- a text, with the sequences, the order of all keys and the maps behind it
+-- a text, with the sequences, the order of all keys and the maps after it
 abbrev pub ended : Version → WorldState Weights → List ℕ → List ℕ
 ended version w text =
     ((text ++ items_text (map Ordered (given_sequences w))) ++ items_text (order_items_in version (given_order w))) ++ items_text (map map_item (maps_of w.nodes))
 
--- what is behind a head is a script, and the text is that of its run
+-- what is after a head is a script, and the text is that of its run
 abbrev pub IsReplayBehind : Version → List ℕ → List ℕ → Type 0
 IsReplayBehind version bytes text = (script : ScriptState) × IsScript bytes script × (text ≡ replayed version script)
 
--- why it gave no text: a fault by its line in the whole text, or want of memory
+-- why it gave no text: a fault by its line in the whole text, or out of memory
 abbrev pub GivesUpBehind : Version → List ℕ → ReplayFault → Type 0
 GivesUpBehind version bytes f = (f ≡ Memory) ⊎ ((g : ScriptFault) × (f ≡ Script (in_whole version g)) × IsFaultyBehind bytes g)
 
 -- a line has a fault, or memory ran out
 abbrev pub IsFaultAt : ℕ → (Fault → Type 0) → ReplayFault → Type 0
 IsFaultAt line IsFaulty f = (f ≡ Memory) ⊎ ((g : ScriptFault) × (f ≡ Script g) × (g.line ≡ line) × IsFaulty g.fault)
+
+-- a line tells no step, or there is no room for the bytes that it tells
+abbrev pub IsFaultyStep : List ℕ → Fault → Type 0
+IsFaultyStep line g = ((g ≡ OutOfMemory) × TellsBytes line) ⊎ IsLineFault TellNoStep line g
+
+-- the first of some lines tells a step, which a run took, and the rest is that of the lines after it
+pub record TakesFirst (lines : List ℕ) (number : ℕ) (old new : RunningOf Weights) (text longer rest : List ℕ) : Type 0 where
+  pub line : List ℕ
+  pub is_first : IsFirstLine lines line rest
+  pub takes : TakesStep line number old new text longer
+
+-- it has a fault, or memory ran out
+pub record IsFirstFaultAt (number : ℕ) (lines : List ℕ) (f : ReplayFault) : Type 0 where
+  pub line : List ℕ
+  pub rest : List ℕ
+  pub is_first : IsFirstLine lines line rest
+  pub fault : IsFaultAt number (IsFaultyStep line) f
+
+-- something is so of a text that begins with what is held, and goes on with what its source has left
+abbrev pub IsOfWhole : (List ℕ → Type 0) → UnreadState → Option (List ℕ) → Type 0
+IsOfWhole IsSo u left = (more : List ℕ) × IsMore u left more × IsSo (u.held ++ more)
+
+-- why there is no run of founders: their line has a fault, or memory ran out
+abbrev pub FoundsNone : Version → List ℕ → ReplayFault → Type 0
+FoundsNone version bytes f = (f ≡ Memory) ⊎ ((g : ScriptFault) × (f ≡ Script (in_whole version g)) × IsFirstFault bytes g)

@@ -1,18 +1,24 @@
 //! Scripts over a run of any kind.
-ghost use Rattle.std.specs.Prelude.{◌≡◌, ◌≢◌, ◌⊎◌, ◌++◌, Ok, IsOk, OnOk, IfOk, IfErr};
+ghost use Rattle.std.specs.Prelude.{◌≡◌, ◌≢◌, ◌⊎◌, ◌<◌, ◌++◌, ℕ, List, [], true, length, Ok, IsOk, OnOk, OnErr, IfOk, IfErr};
+ghost use Rattle.std.specs.Io.KnownBytes.{IsAtEnd};
+ghost use Rattle.rambo_atomic.specs.Unreads.{KnowsEnd, HasFeed};
+ghost use Rattle.rambo_text.specs.declared.fault.ScriptFault.{ScriptFault};
+ghost use Rattle.rambo_text.specs.Words.{IsFirstLine};
+ghost use Rattle.rambo_steps.specs.Replays.{reads_failed};
 ghost use Rattle.std.specs.Option.{option_copied};
 ghost use Rattle.rambo_history.specs.Histories.{call_in};
 ghost use Rattle.rambo_run.specs.declared.step.Step.TheVariants as step;
 ghost use Rattle.rambo_check.specs.Lines.{items_text};
 ghost use Rattle.rambo_outcome.specs.Outcomes.{call_items, order_items_in};
 ghost use Rattle.rambo_sequence.specs.StoreOrders.{NoTwice, all_calls, order_of};
-ghost use Rattle.rambo_lines.specs.Faults.{IsLineFault, TellNoStep, TellsBytes};
-ghost use Rattle.rambo_steps.specs.Runs.{TellsFounders, IsFounded, Takes, TakesStep, TakesTold, IsPartsFault, IsReplayBehind, GivesUpBehind, ended, IsFaultAt};
+ghost use Rattle.rambo_lines.specs.Fronts.{step_of};
+ghost use Rattle.rambo_steps.specs.Runs.{TellsFounders, IsFounded, Takes, TakesStep, TakesTold, IsPartsFault, IsReplayBehind, GivesUpBehind, ended, IsFaultAt, IsFaultyStep, TakesFirst, IsFirstFaultAt, IsOfWhole, FoundsNone};
 
+use rambo_atomic::{Source, Unread};
 use rambo_history::{CallId, History, Op};
 use rambo_lines::{
-    Place, StepKind, at_line, get_asked, read_call, read_founders, read_kind, read_letter,
-    read_names, read_parts, set_asked,
+    Frequent, Place, StepKind, at_line, frequent_call, frequent_step, get_asked, read_founders,
+    read_kind, read_parts, set_asked,
 };
 use rambo_names::{Name, Refusal, Weighted};
 use rambo_outcome::{
@@ -21,15 +27,15 @@ use rambo_outcome::{
 };
 use rambo_run::Run;
 use rambo_sequence::{KeySequence, one_order};
-use rambo_text::{Fault, ReplayFault, Version, next_line};
+use rambo_text::{ReplayFault, Version, next_line};
 use std::alloc::Global;
 
-/// The founders that the first line behind the head of a script tells.
+/// The founders on the first line after the head of a script.
 ///
 /// `Script` where that line is faulty.
 pub fn founders_in(version: Version, input: &[u8]) -> Result<Weighted, ReplayFault>
     ensures founders { IfOk result (λ c. TellsFounders input.now c) }
-    ensures fault { IfErr result (λ f. GivesUpBehind version input.now f) }
+    ensures fault { IfErr result (λ f. FoundsNone version input.now f) }
     ensures told { IfErr result (λ f. f ≢ ReplayFault.Memory) }
 {
     let (line, _) = next_line(input);
@@ -37,37 +43,202 @@ pub fn founders_in(version: Version, input: &[u8]) -> Result<Weighted, ReplayFau
     Ok(founders)
 }
 
-/// Takes the steps that the lines behind that of the founders tell: the text of what the run gives, in the version of the
-/// script, of which this is what stands behind the head.
+/// Takes the steps that the lines after that of the founders tell: the text of what the run gives, in the version of
+/// the script, of which what is held and what the reader has left is what stands behind the head.
 ///
-/// The run is that of the founders, before any step. `Script` where a line behind theirs is faulty, or where there is no
-/// room for the bytes of a get or a set; `Memory` where there is no room for the run or its text. What the run is
-/// afterwards, the contract does not say.
-pub fn run_through<R: Run<Weighted>>(
+/// The first line is held whole, and the run is that of its founders, before any step. The script is read piece by
+/// piece, and no more of it is held than the lines of a piece. `Script` where a line after theirs is faulty, or where
+/// there is no room for the bytes of a get or a set; `Memory` where there is no room for a piece, the run or its text;
+/// `Read` where the reader fails. Of a script with a faulty line the rest is read too, for the reader's failures alone.
+/// What the run is afterwards, the contract does not say.
+pub fn run_through<S: Source, R: Run<Weighted>>(
     alloc: Global,
     version: Version,
-    input: &[u8],
+    reader: &mut S,
+    unread: &mut Unread,
     running: &mut R,
 ) -> Result<Vec<u8>, ReplayFault>
-    requires { IsFounded input.now (R.running running.old) }
-    ensures ok { IfOk result (λ text. IsReplayBehind version input.now text.items) }
-    ensures fault { IfErr result (λ f. GivesUpBehind version input.now f) }
+    requires knows { KnowsEnd unread.old (S.left reader.old) }
+    requires line { HasFeed unread.old.held ⊎ (unread.old.ended ≡ true) }
+    requires founded { IsFounded unread.old.held (R.running running.old) }
+    ensures ok { IfOk result (λ text. IsOfWhole (λ bytes. IsReplayBehind version bytes text.items) unread.old (S.left reader.old)) }
+    ensures end { OnOk result (IsAtEnd (S.left reader.new)) }
+    ensures fine { OnOk result (S.failures reader.new ≡ S.failures reader.old) }
+    ensures script { IfErr result (λ f. (g : ScriptFault) → f ≡ ReplayFault.Script g → IsOfWhole (λ bytes. GivesUpBehind version bytes f) unread.old (S.left reader.old)) }
+    ensures reads { IfErr result (λ f. S.failures reader.new ≡ reads_failed f (S.failures reader.old)) }
+    ensures unwritten { IfErr result (λ f. f ≢ ReplayFault.Write) }
 {
-    let (_, mut rest) = next_line(input);
     let mut text = Vec::new(alloc);
     in_memory(write_head(version, &mut text))?;
+    forget_line(unread);
     let mut place = Place::first(version);
-    while !rest.is_empty() {
-        let (line, behind) = next_line(rest);
+    while unread.find_line(reader)? {
+        if place.line == u64::MAX {
+            return Err(ReplayFault::Memory);
+        }
         place = place.next();
-        take_line(alloc, place, line, running, &mut text)?;
-        rest = behind;
+        if let Err(fault) = take_held(alloc, place, unread, running, &mut text) {
+            return Err(told_at_end(fault, unread, reader));
+        }
     }
     end(alloc, version, running, &mut text)?;
     Ok(text)
 }
 
+/// The fault that is told where what was read of a script has this one: the script is read to its end before, and where
+/// that fails its own fault is told.
+#[inline(never)]
+pub fn told_at_end<S: Source>(
+    fault: ReplayFault,
+    unread: &mut Unread,
+    reader: &mut S,
+) -> ReplayFault
+    requires knows { KnowsEnd unread.old (S.left reader.old) }
+    requires own { (fault ≢ ReplayFault.Read) × (fault ≢ ReplayFault.Write) }
+    ensures kept { (g : ScriptFault) → result ≡ ReplayFault.Script g → result ≡ fault }
+    ensures reads { S.failures reader.new ≡ reads_failed result (S.failures reader.old) }
+    ensures unwritten { result ≢ ReplayFault.Write }
+{
+    match unread.read_rest(reader) {
+        Ok(()) => fault,
+        Err(stream) => ReplayFault::from(stream),
+    }
+}
+
+// Forgets the first line that is held.
+fn forget_line(unread: &mut Unread)
+    ensures line { (line : List ℕ) × IsFirstLine unread.old.held line unread.new.held }
+    ensures ended { unread.new.ended ≡ unread.old.ended }
+{
+    let held = unread.as_slice();
+    let (_, rest) = next_line(held);
+    let used = held.len() - rest.len();
+    unread.forget(used);
+}
+
+// Takes the step that the first line that is held tells, which stands at a place, appends what is told of it, and forgets
+// the line.
+#[inline(always)]
+fn take_held<R: Run<Weighted>>(
+    alloc: Global,
+    place: Place,
+    unread: &mut Unread,
+    running: &mut R,
+    text: &mut Vec<u8>,
+) -> Result<(), ReplayFault>
+    requires { unread.old.held ≢ [] }
+    ensures taken { OnOk result (TakesFirst unread.old.held place.step (R.running running.old) (R.running running.new) text.old.items text.new.items unread.new.held) }
+    ensures ended { unread.new.ended ≡ unread.old.ended }
+    ensures less { OnOk result (length unread.new.held < length unread.old.held) }
+    ensures kept { OnErr result (unread.new ≡ unread.old) }
+    ensures fault { IfErr result (λ f. IsFirstFaultAt place.line unread.old.held f) }
+{
+    let held = unread.as_slice();
+    let rest = take_first(alloc, place, held, running, text)?;
+    let used = held.len() - rest.len();
+    unread.forget(used);
+    Ok(())
+}
+
+// Takes the step that the first of some lines tells, which stands at a place, and appends what is told of it: the lines
+// after it.
+#[inline(always)]
+fn take_first<'a, R: Run<Weighted>>(
+    alloc: Global,
+    place: Place,
+    lines: &'a [u8],
+    running: &mut R,
+    text: &mut Vec<u8>,
+) -> Result<&'a [u8], ReplayFault>
+    ensures taken { IfOk result (λ rest. TakesFirst lines.now place.step (R.running running.old) (R.running running.new) text.old.items text.new.items rest.now) }
+    ensures fault { IfErr result (λ f. IsFirstFaultAt place.line lines.now f) }
+{
+    if let Some((step, rest)) = frequent_step(lines) {
+        take_frequent(place, step, running, text)?;
+        return Ok(rest);
+    }
+    if let Some((name, op, rest)) = frequent_call(lines) {
+        take_call(place, name, op, running, text)?;
+        return Ok(rest);
+    }
+    let (line, rest) = next_line(lines);
+    take_line(alloc, place, line, running, text)?;
+    Ok(rest)
+}
+
+// Takes a step of a frequent kind, and appends what is told of it.
+#[inline(always)]
+fn take_frequent<R: Run<Weighted>>(
+    place: Place,
+    step: Frequent,
+    running: &mut R,
+    text: &mut Vec<u8>,
+) -> Result<(), ReplayFault>
+    ensures taken { OnOk result (Takes (step_of step) place.step (R.running running.old) (R.running running.new) text.old.items text.new.items) }
+    ensures fault { IfErr result (λ f. f ≡ ReplayFault.Memory) }
+{
+    match step {
+        Frequent::Send(from, to) => take_send(place, from, to, running, text),
+        Frequent::Deliver(letter) => take_deliver(place, letter, running, text),
+        Frequent::Advance(id) => take_advance(place, id, running, text),
+    }
+}
+
+// Takes a sending, and appends what is told of it.
+#[inline(always)]
+fn take_send<R: Run<Weighted>>(
+    place: Place,
+    from: Name,
+    to: Name,
+    running: &mut R,
+    text: &mut Vec<u8>,
+) -> Result<(), ReplayFault>
+    ensures taken { OnOk result (Takes (step.Send from to) place.step (R.running running.old) (R.running running.new) text.old.items text.new.items) }
+    ensures fault { IfErr result (λ f. f ≡ ReplayFault.Memory) }
+{
+    match in_memory(running.send(from, to))? {
+        Ok(_) => Ok(()),
+        Err(refusal) => in_memory(write_refused(place.step, refusal, text)),
+    }
+}
+
+// Takes a delivery, and appends what is told of it.
+#[inline(always)]
+fn take_deliver<R: Run<Weighted>>(
+    place: Place,
+    letter: u64,
+    running: &mut R,
+    text: &mut Vec<u8>,
+) -> Result<(), ReplayFault>
+    ensures taken { OnOk result (Takes (step.Deliver letter) place.step (R.running running.old) (R.running running.new) text.old.items text.new.items) }
+    ensures fault { IfErr result (λ f. f ≡ ReplayFault.Memory) }
+{
+    match in_memory(running.deliver(letter))? {
+        Ok(()) => Ok(()),
+        Err(refusal) => in_memory(write_refused(place.step, refusal, text)),
+    }
+}
+
+// Takes the advance of a call, and appends what is told of it.
+#[inline(always)]
+fn take_advance<R: Run<Weighted>>(
+    place: Place,
+    id: CallId,
+    running: &mut R,
+    text: &mut Vec<u8>,
+) -> Result<(), ReplayFault>
+    ensures taken { OnOk result (Takes (step.Advance id) place.step (R.running running.old) (R.running running.new) text.old.items text.new.items) }
+    ensures fault { IfErr result (λ f. f ≡ ReplayFault.Memory) }
+{
+    match in_memory(running.advance(id))? {
+        Ok(Some(answer)) => in_memory(write_answered(&id, &answer, text)),
+        Ok(None) => Ok(()),
+        Err(refusal) => in_memory(write_refused(place.step, refusal, text)),
+    }
+}
+
 // Takes the step that the line at a place tells, and appends what is told of it.
+#[inline(never)]
 fn take_line<R: Run<Weighted>>(
     alloc: Global,
     place: Place,
@@ -76,72 +247,17 @@ fn take_line<R: Run<Weighted>>(
     text: &mut Vec<u8>,
 ) -> Result<(), ReplayFault>
     ensures taken { OnOk result (TakesStep line.now place.step (R.running running.old) (R.running running.new) text.old.items text.new.items) }
-    ensures fault { IfErr result (λ f. IsFaultAt (place.line) (λ g. ((g ≡ Fault.OutOfMemory) × TellsBytes line.now) ⊎ IsLineFault TellNoStep line.now g) f) }
+    ensures fault { IfErr result (λ f. IsFaultAt (place.line) (IsFaultyStep line.now) f) }
 {
     let (kind, more) = at_line(place.line, read_kind(line))?;
     match kind {
-        StepKind::Send => take_send(place, more, running, text),
-        StepKind::Deliver => take_deliver(place, more, running, text),
-        StepKind::Advance => take_advance(place, more, running, text),
         StepKind::Get => take_get(alloc, place, more, running, text),
         StepKind::Set => take_put(alloc, place, more, running, text),
         _ => take_step(alloc, kind, place, more, running, text),
     }
 }
 
-// Takes the sending that the words behind the first tell, and appends what is told of it.
-fn take_send<R: Run<Weighted>>(
-    place: Place,
-    more: Option<&[u8]>,
-    running: &mut R,
-    text: &mut Vec<u8>,
-) -> Result<(), ReplayFault>
-    ensures taken { OnOk result (TakesTold StepKind.Send (option_copied more.entry) place.step (R.running running.old) (R.running running.new) text.old.items text.new.items) }
-    ensures fault { IfErr result (λ f. IsFaultAt (place.line) (IsPartsFault StepKind.Send (option_copied more.entry)) f) }
-{
-    let (from, to) = at_line(place.line, read_names(more))?;
-    match in_memory(running.send(from, to))? {
-        Ok(_) => Ok(()),
-        Err(refusal) => in_memory(write_refused(place.step, refusal, text)),
-    }
-}
-
-// Takes the delivery that the words behind the first tell, and appends what is told of it.
-fn take_deliver<R: Run<Weighted>>(
-    place: Place,
-    more: Option<&[u8]>,
-    running: &mut R,
-    text: &mut Vec<u8>,
-) -> Result<(), ReplayFault>
-    ensures taken { OnOk result (TakesTold StepKind.Deliver (option_copied more.entry) place.step (R.running running.old) (R.running running.new) text.old.items text.new.items) }
-    ensures fault { IfErr result (λ f. IsFaultAt (place.line) (IsPartsFault StepKind.Deliver (option_copied more.entry)) f) }
-{
-    let letter = at_line(place.line, read_letter(more))?;
-    match in_memory(running.deliver(letter))? {
-        Ok(()) => Ok(()),
-        Err(refusal) => in_memory(write_refused(place.step, refusal, text)),
-    }
-}
-
-// Takes the advance of a call that the words behind the first tell, and appends what is told of it.
-fn take_advance<R: Run<Weighted>>(
-    place: Place,
-    more: Option<&[u8]>,
-    running: &mut R,
-    text: &mut Vec<u8>,
-) -> Result<(), ReplayFault>
-    ensures taken { OnOk result (TakesTold StepKind.Advance (option_copied more.entry) place.step (R.running running.old) (R.running running.new) text.old.items text.new.items) }
-    ensures fault { IfErr result (λ f. IsFaultAt (place.line) (IsPartsFault StepKind.Advance (option_copied more.entry)) f) }
-{
-    let id = at_line(place.line, read_call(more))?;
-    match in_memory(running.advance(id))? {
-        Ok(Some(answer)) => in_memory(write_answered(&id, &answer, text)),
-        Ok(None) => Ok(()),
-        Err(refusal) => in_memory(write_refused(place.step, refusal, text)),
-    }
-}
-
-// Takes the get that the words behind the first tell, and appends what is told of it.
+// Takes the get that the words after the first tell, and appends what is told of it.
 fn take_get<R: Run<Weighted>>(
     alloc: Global,
     place: Place,
@@ -156,7 +272,7 @@ fn take_get<R: Run<Weighted>>(
     take_call(place, name, op, running, text)
 }
 
-// Takes the set that the words behind the first tell, and appends what is told of it.
+// Takes the set that the words after the first tell, and appends what is told of it.
 fn take_put<R: Run<Weighted>>(
     alloc: Global,
     place: Place,
@@ -199,8 +315,8 @@ fn write_call(id: &CallId, history: &History, text: &mut Vec<u8>) -> Result<(), 
     }
 }
 
-// Takes a step of any kind that the words behind the first tell, and appends what is told of it.
-// (a step is large, and where this is inlined the other kinds pay for its room)
+// Takes a step of any kind that the words after the first tell, and appends what is told of it. (a step is large, and
+// where this is inlined the other kinds pay for its room)
 #[inline(never)]
 fn take_step<R: Run<Weighted>>(
     alloc: Global,
@@ -262,7 +378,7 @@ fn write_order_of(
     }
 }
 
-/// The same, where a refusal can only be one for want of memory.
+/// The same, where a refusal can only be `OutOfMemory`.
 pub fn in_memory<T>(told: Result<T, Refusal>) -> Result<T, ReplayFault>
     ensures ok { IfOk result (λ x. told ≡ Ok x) }
     ensures fault { IfErr result (λ f. f ≡ ReplayFault.Memory) }

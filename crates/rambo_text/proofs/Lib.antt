@@ -4,6 +4,8 @@ pub mod Dots
 pub mod FirstBytes
 pub mod FirstLines
 pub mod Fronts
+pub mod Halves
+pub mod LaneByLane
 pub mod Lacking
 pub mod DigitNumbers
 pub mod Options

@@ -1,9 +1,10 @@
 -- Pairs of digits
-use Rattle.std.proofs.Common.{◌≡◌, ℕ, ◌+◌, ◌/◌, ◌%◌, ◌<◌, List, [], ◌∷◌, ◌++◌, length, get_or, false, refl, sym, ap, ◌∙◌, append_assoc, append-nil, true≢false, arith}
+use Rattle.std.proofs.Common.{◌≡◌, ℕ, zero, suc, ◌+◌, ◌*◌, ◌/◌, ◌%◌, ◌<◌, ◌≤◌, ◌⊎◌, inl, inr, length-append, List, [], ◌∷◌, ◌++◌, length, get_or, take, drop, false, refl, sym, ap, ◌∙◌, append_assoc, append-nil, true≢false, arith}
 use Rattle.std.specs.Str.{bytes_eq}
 use Rattle.std.proofs.lemmas.Slice.Eq.{bytes_eq-Decides}
-use Rattle.std.proofs.lemmas.List.Elements.{All-from_recursion, recursion_from_All}
-use Rattle.rambo_text.specs.Signs.{digit_of, pairs_text, hex_text, AreBytes}
+use Rattle.std.proofs.lemmas.List.{take-append-drop, length-take-le}
+use Rattle.std.proofs.lemmas.List.Elements.{All-nil, All-from_recursion, recursion_from_All}
+use Rattle.rambo_text.specs.Signs.{digit_of, pairs_text, hex_text, AreBytes, HasNoPair}
 
 pub pairs-append : (xs ys : List ℕ) → pairs_text (xs ++ ys) ≡ pairs_text xs ++ pairs_text ys
 pairs-append [] ys = refl
@@ -30,10 +31,6 @@ eight_bytes (a ∷ b ∷ []) is = absurd (omega (arith, is))
 eight_bytes (a ∷ []) is = absurd (omega (arith, is))
 eight_bytes [] is = absurd (omega (arith, is))
 
--- what is left of a word is spelt by bytes, if the word is
-abbrev pub IsLeft : List ℕ → List ℕ → Type 0
-IsLeft word rest = (bs : List ℕ) → AreBytes bs → word ≡ pairs_text bs → (cs : List ℕ) × AreBytes cs × (rest ≡ pairs_text cs)
-
 tail_bytes : (c : ℕ) (cs : List ℕ) → AreBytes (c ∷ cs) → (c < 256) × AreBytes cs
 tail_bytes c cs h =
     let r = recursion_from_All (λ b. b < 256) (c ∷ cs) h in
@@ -47,40 +44,79 @@ first_pair (c ∷ cs) high low others h e =
     let t = tail_bytes c cs h in
     (c, cs, t.0, t.1, (cc), (cc), (cc))
 
-pub left_on : (word rest others : List ℕ) (high low : ℕ) → rest ≡ high ∷ low ∷ others → IsLeft word rest → IsLeft word others
-left_on word rest others high low e left = λ bs h is.
-    let now = left bs h is in
-    let next = first_pair now.0 high low others now.1 (sym e ∙ now.2) in
-    (next.1, next.3, next.6)
+-- digits at the front of those of some bytes are those of the first of them
+split_pairs : (n : ℕ) (cs front behind : List ℕ) → AreBytes cs → length front ≡ 2 * n → front ++ behind ≡ pairs_text cs
+    → (es : List ℕ) × (fs : List ℕ) × AreBytes es × AreBytes fs × (front ≡ pairs_text es) × (behind ≡ pairs_text fs)
+split_pairs zero cs [] behind h long e = ([], cs, All-nil (λ b. b < 256), h, refl, e)
+split_pairs zero cs (d ∷ front) behind h long e = absurd (omega (arith, long))
+split_pairs (suc n) cs [] behind h long e = absurd (omega (arith, long))
+split_pairs (suc n) cs (d ∷ []) behind h long e = absurd (omega (arith, long))
+split_pairs (suc n) cs (high ∷ low ∷ front) behind h long e =
+    let first = first_pair cs high low (front ++ behind) h e in
+    let rest = split_pairs n first.1 front behind first.3 (omega (arith, long)) first.6 in
+    let es = All-from_recursion (λ b. b < 256) (first.0 ∷ rest.0) (first.2, recursion_from_All (λ b. b < 256) rest.0 rest.2) in
+    (first.0 ∷ rest.0, rest.1, es, rest.3, (λ i. first.4 i ∷ first.5 i ∷ rest.4 i), rest.5)
 
--- two digits that are no pair
-pub no_pair : (word rest others : List ℕ) (high low : ℕ) → rest ≡ high ∷ low ∷ others → IsLeft word rest
-    → ((b : ℕ) → b < 256 → high ≡ digit_of (b / 16) → low ≡ digit_of (b % 16) → ⊥) → (bs : List ℕ) → AreBytes bs → word ≡ pairs_text bs → ⊥
-no_pair word rest others high low e left none bs h is =
-    let now = left bs h is in
-    let next = first_pair now.0 high low others now.1 (sym e ∙ now.2) in
-    none next.0 next.2 next.4 next.5
+pub length-pairs : (bs : List ℕ) → length (pairs_text bs) ≡ 2 * length bs
+length-pairs [] = refl
+length-pairs (b ∷ bs) = let rest = length-pairs bs in omega (arith, rest)
 
--- one digit alone
-no_single : (cs rest : List ℕ) → length rest ≡ 1 → rest ≡ pairs_text cs → ⊥
-no_single [] rest one e = let none : length rest ≡ 0 = ap length e in omega (arith, one, none)
-no_single (c ∷ cs) rest one e =
-    let two : length rest ≡ length (pairs_text cs) + 2 = ap length e ∙ omega arith in omega (arith, one, two)
+-- what is spelt by no bytes, behind what is
+spelt_behind : (word bytes rest bs : List ℕ) → word ≡ pairs_text bytes ++ rest → AreBytes bs → word ≡ pairs_text bs → (cs : List ℕ) × AreBytes cs × (rest ≡ pairs_text cs)
+spelt_behind word bytes rest bs whole h is =
+    let parts = split_pairs (length bytes) bs (pairs_text bytes) rest h (length-pairs bytes) (sym whole ∙ is) in
+    (parts.1, parts.3, parts.5)
 
-pub no_odd : (word rest : List ℕ) → length rest ≡ 1 → IsLeft word rest → (bs : List ℕ) → AreBytes bs → word ≡ pairs_text bs → ⊥
-no_odd word rest one left bs h is = let now = left bs h is in no_single now.0 rest one now.2
+-- digits that spell no bytes
+pub no_front : (n : ℕ) (word bytes rest front behind : List ℕ) → word ≡ pairs_text bytes ++ rest → rest ≡ front ++ behind → length front ≡ 2 * n
+    → ((bs : List ℕ) → AreBytes bs → front ≡ pairs_text bs → ⊥) → (bs : List ℕ) → AreBytes bs → word ≡ pairs_text bs → ⊥
+no_front n word bytes rest front behind whole e long none bs h is =
+    let now = spelt_behind word bytes rest bs whole h is in
+    let parts = split_pairs n now.0 front behind now.1 long (sym e ∙ now.2) in
+    none parts.0 parts.2 parts.4
 
--- a byte more
-pub pairs-push : (word bytes rest others : List ℕ) (b high low : ℕ) → word ≡ pairs_text bytes ++ rest → rest ≡ high ∷ low ∷ others
-    → high ≡ digit_of (b / 16) → low ≡ digit_of (b % 16) → word ≡ pairs_text (bytes ++ b ∷ []) ++ others
-pairs-push word bytes rest others b high low whole e h l =
-    whole ∙ ap (λ r. pairs_text bytes ++ r) (e ∙ (λ i. h i ∷ l i ∷ others)) ∙ sym (append_assoc (pairs_text bytes) (pairs_text (b ∷ [])) others)
-    ∙ sym (ap (λ t. t ++ others) (pairs-append bytes (b ∷ [])))
+no_bytes : (cs rest : List ℕ) → AreBytes cs → rest ≡ pairs_text cs → HasNoPair rest → 0 < length rest → ⊥
+no_bytes [] rest h e none some = let empty = ap length e in omega (arith, empty, some)
+no_bytes (c ∷ cs) rest h e none some = none c (pairs_text cs) (tail_bytes c cs h).0 e
+
+-- a rest that begins with no pair of digits
+pub no_pair : (word bytes rest : List ℕ) → word ≡ pairs_text bytes ++ rest → HasNoPair rest → 0 < length rest → (bs : List ℕ) → AreBytes bs → word ≡ pairs_text bs → ⊥
+no_pair word bytes rest whole none some bs h is =
+    let now = spelt_behind word bytes rest bs whole h is in
+    no_bytes now.0 rest now.1 now.2 none some
+
+-- behind fifteen bytes there is nothing in a short word
+pub no_more : (word bytes rest : List ℕ) (n : ℕ) → word ≡ pairs_text bytes ++ rest → length word ≤ 30 → length bytes ≡ n → (n ≡ 15) ⊎ HasNoPair rest → 0 < length rest
+    → (bs : List ℕ) → AreBytes bs → word ≡ pairs_text bs → ⊥
+no_more word bytes rest n whole short long (inr none) some = no_pair word bytes rest whole none some
+no_more word bytes rest n whole short long (inl full) some = λ bs h is.
+    let all = ap length whole in
+    let pairs = length-pairs bytes in
+    omega (arith, all, pairs, long, full, short, some, length-append (pairs_text bytes) rest)
+
+-- some bytes more
+pub pairs-front : (word bytes rest front behind more : List ℕ) → word ≡ pairs_text bytes ++ rest → rest ≡ front ++ behind → front ≡ pairs_text more
+    → word ≡ pairs_text (bytes ++ more) ++ behind
+pairs-front word bytes rest front behind more whole e is =
+    whole ∙ ap (λ r. pairs_text bytes ++ r) (e ∙ ap (λ f. f ++ behind) is) ∙ sym (append_assoc (pairs_text bytes) (pairs_text more) behind)
+    ∙ sym (ap (λ t. t ++ behind) (pairs-append bytes more))
+
+-- the front of a text, and what is behind it
+pub front_and_rest : (n : ℕ) (text front behind : List ℕ) → front ≡ take n text → behind ≡ drop n text → text ≡ front ++ behind
+front_and_rest n text front behind f b = sym (take-append-drop n text) ∙ (λ i. sym f i ++ sym b i)
+
+pub front_length : (n : ℕ) (text front behind : List ℕ) → front ≡ take n text → length behind + n ≡ length text → length front ≡ n
+front_length n text front behind f is = ap length f ∙ length-take-le n text (omega (arith, is))
 
 -- nothing is left
 pub pairs-end : (word bytes rest : List ℕ) → length rest ≡ 0 → word ≡ pairs_text bytes ++ rest → word ≡ pairs_text bytes
 pairs-end word bytes [] none e = e ∙ append-nil (pairs_text bytes)
 pairs-end word bytes (x ∷ rest) none e = absurd (omega (arith, none))
+
+-- some bytes are spelt by pairs alone
+pub hex_is : (bs : List ℕ) → 0 < length bs → hex_text bs ≡ pairs_text bs
+hex_is [] some = absurd (omega (arith, some))
+hex_is (b ∷ bs) some = refl
 
 -- what isn't a dash spells bytes by pairs alone
 pub no_hex : (word bs : List ℕ) → false ≡ bytes_eq word (45 ∷ []) → (word ≡ pairs_text bs → ⊥) → word ≡ hex_text bs → ⊥

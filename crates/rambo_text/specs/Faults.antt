@@ -1,4 +1,4 @@
--- Faults of texts: their numbers and how they are told
+-- Faults of texts: their numbers and how they are reported
 use Rattle.std.specs.Prelude.{ℕ, List, ◌++◌, codes, decimal}
 use Rattle.rambo_atomic.specs.declared.whole.StreamFault.{StreamFault}
 use Rattle.rambo_atomic.specs.declared.whole.StreamFault.TheVariants as stream
@@ -19,11 +19,11 @@ number_of LineTooLong = 6
 number_of OutOfMemory = 7
 number_of BadHistory = 8
 
--- how a fault of a line is told
+-- how a fault of a line is reported
 abbrev pub told : ScriptFault → List ℕ
 told f = codes "script fault S" ++ decimal (number_of f.fault) ++ codes " at line " ++ decimal f.line
 
--- how the fault of a replay is told
+-- how the fault of a replay is reported
 abbrev pub told_of_replay : ReplayFault → List ℕ
 told_of_replay (replay.Script f) = told f
 told_of_replay replay.Read = words_of stream.Read

@@ -8,7 +8,7 @@ use Rattle.rambo_text.specs.declared.fault.Fault.{Fault}
 use Rattle.rambo_text.specs.declared.fault.Fault.TheVariants.{BadNumber, BadHex}
 use Rattle.rambo_text.specs.Signs.{call_text, hex_text, standing_text, IsCall, AreBytes}
 
--- a number, a name, a set of names, a configuration, a call, bytes, or what stands at a place
+-- a number, a name, a set of names, a configuration, a call, bytes, or what is at a place
 pub data Form : Type 0 where
   Num : Form
   Name : Form

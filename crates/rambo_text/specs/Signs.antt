@@ -1,5 +1,5 @@
 -- How calls and bytes are spelt
-use Rattle.std.specs.Prelude.{◌≡◌, ℕ, ◌+◌, ◌<◌, ◌≤◌, ◌^◌, if◌then◌else◌, nat_lt, List, [], ◌∷◌, ◌++◌, Option, None, Some, codes, decimal, ◌/◌, ◌%◌, All}
+use Rattle.std.specs.Prelude.{◌≡◌, ◌≢◌, ℕ, ◌+◌, ◌<◌, ◌≤◌, ◌^◌, if◌then◌else◌, nat_lt, List, [], ◌∷◌, ◌++◌, Option, None, Some, codes, decimal, ◌/◌, ◌%◌, All}
 use Rattle.rambo_names.specs.Names.{IsName}
 use Rattle.rambo_names.specs.Signs.{conf_text}
 use Rattle.rambo_names.specs.Weights.{Weights}
@@ -25,7 +25,7 @@ hex_text (b ∷ bs) = pairs_text (b ∷ bs)
 abbrev pub call_text : CallId → List ℕ
 call_text c = decimal c.name ++ 46 ∷ decimal c.number
 
--- what stands at a place: its configuration, or none where the place is removed
+-- what is at a place: its configuration, or none where the place is removed
 abbrev pub standing_text : Option Weights → List ℕ
 standing_text None = codes "removed"
 standing_text (Some conf) = conf_text conf
@@ -38,11 +38,15 @@ IsCall c = IsName c.name × (1 ≤ c.number) × (c.number < 2 ^ 64)
 abbrev pub AreBytes : List ℕ → Type 0
 AreBytes bs = All (λ b. b < 256) bs
 
+-- no byte is spelt at the front of a text
+abbrev pub HasNoPair : List ℕ → Type 0
+HasNoPair text = (b : ℕ) (rest : List ℕ) → b < 256 → text ≢ pairs_text (b ∷ []) ++ rest
+
 -- keys and values of an operation are bytes
 abbrev pub IsOp : Op → Type 0
 IsOp (op.Get key) = AreBytes key
 IsOp (op.Set key value) = AreBytes key × AreBytes value
 
--- a text with some more behind it
+-- a text with some more after it
 abbrev pub Grows : List ℕ → List ℕ → Type 0
 Grows old new = (more : List ℕ) × (new ≡ old ++ more)

@@ -3,6 +3,8 @@ ghost use Rattle.std.specs.Prelude.{◌≡◌, ◌+◌, ◌*◌, ◌/◌, ◌%�
 ghost use Rattle.rambo_text.specs.Digits.{pair, four};
 ghost use Rattle.rambo_text.specs.Signs.{digit_of, pairs_text};
 
+use crate::lanes::digits_of;
+
 /// How many digits the greatest number has.
 pub(crate) const MOST_DIGITS: usize = 20;
 
@@ -129,6 +131,10 @@ pub(crate) fn push_pairs(bytes: &[u8], out: &mut Vec<u8>)
     ensures { out.new.items ≡ out.old.items ++ pairs_text bytes.now }
 {
     let mut rest = bytes;
+    while let Some((sixteen, others)) = rest.split_first_chunk::<16>() {
+        push_sixteen(sixteen, out);
+        rest = others;
+    }
     while let Some((eight, others)) = rest.split_first_chunk::<8>() {
         push_eight(eight, out);
         rest = others;
@@ -136,6 +142,16 @@ pub(crate) fn push_pairs(bytes: &[u8], out: &mut Vec<u8>)
     for byte in rest {
         push_byte(*byte, out);
     }
+}
+
+// Appends the digits of sixteen bytes.
+fn push_sixteen(bytes: &[u8; 16], out: &mut Vec<u8>)
+    requires { vec_len out.old + 32 ≤ vec_capacity out.old }
+    ensures items { out.new.items ≡ out.old.items ++ pairs_text bytes.now }
+    ensures len { vec_len out.new ≡ vec_len out.old + 32 }
+    ensures capacity { vec_capacity out.old ≤ vec_capacity out.new }
+{
+    let _ = out.extend_from_slice(&digits_of(bytes));
 }
 
 // Appends the digits of eight bytes: the text is lengthened once.

@@ -6,7 +6,7 @@ use std::alloc::{AllocError, AllocFailed};
 use std::error::Error;
 use std::fmt;
 
-/// Why a line of a text is faulty. Of several faults in a line the first in the text's own order is told.
+/// Why a line of a text is faulty. Of several faults in a line the first in the text's own order is reported.
 #[derive(Clone, Copy, PartialEq, Eq, Debug)]
 pub enum Fault {
     /// The first line names no founders.
@@ -15,9 +15,9 @@ pub enum Fault {
     UnknownWord = 2,
     /// A line has another number of words than its kind has.
     WrongCount = 3,
-    /// A word isn't the number, name, set of names or call that should stand there.
+    /// A word isn't the number, name, set of names or call that belongs there.
     BadNumber = 4,
-    /// A word isn't the spelling of bytes that should stand there.
+    /// A word isn't the spelling of bytes that belongs there.
     BadHex = 5,
     /// A line has more than 16,384 bytes.
     LineTooLong = 6,
@@ -68,7 +68,7 @@ pub enum ReplayFault {
     Read,
     /// The sink failed.
     Write,
-    /// There is no room for what is to be kept.
+    /// There is no room for what has to be stored.
     Memory,
 }
 

@@ -1,11 +1,12 @@
 //! Reading signs.
-ghost use Rattle.std.specs.Prelude.{◌≡◌, ◌≢◌, ◌⊎◌, ℕ, List, ◌∷◌, ◌++◌, length, ◌<◌, ◌≤◌, ◌/◌, ◌%◌, decimal, Option, IfSome, IfNone, IfOk, IfErr};
+ghost use Rattle.std.specs.Prelude.{◌≡◌, ◌≢◌, ◌⊎◌, ℕ, List, [], ◌∷◌, ◌++◌, length, take, ◌<◌, ◌≤◌, ◌/◌, ◌%◌, decimal, Option, IfSome, IfNone, IfOk, IfErr};
 ghost use Rattle.rambo_names.specs.Names.{IsName};
 ghost use Rattle.rambo_names.specs.Weights.{Weights};
 ghost use Rattle.rambo_history.specs.declared.event.CallId.{CallId};
-ghost use Rattle.rambo_text.specs.Signs.{digit_of, pairs_text, hex_text, call_text, standing_text, IsCall, AreBytes};
+ghost use Rattle.rambo_text.specs.Signs.{digit_of, pairs_text, hex_text, call_text, standing_text, IsCall, AreBytes, HasNoPair};
 
 use crate::fault::Fault;
+use crate::lanes::bytes_of;
 use crate::leading::{leading_call, leading_name};
 use crate::numbers::number_of;
 use rambo_history::CallId;
@@ -39,9 +40,9 @@ pub fn read_call(word: &[u8]) -> Option<CallId>
     if rest.is_empty() { Some(call) } else { None }
 }
 
-/// What a word tells of a place: the configuration that stands there, or none for the word `removed`.
+/// What a word says of a place: the configuration there, or none for the word `removed`.
 ///
-/// None where it tells neither.
+/// None where it says neither.
 pub fn read_standing(word: &[u8]) -> Option<Option<Weighted>>
     ensures found { IfSome result (λ conf. word.now ≡ standing_text conf) }
     ensures none { IfNone result ((conf : Option Weights) → word.now ≢ standing_text conf) }
@@ -72,28 +73,59 @@ pub fn read_hex(alloc: Global, word: &[u8]) -> Result<Bytes, Fault>
     shared(read_pairs(alloc, word)?)
 }
 
-// At most 15 bytes that pairs of digits spell. They take no memory.
+// At most 15 bytes that pairs of digits spell. They allocate nothing.
 fn read_short(word: &[u8]) -> Result<Bytes, Fault>
     requires { length word.now ≤ 30 }
     ensures found { IfOk result (λ bs. AreBytes bs × (word.now ≡ pairs_text bs)) }
     ensures fault { IfErr result (λ f. (f ≡ Fault.BadHex) × ((bs : List ℕ) → AreBytes bs → word.now ≢ pairs_text bs)) }
 {
     let mut bytes = [0; Bytes::SHORT];
-    let mut length = 0;
-    let mut rest = word;
-    while let Some((high, low, others)) = first_pair(rest) {
-        let Some(byte) = byte_of(high, low) else {
-            return Err(Fault::BadHex);
-        };
-        bytes[length] = byte;
-        length += 1;
-        rest = others;
-    }
+    let (length, rest) = short_front(word, &mut bytes);
     if rest.is_empty() {
         Ok(Bytes::short(bytes, length))
     } else {
         Err(Fault::BadHex)
     }
+}
+
+/// The bytes, at most 15 and one at least, that pairs of digits at the front of a line spell, as many as there are, and
+/// what stands after them. They allocate nothing.
+///
+/// None where no pair of digits stands at the front.
+#[inline(always)]
+pub fn leading_hex(line: &[u8]) -> Option<(Bytes, &[u8])>
+    ensures bytes { IfSome result (λ r. AreBytes r.0 × (length r.0 ≤ 15)) }
+    ensures found { IfSome result (λ r. line.now ≡ hex_text r.0 ++ r.1.now) }
+    ensures none { IfNone result (HasNoPair line.now) }
+{
+    let mut bytes = [0; Bytes::SHORT];
+    let (length, rest) = short_front(line, &mut bytes);
+    if length == 0 {
+        return None;
+    }
+    Some((Bytes::short(bytes, length), rest))
+}
+
+// Puts the bytes that pairs of digits at the front of a text spell, as many as there are, but at most 15, at the front of
+// others: how many they are, and what stands behind the digits.
+#[inline(always)]
+fn short_front<'a>(text: &'a [u8], bytes: &mut [u8; Bytes::SHORT]) -> (usize, &'a [u8])
+    ensures few { (result.0 ≤ 15) × (length (take result.0 bytes.new) ≡ result.0) }
+    ensures bytes { AreBytes (take result.0 bytes.new) }
+    ensures whole { text.now ≡ pairs_text (take result.0 bytes.new) ++ result.1.now }
+    ensures all { (result.0 ≡ 15) ⊎ HasNoPair result.1.now }
+{
+    let mut length = 0;
+    let mut rest = text;
+    while length < Bytes::SHORT {
+        let Some((byte, others)) = first_byte(rest) else {
+            return (length, rest);
+        };
+        bytes[length] = byte;
+        length += 1;
+        rest = others;
+    }
+    (length, rest)
 }
 
 // The bytes of a buffer.
@@ -112,10 +144,14 @@ fn read_pairs(alloc: Global, word: &[u8]) -> Result<Vec<u8>, Fault>
 {
     let mut bytes = Vec::with_capacity(alloc, word.len() / 2)?;
     let mut rest = word;
-    while let Some((high, low, others)) = first_pair(rest) {
-        let Some(byte) = byte_of(high, low) else {
+    while let Some((digits, others)) = rest.split_first_chunk::<32>() {
+        let Some(sixteen) = bytes_of(digits) else {
             return Err(Fault::BadHex);
         };
+        bytes.extend_from_slice(&sixteen)?;
+        rest = others;
+    }
+    while let Some((byte, others)) = first_byte(rest) {
         bytes.push_reserved(byte);
         rest = others;
     }
@@ -126,13 +162,17 @@ fn read_pairs(alloc: Global, word: &[u8]) -> Result<Vec<u8>, Fault>
     }
 }
 
-// The first two digits, and those behind them.
-fn first_pair(digits: &[u8]) -> Option<(u8, u8, &[u8])>
-    ensures found { IfSome result (λ r. digits.now ≡ r.0 ∷ r.1 ∷ r.2.now) }
-    ensures none { IfNone result (length digits.now < 2) }
+// The byte of the pair of digits at the front of a text, and what stands after it.
+#[inline(always)]
+fn first_byte(text: &[u8]) -> Option<(u8, &[u8])>
+    ensures found { IfSome result (λ r. (r.0 < 256) × (text.now ≡ pairs_text (r.0 ∷ []) ++ r.1.now)) }
+    ensures none { IfNone result (HasNoPair text.now) }
 {
-    match digits {
-        [high, low, others @ ..] => Some((*high, *low, others)),
+    match text {
+        [high, low, rest @ ..] => {
+            let byte = byte_of(*high, *low)?;
+            Some((byte, rest))
+        }
         _ => None,
     }
 }

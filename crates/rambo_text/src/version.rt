@@ -8,9 +8,9 @@ use crate::words::{next_word, one_word};
 /// The version of a script, or of the text of an outcome.
 #[derive(Clone, Copy, PartialEq, Eq, Debug)]
 pub enum Version {
-    /// A text that no line tells the version of.
+    /// A text without a line for its version.
     One = 1,
-    /// A text behind the line `rambo 2`. An outcome has one order of the calls of all keys.
+    /// A text after the line `rambo 2`. An outcome has one order of the calls of all keys.
     Two = 2,
 }
 
@@ -35,7 +35,7 @@ impl Version {
         Ok(Version::Two)
     }
 
-    /// How many lines tell the version: none of version 1, and one of version 2.
+    /// How many lines give the version: none of version 1, and one of version 2.
     pub fn head_lines(self) -> u64
         ensures { result ≡ head_lines_of self }
     {

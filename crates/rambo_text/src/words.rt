@@ -9,7 +9,7 @@ use memchr::memchr;
 // How many bytes are looked at one by one. Most words are no longer, and these take less time than a search is begun in.
 const NEAR: usize = 16;
 
-/// The first line of a text, and the text behind its line feed.
+/// The first line of a text, and the text after its line feed.
 ///
 /// The last line may lack its line feed.
 pub fn next_line(text: &[u8]) -> (&[u8], &[u8])
@@ -21,9 +21,9 @@ pub fn next_line(text: &[u8]) -> (&[u8], &[u8])
     }
 }
 
-/// The first word of a line, and what stands behind the space after it.
+/// The first word of a line, and what follows the space after it.
 ///
-/// None stands there where the word is the last.
+/// None where the word is the last.
 pub fn next_word(line: &[u8]) -> (&[u8], Option<&[u8]>)
     ensures { IsFirstWord line.now result.0.now (option_copied result.1) }
 {

@@ -12,7 +12,7 @@ const NAME_DIGITS: usize = 2;
 
 /// Appends a number in plain decimal.
 ///
-/// `AllocError` where the text can't grow; it is then as before.
+/// `AllocError` where the text can't grow; it is then unchanged.
 pub fn write_num(number: u64, out: &mut Vec<u8>) -> Result<(), AllocError>
     ensures ok { OnOk result (out.new.items ≡ out.old.items ++ decimal number) }
     ensures err { OnErr result (out.new.items ≡ out.old.items) }
@@ -24,7 +24,7 @@ pub fn write_num(number: u64, out: &mut Vec<u8>) -> Result<(), AllocError>
 
 /// Appends the number of a name in plain decimal.
 ///
-/// `AllocError` where the text can't grow; it is then as before.
+/// `AllocError` where the text can't grow; it is then unchanged.
 pub fn write_name(name: Name, out: &mut Vec<u8>) -> Result<(), AllocError>
     ensures ok { OnOk result (out.new.items ≡ out.old.items ++ decimal name) }
     ensures err { OnErr result (out.new.items ≡ out.old.items) }
@@ -34,7 +34,7 @@ pub fn write_name(name: Name, out: &mut Vec<u8>) -> Result<(), AllocError>
 
 /// Appends a call: the name of its node, a dot, and its number there.
 ///
-/// `AllocError` where the text can't grow; it is then as before.
+/// `AllocError` where the text can't grow; it is then unchanged.
 pub fn write_call(id: &CallId, out: &mut Vec<u8>) -> Result<(), AllocError>
     ensures ok { OnOk result (out.new.items ≡ out.old.items ++ call_text id.now) }
     ensures err { OnErr result (out.new.items ≡ out.old.items) }
@@ -48,7 +48,7 @@ pub fn write_call(id: &CallId, out: &mut Vec<u8>) -> Result<(), AllocError>
 
 /// Appends bytes as pairs of digits, `0` to `9` and `a` to `f`, or a dash where there is none.
 ///
-/// `AllocError` where the text can't grow; it is then as before.
+/// `AllocError` where the text can't grow; it is then unchanged.
 pub fn write_hex(bytes: &[u8], out: &mut Vec<u8>) -> Result<(), AllocError>
     ensures ok { OnOk result (out.new.items ≡ out.old.items ++ hex_text bytes.now) }
     ensures err { OnErr result (out.new.items ≡ out.old.items) }
@@ -62,9 +62,9 @@ pub fn write_hex(bytes: &[u8], out: &mut Vec<u8>) -> Result<(), AllocError>
     Ok(())
 }
 
-/// Appends what stands at a place: its configuration, or `removed` for none.
+/// Appends what is at a place: its configuration, or `removed` for none.
 ///
-/// `OutOfMemory` where the text can't grow; it is then as before.
+/// `OutOfMemory` where the text can't grow; it is then unchanged.
 pub fn write_standing(conf: Option<Weighted>, out: &mut Vec<u8>) -> Result<(), Refusal>
     ensures ok { OnOk result (out.new.items ≡ out.old.items ++ standing_text conf) }
     ensures err { OnErr result (out.new.items ≡ out.old.items) }

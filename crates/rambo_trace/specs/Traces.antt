@@ -10,6 +10,6 @@ use Rattle.rambo_lines.specs.Versions.{text_in}
 abbrev pub trace_text : Weights → List (Step Weights) → List ℕ
 trace_text founders steps = text_in Two (record { founders = founders; steps = steps })
 
--- a front of what waits was written, and the rest still waits
+-- a prefix of what waits was written, and the rest still waits
 abbrev pub Moves : Option (List ℕ) → Option (List ℕ) → List ℕ → List ℕ → Type 0
 Moves old new waits left = (front : List ℕ) × (waits ≡ front ++ left) × Appends old new front

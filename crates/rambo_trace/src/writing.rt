@@ -14,12 +14,12 @@ use rambo_names::{Refusal, Weighted, write_conf};
 use rambo_run::Step;
 use std::alloc::Global;
 
-/// Once a piece of the text has so many bytes it is written.
+/// Once a piece of the text has this many bytes it is written.
 const PIECE: usize = 64 * 1024;
 
 /// Writes the script of these founders and steps in version 2, piece by piece.
 ///
-/// `Write` where the writer fails, and `Memory` where there is no room for a line; after both a beginning of the script
+/// `Write` where the writer fails, and `Memory` where there is no room for a line; after both a prefix of the script
 /// was written.
 pub fn write_trace<W: Sink>(
     alloc: Global,

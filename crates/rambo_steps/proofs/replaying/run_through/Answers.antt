@@ -1,31 +1,50 @@
-use Rattle.std.proofs.Common.{◌≡◌, ◌++◌, length, ap, refl, arith, rules, ◌∙◌}
-use Rattle.std.proofs.lemmas.Bool.Decides.{nat_tests}
+use Rattle.std.proofs.Common.{◌++◌, refl, sym, ap, subst, ◌∙◌}
+use Rattle.std.specs.Bool.{MatchBool}
+use Rattle.rambo_atomic.specs.Unreads.{HoldsLine, IsDone}
 use Rattle.rambo_text.specs.Versions.{head_text}
-use Rattle.rambo_steps.proofs.RunAlong.{when_ok, runs_first, runs_next, runs_all, place_fits, later_fault}
+use Rattle.rambo_steps.specs.Runs.{GivesUpBehind, IsOfWhole}
+use Rattle.rambo_steps.proofs.RunAlong.{when_ok}
+use Rattle.rambo_steps.proofs.Pieces.{runs_on_first, runs_on_more, runs_on_next, runs_on_end, runs_on_fault}
 use Rattle.rambo_steps.proofs.replaying.run_through.Goals as goal
 
-pub loop-rest-init : goal.loop-rest-init
-loop-rest-init g c = runs_first _ _ _ _ _ _ _ c.next_line.ensures c.requires
-    (when_ok c.write_head.result _ _ c.in_ok-in_memory.ensures.ok c.write_head.ensures.ok ∙ ap (λ t. t ++ head_text c.args.version) c.new-text.ensures.items) c.first-place.ensures
+pub loop-text-init : goal.loop-text-init
+loop-text-init g c =
+    let line = c.forget_line.ensures.line in
+    let ended = c.forget_line.ensures.ended in
+    let head = when_ok c.write_head.result _ _ c.in_ok-in_memory.ensures.ok c.write_head.ensures.ok ∙ ap (λ t. t ++ head_text c.args.version) c.new-text.ensures.items in
+    record {
+      on = runs_on_first _ _ _ _ _ _ _ _ c.requires.line line.1 ended c.requires.founded head c.first-place.ensures;
+      knows = λ e. c.requires.knows (sym ended ∙ e);
+      fine = refl;
+    }
 
-pub next-place-requires-clause-line : goal.next-place-requires-clause-line
-next-place-requires-clause-line g c = (place_fits _ _ _ _ _ _ c.loop-rest.invariant (omega arith)).0
+pub returns-in-Err-clause-script : goal.returns-in-Err-clause-script
+returns-in-Err-clause-script g c =
+    let found = c.in_ok-find_line.ensures in
+    let u = c.find_line.new.self in
+    let now = runs_on_more _ _ _ _ (g.S.Source.left c.find_line.new.reader) _ c.loop-text.unread u _ _ c.loop-text.invariant.on found.bytes found.ended in
+    let holds : HoldsLine u = subst (λ b. MatchBool b (HoldsLine u) (IsDone u)) c.if-branch.true found.line in
+    λ fault is.
+    subst (λ f. IsOfWhole (λ bytes. GivesUpBehind c.args.version bytes f) c.args.unread.now (g.S.Source.left c.args.reader.now)) (sym (c.told_at_end.ensures.kept fault is))
+    (runs_on_fault _ _ _ _ _ u _ _ _ c.in-Err.fault now holds found.knows c.next-place.ensures c.in-Err.ensures.fault)
 
-pub next-place-requires-clause-step : goal.next-place-requires-clause-step
-next-place-requires-clause-step g c = (place_fits _ _ _ _ _ _ c.loop-rest.invariant (omega arith)).1
-
-pub loop-rest-preserved : goal.loop-rest-preserved
-loop-rest-preserved g c =
-    runs_next _ _ _ _ _ _ _ _ _ _ _ c.loop-rest.invariant (λ none. let z : length c.loop-rest.rest.now ≡ 0 = ap length none in grind (arith, nat_tests))
-    c.next_line-in-loop-rest.ensures c.next-place.ensures c.in_ok-take_line.ensures.taken
-
-pub returns-in_err-take_line-clause-fault : goal.returns-in_err-take_line-clause-fault
-returns-in_err-take_line-clause-fault g c =
-    search (
-      rules,
-      later_fault _ _ _ _ _ _ _ _ _ _ c.loop-rest.invariant (λ none. let z : length c.loop-rest.rest.now ≡ 0 = ap length none in grind (arith, nat_tests))
-          c.next_line-in-loop-rest.ensures c.next-place.ensures c.in_err-take_line.ensures.fault,
-    )
+pub loop-text-preserved : goal.loop-text-preserved
+loop-text-preserved g c =
+    let found = c.in_ok-find_line.ensures in
+    let u = c.find_line.new.self in
+    let now = runs_on_more _ _ _ _ (g.S.Source.left c.find_line.new.reader) _ c.loop-text.unread u _ _ c.loop-text.invariant.on found.bytes found.ended in
+    let holds : HoldsLine u = subst (λ b. MatchBool b (HoldsLine u) (IsDone u)) c.if-branch.true found.line in
+    let taken = c.in_default.ensures in
+    record {
+      on = runs_on_next _ _ _ _ _ _ u _ _ _ _ _ now holds c.next-place.ensures taken.taken taken.ended;
+      knows = λ e. found.knows (sym taken.ended ∙ e);
+      fine = found.fine ∙ c.loop-text.invariant.fine;
+    }
 
 pub returns-clause-ok : goal.returns-clause-ok
-returns-clause-ok g c = runs_all _ _ _ _ _ _ _ c.loop-rest.invariant (grind (arith, nat_tests)) c.in_ok-end.ensures.ok
+returns-clause-ok g c =
+    let found = c.in_ok-find_line.ensures in
+    let u = c.find_line.new.self in
+    let now = runs_on_more _ _ _ _ (g.S.Source.left c.find_line.new.reader) _ c.loop-text.unread u _ _ c.loop-text.invariant.on found.bytes found.ended in
+    let done : IsDone u = subst (λ b. MatchBool b (HoldsLine u) (IsDone u)) c.if-branch.false found.line in
+    runs_on_end _ _ _ _ _ u _ _ _ now done found.knows c.in_ok-end.ensures.ok

@@ -1,9 +1,14 @@
-use Rattle.std.proofs.Common.{length}
-use Rattle.rambo_steps.proofs.RunAlong.{Runs}
+use Rattle.std.proofs.Common.{◌≡◌}
+use Rattle.rambo_atomic.specs.Unreads.{KnowsEnd, work_left}
+use Rattle.rambo_steps.proofs.Pieces.{RunsOn}
 use Rattle.rambo_steps.proofs.replaying.run_through.Given as goal
 
-abbrev pub invariant-loop-rest : goal.invariant-loop-rest
-invariant-loop-rest g l = Runs l.version l.input (g.R.Run.running l.running) l.place l.text.items l.rest
+abbrev pub invariant-loop-text : goal.invariant-loop-text
+invariant-loop-text g l = record {
+  on : RunsOn l.version l.fn.unread (g.S.Source.left l.fn.reader) (g.S.Source.left l.reader) (g.R.Run.running l.running) l.unread l.place l.text.items;
+  knows : KnowsEnd l.unread (g.S.Source.left l.reader);
+  fine : g.S.Source.failures l.reader ≡ g.S.Source.failures l.fn.reader;
+}
 
-abbrev pub decreases-loop-rest : goal.decreases-loop-rest
-decreases-loop-rest g l = length l.rest
+abbrev pub decreases-loop-text : goal.decreases-loop-text
+decreases-loop-text g l = work_left (g.S.Source.reads_left l.reader) l.unread

@@ -7,24 +7,6 @@ use Rattle.rambo_lines.specs.StepLines.{word_of}
 use Rattle.rambo_steps.proofs.RunAlong.{parts_fault}
 use Rattle.rambo_steps.proofs.replaying.take_line.Goals as goal
 
-pub returns-in-Send-clause-fault : goal.returns-in-Send-clause-fault
-returns-in-Send-clause-fault g c =
-    let found = IfOk-at_ok _ c.in_ok-kind.ensures.ok c.read_kind.ensures.found in
-    IfErr-weaker c.take_send.result _ _ (λ f fault.
-    parts_fault c.args.line.now kind.Send _ _ f found.0 (subst (λ k. IsFirstWord c.args.line.now (word_of k) (option_copied c.in_ok-kind.more)) c.in-Send.is found.1) fault) c.take_send.ensures.fault
-
-pub returns-in-Deliver-clause-fault : goal.returns-in-Deliver-clause-fault
-returns-in-Deliver-clause-fault g c =
-    let found = IfOk-at_ok _ c.in_ok-kind.ensures.ok c.read_kind.ensures.found in
-    IfErr-weaker c.take_deliver.result _ _ (λ f fault.
-    parts_fault c.args.line.now kind.Deliver _ _ f found.0 (subst (λ k. IsFirstWord c.args.line.now (word_of k) (option_copied c.in_ok-kind.more)) c.in-Deliver.is found.1) fault) c.take_deliver.ensures.fault
-
-pub returns-in-Advance-clause-fault : goal.returns-in-Advance-clause-fault
-returns-in-Advance-clause-fault g c =
-    let found = IfOk-at_ok _ c.in_ok-kind.ensures.ok c.read_kind.ensures.found in
-    IfErr-weaker c.take_advance.result _ _ (λ f fault.
-    parts_fault c.args.line.now kind.Advance _ _ f found.0 (subst (λ k. IsFirstWord c.args.line.now (word_of k) (option_copied c.in_ok-kind.more)) c.in-Advance.is found.1) fault) c.take_advance.ensures.fault
-
 pub returns-in-Get-clause-fault : goal.returns-in-Get-clause-fault
 returns-in-Get-clause-fault g c =
     let found = IfOk-at_ok _ c.in_ok-kind.ensures.ok c.read_kind.ensures.found in

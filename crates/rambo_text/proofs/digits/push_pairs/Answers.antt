@@ -4,13 +4,26 @@ use Rattle.rambo_text.specs.Signs.{pairs_text}
 use Rattle.rambo_text.proofs.Pairs.{pairs_on}
 use Rattle.rambo_text.proofs.digits.push_pairs.Goals as goal
 
+pub loop-sixteen-preserved : goal.loop-sixteen-preserved
+loop-sixteen-preserved c =
+    let rest = c.loop-sixteen.rest.now in
+    let parts = c.in-Some.ensures.cases in
+    let whole : rest ≡ c.in-Some.sixteen.now ++ c.in-Some.others.now = sym (take-append-drop 16 rest) ∙ (λ i. sym parts.0 i ++ sym parts.1 i) in
+    record {
+      items = pairs_on _ _ c.in-Some.sixteen.now rest c.in-Some.others.now _ c.push_sixteen.ensures.items whole c.loop-sixteen.invariant.items;
+      room = omega (arith, parts.2, c.push_sixteen.ensures.len, c.push_sixteen.ensures.capacity, c.loop-sixteen.invariant.room);
+    }
+
+pub push_sixteen-requires : goal.push_sixteen-requires
+push_sixteen-requires c = let parts = c.in-Some.ensures.cases in omega (arith, parts.2, c.loop-sixteen.invariant.room)
+
 pub loop-eight-preserved : goal.loop-eight-preserved
 loop-eight-preserved c =
     let rest = c.loop-eight.rest.now in
-    let parts = c.in-Some.ensures.cases in
-    let whole : rest ≡ c.in-Some.eight.now ++ c.in-Some.others.now = sym (take-append-drop 8 rest) ∙ (λ i. sym parts.0 i ++ sym parts.1 i) in
+    let parts = c.in-Some-split_first_chunk.ensures.cases in
+    let whole : rest ≡ c.in-Some-split_first_chunk.eight.now ++ c.in-Some-split_first_chunk.others.now = sym (take-append-drop 8 rest) ∙ (λ i. sym parts.0 i ++ sym parts.1 i) in
     record {
-      items = pairs_on _ _ c.in-Some.eight.now rest c.in-Some.others.now _ c.push_eight.ensures.items whole c.loop-eight.invariant.items;
+      items = pairs_on _ _ c.in-Some-split_first_chunk.eight.now rest c.in-Some-split_first_chunk.others.now _ c.push_eight.ensures.items whole c.loop-eight.invariant.items;
       room = omega (arith, parts.2, c.push_eight.ensures.len, c.push_eight.ensures.capacity, c.loop-eight.invariant.room);
     }
 
@@ -25,7 +38,7 @@ loop-byte-preserved c =
     }
 
 pub push_eight-requires : goal.push_eight-requires
-push_eight-requires c = let parts = c.in-Some.ensures.cases in omega (arith, parts.2, c.loop-eight.invariant.room)
+push_eight-requires c = let parts = c.in-Some-split_first_chunk.ensures.cases in omega (arith, parts.2, c.loop-eight.invariant.room)
 
 pub loop-byte-init : goal.loop-byte-init
 loop-byte-init c = c.loop-eight.invariant

@@ -3,6 +3,15 @@ use Rattle.rambo_text.specs.Signs.{pairs_text}
 use Rattle.rambo_text.proofs.digits.push_pairs.Given as goal
 
 -- the digits so far and those to come are all digits, and there is room for those
+abbrev pub invariant-loop-sixteen : goal.invariant-loop-sixteen
+invariant-loop-sixteen l = record {
+  items : l.out.items ++ pairs_text l.rest ≡ l.fn.out.items ++ pairs_text l.bytes;
+  room : vec_len l.out + 2 * length l.rest ≤ vec_capacity l.out;
+}
+
+abbrev pub decreases-loop-sixteen : goal.decreases-loop-sixteen
+decreases-loop-sixteen l = length l.rest
+
 abbrev pub invariant-loop-eight : goal.invariant-loop-eight
 invariant-loop-eight l = record {
   items : l.out.items ++ pairs_text l.rest ≡ l.fn.out.items ++ pairs_text l.bytes;
