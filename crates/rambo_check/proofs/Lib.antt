@@ -1,9 +1,12 @@
 pub mod ItemTexts
 pub mod Counts
+pub mod Explained
+pub mod Grown
 pub mod ItemShapes
 pub mod LineWords
 pub mod Judged
 pub mod LineFaults
+pub mod PlacedOrders
 pub mod Rows
 pub mod TextLaws
 pub mod TextSteps

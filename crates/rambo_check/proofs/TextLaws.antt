@@ -83,7 +83,7 @@ same_evidence s (i ∷ is) (j ∷ js) a b e =
 one_evidence_behind : (v : Version) (text : List ℕ) (s t : EvidenceState) → IsTold v text s → IsTold v text t → s ≡ t
 one_evidence_behind v text s t a b =
     a.evidence
-    ∙ same_evidence no_evidence a.items b.items a.good.in_range b.good.in_range (one_text text a.items b.items a.good.in_range b.good.in_range a.lines b.lines)
+    ∙ same_evidence (no_evidence v) a.items b.items a.good.in_range b.good.in_range (one_text text a.items b.items a.good.in_range b.good.in_range a.lines b.lines)
     ∙ sym b.evidence
 
 pub one_evidence_is : OneEvidence
@@ -106,8 +106,8 @@ good_behind v s (i ∷ is) range of none = (
   ),
 )
 
-all_good : (v : Version) (items : List Item) → AreGood v items → AreGoodBehind v no_evidence items
-all_good v items good = good_behind v no_evidence items good.in_range good.of_version good.none_bad
+all_good : (v : Version) (items : List Item) → AreGood v items → AreGoodBehind v (no_evidence v) items
+all_good v items good = good_behind v (no_evidence v) items good.in_range good.of_version good.none_bad
 
 -- the fault of a line
 
@@ -163,7 +163,7 @@ module _ (v : Version) (f g : Fault) (m : f ≢ OutOfMemory) (n : g ≢ OutOfMem
 
 one_fault_behind : (v : Version) (text : List ℕ) (f g : ScriptFault) → f.fault ≢ OutOfMemory → g.fault ≢ OutOfMemory → IsTextFault v text f → IsTextFault v text g → f ≡ g
 one_fault_behind v text f g m n a b =
-    let place = one_place v f.fault g.fault m n no_evidence a.items b.items a.left b.left a.line a.rest b.line b.rest
+    let place = one_place v f.fault g.fault m n (no_evidence v) a.items b.items a.left b.left a.line a.rest b.line b.rest
     (all_good v a.items a.good) (all_good v b.items b.good) (sym a.whole ∙ b.whole) a.first b.first a.fault b.fault in
     let number : f.line ≡ g.line = a.number ∙ ap (λ k. k + 1) place.1 ∙ sym b.number in
     (λ i. record { fault = place.0 i; line = number i })
@@ -205,7 +205,7 @@ no_fault v f s (i ∷ is) (j ∷ js) p l r a b e some first x =
 
 no_told_behind : (v : Version) (text : List ℕ) (s : EvidenceState) (f : ScriptFault) → IsTold v text s → IsTextFault v text f → f.fault ≡ OutOfMemory
 no_told_behind v text s f told bad =
-    no_fault v f.fault no_evidence bad.items told.items bad.left bad.line bad.rest (all_good v bad.items bad.good) (all_good v told.items told.good)
+    no_fault v f.fault (no_evidence v) bad.items told.items bad.left bad.line bad.rest (all_good v bad.items bad.good) (all_good v told.items told.good)
     (elim told.lines [
       | inl e ↦ inl (sym bad.whole ∙ e)
       | inr e ↦ inr (ap (λ t. t ++ 10 ∷ []) (sym bad.whole) ∙ e)

@@ -16,7 +16,7 @@ use Rattle.rambo_history.specs.Proper.{EverySplit}
 use Rattle.rambo_atomic.specs.Unreads.{UnreadState, KnowsEnd, TakesIn, HoldsLine, IsDone}
 use Rattle.std.proofs.KnownBytes.{Consumes-trans}
 use Rattle.rambo_history.proofs.Splits.{splits-nil, splits-cons, splits-head, splits-tail}
-use Rattle.rambo_check.specs.Lines.{Item, item_words, item_line, items_text}
+use Rattle.rambo_check.specs.Lines.{Item, Happened, Collected, Settled, Refused, Ordered, OrderedAll, Mapped, item_words, item_line, items_text}
 use Rattle.rambo_check.specs.Items.{IsItem, IsLineIn}
 use Rattle.rambo_check.specs.EvidenceStates.{EvidenceState, no_evidence, with_item, evidence_of, IsBadItem, AreGood}
 use Rattle.rambo_check.specs.Checks.{IsLeft}
@@ -33,7 +33,7 @@ pub record ReadSoFar (version : Version) (start : UnreadState) (first left : Opt
   pub text : TakesIn first left start.held (used ++ u.held)
   pub ended : start.ended ≡ true → (u.ended ≡ true) × (text.0 ≡ [])
   pub number : line ≡ length items + head_lines version
-  pub evidence : s ≡ evidence_of items
+  pub evidence : s ≡ evidence_of version items
 
 splits-push : {X : Type 0} (P : List X → X → Type 0) (xs : List X) (x : X) → EverySplit (λ f y b. P f y) xs → P xs x → EverySplit (λ f y b. P f y) (xs ++ x ∷ [])
 splits-push P [] x all here = splits-cons (λ f y b. P f y) x [] here (splits-nil (λ f y b. P (x ∷ f) y))
@@ -57,17 +57,17 @@ none_used : (left : Option (List ℕ)) → Consumes left left []
 none_used None = tt
 none_used (Some xs) = refl
 
-pub read_start : (version : Version) (left : Option (List ℕ)) (s : EvidenceState) (u : UnreadState) → s.events ≡ [] → s.orders ≡ [] → s.order ≡ None
+pub read_start : (version : Version) (left : Option (List ℕ)) (s : EvidenceState) (u : UnreadState) → s ≡ no_evidence version
     → ReadSoFar version u left left s u (head_lines version)
-read_start version left s u events orders order = record {
+read_start version left s u none = record {
   used = [];
   items = [];
-  good = record { in_range = tt; of_version = tt; none_bad = splits-nil (λ f i b. ¬ (IsBadItem (evidence_of f) i)) };
+  good = record { in_range = tt; of_version = tt; none_bad = splits-nil (λ f i b. ¬ (IsBadItem (evidence_of version f) i)) };
   lines = inl refl;
   text = ([], none_used left, sym (append-nil u.held));
   ended = λ e. (e, refl);
   number = omega arith;
-  evidence = λ i. record { events = events i; orders = orders i; order = order i };
+  evidence = none;
 }
 
 -- more was read
@@ -157,13 +157,13 @@ read_on version start first left s new u v line now holds taken same =
       good = record {
         in_range = all-push IsItem now.items i now.good.in_range taken.in_range;
         of_version = all-push (IsLineIn version) now.items i now.good.of_version taken.of_version;
-        none_bad = splits-push (λ f j. ¬ (IsBadItem (evidence_of f) j)) now.items i now.good.none_bad (subst (λ t. ¬ (IsBadItem t i)) now.evidence taken.good);
+        none_bad = splits-push (λ f j. ¬ (IsBadItem (evidence_of version f) j)) now.items i now.good.none_bad (subst (λ t. ¬ (IsBadItem t i)) now.evidence taken.good);
       };
       lines = now_used.lines;
       text = (now.text.0, now.text.1, sym now_used.held ∙ now.text.2);
       ended = λ e. (same ∙ (now.ended e).0, (now.ended e).1);
       number = (let before = now.number in omega (arith, before, length-push now.items i));
-      evidence = taken.taken ∙ ap (λ t. with_item t i) now.evidence ∙ sym (fold-push with_item no_evidence now.items i);
+      evidence = taken.taken ∙ ap (λ t. with_item t i) now.evidence ∙ sym (fold-push with_item (no_evidence version) now.items i);
     }
 
 -- the text that was left at first
@@ -307,3 +307,22 @@ module _ (first left : Option (List ℕ)) (version : Version) (u : UnreadState)
       let there = told g is in
       let whole = head there.0 there.2 in
       (whole.0, whole.1, inr (version, u.held ++ there.0, there.1, whole.2, there.3, there.4), there.5)
+
+-- as many lines are read as were told, and the head
+lines-of : (s : EvidenceState) (items : List Item) → (fold with_item s items).lines ≡ length items + s.lines
+lines-of s [] = omega arith
+lines-of s (i ∷ items) = let rest = lines-of (with_item s i) items in let one = by i in omega (arith, rest, one)
+  where
+    by : (i : Item) → (with_item s i).lines ≡ s.lines + 1
+    by (Happened e) = refl
+    by (Collected name place) = refl
+    by (Settled name place conf) = refl
+    by (Refused step number) = refl
+    by (Ordered o) = refl
+    by (OrderedAll calls) = refl
+    by (Mapped name floor confs) = refl
+
+pub lines_so_far : (version : Version) (start : UnreadState) (first left : Option (List ℕ)) (s : EvidenceState) (u : UnreadState) (line : ℕ)
+    → ReadSoFar version start first left s u line → s.lines ≡ line
+lines_so_far version start first left s u line now =
+    ap (λ (t : EvidenceState). t.lines) now.evidence ∙ lines-of (no_evidence version) now.items ∙ sym now.number

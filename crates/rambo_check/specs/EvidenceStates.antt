@@ -1,5 +1,5 @@
--- What an outcome text tells, line by line
-use Rattle.std.specs.Prelude.{ℕ, List, [], ◌∷◌, ◌++◌, fold, Option, None, Some, IsSome}
+-- What an outcome text says, line by line
+use Rattle.std.specs.Prelude.{ℕ, ◌+◌, List, [], ◌∷◌, ◌++◌, fold, Option, None, Some, IsSome}
 use Rattle.std.specs.Map.{lookup}
 use Rattle.std.specs.List.{AllByRecursion}
 use Rattle.std.specs.Str.{bytes_eq}
@@ -9,31 +9,43 @@ use Rattle.rambo_history.specs.Faults.{fault_of}
 use Rattle.rambo_history.specs.Proper.{EverySplit}
 use Rattle.rambo_check.specs.Lines.{Item, Happened, Collected, Settled, Refused, Ordered, OrderedAll, Mapped}
 use Rattle.rambo_text.specs.declared.version.Version.{Version}
+use Rattle.rambo_text.specs.Versions.{head_lines}
 use Rattle.rambo_check.specs.Items.{IsItem, IsLineIn}
 
--- the calls and answers in their order, each key that has an order, with it, and the order of the calls of all keys, if one is told
+-- how many lines are read, the one that tells the version too; the calls and answers in their order; each key that has
+-- an order, with it; and the order of the calls of all keys, if there is one. Of each of these the number of its line
 pub record EvidenceState : Type 0 where
+  pub lines : ℕ
   pub events : List Event
+  pub event_lines : List ℕ
   pub orders : List (List ℕ × List CallId)
+  pub order_lines : List (List ℕ × ℕ)
   pub order : Option (List CallId)
+  pub order_line : Option ℕ
 
-abbrev pub no_evidence : EvidenceState
-no_evidence = record { events = []; orders = []; order = None }
+-- before a line behind the head of a text of this version is read
+abbrev pub no_evidence : Version → EvidenceState
+no_evidence version =
+    record { lines = head_lines version; events = []; event_lines = []; orders = []; order_lines = []; order = None; order_line = None }
 
--- with what a line more tells
+-- with one line more
+abbrev pub passed : EvidenceState → EvidenceState
+passed s = record s { lines = s.lines + 1 }
+
+-- and with what it tells
 abbrev pub with_item : EvidenceState → Item → EvidenceState
-with_item s (Happened e) = record s { events = s.events ++ e ∷ [] }
-with_item s (Collected name place) = s
-with_item s (Settled name place conf) = s
-with_item s (Refused step number) = s
-with_item s (Ordered o) = record s { orders = s.orders ++ (o.key, o.calls) ∷ [] }
-with_item s (OrderedAll calls) = record s { order = Some calls }
-with_item s (Mapped name floor confs) = s
+with_item s (Happened e) = record (passed s) { events = s.events ++ e ∷ []; event_lines = s.event_lines ++ (s.lines + 1) ∷ [] }
+with_item s (Collected name place) = passed s
+with_item s (Settled name place conf) = passed s
+with_item s (Refused step number) = passed s
+with_item s (Ordered o) = record (passed s) { orders = s.orders ++ (o.key, o.calls) ∷ []; order_lines = s.order_lines ++ (o.key, s.lines + 1) ∷ [] }
+with_item s (OrderedAll calls) = record (passed s) { order = Some calls; order_line = Some (s.lines + 1) }
+with_item s (Mapped name floor confs) = passed s
 
-abbrev pub evidence_of : List Item → EvidenceState
-evidence_of items = fold with_item no_evidence items
+abbrev pub evidence_of : Version → List Item → EvidenceState
+evidence_of version items = fold with_item (no_evidence version) items
 
--- an event that can't stand at the history's end, a second order of a key, or a second one of all keys
+-- an event that can't be appended to the history, a second order of a key, or a second one of all keys
 abbrev pub IsBadItem : EvidenceState → Item → Type 0
 IsBadItem s (Happened e) = IsSome (fault_of s.events e)
 IsBadItem s (Collected name place) = ⊥
@@ -43,8 +55,8 @@ IsBadItem s (Ordered o) = IsSome (lookup (bytes_eq o.key) s.orders)
 IsBadItem s (OrderedAll calls) = IsSome s.order
 IsBadItem s (Mapped name floor confs) = ⊥
 
--- each item is in range and of this version, and none is bad behind those before it
+-- each item is in range and of this version, and none is bad after those before it
 pub record AreGood (version : Version) (items : List Item) : Type 0 where
   pub in_range : AllByRecursion IsItem items
   pub of_version : AllByRecursion (IsLineIn version) items
-  pub none_bad : EverySplit (λ front i back. ¬ (IsBadItem (evidence_of front) i)) items
+  pub none_bad : EverySplit (λ front i back. ¬ (IsBadItem (evidence_of version front) i)) items

@@ -40,7 +40,7 @@ IsLineIn version (Ordered s) = Unit {0}
 IsLineIn version (OrderedAll calls) = version ≡ Two
 IsLineIn version (Mapped name floor confs) = Unit {0}
 
--- the item's words are this one and those behind it
+-- the item's words are this one and those after it
 abbrev pub IsSpelling : List ℕ → Option (List ℕ) → Item → Type 0
 IsSpelling first more i = IsItem i × (words : List (List ℕ)) × AreMore more words × (item_words i ≡ first ∷ words)
 

@@ -20,23 +20,23 @@ HasNames (Ordered s) = Unit {0}
 HasNames (OrderedAll calls) = Unit {0}
 HasNames (Mapped name floor confs) = AllByRecursion IsConf confs
 
--- lines that may stand in an outcome text
+-- lines that an outcome text may have
 pub record AreLines (items : List Item) : Type 0 where
   pub in_range : AllByRecursion IsItem items
   pub names : AllByRecursion HasNames items
 
--- what is behind the head of a text has the lines of one outcome at most
+-- what is after the head of a text doesn't have the lines of two outcomes
 abbrev pub OneReading : Type 0
 OneReading = (text : List ℕ) (items others : List Item) → AreLines items → AreLines others → AreLinesOf text items → AreLinesOf text others → items ≡ others
 
--- a text tells one evidence at most, in one version
+-- a text doesn't give two evidences, nor one in two versions
 abbrev pub OneEvidence : Type 0
 OneEvidence = (text : List ℕ) (version other : Version) (s t : EvidenceState) → IsToldIn version text s → IsToldIn other text t → (version ≡ other) × (s ≡ t)
 
--- what tells an evidence has no fault: memory alone may run out while it is read
+-- what gives an evidence has no fault: memory alone may run out while it is read
 abbrev pub NoToldIsFaulty : Type 0
 NoToldIsFaulty = (text : List ℕ) (version : Version) (s : EvidenceState) (f : ScriptFault) → IsToldIn version text s → IsFaultIn text f → f.fault ≡ OutOfMemory
 
--- a text has one fault at most, beside that memory may run out
+-- a text has one fault at most, apart from memory that may run out
 abbrev pub OneFault : Type 0
 OneFault = (text : List ℕ) (f g : ScriptFault) → f.fault ≢ OutOfMemory → g.fault ≢ OutOfMemory → IsFaultIn text f → IsFaultIn text g → f ≡ g

@@ -6,5 +6,6 @@ pub mod Laws
 pub mod Lines
 pub mod Plans
 pub mod Readings
+pub mod Reasons
 pub mod Texts
 pub mod Verdicts

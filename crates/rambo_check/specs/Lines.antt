@@ -13,9 +13,9 @@ use Rattle.rambo_sequence.specs.Sequences.{SequenceOf}
 use Rattle.rambo_text.specs.Signs.{hex_text, call_text, standing_text}
 use Rattle.rambo_text.specs.Words.{words_text}
 
--- what a line says: that a call was made or answered, that a node's collection of a place ended, that a node's attempt for
--- a place ended, with the configuration that is now known there or none where the place is removed, that the step of a number
--- was refused by a number, in which order a key's calls are put, in which order those of all keys are, or which map a node has
+-- what a line says: a call was made or answered; a node's collection of a place ended; a node's attempt for a place
+-- ended, with the configuration now known there or none where the place is removed; the step of a number was refused by
+-- a number; the order of a key's calls, or of those of all keys; or a node's map
 pub data Item : Type 0 where
   Happened : Event → Item
   Collected : ℕ → ℕ → Item

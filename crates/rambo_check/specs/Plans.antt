@@ -18,7 +18,7 @@ pub data Plan : Type 0 where
 abbrev pub each : Form → List (List ℕ) → List Form
 each m words = map (λ _. m) words
 
--- behind `call`
+-- after `call`
 abbrev pub call_plan : List (List ℕ) → Plan
 call_plan [] = Missing
 call_plan (c ∷ []) = Missing
@@ -27,7 +27,7 @@ call_plan (c ∷ w ∷ ws) =
     else if bytes_eq w (codes "set") then Forms (Call ∷ Hex ∷ Hex ∷ []) (c ∷ ws)
     else Unknown
 
--- behind `answer`
+-- after `answer`
 abbrev pub answer_plan : List (List ℕ) → Plan
 answer_plan [] = Missing
 answer_plan (c ∷ []) = Missing
@@ -37,7 +37,7 @@ answer_plan (c ∷ w ∷ ws) =
     else if bytes_eq w (codes "value") then Forms (Call ∷ Hex ∷ []) (c ∷ ws)
     else Unknown
 
--- behind `collected`, `decided`, `refused`, `sequence`, `order` and `map`
+-- after `collected`, `decided`, `refused`, `sequence`, `order` and `map`
 abbrev pub collected_plan : List (List ℕ) → Plan
 collected_plan ws = Forms (Name ∷ Num ∷ []) ws
 
@@ -56,7 +56,7 @@ order_plan ws = Forms (each Call ws) ws
 abbrev pub map_plan : List (List ℕ) → Plan
 map_plan ws = Forms (Name ∷ Num ∷ Conf ∷ each Conf (drop 3 ws)) ws
 
--- whether a line with this first word tells an order of all keys' calls: in texts of version 2
+-- whether a line with this first word gives an order of all keys' calls: in texts of version 2
 abbrev pub tells_order : Version → List ℕ → Bool
 tells_order One w = false
 tells_order Two w = bytes_eq w (codes "order")
@@ -86,13 +86,13 @@ IsPlanFault (Forms ms ws) f =
 abbrev pub IsLineFault : Version → List ℕ → Fault → Type 0
 IsLineFault version line f = (words : List (List ℕ)) × AreWords line words × IsPlanFault (plan version words) f
 
--- bytes stand among these words, behind words that are in their forms
+-- bytes are among these words, after words that are in their forms
 abbrev pub HaveBytes : List Form → List (List ℕ) → Type 0
 HaveBytes [] ws = ⊥
 HaveBytes (m ∷ ms) [] = ⊥
 HaveBytes (m ∷ ms) (w ∷ ws) = (m ≡ Hex) ⊎ (IsSpelt m w × HaveBytes ms ws)
 
--- there are as many words as there should be, and no fault stands before their bytes
+-- there are as many words as there should be, and no fault comes before their bytes
 abbrev pub HasBytes : Plan → Type 0
 HasBytes Unknown = ⊥
 HasBytes Missing = ⊥
@@ -103,18 +103,18 @@ abbrev pub BeginWithCall : List (List ℕ) → Type 0
 BeginWithCall [] = ⊥
 BeginWithCall (w ∷ ws) = IsSpelt Call w
 
--- the words behind the first have bytes, or begin with a call
+-- the words after the first have bytes, or begin with a call
 abbrev pub FollowBytes : (List (List ℕ) → Plan) → Option (List ℕ) → Type 0
 FollowBytes plan more = (words : List (List ℕ)) × AreMore more words × HasBytes (plan words)
 
 abbrev pub FollowCalls : Option (List ℕ) → Type 0
 FollowCalls more = (words : List (List ℕ)) × AreMore more words × BeginWithCall words
 
--- a line tells bytes, or an order of all keys' calls, and has no fault before these
+-- a line has bytes, or an order of all keys' calls, and has no fault before these
 abbrev pub TellsBytesOrCalls : Version → List ℕ → Type 0
 TellsBytesOrCalls version line = (words : List (List ℕ)) × AreWords line words
     × (HasBytes (plan version words) ⊎ ((version ≡ Two) × ((calls : List (List ℕ)) × (words ≡ codes "order" ∷ calls) × BeginWithCall calls)))
 
--- the words behind the first have this fault, or memory ran out at their bytes
+-- the words after the first have this fault, or memory ran out at their bytes
 abbrev pub IsFaulty : (List (List ℕ) → Plan) → Option (List ℕ) → Fault → Type 0
 IsFaulty plan more f = ((f ≡ OutOfMemory) × FollowBytes plan more) ⊎ ((words : List (List ℕ)) × AreMore more words × IsPlanFault (plan words) f)

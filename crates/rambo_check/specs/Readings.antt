@@ -22,7 +22,7 @@ Says kept.Nothing i = IsPassed i
 abbrev pub IsLineOf : Version → List ℕ → Kept → Type 0
 IsLineOf version text k = (i : Item) × IsItem i × IsLineIn version i × AreWords text (item_words i) × Says k i
 
--- bytes that a source has left, behind what was read of it
+-- bytes that a source has left, after what was read of it
 abbrev pub IsMore : UnreadState → Option (List ℕ) → List ℕ → Type 0
 IsMore u left more = IsLeft left more × (u.ended ≡ true → more ≡ [])
 
@@ -31,7 +31,7 @@ abbrev pub TakesHead : Version → List ℕ → List ℕ → Type 0
 TakesHead One before after = (line : List ℕ) × (rest : List ℕ) × IsFirstLine before line rest × IsFirstOf One line × (after ≡ before)
 TakesHead Two before after = IsFirstLine before head_line after
 
--- the first line of what was held is a good item's, which is taken up, and the rest is held
+-- the first line of what was held is a good item's, which is taken in, and the rest is held
 pub record TakesLine (version : Version) (before after : List ℕ) (old new : EvidenceState) : Type 0 where
   pub line : List ℕ
   pub first : IsFirstLine before line after

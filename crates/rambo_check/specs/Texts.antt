@@ -15,29 +15,29 @@ use Rattle.rambo_check.specs.Plans.{IsLineFault, TellsBytesOrCalls}
 abbrev pub AreLinesOf : List ℕ → List Item → Type 0
 AreLinesOf text items = (text ≡ items_text items) ⊎ (text ++ 10 ∷ [] ≡ items_text items)
 
--- the text of this version tells this, behind its head
+-- the text of this version says this, after its head
 pub record IsTold (version : Version) (text : List ℕ) (s : EvidenceState) : Type 0 where
   pub items : List Item
   pub good : AreGood version items
   pub lines : AreLinesOf text items
-  pub evidence : s ≡ evidence_of items
+  pub evidence : s ≡ evidence_of version items
 
--- the line spells an item of this version that is bad behind those before it
+-- the line spells an item of this version that is bad after those before it
 abbrev pub IsBadLine : Version → EvidenceState → List ℕ → Type 0
 IsBadLine version s line = (i : Item) × IsItem i × IsLineIn version i × AreWords line (item_words i) × IsBadItem s i
 
--- the line spells an item of this version that is kept, and isn't bad behind those before it
+-- the line spells an item of this version that is kept, and isn't bad after those before it
 abbrev pub IsKeptLine : Version → EvidenceState → List ℕ → Type 0
 IsKeptLine version s line = (i : Item) × IsItem i × IsLineIn version i × AreWords line (item_words i) × (¬ (IsBadItem s i)) × (¬ (IsPassed i))
 
--- the fault of a line behind good ones: of its words, of what it tells, or that memory ran out, at bytes or calls before which
--- the line has no fault, or for the whole line, which has none
+-- the fault of a line after good ones: of its words, of what it says, or that memory ran out, at bytes or calls before
+-- which the line has no fault, or for the whole line, which has none
 abbrev pub IsFaultBehind : Version → EvidenceState → List ℕ → Fault → Type 0
 IsFaultBehind version s line f =
     ((f ≡ OutOfMemory) × (TellsBytesOrCalls version line ⊎ IsKeptLine version s line))
     ⊎ (IsLineFault version line f ⊎ ((f ≡ BadHistory) × IsBadLine version s line))
 
--- the first faulty line of a text of this version, behind its head, and its fault
+-- the first faulty line of a text of this version, after its head, and its fault
 pub record IsTextFault (version : Version) (text : List ℕ) (f : ScriptFault) : Type 0 where
   pub items : List Item
   pub good : AreGood version items
@@ -48,13 +48,13 @@ pub record IsTextFault (version : Version) (text : List ℕ) (f : ScriptFault) :
   pub there : left ≢ []
   pub first : IsFirstLine left line rest
   pub number : f.line ≡ length items + 1
-  pub fault : IsFaultBehind version (evidence_of items) line f.fault
+  pub fault : IsFaultBehind version (evidence_of version items) line f.fault
 
--- a whole text of this version tells this
+-- a whole text of this version says this
 abbrev pub IsToldIn : Version → List ℕ → EvidenceState → Type 0
 IsToldIn version text s = (behind : List ℕ) × IsBehindHead version text behind × IsTold version behind s
 
--- the first line should tell the version, and doesn't
+-- the first line should give the version, and doesn't
 pub record IsHeadFault (text : List ℕ) (f : ScriptFault) : Type 0 where
   pub line : List ℕ
   pub rest : List ℕ

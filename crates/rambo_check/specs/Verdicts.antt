@@ -1,5 +1,5 @@
--- The verdict on each key of a text, and how verdicts are told
-use Rattle.std.specs.Prelude.{◌≡◌, ◌⊎◌, ℕ, Bool, true, false, List, [], ◌∷◌, ◌++◌, map, Option, None, Some, IsSome, unwrap_or, codes, decimal}
+-- The verdict on each key of a text, and how verdicts are written
+use Rattle.std.specs.Prelude.{◌≡◌, ◌⊎◌, ℕ, Bool, true, false, List, [], ◌∷◌, ◌++◌, map, Option, None, Some, IsSome, unwrap_or, slice_get, codes, decimal}
 use Rattle.std.specs.List.{list_all, IsDistinct}
 use Rattle.std.specs.List.Sorted.{IsSorted}
 use Rattle.std.specs.Map.{lookup}
@@ -52,6 +52,16 @@ verdict_words key (No rule) = codes "no" ∷ hex_text key ∷ decimal (number_of
 -- the order of the calls of all keys: the empty one where the text has none
 abbrev pub store_order_of : EvidenceState → List CallId
 store_order_of s = unwrap_or s.order []
+
+-- the line that tells the order of a key, or where no key is told that of all
+abbrev pub order_line_of : EvidenceState → Option (List ℕ) → Option ℕ
+order_line_of s None = s.order_line
+order_line_of s (Some key) = lookup (bytes_eq key) s.order_lines
+
+-- the line of the event at a place
+abbrev pub event_line_of : EvidenceState → Option ℕ → ℕ
+event_line_of s None = 0
+event_line_of s (Some place) = unwrap_or (slice_get s.event_lines place) 0
 
 -- it is judged in version 2 alone
 abbrev pub IsVerdictOnAll : Version → EvidenceState → Option Verdict → Type 0

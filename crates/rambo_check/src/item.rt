@@ -23,7 +23,7 @@ use std::alloc::Global;
 /// What is kept of a line of a text of this version.
 ///
 /// The first fault of the line: `UnknownWord`, then `WrongCount`, then `BadNumber` or `BadHex` at the first word that
-/// isn't in its form; `OutOfMemory` where there is no room for its bytes or calls, and no fault stands before these.
+/// isn't in its form; `OutOfMemory` where there is no room for its bytes or calls, and no fault comes before these.
 pub(crate) fn read_line(alloc: Global, version: Version, line: &[u8]) -> Result<Kept, Fault>
     ensures kept { IfOk result (IsLineOf version line.now) }
     ensures fault { IfErr result (λ f. ((f ≡ fault.OutOfMemory) × TellsBytesOrCalls version line.now) ⊎ IsLineFault version line.now f) }

@@ -12,8 +12,8 @@ use rambo_names::{Bytes, Refusal};
 
 /// Puts the verdict on each key that has a call or an order where there was none, keys in byte order.
 ///
-/// The checker is over the history that is told. `OutOfMemory` where there is no room for the verdicts, or for what judging
-/// takes.
+/// The checker is over the history that the text gives. `OutOfMemory` where there is no room for the verdicts, or for
+/// what judging takes.
 pub(crate) fn judge_each(
     checker: &Checker,
     evidence: &Evidence,

@@ -6,12 +6,14 @@
 
 mod checking;
 mod evidence;
+mod explaining;
 mod item;
 mod judging;
 mod kept;
 mod laws;
 mod operands;
 mod order;
+mod reasons;
 mod text;
 mod verdict_text;
 

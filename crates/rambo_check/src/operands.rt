@@ -14,7 +14,7 @@ use rambo_names::{Bytes, read_conf};
 use rambo_text::{Fault, next_word, one_word, read_call, read_hex, two_words};
 use std::alloc::Global;
 
-/// The first two words that follow, and what stands behind them.
+/// The first two words that follow, and what follows them.
 ///
 /// None where there are fewer.
 pub(crate) fn first_two(more: Option<&[u8]>) -> Option<(&[u8], &[u8], Option<&[u8]>)>
@@ -27,7 +27,7 @@ pub(crate) fn first_two(more: Option<&[u8]>) -> Option<(&[u8], &[u8], Option<&[u
     Some((first, second, more))
 }
 
-/// A call, behind which nothing stands.
+/// A call, with nothing after it.
 pub(crate) fn read_call_alone(id: &[u8], more: Option<&[u8]>) -> Result<CallId, Fault>
     ensures call { IfOk result (λ c. IsCall c × (id.now ≡ call_text c)) }
     ensures none { OnOk result (AreMore (option_copied more.entry) []) }
@@ -39,9 +39,9 @@ pub(crate) fn read_call_alone(id: &[u8], more: Option<&[u8]>) -> Result<CallId, 
     read_call(id).ok_or(Fault::BadNumber)
 }
 
-/// A call, and the bytes behind it.
+/// A call, and the bytes after it.
 ///
-/// `OutOfMemory` where there is no room for the bytes, and no fault stands before them.
+/// `OutOfMemory` where there is no room for the bytes, and no fault comes before them.
 pub(crate) fn read_call_and_bytes(
     alloc: Global,
     id: &[u8],
@@ -61,9 +61,9 @@ pub(crate) fn read_call_and_bytes(
     Ok((id, bytes))
 }
 
-/// A call, and the two spellings of bytes behind it.
+/// A call, and the two spellings of bytes after it.
 ///
-/// `OutOfMemory` where there is no room for the bytes, and no fault stands before them.
+/// `OutOfMemory` where there is no room for the bytes, and no fault comes before them.
 pub(crate) fn read_call_and_pair(
     alloc: Global,
     id: &[u8],
@@ -86,7 +86,7 @@ pub(crate) fn read_call_and_pair(
 
 /// Any number of calls.
 ///
-/// `OutOfMemory` where there is no room for a call, and no fault stands before it.
+/// `OutOfMemory` where there is no room for a call, and no fault comes before it.
 #[inline(always)]
 pub(crate) fn read_calls(alloc: Global, more: Option<&[u8]>) -> Result<Vec<CallId>, Fault>
     ensures calls { IfOk result (λ cs. All IsCall cs.items × AreMore (option_copied more.entry) (map call_text cs.items)) }

@@ -17,3 +17,10 @@ impl Model for Order {
 
     ghost view = { λ o. o.calls.items };
 }
+
+/// An order, and the number of the line that tells it.
+#[derive(Drop, Debug)]
+pub(crate) struct Placed {
+    pub(crate) order: Order,
+    pub(crate) line: u64,
+}

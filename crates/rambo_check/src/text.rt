@@ -1,16 +1,17 @@
 //! Reading an outcome text.
-ghost use Rattle.std.specs.Prelude.{◌≡◌, ◌≢◌, ◌++◌, ℕ, List, [], None, false, IfOk, IfErr, OnOk, OnErr};
+ghost use Rattle.std.specs.Prelude.{◌≡◌, ◌≢◌, ◌++◌, ◌+◌, ◌<◌, ◌^◌, ℕ, List, [], false, IfOk, IfErr, OnOk, OnErr};
 ghost use Rattle.std.specs.Io.KnownBytes.{IsAtEnd};
 ghost use Rattle.rambo_atomic.specs.Streams.{counted};
 ghost use Rattle.rambo_atomic.specs.Unreads.{KnowsEnd};
 ghost use Rattle.rambo_text.specs.declared.fault.ReplayFault.TheVariants as fault;
 ghost use Rattle.rambo_text.specs.declared.fault.ScriptFault.{ScriptFault};
+ghost use Rattle.rambo_text.specs.declared.version.Version.TheVariants as versions;
 ghost use Rattle.rambo_text.specs.Versions.{IsBadHead, IsBehindHead, in_whole};
 ghost use Rattle.rambo_text.specs.Words.{IsFirstLine, AreWords};
 ghost use Rattle.rambo_check.specs.Checks.{IsLeft};
 ghost use Rattle.rambo_check.specs.Lines.{Item, item_words};
 ghost use Rattle.rambo_check.specs.Items.{IsItem, IsLineIn};
-ghost use Rattle.rambo_check.specs.EvidenceStates.{with_item, IsBadItem};
+ghost use Rattle.rambo_check.specs.EvidenceStates.{no_evidence, with_item, IsBadItem};
 ghost use Rattle.rambo_check.specs.Readings.{IsMore, TakesHead, TakesLine};
 ghost use Rattle.rambo_check.specs.Texts.{IsTold, IsToldIn, IsFaultBehind, IsTextFault, IsHeadFault, IsFaultIn};
 
@@ -21,19 +22,17 @@ use rambo_atomic::{Source, Unread};
 use rambo_text::{Fault, ReplayFault, ScriptFault, Version, next_line};
 use std::alloc::Global;
 
-/// Takes up what the text that a source has left tells, and answers its version; or tells its first faulty line and the
-/// first fault there. The text is read to its end, and never held as a whole.
+/// Takes in what the text that a source has left says, and returns its version; or its first faulty line and the first
+/// fault there. The text is read to its end, and never held as a whole.
 ///
-/// `Script` with `OutOfMemory` where there is no room for what the line tells, and it has no fault before that, `Read` where the source fails, and `Memory`
-/// where there is no room for the line itself.
+/// `Script` with `OutOfMemory` where there is no room for what the line says, and it has no fault before that, `Read`
+/// where the source fails, and `Memory` where there is no room for the line itself.
 pub(crate) fn read_outcome<R: Source>(
     alloc: Global,
     reader: &mut R,
     evidence: &mut Evidence,
 ) -> Result<Version, ReplayFault>
-    requires events { evidence.old.events ≡ [] }
-    requires orders { evidence.old.orders ≡ [] }
-    requires order { evidence.old.order ≡ None }
+    requires none { evidence.old ≡ no_evidence versions.One }
     ensures told { IfOk result (λ version. (text : List ℕ) × IsLeft (R.left reader.old) text × IsToldIn version text evidence.new) }
     ensures end { OnOk result (IsAtEnd (R.left reader.new)) }
     ensures fine { OnOk result (R.failures reader.new ≡ R.failures reader.old) }
@@ -45,6 +44,7 @@ pub(crate) fn read_outcome<R: Source>(
 {
     let mut unread = Unread::new(alloc);
     let version = read_version(reader, &mut unread)?;
+    evidence.begin(version);
     read_behind(alloc, version, reader, &mut unread, evidence)?;
     Ok(version)
 }
@@ -93,7 +93,7 @@ fn take_head(unread: &mut Unread) -> Result<Version, Fault>
     }
 }
 
-// Takes up what the text of a version tells behind its head: what is held, and what the source has left.
+// Takes up what the text of a version tells after its head: what is held, and what the source has left.
 fn read_behind<R: Source>(
     alloc: Global,
     version: Version,
@@ -102,9 +102,7 @@ fn read_behind<R: Source>(
     evidence: &mut Evidence,
 ) -> Result<(), ReplayFault>
     requires knows { KnowsEnd unread.old (R.left reader.old) }
-    requires events { evidence.old.events ≡ [] }
-    requires orders { evidence.old.orders ≡ [] }
-    requires order { evidence.old.order ≡ None }
+    requires none { evidence.old ≡ no_evidence version }
     ensures told { OnOk result ((more : List ℕ) × IsMore unread.old (R.left reader.old) more × IsTold version (unread.old.held ++ more) evidence.new) }
     ensures end { OnOk result (IsAtEnd (R.left reader.new)) }
     ensures fine { OnOk result (R.failures reader.new ≡ R.failures reader.old) }
@@ -136,6 +134,7 @@ fn take_first(
     unread: &mut Unread,
     evidence: &mut Evidence,
 ) -> Result<(), Fault>
+    requires fits { evidence.old.lines + 1 < 2 ^ 64 }
     ensures taken { OnOk result (TakesLine version unread.old.held unread.new.held evidence.old evidence.new) }
     ensures ended { unread.new.ended ≡ unread.old.ended }
     ensures kept { OnErr result (unread.new ≡ unread.old) }
@@ -156,6 +155,7 @@ fn take_line(
     line: &[u8],
     evidence: &mut Evidence,
 ) -> Result<(), Fault>
+    requires fits { evidence.old.lines + 1 < 2 ^ 64 }
     ensures taken { OnOk result ((i : Item) × IsItem i × IsLineIn version i × AreWords line.now (item_words i) × (¬ (IsBadItem evidence.old i))
         × (evidence.new ≡ with_item evidence.old i)) }
     ensures fault { IfErr result (IsFaultBehind version evidence.old line.now) }
@@ -164,6 +164,9 @@ fn take_line(
         Kept::Happened(event) => evidence.push(event),
         Kept::Ordered(key, order) => evidence.put(key, order),
         Kept::OrderedAll(order) => evidence.put_order(order),
-        Kept::Nothing => Ok(()),
+        Kept::Nothing => {
+            evidence.pass();
+            Ok(())
+        }
     }
 }

@@ -1,7 +1,7 @@
 //! The text of verdicts.
 ghost use Rattle.std.specs.Prelude.{◌≡◌, ◌++◌, [], ◌∷◌, Some, IfOk, IfErr, OnOk};
 ghost use Rattle.rambo_text.specs.Words.{words_text};
-ghost use Rattle.rambo_check.specs.Verdicts.{is_yes, all_yes, verdict_words, verdicts_text, order_verdict_text};
+ghost use Rattle.rambo_check.specs.Verdicts.{is_yes, all_yes, yes_to_all, verdict_words, verdicts_text, order_verdict_text};
 
 use indexmap::IndexMap;
 use rambo_atomic::Verdict;
@@ -9,13 +9,26 @@ use rambo_names::{Bytes, Refusal};
 use rambo_text::{write_hex, write_num};
 use std::alloc::Global;
 
-/// A line for each verdict.
+/// A line for each verdict, and one for that on the order of all keys, where there is one.
 ///
 /// `OutOfMemory` where there is no room for them.
-pub(crate) fn verdict_text(
+pub(crate) fn verdict_lines(
     alloc: Global,
     verdicts: &IndexMap<Bytes, Verdict>,
+    on_all: Option<Verdict>,
 ) -> Result<Vec<u8>, Refusal>
+    ensures text { IfOk result (λ text. text.items ≡ verdicts_text verdicts.now.entries ++ order_verdict_text on_all) }
+    ensures refused { IfErr result (λ r. r ≡ Refusal.OutOfMemory) }
+{
+    let mut lines = verdict_text(alloc, verdicts)?;
+    if let Some(verdict) = on_all {
+        write_order_verdict(verdict, &mut lines)?;
+    }
+    Ok(lines)
+}
+
+// A line for each verdict.
+fn verdict_text(alloc: Global, verdicts: &IndexMap<Bytes, Verdict>) -> Result<Vec<u8>, Refusal>
     ensures text { IfOk result (λ text. text.items ≡ verdicts_text verdicts.now.entries) }
     ensures refused { IfErr result (λ r. r ≡ Refusal.OutOfMemory) }
 {
@@ -42,8 +55,18 @@ pub(crate) fn all_yes(verdicts: &IndexMap<Bytes, Verdict>) -> bool
     true
 }
 
-/// Whether a verdict is yes.
-pub(crate) fn is_yes(verdict: Verdict) -> bool
+/// Whether the verdict on the order of all keys is yes. It is where there is none.
+pub(crate) fn yes_to_all(on_all: Option<Verdict>) -> bool
+    ensures { result ≡ yes_to_all on_all }
+{
+    match on_all {
+        Some(verdict) => is_yes(verdict),
+        None => true,
+    }
+}
+
+// Whether a verdict is yes.
+fn is_yes(verdict: Verdict) -> bool
     ensures { result ≡ is_yes verdict }
 {
     match verdict {

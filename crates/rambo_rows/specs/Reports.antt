@@ -1,10 +1,10 @@
--- What is told of the rows of a text
+-- What is reported of the rows of a text
 use Rattle.std.specs.Prelude.{◌≡◌, ◌≢◌, ◌++◌, ◌∷◌, [], ℕ, List, Bool, IsTrue, cond, not, ◌&&◌, nat_eq, nat_lt, codes, decimal, length, map, filter, flat_map, All}
 use Rattle.std.specs.List.{starts_with}
 use Rattle.rambo_rows.specs.RowTexts.{RowText, IsRow}
 use Rattle.rambo_rows.specs.Rows.{Shows}
 
--- the rows of a text, one behind the other
+-- the rows of a text, one after another
 abbrev pub AreRows : List ℕ → List RowText → Type 0
 AreRows text [] = text ≡ []
 AreRows text (row ∷ rows) = (text ≢ []) × (rest : List ℕ) × IsRow text row rest × AreRows rest rows
@@ -29,7 +29,7 @@ IsJudged j = IsTrue j.1 → Shows j.0.word j.0.ending j.0.input j.0.output
 abbrev pub wrong_count : List Judged → ℕ
 wrong_count judged = length (filter (λ j. not j.1) judged)
 
--- what is told of a row: its name, where it is wrong
+-- what is reported of a row: its name, where it is wrong
 abbrev pub told_of : Judged → List ℕ
 told_of j = cond j.1 [] (codes "wrong: " ++ j.0.name ++ 10 ∷ [])
 
@@ -37,7 +37,8 @@ told_of j = cond j.1 [] (codes "wrong: " ++ j.0.name ++ 10 ∷ [])
 abbrev pub total : ℕ → ℕ → List ℕ
 total rows wrong = decimal rows ++ codes " rows, " ++ decimal wrong ++ codes " wrong\n"
 
--- the rows of a text were judged, this is told of them, and it is green where none is wrong and there is a row at all
+-- the rows of a text were judged, this is reported of them, and it is green where none is wrong and there is a row at
+-- all
 pub record IsReport (text report : List ℕ) (green : Bool) : Type 0 where
   pub judged : List Judged
   pub are_judged : AreJudged text judged

@@ -19,8 +19,8 @@ named name = record { name = name; word = []; input = []; output = []; ending = 
 abbrev pub line_end : List ℕ → List ℕ
 line_end word = cond (starts_with nat_eq word (codes "local ")) (13 ∷ 10 ∷ []) (10 ∷ [])
 
--- a row with what a line adds: behind > a line of the input, behind ~ the last of it, behind < a line of the output,
--- behind = how it ends, and behind another mark its word
+-- a row with what a line adds. After > it is a line of the input, and after ~ the last one. After < it is a line of the
+-- output, and after = how it ends. After another mark it is its word
 abbrev pub tells : RowText → List ℕ → RowText
 tells row [] = row
 tells row (mark ∷ said) =
@@ -35,12 +35,12 @@ abbrev pub tells_all : RowText → List (List ℕ) → RowText
 tells_all row [] = row
 tells_all row (line ∷ lines) = tells_all (tells row line) lines
 
--- these lines, none of them empty, stand before the text's end or an empty line, and this stands behind
+-- these lines, none of them empty, come before the text's end or an empty line, and this follows
 abbrev pub IsBlock : List ℕ → List (List ℕ) → List ℕ → Type 0
 IsBlock text [] rest = ((text ≡ []) × (rest ≡ [])) ⊎ ((text ≢ []) × IsFirstLine text [] rest)
 IsBlock text (line ∷ lines) rest = (line ≢ []) × (behind : List ℕ) × IsFirstLine text line behind × IsBlock behind lines rest
 
--- a text begins with this row: the line of its name, and those that tell it
+-- a text begins with this row: the line of its name, and those of its parts
 pub record IsRow (text : List ℕ) (row : RowText) (rest : List ℕ) : Type 0 where
   pub name : List ℕ
   pub behind : List ℕ

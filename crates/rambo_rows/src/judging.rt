@@ -20,7 +20,7 @@ const READ_PIECE: usize = 7;
 
 const WRITE_PIECE: usize = 5;
 
-/// Runs a row, and answers whether it wrote and ended as the row wants. A row of any other word is wrong.
+/// Runs a row, and returns whether it wrote and ended as the row wants. A row of any other word is wrong.
 pub fn is_right(alloc: Global, row: Row) -> Result<bool, AllocError>
     ensures { IfOk result (λ right. IsTrue right → Shows row.entry.word.now row.entry.ending.now row.entry.input.items row.entry.output.items) }
 {
@@ -66,12 +66,12 @@ fn replay_all<R: Source, W: Sink>(
 
 // Where it is done or said no, and right, the wanted output is the verdicts on the text.
 fn is_right_check(alloc: Global, row: Row) -> Result<bool, AllocError>
-    ensures done { IfOk result (λ right. IsTrue right → row.entry.ending.now ≡ codes "done" → IsChecked row.entry.input.items row.entry.output.items true) }
-    ensures no { IfOk result (λ right. IsTrue right → row.entry.ending.now ≡ codes "no" → IsChecked row.entry.input.items row.entry.output.items false) }
+    ensures done { IfOk result (λ right. IsTrue right → row.entry.ending.now ≡ codes "done" → IsChecked false row.entry.input.items row.entry.output.items true) }
+    ensures no { IfOk result (λ right. IsTrue right → row.entry.ending.now ≡ codes "no" → IsChecked false row.entry.input.items row.entry.output.items false) }
 {
     let mut reader = Tape::new(row.input).in_pieces(READ_PIECE);
     let mut writer = Tape::new(Vec::new(alloc)).in_pieces(WRITE_PIECE);
-    let ended = check_text(alloc, &mut reader, &mut writer);
+    let ended = check_text(alloc, false, &mut reader, &mut writer);
     is_wanted(
         alloc,
         ended,

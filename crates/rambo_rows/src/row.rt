@@ -5,10 +5,10 @@ ghost use Rattle.rambo_rows.specs.RowTexts.{IsRow, line_end, tells};
 use rambo_text::next_line;
 use std::alloc::{AllocError, Global};
 
-/// How the word of a row begins that has a client served; behind it stand the founders.
+/// How the word of a row that has a client served begins; the founders follow.
 pub const LOCAL: &[u8] = b"local ";
 
-/// A script, an outcome text or the commands of a client, and what must come of it.
+/// A script, an outcome text or the commands of a client, and the expected result.
 #[derive(Drop)]
 pub struct Row<'a> {
     /// What the row shows.
@@ -22,7 +22,7 @@ pub struct Row<'a> {
     pub ending: &'a [u8],
 }
 
-/// The first row of a text that isn't empty, and the text behind the empty line after it.
+/// The first row of a text that isn't empty, and the text after the empty line that follows it.
 pub fn read_row(alloc: Global, text: &[u8]) -> Result<(Row<'_>, &[u8]), AllocError>
     requires { 0 < length text.now }
     ensures row { IfOk result (λ r. IsRow text.now (record { name = r.0.name.now; word = r.0.word.now; input = r.0.input.items; output = r.0.output.items; ending = r.0.ending.now }) r.1.now) }
@@ -47,7 +47,7 @@ pub fn read_row(alloc: Global, text: &[u8]) -> Result<(Row<'_>, &[u8]), AllocErr
     Ok((row, rest))
 }
 
-// Adds to a row what a line tells.
+// Adds to a row what a line says.
 fn take_line<'a>(row: &mut Row<'a>, line: &'a [u8]) -> Result<(), AllocError>
     ensures { OnOk result ((record { name = row.new.name.now; word = row.new.word.now; input = row.new.input.items; output = row.new.output.items; ending = row.new.ending.now })
         ≡ tells (record { name = row.old.name.now; word = row.old.word.now; input = row.old.input.items; output = row.old.output.items; ending = row.old.ending.now }) line.now) }

@@ -9,7 +9,7 @@ use crate::tally::Tally;
 use rambo_atomic::{Sink, Source, StreamFault, read_all, write_all};
 use std::alloc::{AllocError, Global};
 
-/// Reads rows, writes the name of each that is wrong and how many there are, and answers whether none is wrong and
+/// Reads rows, writes the name of each that is wrong and how many there are, and returns whether none is wrong and
 /// there is a row at all.
 ///
 /// All rows are read and run before the first byte is written.
@@ -29,7 +29,7 @@ pub fn judge_rows<R: Source, W: Sink>(
     Ok(green)
 }
 
-// What is told of the rows of a text, and whether none is wrong and there is a row at all.
+// What is reported of the rows of a text, and whether none is wrong and there is a row at all.
 fn judged(alloc: Global, text: &[u8]) -> Result<(Vec<u8>, bool), AllocError>
     ensures { IfOk result (λ r. IsReport text.now r.0.items r.1) }
 {

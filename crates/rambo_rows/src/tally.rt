@@ -1,11 +1,11 @@
-//! What was told of rows so far.
+//! What was reported of rows so far.
 ghost use Rattle.std.specs.Prelude.{◌≡◌, ◌+◌, ◌<◌, ◌++◌, ◌^◌, ◌∷◌, ◌&&◌, [], cond, nat_eq, nat_lt, codes, decimal, OnOk};
 ghost use Rattle.rambo_rows.specs.Reports.{total};
 
 use rambo_text::write_num;
 use std::alloc::{AllocError, Global};
 
-/// What was told of rows so far, and how many there were and were wrong.
+/// What was reported of rows so far, how many there were, and how many were wrong.
 #[derive(Drop)]
 pub struct Tally {
     pub report: Vec<u8>,
@@ -26,7 +26,7 @@ impl Tally {
         }
     }
 
-    /// Counts a row, and tells its name if it is wrong.
+    /// Counts a row, and reports its name if it is wrong.
     pub fn add(&mut self, name: &[u8], right: bool) -> Result<(), AllocError>
         requires rows { self.old.rows < 2 ^ 63 }
         requires wrong { self.old.wrong < 2 ^ 63 }
@@ -51,7 +51,7 @@ impl Tally {
         self.wrong == 0 && self.rows > 0
     }
 
-    /// Tells how many there were.
+    /// Reports how many there were.
     pub fn tell_total(&mut self) -> Result<(), AllocError>
         ensures counts { (self.new.rows ≡ self.old.rows) × (self.new.wrong ≡ self.old.wrong) }
         ensures report { OnOk result (self.new.report.items ≡ self.old.report.items ++ total self.old.rows self.old.wrong) }

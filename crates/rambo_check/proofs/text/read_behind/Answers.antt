@@ -1,4 +1,4 @@
-use Rattle.std.proofs.Common.{◌≡◌, ◌≢◌, ◌⊎◌, inl, inr, ℕ, ◌+◌, Result, Ok, Err, refl, sym, ap, subst, ◌∙◌}
+use Rattle.std.proofs.Common.{◌≡◌, ◌≢◌, ◌⊎◌, inl, inr, ℕ, ◌+◌, Result, Ok, Err, arith, refl, sym, ap, subst, ◌∙◌}
 use Rattle.std.specs.Bool.{MatchBool}
 use Rattle.std.specs.Result.{IsErrAnd, IfErr}
 use Rattle.rambo_atomic.specs.Streams.{counted}
@@ -9,15 +9,19 @@ use Rattle.rambo_text.specs.declared.fault.ScriptFault.{ScriptFault}
 use Rattle.rambo_text.specs.declared.fault.ReplayFault.{ReplayFault}
 use Rattle.rambo_text.specs.declared.fault.ReplayFault.TheVariants as fault
 use Rattle.rambo_text.specs.Faults.{of_stream}
-use Rattle.rambo_check.proofs.TextSteps.{ReadSoFar, read_start, read_more, read_on, read_end, read_fault}
+use Rattle.rambo_check.proofs.TextSteps.{ReadSoFar, read_start, read_more, read_on, read_end, read_fault, lines_so_far}
 use Rattle.rambo_check.proofs.text.read_behind.Goals as goal
 
 pub loop-line-init : goal.loop-line-init
 loop-line-init g c = record {
-  read = subst (ReadSoFar c.args.version c.args.unread.now _ _ c.args.evidence.now c.args.unread.now) (sym c.head_lines-line.ensures) (read_start c.args.version _ c.args.evidence.now c.args.unread.now c.requires.events c.requires.orders c.requires.order);
+  read = subst (ReadSoFar c.args.version c.args.unread.now _ _ c.args.evidence.now c.args.unread.now) (sym c.head_lines-line.ensures) (read_start c.args.version _ c.args.evidence.now c.args.unread.now c.requires.none);
   knows = c.requires.knows;
   fine = refl;
 }
+
+pub take_first-requires : goal.take_first-requires
+take_first-requires g c =
+    let same = lines_so_far _ _ _ _ c.loop-line.evidence c.loop-line.unread c.loop-line.line c.loop-line.invariant.read in record { fits = grind (arith, same, c.if-line.false, c.loop-line.auto.line-fits) }
 
 pub returns-in-Err-clause-script : goal.returns-in-Err-clause-script
 returns-in-Err-clause-script g c =

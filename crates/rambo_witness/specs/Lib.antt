@@ -1,0 +1,6 @@
+pub mod Dues
+pub mod LastMade
+pub mod LatestSets
+pub mod Laws
+pub mod Tests
+pub mod Witnesses
