@@ -1,5 +1,5 @@
 -- A step that is committed keeps what the book and the keeper are
-use Rattle.std.proofs.Common.{◌≡◌, ℕ, ◌<◌, ◌≤◌, List, [], ◌∷◌, ◌++◌, length, Option, None, Some, Result, Ok, Err, OnErr, refl, sym, ap, ◌∙◌, subst, inl, arith}
+use Rattle.std.proofs.Common.{◌≡◌, ℕ, Bool, false, ◌<◌, ◌≤◌, List, [], ◌∷◌, ◌++◌, length, Option, None, Some, Result, Ok, Err, OnErr, refl, sym, ap, ◌∙◌, subst, inl, arith}
 use Rattle.std.proofs.lemmas.List.{length-append}
 use mathlib.Core.List.{IsPrefix}
 use Rattle.rambo_names.specs.declared.refusal.Refusal.{Refusal}
@@ -90,7 +90,7 @@ module _ {Q : Type 0} {s : QuorumSystem Q} {agreed : Option Q} {most : ℕ} {rol
   -- where it isn't refused, what is ready by the letter of the book is ready
   pub ready_here : (o : Option (Letter Q)) (half : Half Q) (v : RoomyNode Q) (held : List (Mail Q)) (looked : List (Step Q)) → v.state ≡ node.state → o ≡ letter_in letters st → meant_by o st ≡ meant_in letters st
       → refusal s (run s f steps) st ≡ None → ((m : Meant Q) → meant_by o st ≡ Some m → IsReadyStep s v (outline_of o) m.change half)
-      → IsReadyIn s (run s f steps) (record { name = name; node = v.state; room = v.room; beside = v.beside; tray = held; seen = looked }) (record { step = st; half = half })
+      → IsReadyIn s (run s f steps) (record { name = name; node = v.state; room = v.room; beside = v.beside; tray = held; seen = looked }) (record { step = st; half = half; asks = false })
   ready_here o half v held looked same letter named none ready =
       let w = run s f steps in
       let x = v.state in
@@ -109,7 +109,7 @@ module _ {Q : Type 0} {s : QuorumSystem Q} {agreed : Option Q} {most : ℕ} {rol
     abbrev kept : RoomyNode Q
     kept = record { state = node.state; room = room; beside = record { stamps = node.stamps; bases = node.bases } }
 
-    module _ (ready : IsReadyIn s (run s f steps) (record { name = name; node = node.state; room = room; beside = kept.beside; tray = held; seen = looked }) (record { step = st; half = half })) (ls : List (Letter Q)) (same : ls ≡ letters) where
+    module _ {asks : Bool} (ready : IsReadyIn s (run s f steps) (record { name = name; node = node.state; room = room; beside = kept.beside; tray = held; seen = looked }) (record { step = st; half = half; asks = asks })) (ls : List (Letter Q)) (same : ls ≡ letters) where
       -- a step whose first half is made, which the letters of the book tell
       pub half_here : IsReadyStep s kept (outline_of (letter_in ls st)) ready.change half
       half_here =

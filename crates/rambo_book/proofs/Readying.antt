@@ -123,7 +123,7 @@ module _ {Q : Type 0} (s : QuorumSystem Q) (v : RoomyNode Q) where
 -- so what is ready as it is seen is ready in a world, where it comes to what the step means there
 pub ready_alike : {Q : Type 0} (s : QuorumSystem Q) (w : WorldState Q) (st : Step Q) (k : KeeperView Q) (p : Option (Meant Q)) (o : Option (Letter Q)) (half : Half Q) → Alike s k.node p (meant w st)
     → o ≡ outline_of (letter_in w.letters st) → IsServedBy w st k.name → refusal s w st ≡ None → judged s k.node p ≡ None → ((m : Meant Q) → p ≡ Some m → IsReadyStep s (roomy k) o m.change half)
-    → IsReadyIn s w k (record { step = st; half = half })
+    → IsReadyIn s w k (record { step = st; half = half; asks = false })
 ready_alike s w st k p o half same outline served accepted none ready =
     let kept = some_meant s k.node p none in
     let found = some_meant s k.node (meant w st) (sym same.judges ∙ none) in
@@ -149,21 +149,22 @@ mail_none (m ∷ ms) n e = absurd (omega (arith, e))
 
 record Found {Q : Type 0} (w : WorldState Q) (name : ℕ) (tray : List (Mail Q)) (n : ℕ) : Type 0 where
   pub letter : Letter Q
+  pub asks : Bool
   pub there : mail_in tray n ≡ Some letter
-  pub sent : IsMailOf w name (record { number = n; letter = letter })
+  pub sent : IsMailOf w name (record { number = n; asks = asks; letter = letter })
 
-found_here : {Q : Type 0} (w : WorldState Q) (name : ℕ) (x : Mail Q) (n : ℕ) → IsMailOf w name x → x.number ≡ n → IsMailOf w name (record { number = n; letter = x.letter })
-found_here w name x n of e = subst (λ n. IsMailOf w name (record { number = n; letter = x.letter })) e of
+found_here : {Q : Type 0} (w : WorldState Q) (name : ℕ) (x : Mail Q) (n : ℕ) → IsMailOf w name x → x.number ≡ n → IsMailOf w name (record { number = n; asks = x.asks; letter = x.letter })
+found_here w name x n of e = subst (λ n. IsMailOf w name (record { number = n; asks = x.asks; letter = x.letter })) e of
 
 found_later : {Q : Type 0} (x m : Mail Q) (xs : List (Mail Q)) (n place : ℕ) → nat_eq x.number n ≡ false → slice_get (x ∷ xs) place ≡ Some m → m.number ≡ n → IsIn xs n
 found_later x m xs n zero other at is = absurd (eqb-false x.number n other (ap (λ (m : Mail _). m.number) (some_inj x m at) ∙ is))
 found_later x m xs n (suc place) other at is = (place, m, at, is)
 
 found_by : {Q : Type 0} (w : WorldState Q) (name : ℕ) (x : Mail Q) (xs : List (Mail Q)) (n : ℕ) (b : Bool) → nat_eq x.number n ≡ b → IsMailOf w name x → (nat_eq x.number n ≡ false → Found w name xs n) → Found w name (x ∷ xs) n
-found_by w name x xs n true e of later = record { letter = x.letter; there = ap (λ b. if b then Some x.letter else mail_in xs n) e; sent = found_here w name x n of (eqb-true x.number n e) }
+found_by w name x xs n true e of later = record { letter = x.letter; asks = x.asks; there = ap (λ b. if b then Some x.letter else mail_in xs n) e; sent = found_here w name x n of (eqb-true x.number n e) }
 found_by w name x xs n false e of later =
     let rest = later e in
-    record { letter = rest.letter; there = ap (λ b. if b then Some x.letter else mail_in xs n) e ∙ rest.there; sent = rest.sent }
+    record { letter = rest.letter; asks = rest.asks; there = ap (λ b. if b then Some x.letter else mail_in xs n) e ∙ rest.there; sent = rest.sent }
 
 find_in : {Q : Type 0} (w : WorldState Q) (name : ℕ) (tray : List (Mail Q)) (n : ℕ) → ((place : ℕ) (m : Mail Q) → slice_get tray place ≡ Some m → IsMailOf w name m) → IsIn tray n → Found w name tray n
 find_in w name [] n all h = absurd (none-some h.1 h.2)
@@ -299,7 +300,7 @@ module _ {Q : Type 0} {s : QuorumSystem Q} {agreed : Option Q} {most holds name 
 
   pub tray_ready : (o : Option (Letter Q)) → o ≡ came_in tray st → (half : Half Q) (v : RoomyNode Q) → v.state ≡ node.state → judged s node.state (meant_by o st) ≡ None
       → ((m : Meant Q) → meant_by o st ≡ Some m → IsReadyStep s v (outline_of o) m.change half)
-      → IsReadyFor s agreed (record { name = name; node = v.state; room = v.room; beside = v.beside; tray = tray; seen = seen }) (record { step = st; half = half })
+      → IsReadyFor s agreed (record { name = name; node = v.state; room = v.room; beside = v.beside; tray = tray; seen = seen }) (record { step = st; half = half; asks = false })
   tray_ready o is half v same none ready = λ f e.
       let w = run s f seen in
       let x = v.state in

@@ -18,9 +18,9 @@ use Rattle.rambo_book.proofs.Standing.{letters_paired, goes_alike}
 pub tray_more : {Q : Type 0} {s : QuorumSystem Q} {agreed : Option Q} {most : ℕ} {rolled : List (Step Q)} {f : Q} {steps : List (Step Q)} {letters : List (Letter Q)} {history : List Event} {marks : List Mark} {capacity : ℕ}
     {holds name : ℕ} {node : FullNode Q} {tray : List (Mail Q)} {seen : List (Step Q)}
     → IsBook s agreed most rolled f steps letters history marks capacity → IsKeeper s agreed most holds name node tray seen → seen ≡ steps
-    → (number : ℕ) (l : Letter Q) (longer : List (Mail Q)) → letter_at letters number ≡ Some l → l.addressee ≡ name → longer ≡ tray ++ record { number = number; letter = l } ∷ []
+    → (number : ℕ) (asks : Bool) (l : Letter Q) (longer : List (Mail Q)) → letter_at letters number ≡ Some l → l.addressee ≡ name → longer ≡ tray ++ record { number = number; asks = asks; letter = l } ∷ []
     → IsKeeper s agreed most holds name node longer seen
-tray_more {s = s} {f = f} {steps = steps} {letters = letters} {name = name} {tray = tray} {seen = seen} b k same number l longer there own e = record {
+tray_more {s = s} {f = f} {steps = steps} {letters = letters} {name = name} {tray = tray} {seen = seen} b k same number asks l longer there own e = record {
   named = k.named;
   legal = k.legal;
   fits = k.fits;
@@ -28,7 +28,7 @@ tray_more {s = s} {f = f} {steps = steps} {letters = letters} {name = name} {tra
   full = k.full;
   mail = λ g is.
       let w = run s f steps in
-      let here : IsMailOf w name (record { number = number; letter = l }) = elim (letters_paired w letters b.sent number) [
+      let here : IsMailOf w name (record { number = number; asks = asks; letter = l }) = elim (letters_paired w letters b.sent number) [
         | inl n ↦ absurd (none-some l (sym n.0 ∙ there))
         | inr p ↦ (
             let is_l : p.0 ≡ l = some_inj p.0 l (sym p.2 ∙ there) in
@@ -37,7 +37,7 @@ tray_more {s = s} {f = f} {steps = steps} {letters = letters} {name = name} {tra
       ] in
       let now : run s f steps ≡ run s g seen = ap (λ h. run s h steps) (some_inj f g (sym b.founded ∙ is)) ∙ ap (run s g) (sym same) in
       subst (All (IsMailOf (run s g seen) name)) (sym e)
-      (All-push (IsMailOf (run s g seen) name) tray (record { number = number; letter = l }) (k.mail g is) (subst (λ w. IsMailOf w name (record { number = number; letter = l })) now here));
+      (All-push (IsMailOf (run s g seen) name) tray (record { number = number; asks = asks; letter = l }) (k.mail g is) (subst (λ w. IsMailOf w name (record { number = number; asks = asks; letter = l })) now here));
 }
 
 -- whether a letter goes to a name is told by the one that is kept

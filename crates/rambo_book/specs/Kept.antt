@@ -1,4 +1,4 @@
--- What a keeper and the book are, whenever their lock is free
+-- What holds of a keeper and of the book whenever their lock is free
 use Rattle.std.specs.Prelude.{◌≡◌, ℕ, ◌-◌, ◌≤◌, ◌<◌, ◌⊎◌, List, length, slice_get, slice_set, All, Option, Some, None}
 use Rattle.std.specs.FinMap as copies
 use Rattle.rambo_names.specs.declared.refusal.Refusal.{Refusal}
@@ -23,7 +23,7 @@ use Rattle.rambo_deeds.specs.declared.mail.Mail.{Mail}
 use Rattle.rambo_run.specs.Legal.{IsLegal}
 use Rattle.rambo_sequence.specs.declared.mark.Mark.{Mark}
 
--- room: what there is in the node; beside: what it keeps for letters that tell only what is new
+-- room: what there is in the node; beside: what it keeps for letters that carry only what is new
 pub record KeeperView (Q : Type 0) : Type 0 where
   pub name : ℕ
   pub node : NodeState Q
@@ -46,11 +46,11 @@ pub record BookView (Q : Type 0) : Type 0 where
 abbrev pub state : {Q : Type 0} → QuorumSystem Q → BookView Q → WorldState Q
 state s b = run s b.founders b.steps
 
--- a kept letter stands for this one of a world: it may leave out copies that the addressee holds there
+-- a stored letter represents this one of a world: it may leave out copies that the addressee holds there
 abbrev pub StandsFor : {Q : Type 0} → WorldState Q → Letter Q → Letter Q → Type 0
 StandsFor w l whole = IsShort l whole (held_by w whole.addressee)
 
--- the kept letters stand for those that a world was sent, one for one
+-- the stored letters represent those that were sent in a world, one for one
 abbrev pub AreSent : {Q : Type 0} → WorldState Q → List (Letter Q) → Type 0
 AreSent {Q} w letters =
     (length letters ≡ length w.letters)
@@ -65,12 +65,12 @@ abbrev pub lightened : {Q : Type 0} → List (Letter Q) → Option ℕ → List 
 lightened letters None = letters
 lightened letters (Some number) = lightened_at letters number (letter_at letters number)
 
--- a letter to this name, which stands for that of its number
+-- a letter to this name, which represents that of its number
 abbrev pub IsMailOf : {Q : Type 0} → WorldState Q → ℕ → Mail Q → Type 0
 IsMailOf {Q} w name m = (whole : Letter Q) × (letter_at w.letters m.number ≡ Some whole) × StandsFor w m.letter whole × (whole.addressee ≡ name)
 
--- what a keeper has seen is legal, and at most as many steps as are agreed; its node, with what it keeps beside, is that of
--- their run, and its letters were sent to it there
+-- what a keeper has seen is legal, and at most as many steps as are agreed; its node, with its stamps and bases, is
+-- that of their run, and its letters were sent to it there
 pub record IsKeeper {Q : Type 0} (s : QuorumSystem Q) (agreed : Option Q) (most : ℕ) (holds name : ℕ) (node : FullNode Q) (tray : List (Mail Q)) (seen : List (Step Q)) : Type 0 where
   pub named : holds ≡ name
   pub legal : (f : Q) → agreed ≡ Some f → IsLegal s f seen
@@ -105,7 +105,7 @@ pub record IsBook {Q : Type 0} (s : QuorumSystem Q) (agreed : Option Q) (most : 
 abbrev pub IsServedBy : {Q : Type 0} → WorldState Q → Step Q → ℕ → Type 0
 IsServedBy {Q} w st name = (m : Meant Q) → meant w st ≡ Some m → m.name ≡ name
 
--- which refusal is told: that of the step, or that the book is full, or want of memory
+-- which refusal is reported: that of the step, or that the book is full, or out of memory
 abbrev pub Told : Option Refusal → ℕ → ℕ → Refusal → Type 0
 Told (Some d) count capacity r = r ≡ d
 Told None count capacity r = ((r ≡ HistoryFull) × (count ≡ capacity)) ⊎ ((r ≡ OutOfMemory) × (count < capacity))

@@ -16,19 +16,19 @@ abbrev pub sent_to : {Q : Type 0} → WorldState Q → ℕ → List ℕ → List
 sent_to w name [] = []
 sent_to w name (n ∷ ns) = if goes_to name (letter_at w.letters n) then n ∷ sent_to w name ns else sent_to w name ns
 
--- the letters of these numbers are in a tray behind those that were in it
+-- the letters of these numbers are in a tray after those that were in it
 pub record IsBehind {Q : Type 0} (before : List (Mail Q)) (numbers : List ℕ) (after : List (Mail Q)) : Type 0 where
   pub more : List (Mail Q)
   pub tray : after ≡ before ++ more
   pub numbered : map (λ (m : Mail Q). m.number) more ≡ numbers
 
--- what waits once a step was done that sends the letter of this number to these names: it waits behind the others, unless
--- it is lost
+-- what waits once a step was done that sends the letter of this number to these names: it waits after the others,
+-- unless it is lost
 abbrev pub waiting_after : {Q : Type 0} → BookView Q → List ℕ → ℕ → List (List ℕ)
 waiting_after b [] number = b.waiting
 waiting_after b (to ∷ more) number = with_waiting b.waiting to (waiting_for b.waiting to ++ replicate (times b.lose b.twice number) number)
 
--- so many of the letters that wait for a name, the oldest, went to its tray, and the others wait
+-- this many of the letters that wait for a name, the oldest, went to its tray, and the others wait
 pub record AreTaken {Q : Type 0} (w : WorldState Q) (name count : ℕ) (lists left : List (List ℕ)) (before after : List (Mail Q)) : Type 0 where
   pub taken : IsBehind before (sent_to w name (take count (waiting_for lists name))) after
   pub others : left ≡ with_waiting lists name (drop count (waiting_for lists name))

@@ -24,7 +24,7 @@ abbrev pub mail_in : {Q : Type 0} → List (Mail Q) → ℕ → Option (Letter Q
 mail_in [] number = None
 mail_in (m ∷ ms) number = if nat_eq m.number number then Some m.letter else mail_in ms number
 
--- the letter of a tray that a step lets come, if it lets one come
+-- the letter of a tray that a step delivers, if it delivers one
 abbrev pub came_in : {Q : Type 0} → List (Mail Q) → Step Q → Option (Letter Q)
 came_in tray st = option_and_then (mail_in tray) (delivered_by st)
 
@@ -32,14 +32,14 @@ came_in tray st = option_and_then (mail_in tray) (delivered_by st)
 abbrev pub roomy : {Q : Type 0} → KeeperView Q → RoomyNode Q
 roomy k = record { state = k.node; room = k.room; beside = k.beside }
 
--- in this world a step is one of the keeper's node, and isn't refused; and its first half is made, by the letter that it
--- lets come, if it lets one come
+-- in this world a step is one of the keeper's node, and isn't refused; and its first half is made, by the letter that
+-- it delivers, if it delivers one
 pub record IsReadyIn {Q : Type 0} (s : QuorumSystem Q) (w : WorldState Q) (k : KeeperView Q) (r : Ready Q) : Type 0 where
   pub change : Change Q
   pub means : meant w r.step ≡ Some (record { name = k.name; change = change })
   pub accepted : refusal s w r.step ≡ None
   pub ready : IsReadyStep s (roomy k) (outline_of (letter_in w.letters r.step)) change r.half
 
--- so it is in the run of what the keeper has seen
+-- that holds in the run of what the keeper has seen
 abbrev pub IsReadyFor : {Q : Type 0} → QuorumSystem Q → Option Q → KeeperView Q → Ready Q → Type 0
 IsReadyFor {Q} s agreed k r = (f : Q) → agreed ≡ Some f → IsReadyIn s (run s f k.seen) k r

@@ -2,6 +2,7 @@
 ghost use Rattle.std.specs.Prelude.{◌≡◌, ◌-◌, ◌<◌, ◌≤◌, [], length, None, Some, true};
 ghost use Rattle.std.specs.Option.{option_copied};
 ghost use Rattle.rambo_history.specs.Histories.{answer_in};
+ghost use Rattle.rambo_mail.specs.Waiting.{numbers_of};
 ghost use Rattle.rambo_book.specs.Kept.{AreSent, IsServedBy, Told, state};
 ghost use Rattle.rambo_roll.specs.Rolls.{Idle};
 ghost use Rattle.rambo_run.specs.Actors.{actor};
@@ -11,6 +12,7 @@ ghost use Rattle.rambo_run.specs.Worlds.{node_at};
 ghost use Rattle.rambo_run.specs.Legal.{IsLegal};
 
 use crate::keeper::{Actor, Keeper};
+use crate::passes::Passes;
 use crate::terms::Terms;
 use rambo_deeds::{SharedLetter, named_by};
 use rambo_history::{Answer, CallId, Event, History};
@@ -33,6 +35,7 @@ pub struct Book<J: Terms<Q>, Q: Quorums> {
     pub(crate) history: History,
     pub(crate) marks: Vec<Mark>,
     pub(crate) mails: Mails,
+    pub(crate) passes: Passes,
     pub(crate) capacity: usize,
 }
 
@@ -40,13 +43,14 @@ impl<J: Terms<Q>, Q: Quorums> Model for Book<J, Q> {
     ghost use Rattle.std.specs.Prelude.{◌≡◌};
     ghost use Rattle.std.specs.Coded.{codes};
     ghost use Rattle.rambo_names.specs.Names.{names_code};
+    ghost use Rattle.rambo_mail.specs.Waiting.{numbers_of};
     ghost use Rattle.rambo_book.specs.Kept.{BookView, IsBook};
 
     ghost Value = { BookView Q };
 
     ghost coded = { Prim.hlevel (codes, names_code, Q.code) };
 
-    ghost view = { λ b. record { founders = b.founders; steps = b.steps.items; capacity = b.capacity; waiting = b.mails.waiting; lose = b.mails.lose; twice = b.mails.twice } };
+    ghost view = { λ b. record { founders = b.founders; steps = b.steps.items; capacity = b.capacity; waiting = numbers_of b.mails.waiting; lose = b.mails.lose; twice = b.mails.twice } };
 
     ghost invariant = { λ b. IsBook Q.system J.founders J.capacity b.roll.1 b.founders b.steps.items b.letters.items b.history.events b.marks.items b.capacity × (b.mails.lose ≡ J.lose) × (b.mails.twice ≡ J.twice) };
 }
@@ -65,7 +69,7 @@ impl<J: Terms<Q>, Q: Quorums> Book<J, Q> {
         requires capacity { capacity ≡ J.capacity }
         requires lose { mails.lose ≡ J.lose }
         requires twice { mails.twice ≡ J.twice }
-        ensures { result ≡ record { founders = founders; steps = []; capacity = capacity; waiting = mails.waiting; lose = mails.lose; twice = mails.twice } }
+        ensures { result ≡ record { founders = founders; steps = []; capacity = capacity; waiting = numbers_of mails.waiting; lose = mails.lose; twice = mails.twice } }
     {
         Book {
             roll,
@@ -75,11 +79,12 @@ impl<J: Terms<Q>, Q: Quorums> Book<J, Q> {
             history: History::new(alloc),
             marks: Vec::new(alloc),
             mails,
+            passes: Passes::none(),
             capacity,
         }
     }
 
-    /// Of whose keeper a step is, by its place among the 64: the first for a letter that was never sent.
+    /// Whose keeper's step a step is, by the keeper's place among the 64: the first for a letter that was never sent.
     pub fn place_of(&self, step: &Step<Q>) -> usize
         ensures within { result < 64 }
         ensures own { (m : Meant Q) → meant (state Q.system self.now) step.now ≡ Some m → result ≡ m.name - 1 }
@@ -114,8 +119,8 @@ impl<J: Terms<Q>, Q: Quorums> Book<J, Q> {
         let _ = &self.steps;
     }
 
-    /// What a keeper has seen begins the steps, and none of the rest is of its name: so its node is the one that the steps
-    /// give, whatever happened before. Both are as before, and it takes no memory.
+    /// What a keeper has seen begins the steps, and none of the rest is of its name. So its node is the one that the
+    /// steps give, whatever happened before. Both are unchanged, and it allocates nothing.
     pub fn agree<S: Replica>(&mut self, keeper: &mut Keeper<J, Q, S>)
         ensures same { (self.new ≡ self.old) × (keeper.new ≡ keeper.old) }
         ensures idle { Idle actor keeper.old.name keeper.old.seen self.old.steps }
@@ -124,8 +129,8 @@ impl<J: Terms<Q>, Q: Quorums> Book<J, Q> {
         self.roll.agree(&mut keeper.holder);
     }
 
-    /// The letters that were sent, as they are kept: each stands for that of its number in the run of the steps, and may
-    /// leave out copies that its addressee holds there.
+    /// The letters that were sent, as they are stored. Each represents that of its number in the run of the steps, and
+    /// may leave out copies that its addressee holds there.
     pub fn letters(&self) -> &[SharedLetter<Q>]
         ensures { AreSent (state Q.system self.now) result.now }
     {
@@ -146,7 +151,7 @@ impl<J: Terms<Q>, Q: Quorums> Book<J, Q> {
         self.history.answer(id)
     }
 
-    /// What is told where there is no room for a step: that the book is full where it is, else want of memory.
+    /// The refusal where there is no room for a step: that the book is full where it is, else out of memory.
     pub fn no_room(&self) -> Refusal
         ensures told { Told None (length self.now.steps) self.now.capacity result }
         ensures founders { J.founders ≡ Some self.now.founders }

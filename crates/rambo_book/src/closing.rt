@@ -41,6 +41,7 @@ impl<J: Terms<Q>, Q: Quorums> Book<J, Q> {
             history: _history,
             marks: _marks,
             mails: _mails,
+            passes: _,
             capacity: _,
         } = self;
         steps

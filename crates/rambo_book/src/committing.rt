@@ -16,10 +16,10 @@ use crate::finishing::finish;
 use crate::keeper::Keeper;
 use crate::readied::Ready;
 use crate::terms::Terms;
-use rambo_deeds::{SharedLetter, Worker, letter_named, letter_of};
+use rambo_deeds::{SharedLetter, letter_named};
 use rambo_history::History;
 use rambo_mail::{Mails, Posting};
-use rambo_names::{Name, Quorums, Refusal};
+use rambo_names::{Quorums, Refusal};
 use rambo_node::Effect;
 use rambo_run::Step;
 use rambo_sequence::Mark;
@@ -52,9 +52,10 @@ pub fn may_commit<J: Terms<Q>, Q: Quorums, S: Replica>(
 
 /// Does a step of the keeper's node, or refuses it.
 ///
-/// At `Ok` the book has the step behind the others, the keeper's node is that of their run, and the effect is the run's. At
-/// `Err` both are as before. Refused is what the rules of the step's kind say, by the least number; else 23 exactly where
-/// the book is full; else 22, where there is no room for the step.
+/// At `Ok` the book has the step after the others, the keeper's node is that of their run, and the effect is the run's.
+/// At `Err` both are as before. Refused with what the rules of the step's kind say, by the least number; else 23
+/// exactly where the book is full; else 22, where there is no room for the step. A letter that it sends asks for none
+/// in return.
 ///
 /// The keeper is that of the step's node; for a letter that was never sent, any one.
 pub fn commit<J: Terms<Q>, Q: Quorums, S: Replica>(
@@ -79,7 +80,8 @@ pub fn commit<J: Terms<Q>, Q: Quorums, S: Replica>(
     enter(book, keeper, ready)
 }
 
-/// The second half of a step: it goes into the book, and the keeper's node changes.
+/// The second half of a step: it goes into the book, and the keeper's node changes. A letter that it sends waits for its
+/// addressee, and asks for one in return where the step was made `asking`.
 ///
 /// By its rules nothing is refused any more: 23 exactly where the book is full, else 22, where it has no room. Both are then
 /// as before.
@@ -134,7 +136,11 @@ fn ready_by_book<J: Terms<Q>, Q: Quorums, S: Replica>(
     let alloc = *book.steps.allocator();
     let letter = letter_named(book.letters.as_slice(), &step);
     let half = keeper.worker.ready(alloc, letter, &step)?;
-    Ok(Ready { step, half })
+    Ok(Ready {
+        step,
+        half,
+        asks: false,
+    })
 }
 
 // A step whose first half is made goes into the book, and the node changes.
@@ -161,9 +167,10 @@ fn enter<J: Terms<Q>, Q: Quorums, S: Replica>(
         history,
         marks,
         mails,
+        passes: _,
         capacity,
     } = book;
-    let Ready { step, half } = ready;
+    let Ready { step, half, asks } = ready;
     roll.agree(&mut keeper.holder);
     if steps.len() >= *capacity {
         return Err(Refusal::HistoryFull);
@@ -171,7 +178,7 @@ fn enter<J: Terms<Q>, Q: Quorums, S: Replica>(
     let Ok(()) = make_room(steps, letters, history, marks, mails, &step) else {
         return Err(Refusal::OutOfMemory);
     };
-    let posting = posting_of(keeper.name, &keeper.worker, letters.as_slice(), &step);
+    let posting = Posting::new(&step, asks);
     let came = delivered(&step);
     let effect = finish(letters, history, marks, &mut keeper.worker, &step, half);
     roll.add(&mut keeper.holder, &step);
@@ -226,28 +233,4 @@ fn leave_out_copies<Q: Quorums>(letters: &mut Vec<SharedLetter<Q>>, number: Opti
         return;
     }
     letters[number as usize - 1].leave_out_copies();
-}
-
-// What the step of the node of this name means for the mail.
-fn posting_of<Q: Quorums, S: Replica>(
-    by: Name,
-    worker: &Worker<Q, S>,
-    letters: &[SharedLetter<Q>],
-    step: &Step<Q>,
-) -> Posting
-    ensures { option_to_list result.to ≡ sent_by step.now }
-{
-    let came = match step {
-        Step::Deliver(number) => sender_of(letters, *number),
-        _ => None,
-    };
-    Posting::new(by, step, worker.is_open(), came)
-}
-
-// The number of a letter and who sent it, if it was sent.
-fn sender_of<Q: Quorums>(letters: &[SharedLetter<Q>], number: u64) -> Option<(u64, Name)> {
-    match letter_of(letters, number) {
-        Some(letter) => Some((number, letter.sender())),
-        None => None,
-    }
 }

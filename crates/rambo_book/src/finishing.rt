@@ -1,6 +1,6 @@
-//! The second half of a step: its node changes, and what it tells goes to where it belongs.
+//! The second half of a step: its node changes, and what it reports goes to where it belongs.
 //!
-//! Nothing here takes memory, and nothing fails.
+//! Nothing here allocates, and nothing fails.
 ghost use Rattle.std.specs.Prelude.{◌≡◌, ◌<◌, ◌^◌, None, Some, length};
 ghost use Rattle.std.specs.Vec.{vec_len, vec_capacity};
 ghost use Rattle.rambo_history.specs.Faults.{fault_of};

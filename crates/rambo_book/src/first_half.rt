@@ -18,8 +18,10 @@ use std::alloc::Global;
 /// The first half of a step of the keeper's node: it is judged by what the keeper has seen, room is made in the node, and what
 /// it will do is found. A letter that is delivered is one of the tray.
 ///
-/// The node stays, whatever the answer. Refused is what the rules of the step's kind say, by the least number; else 22,
-/// where there is no room for what it makes new.
+/// Its letter asks for none in return, if it sends one, unless it is made `asking`.
+///
+/// In either case the node itself is unchanged. Refused with what the rules of the step's kind say, by the least
+/// number; else 22, where there is no room for what it makes new.
 pub fn ready<J: Terms<Q>, Q: Quorums, S: Replica>(
     alloc: Global,
     keeper: &mut Keeper<J, Q, S>,
@@ -34,7 +36,11 @@ pub fn ready<J: Terms<Q>, Q: Quorums, S: Replica>(
 {
     let letter = letter_in(keeper.tray.as_slice(), &step);
     let half = keeper.worker.ready(alloc, letter, &step)?;
-    Ok(Ready { step, half })
+    Ok(Ready {
+        step,
+        half,
+        asks: false,
+    })
 }
 
 // The letter of a tray that a step lets come, if it lets one come that is there.

@@ -15,7 +15,7 @@ impl<J: Terms<Q>, Q: Quorums> Book<J, Q> {
         ensures book { self.new ≡ self.old }
         ensures refused { IfErr result (λ r. r ≡ Refusal.NoPassLeft) }
     {
-        self.mails.count_pass()
+        self.passes.count_one()
     }
 
     /// A front that has seen nothing.
@@ -34,7 +34,7 @@ impl<J: Terms<Q>, Q: Quorums> Book<J, Q> {
         self.roll.again(seen)
     }
 
-    /// What was seen begins the steps, which are so many.
+    /// What was seen begins the steps. Returns how many these are.
     pub fn begun(&mut self, seen: &mut Front<J, Step<Q>>) -> usize
         ensures book { self.new ≡ self.old }
         ensures seen { seen.new ≡ seen.old }
@@ -48,7 +48,7 @@ impl<J: Terms<Q>, Q: Quorums> Book<J, Q> {
         self.steps.len()
     }
 
-    /// The front sees all steps from now on. How many they are.
+    /// The front then has seen all steps. Returns how many they are.
     pub fn show(&mut self, seen: &mut Front<J, Step<Q>>) -> usize
         ensures book { self.new ≡ self.old }
         ensures seen { seen.new ≡ self.old.steps }

@@ -69,7 +69,7 @@ impl<J: Terms<Q>, Q: Quorums, S: Replica> Model for Keeper<J, Q, S> {
 }
 
 impl<J: Terms<Q>, Q: Quorums, S: Replica> Keeper<J, Q, S> {
-    /// The keeper of a node that has done nothing. It takes no memory.
+    /// The keeper of a node that has done nothing. It allocates nothing.
     pub fn new(
         alloc: Global,
         name: Name,
@@ -92,10 +92,11 @@ impl<J: Terms<Q>, Q: Quorums, S: Replica> Keeper<J, Q, S> {
         }
     }
 
-    /// What holds of every keeper, whatever happened before: what it has seen is legal, and at most as many steps as its post
-    /// takes; its node is that of the run of what it has seen, which is the replay of its own changes in that run; each letter
-    /// of its tray stands for one that was sent to it there; each stamp is the node's phase number before the step that last
-    /// changed the copy; and each base is the greatest heard number that letters of that name carried to it.
+    /// What holds of every keeper, whatever happened before. What it has seen is legal, and at most as many steps as
+    /// its post takes. Its node is that of the run of what it has seen, which is the replay of its own changes in that
+    /// run. Each letter of its tray represents one that was sent to it there. Each stamp is the node's phase number
+    /// before the step that last changed the copy. Each base is the greatest heard number that letters of that name
+    /// carried to it.
     pub fn facts(&self)
         ensures legal { (f : Q) → J.founders ≡ Some f → IsLegal Q.system f self.now.seen }
         ensures fits { length self.now.seen ≤ J.capacity }
@@ -136,8 +137,8 @@ impl<J: Terms<Q>, Q: Quorums, S: Replica> Keeper<J, Q, S> {
         self.worker.map()
     }
 
-    /// Whether its letters carried so many copies since its node's phase number last rose that a call, by which that rises,
-    /// would have cost less.
+    /// Whether its letters carried so many copies since its node's phase number last rose that a step by which that rises would
+    /// have cost less.
     pub fn carries_much(&self) -> bool {
         self.worker.carries_much()
     }

@@ -2,9 +2,10 @@
 //!
 //! - `Book`: all steps, with the letters, the history and the marks that they gave; `Keeper`: a node and what it has seen.
 //! - `commit`: a step goes into the book, and its node takes it; `may_commit`: why not.
-//! - `ready` and `commit_ready`: the same in two halves, of which the first needs no book.
+//! - `ready` and `commit_ready`: the same in two halves, of which the first needs no book; `Ready::asking`: its letter asks for
+//!   one in return.
 //! - `see_all`, `take_mail`, `take_letter`: what a keeper takes from the book.
-//! - `Terms`: of which founders a post is, how many steps it takes, and which letters are lost or come twice.
+//! - `Terms`: which founders a post has, how many steps it takes, and which letters are lost or come twice.
 #![tactic(auto)]
 
 mod book;
@@ -16,6 +17,7 @@ mod forgetting;
 mod fronts;
 mod keeper;
 mod mail;
+mod passes;
 mod readied;
 mod terms;
 

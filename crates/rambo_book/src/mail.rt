@@ -1,17 +1,18 @@
 //! What a keeper takes from the book.
-ghost use Rattle.std.specs.Prelude.{◌≡◌, ◌<◌, ℕ, [], ◌∷◌, drop, slice_get, OnOk, OnErr, IfErr};
+ghost use Rattle.std.specs.Prelude.{◌≡◌, ◌<◌, ℕ, [], ◌∷◌, drop, option_map, slice_get, OnOk, OnErr, IfErr};
 ghost use Rattle.rambo_book.specs.Kept.{state};
-ghost use Rattle.rambo_mail.specs.Waiting.{waiting_for, with_waiting};
+ghost use Rattle.rambo_mail.specs.Waiting.{number_of, waiting_for, with_waiting};
 ghost use Rattle.rambo_book.specs.Mailing.{sent_to, IsBehind, AreTaken, all_for};
 
 use crate::book::Book;
 use crate::keeper::Keeper;
 use crate::terms::Terms;
 use rambo_deeds::{Mail, letter_of};
-use rambo_names::{Members, Name, Quorums, Refusal};
+use rambo_mail::Entry;
+use rambo_names::{Name, Quorums, Refusal};
 use rambo_tag::Replica;
 
-/// The keeper has then seen all steps, which left its node as it is.
+/// The keeper has then seen all steps, which left its node unchanged.
 pub fn see_all<J: Terms<Q>, Q: Quorums, S: Replica>(
     book: &mut Book<J, Q>,
     keeper: &mut Keeper<J, Q, S>,
@@ -23,21 +24,21 @@ pub fn see_all<J: Terms<Q>, Q: Quorums, S: Replica>(
     book.roll.catch_up(&mut keeper.holder);
 }
 
-/// A letter goes into the tray of the keeper whose node it is for. It is shared with the book.
+/// A letter that waits goes into the tray of the keeper whose node it is for. It is shared with the book.
 ///
-/// `OutOfMemory` where there is no room for it; the keeper is then as it was.
+/// `OutOfMemory` where there is no room for it; the keeper is then unchanged.
 pub fn take_letter<J: Terms<Q>, Q: Quorums, S: Replica>(
     book: &Book<J, Q>,
     keeper: &mut Keeper<J, Q, S>,
-    number: u64,
+    entry: Entry,
 ) -> Result<(), Refusal>
     requires { keeper.old.seen ≡ book.now.steps }
     ensures keeper { keeper.new ≡ record keeper.old { tray = keeper.new.tray } }
-    ensures tray { OnOk result (IsBehind keeper.old.tray (sent_to (state Q.system book.now) keeper.old.name (number ∷ [])) keeper.new.tray) }
+    ensures tray { OnOk result (IsBehind keeper.old.tray (sent_to (state Q.system book.now) keeper.old.name (entry.number ∷ [])) keeper.new.tray) }
     ensures err { OnErr result (keeper.new ≡ keeper.old) }
     ensures refused { IfErr result (λ r. r ≡ Refusal.OutOfMemory) }
 {
-    let Some(letter) = letter_of(book.letters.as_slice(), number) else {
+    let Some(letter) = letter_of(book.letters.as_slice(), entry.number) else {
         return Ok(());
     };
     if letter.addressee() != keeper.name {
@@ -45,21 +46,18 @@ pub fn take_letter<J: Terms<Q>, Q: Quorums, S: Replica>(
     }
     let letter = letter.share()?;
     keeper.tray.reserve(1)?;
-    keeper.tray.push_reserved(Mail { number, letter });
+    keeper.tray.push_reserved(Mail {
+        number: entry.number,
+        asks: entry.asks,
+        letter,
+    });
     Ok(())
 }
 
 impl<J: Terms<Q>, Q: Quorums> Book<J, Q> {
-    /// Who sent a marked letter that the node of a name heard since this was last asked.
-    pub fn take_heard(&mut self, name: Name) -> Members
-        ensures { self.new ≡ self.old }
-    {
-        self.mails.take_heard(name)
-    }
-
     // The letter that waits for a name for the longest time.
-    fn first_mail(&self, name: Name) -> Option<u64>
-        ensures { result ≡ slice_get (waiting_for self.now.waiting name) 0 }
+    fn first_mail(&self, name: Name) -> Option<Entry>
+        ensures { option_map number_of result ≡ slice_get (waiting_for self.now.waiting name) 0 }
     {
         self.mails.first(name)
     }
@@ -72,7 +70,8 @@ impl<J: Terms<Q>, Q: Quorums> Book<J, Q> {
     }
 }
 
-/// The letters that wait for the keeper's node go to its tray. What has stopped hears nothing more, and leaves them.
+/// The letters that wait for the keeper's node go to its tray. A node that has stopped hears nothing more, and leaves
+/// them.
 ///
 /// `OutOfMemory` where there is no room for one; those before it were taken, and the others wait.
 pub fn take_mail<J: Terms<Q>, Q: Quorums, S: Replica>(
@@ -90,8 +89,8 @@ pub fn take_mail<J: Terms<Q>, Q: Quorums, S: Replica>(
         return Ok(());
     }
     let name = keeper.name();
-    while let Some(number) = book.first_mail(name) {
-        take_letter(book, keeper, number)?;
+    while let Some(entry) = book.first_mail(name) {
+        take_letter(book, keeper, entry)?;
         book.drop_mail(name);
     }
     Ok(())

@@ -1,4 +1,7 @@
 //! Steps whose first half is made.
+ghost use Rattle.std.specs.Prelude.{◌≡◌, Option, true};
+ghost use Rattle.rambo_book.specs.Kept.{KeeperView};
+ghost use Rattle.rambo_book.specs.Readying.{IsReadyFor};
 
 use rambo_deeds::Half;
 use rambo_names::Quorums;
@@ -9,10 +12,29 @@ use rambo_run::Step;
 pub struct Ready<Q: Quorums> {
     pub step: Step<Q>,
     pub(crate) half: Half<Q>,
+    // Whether the letter that it sends, if it sends one, asks for one in return.
+    pub(crate) asks: bool,
 }
 
 impl<Q: Quorums> Ready<Q> {
-    /// It is let go: the step isn't done, and the node stays as it is.
+    /// The same, with a letter that asks for one in return, if it sends one.
+    pub fn asking(self) -> Ready<Q>
+        ensures same { result ≡ record self { asks = true } }
+        ensures ready { (agreed : Option Q) (k : KeeperView Q) → IsReadyFor Q.system agreed k self → IsReadyFor Q.system agreed k result }
+    {
+        let Ready {
+            step,
+            half,
+            asks: _,
+        } = self;
+        Ready {
+            step,
+            half,
+            asks: true,
+        }
+    }
+
+    /// Drops it: the step isn't done, and the node is unchanged.
     // (whoever gives one up by this needn't follow all that is in it)
     pub fn let_go(self) {}
 }

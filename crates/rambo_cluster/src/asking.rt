@@ -6,8 +6,8 @@ use rambo_commands::ServerRequest;
 use rambo_names::{Name, Weighted};
 use rambo_run::Step;
 
-/// The step that a request asks for, of a client that uses the node of this name, and of whose node it is. None where it asks
-/// for no step, or for a call, of which its client hears the answer.
+/// The step that a request asks for, of a client that uses the node of this name, and the node whose step it is. None
+/// where it asks for no step, or for a call, whose client gets the answer.
 pub(crate) fn asked_of(used: Name, request: &ServerRequest) -> Option<(Name, Step<Weighted>)>
     ensures { result ≡ asked_of used request.now }
 {

@@ -9,7 +9,7 @@ use thiserror::Error;
 /// Why a server doesn't serve.
 #[derive(Clone, Copy, PartialEq, Eq, Debug, Error)]
 pub enum ServeFault {
-    /// The listening socket tells no address, or the system gives no random numbers.
+    /// The listening socket gives no address, or the system gives no random numbers.
     #[error("fault socket")]
     Socket,
     /// There is no room for the nodes, or no thread for a worker.

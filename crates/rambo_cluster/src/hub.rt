@@ -1,71 +1,119 @@
 //! What all threads of a server share.
-ghost use Rattle.std.specs.Prelude.{◌≡◌, vec_len, IfOk, IfErr};
+ghost use Rattle.std.specs.Prelude.{◌≡◌, Some, OnOk, OnErr, IfOk, IfErr};
+ghost use mathlib.Core.List.{IsPrefix};
+ghost use Rattle.rambo_names.specs.Weights.{Weights, weighted_majorities};
+ghost use Rattle.rambo_node.specs.declared.effect.Effect.{Effect};
+ghost use Rattle.rambo_pass.specs.Passes.{Acted, WhyUndone};
 
-use crate::buffers::Buffers;
+use crate::bell::Bell;
 use crate::fault::ServeFault;
-use rambo_names::{Name, Weighted};
-use rambo_post::{Post, Terms};
-use rambo_rooms::{Bell, Doors, Rooms};
+use crate::room::{NEVER, Rooms, bit};
+use crate::station::Station;
+use rambo_names::{Members, Name, Refusal, Weighted};
+use rambo_post::{Pass, Post, Terms};
+use rambo_run::Step;
 use rambo_tag::Registers;
 use std::alloc::Global;
 use std::hash::RandomState;
+use std::sync::Wait;
 use std::sync::atomic::{AtomicBool, AtomicU64, Ordering};
-use std::sync::{Mutex, Wait};
+use std::time::{Clock, Instant};
 
-/// The copies of a node: keys that a client chose make no look-up slow.
+/// The copies of a node, with a seeded hash: keys that a client chose can't make look-ups slow.
 pub(crate) type Copies = Registers<RandomState>;
 
-/// What all threads of a server share: the post, and what tells them when to look at it.
+/// What all threads of a server share: the post, and what wakes them to look at it.
 #[derive(Drop)]
 pub(crate) struct Hub<J: Terms<Weighted>> {
     pub(crate) post: Post<J, Weighted, Copies>,
-    /// The node that a client uses at first.
+    founders: Members,
+    /// The lowest founder.
     pub(crate) first: Name,
     pub(crate) rooms: Rooms,
-    /// Each client waits for its bell.
-    pub(crate) bells: Vec<Bell>,
-    pub(crate) doors: Doors,
-    /// Each client worker has its own as long as it works.
-    pub(crate) buffers: Vec<Mutex<Buffers>>,
-    /// The names at whose nodes there is something to do, by bits.
+    /// Each client worker has one.
+    pub(crate) stations: Vec<Station>,
+    /// The names whose nodes have something to do, as bits.
     pub(crate) pending: AtomicU64,
-    /// The names at whose nodes somebody is.
+    /// The names at whose nodes somebody is, by bits.
     pub(crate) visited: AtomicU64,
-    /// The names at whose nodes a call would make letters cheaper, by bits.
-    pub(crate) laden: AtomicU64,
-    pub(crate) is_closing: AtomicBool,
-    pub(crate) is_full: AtomicBool,
+    /// The names whose nodes have stopped, by bits.
+    stopped: AtomicU64,
+    /// Its thread visits nodes again where it is time, until when it sleeps, and what wakes it.
+    pub(crate) timer: Bell,
+    pub(crate) sleeps_until: AtomicU64,
+    /// How many connections are served.
+    connections: AtomicU64,
+    begun: Instant,
+    is_closing: AtomicBool,
+    is_full: AtomicBool,
 }
 
 impl<J: Terms<Weighted>> Hub<J> {
-    /// Nothing is to do, and so many clients have a bell, a door and buffers each.
+    /// Nothing is to do.
     pub(crate) fn new(
         alloc: Global,
         post: Post<J, Weighted, Copies>,
+        founders: Members,
         first: Name,
-        clients: usize,
+        stations: Vec<Station>,
+        begun: Instant,
     ) -> Result<Hub<J>, ServeFault>
         ensures first { IfOk result (λ h. h.first ≡ first) }
-        ensures bells { IfOk result (λ h. vec_len h.bells ≡ clients) }
-        ensures doors { IfOk result (λ h. h.doors ≡ clients) }
-        ensures buffers { IfOk result (λ h. vec_len h.buffers ≡ clients) }
+        ensures stations { IfOk result (λ h. h.stations ≡ stations) }
         ensures fault { IfErr result (λ f. f ≡ ServeFault.Memory) }
     {
-        let bells = bells_of(alloc, clients)?;
-        let buffers = buffers_of(alloc, clients)?;
         Ok(Hub {
             post,
+            founders,
             first,
             rooms: Rooms::new(alloc)?,
-            bells,
-            doors: Doors::new(alloc, clients)?,
-            buffers,
+            stations,
             pending: AtomicU64::new(0),
             visited: AtomicU64::new(0),
-            laden: AtomicU64::new(0),
+            stopped: AtomicU64::new(0),
+            timer: Bell::new(),
+            sleeps_until: AtomicU64::new(NEVER),
+            connections: AtomicU64::new(0),
+            begun,
             is_closing: AtomicBool::new(false),
             is_full: AtomicBool::new(false),
         })
+    }
+
+    /// How many milliseconds the server has run.
+    pub(crate) fn now<R: Clock>(&self, rt: &R) -> u64 {
+        match Instant::now(rt) {
+            Ok(now) => {
+                let millis = now.saturating_duration_since(self.begun).as_millis();
+                u64::try_from(millis).unwrap_or(u64::MAX)
+            }
+            Err(_) => 0,
+        }
+    }
+
+    /// The node that a connection uses at first: the lowest founder that wasn't asked to stop, or else the lowest one.
+    pub(crate) fn first_node(&self) -> Name {
+        let stopped = self.stopped.load(Ordering::SeqCst);
+        for name in self.founders.iter() {
+            if stopped & bit(name) == 0 {
+                return name;
+            }
+        }
+        self.first
+    }
+
+    /// Counts one connection more, unless there are so many. Whether it did.
+    pub(crate) fn let_in(&self, most: u64) -> bool {
+        if self.connections.load(Ordering::SeqCst) >= most {
+            return false;
+        }
+        self.connections.fetch_add(1, Ordering::SeqCst);
+        true
+    }
+
+    /// Counts one connection less.
+    pub(crate) fn let_out(&self) {
+        self.connections.fetch_sub(1, Ordering::SeqCst);
     }
 
     /// Whether the server ends.
@@ -78,63 +126,47 @@ impl<J: Terms<Weighted>> Hub<J> {
         self.is_full.load(Ordering::SeqCst)
     }
 
-    // Wakes all clients.
-    fn ring_clients<R: Wait>(&self, rt: &R) {
-        for bell in self.bells.as_slice() {
-            bell.ring(rt);
+    /// Has a node take a step that a client asks for. There is then something to do at it. Refused with what the post
+    /// refuses.
+    pub(crate) fn change<R: Wait>(
+        &self,
+        rt: &R,
+        pass: &mut Pass<J, Weighted>,
+        name: Name,
+        step: Step<Weighted>,
+    ) -> Result<(), Refusal>
+        ensures acted { OnOk result ((f : Weights) → J.founders ≡ Some f → (e : Effect Weights) × Acted weighted_majorities f pass.old pass.new step e) }
+        ensures begins { IsPrefix pass.old.seen pass.new.seen }
+        ensures err { OnErr result (pass.new.mine ≡ pass.old.mine) }
+        ensures cause { IfErr result (λ r. (f : Weights) → J.founders ≡ Some f → WhyUndone weighted_majorities f J.capacity pass.old pass.new step r) }
+    {
+        let stops = matches!(step, Step::Stop(_));
+        let _effect = self.post.act(rt, pass, step)?;
+        if stops {
+            self.stopped.fetch_or(bit(name), Ordering::SeqCst);
+        }
+        self.point_at(name);
+        Ok(())
+    }
+
+    // Wakes all client workers.
+    fn ring_all(&self) {
+        for station in self.stations.as_slice() {
+            station.alarm.ring();
         }
     }
 
-    /// Wakes the clients that wait at a node.
-    pub(crate) fn ring_waiting<R: Wait>(&self, rt: &R, name: Name) {
-        let desk = self.rooms.of(name).desk.lock(rt);
-        for client in 0..self.bells.len() {
-            if desk.has_client(client) {
-                self.bells[client].ring(rt);
-            }
-        }
-    }
-
-    /// The book is full: who waits is told.
-    pub(crate) fn fill<R: Wait>(&self, rt: &R) {
+    /// The book is full: wakes all who wait.
+    pub(crate) fn fill(&self) {
         if !self.is_full.swap(true, Ordering::SeqCst) {
-            self.ring_clients(rt);
+            self.ring_all();
         }
     }
 
-    /// Ends the server: nothing more is read, and all that sleep wake.
+    /// Ends the server: nothing more is carried out, and all that sleep wake.
     pub(crate) fn close<R: Wait>(&self, rt: &R) {
         self.is_closing.store(true, Ordering::SeqCst);
-        self.ring_clients(rt);
-        for number in 1..65u64 {
-            if let Ok(name) = Name::new(number) {
-                self.rooms.of(name).bell.ring(rt);
-            }
-        }
-        self.doors.shut(rt);
+        self.ring_all();
+        self.timer.ring(rt);
     }
-}
-
-// So many bells.
-fn bells_of(alloc: Global, count: usize) -> Result<Vec<Bell>, ServeFault>
-    ensures count { IfOk result (λ bells. vec_len bells ≡ count) }
-    ensures fault { IfErr result (λ f. f ≡ ServeFault.Memory) }
-{
-    let mut bells = Vec::new(alloc);
-    for place in 0..count {
-        bells.push(Bell::new())?;
-    }
-    Ok(bells)
-}
-
-// Buffers for so many clients, one at a time for each.
-fn buffers_of(alloc: Global, count: usize) -> Result<Vec<Mutex<Buffers>>, ServeFault>
-    ensures count { IfOk result (λ buffers. vec_len buffers ≡ count) }
-    ensures fault { IfErr result (λ f. f ≡ ServeFault.Memory) }
-{
-    let mut buffers = Vec::new(alloc);
-    for place in 0..count {
-        buffers.push(Mutex::new(Buffers::new(alloc)?))?;
-    }
-    Ok(buffers)
 }

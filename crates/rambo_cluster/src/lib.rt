@@ -1,20 +1,25 @@
 //! A store that serves many clients at once over sockets, while its members change.
 //!
 //! - `serve`: serves clients until one asks for the end, and gives the list of all steps.
-//! - `Options`: of which founders, for how many clients and steps, and which letters are lost or come twice.
+//! - `Options`: of which founders, by how many threads, for how many connections and steps, and which letters are lost or come twice.
 //! - `ServeFault`: why nothing was served.
 #![tactic(auto)]
 
+mod alarm;
 mod asking;
-mod buffers;
-mod clients;
-mod connection;
+mod bell;
 mod fault;
+mod guest;
 mod hub;
+mod leaving;
 mod options;
+mod room;
 mod serving;
+mod session;
+mod station;
+mod timer;
 mod visits;
-mod workers;
+mod worker;
 
 pub use fault::ServeFault;
 pub use options::Options;

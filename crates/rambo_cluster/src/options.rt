@@ -7,8 +7,10 @@ use rambo_names::Quorums;
 pub struct Options<Q: Quorums> {
     /// The first configuration, which has members.
     pub founders: Q,
-    /// How many clients are served at once, 1 to 32. The next one waits.
+    /// How many threads serve clients, 1 to 32.
     pub clients: usize,
+    /// How many connections are served at once, at least 1. One more is refused.
+    pub connections: usize,
     /// How many steps the book takes, 1 to 1,000,000.
     pub steps: usize,
     /// Each letter whose number this divides is lost. 0 divides none.

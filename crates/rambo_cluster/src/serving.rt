@@ -7,13 +7,13 @@ ghost use Rattle.rambo_history.specs.Proper.{IsProperForAll};
 ghost use Rattle.rambo_run.specs.Legal.{IsLegal};
 ghost use Rattle.rambo_run.specs.Runs.{run, given_order};
 
-use crate::buffers::Buffers;
-use crate::connection::{Flow, Session};
 use crate::fault::ServeFault;
 use crate::hub::{Copies, Hub};
 use crate::options::Options;
-use crossbeam_channel::{Receiver, Sender, bounded};
-use rambo_atomic::Wrapped;
+use crate::station::{Seat, Station, seats_of, stations_of};
+use crate::worker::serve_connections;
+use crossbeam_channel::Sender;
+use rambo_atomic::{Wrapped, write_all};
 use rambo_names::{Name, Quorums, Refusal, Weighted};
 use rambo_post::{Actor, Closed, Gate, Left, Pass, Post, Terms};
 use rambo_roll::Opened;
@@ -26,20 +26,20 @@ use std::random::RandomSource;
 use std::sync::Wait;
 use std::thread;
 use std::thread::Threads;
-use std::time::{Clock, Duration};
-
-// So many sockets wait for a client worker.
-const WAITING: usize = 32;
+use std::time::{Clock, Duration, Instant};
 
 // So many milliseconds pass before a socket that failed is tried again, and so often one of our own is tried.
 const PAUSE: u64 = 10;
 
 const TRIES: u64 = 1000;
 
-/// Serves clients over the sockets of a listener until one asks for the end, and gives all steps: each in its turn was not
-/// refused, and there are as many as the options allow at most. The founders have members, there is room for 1 to 32
-/// clients, and for 1 to 1,000,000 steps. And one order of the calls of all keys, which explains their answers together; it is
-/// None where there is no room for it.
+// What a connection is told that is one too many.
+const TOO_MANY: &[u8] = b"-ERR max number of clients reached\r\n";
+
+/// Serves clients over the sockets of a listener until one asks for the end, and returns all steps. None of them was
+/// refused in its turn, and there are at most as many as the options allow. The founders have members, there is room
+/// for 1 to 32 clients, and for 1 to 1,000,000 steps. It also returns one order of the calls of all keys, which
+/// explains their answers together, or None where there is no room for it.
 ///
 /// A socket that fails ends its own connection alone. `Socket` where the listener has no address or the system gives no
 /// random numbers, `Memory` where there is no room for the nodes or a thread; then nobody was served.
@@ -146,14 +146,33 @@ where
 {
     let own = listener.local_addr()?;
     let hasher = RandomState::new(rt)?;
-    let (hub, mut passes) = set_up::<J, R>(rt, alloc, opened, options, founders, steps, hasher)?;
-    serve_clients(rt, gate, alloc, &hub, listener, own, &mut passes)?;
-    Ok(end(hub, passes))
+    let (mut seats, to) = seats_of(rt, alloc, options.clients)?;
+    let stations = stations_of(alloc, seats.as_slice())?;
+    let (hub, mut passes) = set_up::<J, R>(
+        rt, alloc, opened, options, founders, steps, hasher, stations,
+    )?;
+    let most = options.connections as u64;
+    if run(
+        rt,
+        gate,
+        alloc,
+        &hub,
+        listener,
+        own,
+        to,
+        &mut seats,
+        &mut passes,
+        most,
+    ) {
+        Ok(end(hub, passes))
+    } else {
+        Err(ServeFault::Memory)
+    }
 }
 
-// What all threads share, whose clients begin at the lowest founder and have a bell, a door and buffers each; and a pass for
-// each of them, which has seen nothing. `Memory` where there is no founder, too many clients, or no room.
-fn set_up<J: Terms<Weighted>, R: Wait>(
+// What all threads share, whose clients begin at the lowest founder; and a pass for each client worker, which has seen nothing.
+// `Memory` where there is no founder, too many workers, or no room; `Socket` where the system has no clock.
+fn set_up<J: Terms<Weighted>, R: Wait + Clock>(
     rt: &R,
     alloc: Global,
     opened: Opened<Step<Weighted>, Actor>,
@@ -161,6 +180,7 @@ fn set_up<J: Terms<Weighted>, R: Wait>(
     founders: Weighted,
     steps: usize,
     hasher: RandomState,
+    stations: Vec<Station>,
 ) -> Result<(Hub<J>, Vec<Pass<J, Weighted>>), ServeFault>
     requires name { opened ≡ J.table }
     requires founders { J.founders ≡ Some founders }
@@ -168,17 +188,15 @@ fn set_up<J: Terms<Weighted>, R: Wait>(
     requires lose { options.now.lose ≡ J.lose }
     requires twice { options.now.twice ≡ J.twice }
     ensures first { IfOk result (λ s. slice_get (names (members_of founders)) 0 ≡ Some s.0.first) }
-    ensures bells { IfOk result (λ s. vec_len s.0.bells ≡ options.now.clients) }
-    ensures doors { IfOk result (λ s. s.0.doors ≡ options.now.clients) }
-    ensures buffers { IfOk result (λ s. vec_len s.0.buffers ≡ options.now.clients) }
+    ensures stations { IfOk result (λ s. s.0.stations ≡ stations) }
     ensures passes { IfOk result (λ s. vec_len s.1 ≡ options.now.clients) }
     ensures fresh { IfOk result (λ s. All (λ p. p ≡ record { seen = []; mine = [] }) s.1.items) }
-    ensures fault { IfErr result (λ f. f ≡ ServeFault.Memory) }
 {
+    let begun = Instant::now(rt)?;
     let first = lowest(founders)?;
     let post = post_of::<J>(alloc, opened, options, founders, steps, hasher)?;
     let passes = passes_of(rt, alloc, &post, options.clients)?;
-    let hub = Hub::new(alloc, post, first, options.clients)?;
+    let hub = Hub::new(alloc, post, founders.members(), first, stations, begun)?;
     Ok((hub, passes))
 }
 
@@ -248,29 +266,6 @@ fn lowest(founders: Weighted) -> Result<Name, Refusal>
     }
 }
 
-// Serves the clients of a listener until the end. `Memory` where there is no room for sockets that wait, or a thread can't be
-// started; then nobody was served.
-fn serve_clients<J: Terms<Weighted> + Send + Sync, G: Gate, R>(
-    rt: &R,
-    gate: &G,
-    alloc: Global,
-    hub: &Hub<J>,
-    listener: &TcpListener,
-    own: SocketAddr,
-    passes: &mut Vec<Pass<J, Weighted>>,
-) -> Result<(), ServeFault>
-where
-    R: Net<Listener = TcpListener, Stream = TcpStream> + Threads + Wait + Clock + Sync,
-    ensures fault { IfErr result (λ f. f ≡ ServeFault.Memory) }
-{
-    let (to, from) = bounded(alloc, WAITING)?;
-    if run(rt, gate, alloc, hub, listener, own, to, &from, passes) {
-        Ok(())
-    } else {
-        Err(ServeFault::Memory)
-    }
-}
-
 // Runs all threads until the end. Whether each of them could be started; else nobody was served, and those that were have
 // ended.
 fn run<J: Terms<Weighted> + Send + Sync, G: Gate, R>(
@@ -280,29 +275,27 @@ fn run<J: Terms<Weighted> + Send + Sync, G: Gate, R>(
     hub: &Hub<J>,
     listener: &TcpListener,
     own: SocketAddr,
-    to: Sender<TcpStream>,
-    streams: &Receiver<TcpStream>,
+    to: Vec<Sender<TcpStream>>,
+    seats: &mut Vec<Seat>,
     passes: &mut Vec<Pass<J, Weighted>>,
+    most: u64,
 ) -> bool
 where
     R: Net<Listener = TcpListener, Stream = TcpStream> + Threads + Wait + Clock + Sync,
 {
     thread::scope(thread::scope_env(), rt, |scope| {
-        let mut all_run = true;
-        for number in 1..65u64 {
-            let worker = scope.spawn(move || hub.run_worker(rt, gate, number));
-            all_run &= worker.is_ok();
-        }
-        let mut place = 0usize;
-        for pass in passes.iter_mut() {
-            let worker = scope.spawn(move || serve_streams(
-                rt, gate, alloc, hub, streams, own, pass, place,
+        let timer = scope.spawn(move || hub.keep_time(rt, gate, alloc));
+        let mut all_run = timer.is_ok();
+        let mut place = 0u32;
+        for (pass, seat) in passes.iter_mut().zip(seats.iter_mut()) {
+            let worker = scope.spawn(move || serve_seat(
+                rt, gate, alloc, hub, own, pass, seat, place,
             ));
             all_run &= worker.is_ok();
             place = place.wrapping_add(1);
         }
         if all_run {
-            accept_all(rt, hub, listener, &to);
+            accept_all(rt, hub, listener, to.as_slice(), most);
         } else {
             hub.close(rt);
         }
@@ -311,13 +304,15 @@ where
     })
 }
 
-// Hands each socket that comes to the client workers, until the server ends.
+// Hands the sockets that come to the client workers by turns, until the server ends.
 fn accept_all<J: Terms<Weighted>, R: Wait + Clock>(
     rt: &R,
     hub: &Hub<J>,
     listener: &TcpListener,
-    to: &Sender<TcpStream>,
+    to: &[Sender<TcpStream>],
+    most: u64,
 ) {
+    let mut place = 0usize;
     for _ in rt.forever() {
         let accepted = listener.accept();
         if hub.is_closing() {
@@ -325,13 +320,45 @@ fn accept_all<J: Terms<Weighted>, R: Wait + Clock>(
         }
         match accepted {
             Ok((stream, _)) => {
-                if to.send(rt, stream).is_err() {
+                if !hub.let_in(most) {
+                    turn_away(&stream);
+                } else if !hand_over(rt, hub, stream, to, place) {
                     return;
                 }
+                place = if place.wrapping_add(1) < to.len() {
+                    place.wrapping_add(1)
+                } else {
+                    0
+                };
             }
             Err(_) => thread::sleep(rt, Duration::from_millis(PAUSE)),
         }
     }
+}
+
+// Tells a connection that there are too many.
+fn turn_away(stream: &TcpStream) {
+    let _ = write_all(&mut Wrapped::new(stream), TOO_MANY);
+}
+
+// Hands a socket to the client worker at a place. Whether it works still.
+fn hand_over<J: Terms<Weighted>, R: Wait>(
+    rt: &R,
+    hub: &Hub<J>,
+    stream: TcpStream,
+    to: &[Sender<TcpStream>],
+    place: usize,
+) -> bool {
+    let Some(sender) = to.get(place) else {
+        return false;
+    };
+    if sender.send(rt, stream).is_err() {
+        return false;
+    }
+    if let Some(station) = hub.stations.get(place) {
+        station.alarm.ring();
+    }
+    true
 }
 
 // Ends the wait for the next socket, by a socket of our own.
@@ -347,65 +374,22 @@ where
     }
 }
 
-// The work of a client worker: it serves one connection after the other, with the buffers of its place.
-fn serve_streams<J: Terms<Weighted>, G: Gate, R>(
+// The work of a client worker, until the server ends.
+fn serve_seat<J: Terms<Weighted>, G: Gate, R>(
     rt: &R,
     gate: &G,
     alloc: Global,
     hub: &Hub<J>,
-    streams: &Receiver<TcpStream>,
     own: SocketAddr,
     pass: &mut Pass<J, Weighted>,
-    place: usize,
+    seat: &mut Seat,
+    place: u32,
 )
 where
     R: Net<Listener = TcpListener, Stream = TcpStream> + Wait + Clock,
 {
-    let Some(buffers) = hub.buffers.get(place) else {
-        return;
-    };
-    let mut buffers = buffers.lock(rt);
-    for _ in rt.forever() {
-        let Ok(stream) = streams.recv(rt) else {
-            return;
-        };
-        let mut session = Session {
-            rt,
-            gate,
-            alloc,
-            hub,
-            pass: &mut *pass,
-            place,
-            name: hub.first,
-        };
-        if serve_stream(&mut session, &mut *buffers, &stream) == Flow::EndsAll {
-            hub.close(rt);
-            wake_acceptor(rt, own);
-        }
+    if serve_connections(rt, gate, alloc, hub, pass, seat, place) {
+        hub.close(rt);
+        wake_acceptor(rt, own);
     }
-}
-
-// Serves one connection, unless the server ends.
-fn serve_stream<J: Terms<Weighted>, G: Gate, R: Wait + Clock>(
-    session: &mut Session<'_, J, G, R>,
-    buffers: &mut Buffers,
-    stream: &TcpStream,
-) -> Flow {
-    let Ok(door) = stream.try_clone() else {
-        return Flow::Ends;
-    };
-    let _ = stream.set_nodelay(true);
-    let hub = session.hub;
-    hub.doors.put(session.rt, session.place, Some(door));
-    let flow = if hub.is_closing() {
-        Flow::Ends
-    } else {
-        session.talk(
-            buffers,
-            &mut Wrapped::new(stream),
-            &mut Wrapped::new(stream),
-        )
-    };
-    hub.doors.put(session.rt, session.place, None);
-    flow
 }

@@ -1,13 +1,45 @@
 //! What a thread does at the nodes.
 
 use crate::hub::Hub;
-use rambo_desk::Asks;
-use rambo_names::{Members, Name, Refusal, Weighted};
-use rambo_post::{Gate, Terms, Turn};
-use rambo_rooms::{bit, quorum_behind};
-use rambo_run::Step;
+use crate::room::{NEVER, bit, bits_of, lowest};
+use rambo_names::{Name, Refusal, Weighted};
+use rambo_post::{Gate, Terms, Waiter};
+use std::alloc::Global;
+use std::mem;
 use std::sync::Wait;
 use std::sync::atomic::Ordering;
+use std::time::Clock;
+
+/// What a thread carries from the nodes to those who wait.
+#[derive(Drop)]
+pub(crate) struct Hands {
+    given: Vec<Waiter>,
+    // Whose hands they are: the place of a client worker, or none of these.
+    place: u32,
+    /// Who of its own connections is given an answer.
+    pub(crate) own: Vec<Waiter>,
+    // Whether there was no room to tell one of these.
+    missed: bool,
+}
+
+/// The hands of no client worker.
+pub(crate) const NOBODY: u32 = u32::MAX;
+
+impl Hands {
+    pub(crate) fn new(alloc: Global, place: u32) -> Hands {
+        Hands {
+            given: Vec::new(alloc),
+            place,
+            own: Vec::new(alloc),
+            missed: false,
+        }
+    }
+
+    /// Whether there was no room to tell somebody since this was last asked.
+    pub(crate) fn take_missed(&mut self) -> bool {
+        mem::replace(&mut self.missed, false)
+    }
+}
 
 impl<J: Terms<Weighted>> Hub<J> {
     /// There is something to do at a node.
@@ -15,176 +47,124 @@ impl<J: Terms<Weighted>> Hub<J> {
         self.pending.fetch_or(bit(name), Ordering::SeqCst);
     }
 
-    /// Takes the turns that there are, at each node where nobody else is, until there are none, or until this says so.
+    /// The names at whose nodes nobody is, by bits, of those where there is something to do and of these beside. None where the
+    /// server ends or the book is full.
+    pub(crate) fn free(&self, beside: u64) -> u64 {
+        if self.is_closing() || self.is_full() {
+            return 0;
+        }
+        (self.pending.load(Ordering::SeqCst) | beside) & !self.visited.load(Ordering::SeqCst)
+    }
+
+    /// Enters a node, unless somebody is there. Whether it did.
+    pub(crate) fn enter(&self, name: Name) -> bool {
+        self.visited.fetch_or(bit(name), Ordering::SeqCst) & bit(name) == 0
+    }
+
+    /// Leaves a node, and wakes those who wait for that.
+    pub(crate) fn leave(&self, name: Name) {
+        self.visited.fetch_and(!bit(name), Ordering::SeqCst);
+        self.ring_some(self.rooms.of(name).callers.swap(0, Ordering::SeqCst));
+    }
+
+    // Wakes the client workers at these places, by bits.
+    fn ring_some(&self, places: u64) {
+        let mut rest = places;
+        for station in self.stations.as_slice() {
+            if rest == 0 {
+                return;
+            }
+            if rest & 1 == 1 {
+                station.alarm.ring();
+            }
+            rest >>= 1;
+        }
+    }
+
+    /// A client worker is woken once a node is left.
+    pub(crate) fn await_leave(&self, name: Name, place: u32) {
+        let callers = &self.rooms.of(name).callers;
+        callers.fetch_or(1u64.wrapping_shl(place), Ordering::SeqCst);
+    }
+
+    /// A client worker is woken once a node has room for a call.
+    pub(crate) fn await_room(&self, name: Name, place: u32) {
+        let seekers = &self.rooms.of(name).seekers;
+        seekers.fetch_or(1u64.wrapping_shl(place), Ordering::SeqCst);
+    }
+
+    /// A client worker wants no room any more.
+    pub(crate) fn leave_room(&self, name: Name, place: u32) {
+        let seekers = &self.rooms.of(name).seekers;
+        seekers.fetch_and(!1u64.wrapping_shl(place), Ordering::SeqCst);
+    }
+
+    /// Visits each node where there is something to do and nobody is, until there is none.
+    pub(crate) fn work<R: Wait + Clock, G: Gate>(&self, rt: &R, gate: &G, hands: &mut Hands) {
+        for _ in rt.forever() {
+            let Some(name) = lowest(self.free(0)) else {
+                return;
+            };
+            if self.enter(name) {
+                let _ = self.visit(rt, gate, name, hands);
+                self.leave(name);
+            }
+        }
+    }
+
+    /// Does what there is to do at a node that was entered, and tells who waited for it.
     ///
-    /// `OutOfMemory` where a turn or a letter was refused so. It is then left for later, with all that is still to do.
-    pub(crate) fn work<R: Wait, G: Gate, F: Fn() -> bool>(
+    /// `OutOfMemory` where memory is out: what is left is done a moment later.
+    pub(crate) fn visit<R: Wait + Clock, G: Gate>(
         &self,
         rt: &R,
         gate: &G,
-        is_over: F,
-    ) -> Result<(), Refusal>
-        requires { F.IsAlwaysCallable is_over }
-    {
-        for _ in rt.forever() {
-            let Some(name) = self.claim() else {
-                return Ok(());
-            };
-            let done = self.visit(rt, gate, name);
-            self.visited.fetch_and(!bit(name), Ordering::SeqCst);
-            done?;
-            if is_over() {
-                return Ok(());
-            }
-        }
-        Ok(())
-    }
-
-    // A node where there is something to do and nobody else is.
-    fn claim(&self) -> Option<Name> {
-        let free = self.pending.load(Ordering::SeqCst) & !self.visited.load(Ordering::SeqCst);
-        for name in names_in(free).iter() {
-            if self.visited.fetch_or(bit(name), Ordering::SeqCst) & bit(name) == 0 {
-                return Some(name);
-            }
-        }
-        None
-    }
-
-    // Takes the turns of a node, and then writes to whom it owes a letter, and to whom it asks.
-    fn visit<R: Wait, G: Gate>(&self, rt: &R, gate: &G, name: Name) -> Result<(), Refusal> {
+        name: Name,
+        hands: &mut Hands,
+    ) -> Result<(), Refusal> {
         self.pending.fetch_and(!bit(name), Ordering::SeqCst);
-        let owes = self.rooms.of(name).owes.swap(0, Ordering::SeqCst);
-        if let Err(refusal) = self.take_turns(rt, gate, name) {
-            self.rooms.of(name).owes.fetch_or(owes, Ordering::SeqCst);
-            return self.leave(rt, name, refusal);
+        let seekers = &self.rooms.of(name).seekers;
+        let wants_room = seekers.load(Ordering::SeqCst) != 0;
+        let now = self.now(rt);
+        let given = &mut hands.given;
+        let visited = self.post.visit(rt, gate, name, now, wants_room, given);
+        let written = bits_of(visited.written);
+        self.pending.fetch_or(written, Ordering::SeqCst);
+        self.set_wake(rt, name, visited.wake);
+        if wants_room && visited.has_room {
+            self.ring_some(seekers.swap(0, Ordering::SeqCst));
         }
-        let asked = self.asked(rt, name);
-        let readers = names_in(owes).union(asked);
-        let mut done = Ok(());
-        for to in readers.iter() {
-            if let Err(refusal) = self.write(rt, name, to, asked.has(to)) {
-                done = self.leave_letter(rt, name, to, refusal);
-            }
-        }
-        if !readers.is_subset(Members::empty()) {
-            self.note_laden(rt, name);
-        }
-        done
-    }
-
-    // Notes it where the letters of a node carried much.
-    fn note_laden<R: Wait>(&self, rt: &R, name: Name) {
-        if self.post.carries_much(rt, name) {
-            self.laden.fetch_or(bit(name), Ordering::SeqCst);
-        }
-    }
-
-    // What is to do at a node is left for later, since memory was refused; where the book is full, it is left for good.
-    fn leave<R: Wait>(&self, rt: &R, name: Name, refusal: Refusal) -> Result<(), Refusal> {
-        match refusal {
-            Refusal::OutOfMemory => {
-                self.point_at(name);
-                Err(refusal)
-            }
-            Refusal::HistoryFull => {
-                self.fill(rt);
+        self.tell(rt, hands);
+        match visited.left {
+            None => Ok(()),
+            Some(Refusal::HistoryFull) => {
+                self.fill();
                 Ok(())
             }
-            _ => Ok(()),
+            Some(refusal) => Err(refusal),
         }
     }
 
-    // The same of a letter, which is owed if it is left for later.
-    fn leave_letter<R: Wait>(
-        &self,
-        rt: &R,
-        from: Name,
-        to: Name,
-        refusal: Refusal,
-    ) -> Result<(), Refusal> {
-        if refusal == Refusal::OutOfMemory {
-            self.rooms.of(from).owes.fetch_or(bit(to), Ordering::SeqCst);
+    // The node is to be visited again at this time, if at any.
+    fn set_wake<R: Wait>(&self, rt: &R, name: Name, wake: Option<u64>) {
+        let wake = wake.unwrap_or(NEVER);
+        self.rooms.of(name).wake.store(wake, Ordering::SeqCst);
+        if wake < self.sleeps_until.load(Ordering::SeqCst) {
+            self.timer.ring(rt);
         }
-        self.leave(rt, from, refusal)
     }
 
-    fn take_turns<R: Wait, G: Gate>(&self, rt: &R, gate: &G, name: Name) -> Result<(), Refusal> {
+    // Who waited is told that there is an answer.
+    fn tell<R: Wait>(&self, rt: &R, hands: &mut Hands) {
         for _ in rt.forever() {
-            match self.post.turn(rt, name, gate)? {
-                Turn::Did(step) => self.note(rt, name, &step),
-                Turn::Nothing => return Ok(()),
+            let Some(who) = hands.given.pop() else {
+                return;
+            };
+            if who.client == hands.place {
+                hands.missed |= hands.own.push(who).is_err();
+            } else if let Some(station) = self.stations.get(who.client as usize) {
+                station.leave_word(rt, who);
             }
         }
-        Ok(())
     }
-
-    // What a turn did is noted, and who waited for it wakes.
-    fn note<R: Wait>(&self, rt: &R, name: Name, step: &Step<Weighted>) {
-        match step {
-            Step::Advance(id) => {
-                let client = self.rooms.of(name).desk.lock(rt).advance(id.number);
-                if let Some(client) = client {
-                    if let Some(bell) = self.bells.get(client) {
-                        bell.ring(rt);
-                    }
-                }
-            }
-            Step::AdvanceCollect(_) | Step::AdvanceRecon(_) => {
-                self.rooms.of(name).desk.lock(rt).begin();
-            }
-            _ => {}
-        }
-    }
-
-    // Whom a node asks now.
-    fn asked<R: Wait>(&self, rt: &R, name: Name) -> Members {
-        let (asks, missed) = self.rooms.of(name).desk.lock(rt).ask();
-        match asks {
-            Asks::Nobody => Members::empty(),
-            Asks::Quorum => self.quorum(rt, name, missed),
-            Asks::All => self.post.wanted(rt, name),
-        }
-    }
-
-    // Names that make a quorum of each active configuration of a node's map, together with it.
-    fn quorum<R: Wait>(&self, rt: &R, name: Name, further: u64) -> Members {
-        let map = self.post.map(rt, name);
-        quorum_behind(&map, name, further)
-    }
-
-    // Writes a letter. One that asks is owed an answer.
-    fn write<R: Wait>(&self, rt: &R, from: Name, to: Name, asks: bool) -> Result<(), Refusal> {
-        self.post.send(rt, from, to)?;
-        if asks {
-            self.rooms.of(to).owes.fetch_or(bit(from), Ordering::SeqCst);
-        }
-        self.point_at(to);
-        Ok(())
-    }
-
-    /// Leaves to a worker what there is to do.
-    pub(crate) fn hand_over<R: Wait>(&self, rt: &R) {
-        let free = self.pending.load(Ordering::SeqCst) & !self.visited.load(Ordering::SeqCst);
-        if let Some(name) = names_in(free).iter().next() {
-            self.rooms.of(name).bell.ring(rt);
-        }
-    }
-}
-
-/// The names of these bits.
-pub(crate) fn names_in(bits: u64) -> Members {
-    let mut names = Members::empty();
-    let mut rest = bits;
-    for _ in 0..64 {
-        if rest == 0 {
-            return names;
-        }
-        let place = u64::from(rest.trailing_zeros());
-        rest &= rest.wrapping_sub(1);
-        if let Ok(name) = Name::new(place.wrapping_add(1)) {
-            names = names.with(name);
-        }
-    }
-    names
 }

@@ -15,8 +15,8 @@ use Rattle.rambo_commands.specs.declared.server_request.ServerRequest.{ServerReq
 use Rattle.rambo_commands.specs.declared.server_request.ServerRequest.TheVariants.{Common, Use, Join, Recon, Collect, Stop, Config, Shutdown}
 use Rattle.rambo_connection.specs.Incoming.{has_command}
 
--- the node that its commands are asked of; what came in; the command that the server is asked for; the bytes that are to be
--- written, and the refusal that is still to be put behind them; and whether it is closed once they are written
+-- the node that its commands are asked of; what came in; the command that the server is asked for; the bytes that are
+-- to be written, and the refusal that is still to be put after them; and whether it is closed once they are written
 pub record ConnectionState : Type 0 where
   pub node : ℕ
   pub incoming : DecoderState
@@ -29,7 +29,7 @@ pub record ConnectionState : Type 0 where
 abbrev pub fresh : ℕ → ConnectionState
 fresh node = record { node = node; incoming = record { waiting = []; ending = open_at [] 0 }; under_way = None; out = []; owed = None; ended = false }
 
--- a reply is put behind those before it
+-- a reply is put after those before it
 abbrev pub replied : Reply → ConnectionState → ConnectionState
 replied r c = record c { out = c.out ++ reply_spelling r }
 
@@ -37,7 +37,7 @@ replied r c = record c { out = c.out ++ reply_spelling r }
 abbrev pub owing : Refusal → ConnectionState → ConnectionState
 owing refusal c = record c { owed = Some refusal }
 
--- a reply was put behind the others, or it is a refusal, and owed
+-- a reply was put after the others, or it is a refusal, and owed
 abbrev pub Tells : Reply → ConnectionState → ConnectionState → Type 0
 Tells r c d = (d ≡ replied r c) ⊎ ((refusal : Refusal) × (r ≡ refusal_reply refusal) × (d ≡ owing refusal c))
 
@@ -49,7 +49,7 @@ no_memory = refusal_reply OutOfMemory
 abbrev pub next_taken : ConnectionState → ConnectionState
 next_taken c = record c { incoming = without_oldest c.incoming }
 
--- it may take on a command: it goes on, no command is under way, and it has few replies to write
+-- it may take on a command: it goes on, no command is in progress, and it has few replies to write
 pub record IsFree (c : ConnectionState) : Type 0 where
   pub goes_on : c.ended ≡ false
   pub idle : c.under_way ≡ None
@@ -88,7 +88,7 @@ Using node c d = (d ≡ record (replied reply.Ok c) { node = node }) ⊎ (d ≡ 
 abbrev pub AsksServer : List (List ℕ) → ServerRequest → Type 0
 AsksServer command asked = Asks command asked × (own_reply asked ≡ None)
 
--- the fault of the stream is told, and no more is read
+-- the fault of the stream is reported, and no more is read
 abbrev pub faulted : Fault → ConnectionState → ConnectionState
 faulted fault c = record (replied (fault_reply fault) c) { ended = true }
 

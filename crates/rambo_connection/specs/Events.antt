@@ -16,7 +16,7 @@ use Rattle.rambo_connection.specs.Incoming.{Feeds}
 use Rattle.rambo_connection.specs.Connections.{ConnectionState, IsFree, Tells, Settles, AsksServer, replied, owing, no_memory, next_taken, faulted}
 
 -- a piece comes; the server is asked for a command; a command is replied to by the connection itself; the reply to the
--- command under way comes; a refusal that was owed is put; the fault of the stream is told; bytes are written
+-- command in progress comes; a refusal that was owed is put; the fault of the stream is reported; bytes are written
 pub data Event : Type 0 where
   Fed : List ℕ → Event
   Begun : List (List ℕ) → Event
@@ -38,7 +38,7 @@ Happens Paid c d = (refusal : Refusal) × (c.owed ≡ Some refusal) × (d ≡ re
 Happens (Faulted fault) c d = IsFree c × (oldest c.incoming ≡ Err fault) × (d ≡ faulted fault c)
 Happens (Written bytes) c d = (c.out ≡ bytes ++ d.out) × (d ≡ record c { out = d.out })
 
--- nothing is to be done: a command is under way, many replies are to be written, or no command waits
+-- nothing is to be done: a command is in progress, many replies are to be written, or no command waits
 abbrev pub IsWaiting : ConnectionState → Type 0
 IsWaiting c = (c.under_way ≢ None) ⊎ (65536 ≤ length c.out) ⊎ ((c.owed ≡ None) × (oldest c.incoming ≡ Ok None))
 
@@ -66,7 +66,7 @@ TakesOn command next.Waits c d = ⊥
 TakesOn command next.Ends c d = ⊥
 TakesOn command next.EndsAll c d = Asks command Shutdown × Settles command reply.Ok c d × (d.ended ≡ true)
 
--- the reply to the command under way came, or there was no memory for it; without such a command nothing happens
+-- the reply to the command in progress came, or there was no memory for it; without such a command nothing happens
 abbrev pub AnswersIf : Option (List (List ℕ)) → Reply → ConnectionState → ConnectionState → Type 0
 AnswersIf None r c d = d ≡ c
 AnswersIf (Some command) r c d = Happens (Answered command r) c d ⊎ Happens (Answered command no_memory) c d
@@ -74,7 +74,7 @@ AnswersIf (Some command) r c d = Happens (Answered command r) c d ⊎ Happens (A
 abbrev pub Answers : Reply → ConnectionState → ConnectionState → Type 0
 Answers r c d = AnswersIf c.under_way r c d
 
--- the command under way is refused, which is told whatever memory there is
+-- the command in progress is refused, which is reported whatever memory there is
 abbrev pub RefusesIf : Option (List (List ℕ)) → Refusal → ConnectionState → ConnectionState → Type 0
 RefusesIf None refusal c d = d ≡ c
 RefusesIf (Some command) refusal c d = Happens (Answered command (refusal_reply refusal)) c d

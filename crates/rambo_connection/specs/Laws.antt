@@ -25,8 +25,8 @@ pub record Exchange : Type 0 where
 abbrev pub command_of : Exchange → List (List ℕ)
 command_of e = e.command
 
--- what was seen of a connection: the bytes that came, the commands that were replied to, the faults that were told, and the
--- bytes that were written
+-- what was seen of a connection: the bytes that came, the commands that were replied to, the faults that were reported,
+-- and the bytes that were written
 pub record Story : Type 0 where
   pub stream : List ℕ
   pub exchanges : List Exchange
@@ -39,7 +39,8 @@ no_story = record { stream = []; exchanges = []; faults = []; written = [] }
 abbrev pub exchanged : List (List ℕ) → Reply → Story → Story
 exchanged command r s = record s { exchanges = s.exchanges ++ record { command = command; reply = r } ∷ [] }
 
--- with one event more: the reply to a command is that of the connection itself, or the one that came while it was under way
+-- with one more event: the reply to a command is that of the connection itself, or the one that came while it was in
+-- progress
 abbrev pub told_on : Story → Event → Story
 told_on s (Fed piece) = record s { stream = s.stream ++ piece }
 told_on s (Begun command) = s
@@ -52,7 +53,7 @@ told_on s (Written bytes) = record s { written = s.written ++ bytes }
 abbrev pub story_of : List Event → Story
 story_of es = fold told_on no_story es
 
--- the replies to the commands, one behind another, and then that to the fault of the stream
+-- the replies to the commands, one after another, and then that to the fault of the stream
 abbrev pub reply_text : Exchange → List ℕ
 reply_text e = reply_spelling e.reply
 
@@ -66,7 +67,7 @@ abbrev pub owed_text : Option Refusal → List ℕ
 owed_text None = []
 owed_text (Some refusal) = reply_spelling (refusal_reply refusal)
 
--- these are the first commands that a stream tells
+-- these are the first commands of a stream
 pub record AreFirst (stream : List ℕ) (commands : List (List (List ℕ))) : Type 0 where
   pub more : List (List (List ℕ))
   pub ending : Ending
@@ -79,15 +80,15 @@ HasOwnReply e = (asked : ServerRequest) (r : Reply) → Asks e.command asked →
 pub record InOrder (s : Story) (c : ConnectionState) : Type 0 where
   -- what was written and what is to be written is the reply to each command that was replied to, and then that to the fault
   pub bytes : s.written ++ (c.out ++ owed_text c.owed) ≡ text_of s
-  -- those commands, the one under way and those that wait are the first of the stream, in its order
+  -- those commands, the one in progress and those that wait are the first of the stream, in its order
   pub commands : AreFirst s.stream ((map command_of s.exchanges ++ option_to_list c.under_way) ++ c.incoming.waiting)
   pub own : AllByRecursion HasOwnReply s.exchanges
 
--- so it is of every connection, whatever happens
+-- that holds of every connection, whatever happens
 abbrev pub RepliesInOrder : Type 0
 RepliesInOrder = (node : ℕ) (es : List Event) (c : ConnectionState) → Happen es (fresh node) c → InOrder (story_of es) c
 
--- once a connection ends, no command is taken on or replied to, and no fault is told, whatever happens
+-- once a connection ends, no command is taken on or replied to, and no fault is reported, whatever happens
 abbrev pub NothingBehindTheEnd : Type 0
 NothingBehindTheEnd = (node : ℕ) (before later : List Event) (c d : ConnectionState) → Happen before (fresh node) c → c.ended ≡ true → Happen later c d
     → (d.under_way ≡ None) × (text_of (fold told_on (story_of before) later) ≡ text_of (story_of before))

@@ -15,18 +15,18 @@ use rambo_resp::{Command, Reply};
 use std::alloc::Global;
 use std::marker::Model;
 
-/// Where so many bytes are to be written, no further command is taken on.
+/// Where this many bytes wait to be written, no further command is taken on.
 const ENOUGH: usize = 64 * 1024;
 
-/// So many bytes of memory are had before a command is taken on: as many as the longest refusal takes, or more.
+/// Room for this many bytes is made before a command is taken on: as many as the longest refusal takes, or more.
 const ROOM: usize = 64;
 
 /// A connection without its socket.
 ///
 /// Its commands are taken on one after another, in the order of the stream: the next one when the one before it was
-/// replied to. What needs no node is replied to at once. The replies stand in that order. Behind the reply to a fault of
-/// the stream, or to `SHUTDOWN`, nothing is taken on. A connection that is given up is dropped: `is_waiting` tells whether the
-/// server was asked for a command of it that is then to be given up too.
+/// replied to. What needs no node is replied to at once. The replies come in that order. After the reply to a fault of
+/// the stream, or to `SHUTDOWN`, nothing is taken on. A connection that is given up is dropped: `is_waiting` says
+/// whether the server was asked for a command of it, which is then to be given up too.
 #[derive(Drop)]
 pub struct Connection {
     alloc: Global,
@@ -47,7 +47,7 @@ impl Model for Connection {
 }
 
 impl Connection {
-    /// A connection of which nothing has come, and whose commands go to this node at first. It takes no memory yet.
+    /// A connection of which nothing has come, and whose commands go to this node at first. It allocates nothing yet.
     pub fn new(alloc: Global, node: Name) -> Connection
         ensures { result ≡ fresh node }
     {
@@ -69,7 +69,7 @@ impl Connection {
         self.node
     }
 
-    /// Whether a command is under way: the server was asked for it, and its reply hasn't come.
+    /// Whether a command is in progress: the server was asked for it, and its reply hasn't come.
     pub fn is_waiting(&self) -> bool
         ensures { result ≡ is_some self.now.under_way }
     {
@@ -204,7 +204,7 @@ impl Connection {
 
     /// The reply to the command under way comes. Without one nothing happens.
     ///
-    /// Where there is no memory for it, the command is told, by the next call of `next`, that it is refused for want of memory.
+    /// Where there is no memory for it, the reply is a refusal by `OutOfMemory`, which the next call of `next` writes.
     pub fn answer(&mut self, reply: &Reply)
         ensures { Answers reply.now self.old self.new }
     {
@@ -216,7 +216,8 @@ impl Connection {
 
     /// The command under way is refused. Without one nothing happens.
     ///
-    /// It takes no memory, as room for it was had when the command was taken on. Were there none, it would be told later.
+    /// It allocates nothing, as room for it was made when the command was taken on. Were there none, it would be
+    /// written later.
     pub fn refuse(&mut self, refusal: Refusal)
         ensures { Refuses refusal self.old self.new }
     {
@@ -235,7 +236,7 @@ impl Connection {
         self.out.as_slice()
     }
 
-    /// The first of these were written: so many, or all where there are fewer.
+    /// The first of these were written: this many, or all where there are fewer.
     pub fn written(&mut self, count: usize)
         ensures left { self.new ≡ record self.old { out = drop count self.old.out } }
         ensures written { Happens (Written (take count self.old.out)) self.old self.new }

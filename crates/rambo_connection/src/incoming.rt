@@ -45,7 +45,7 @@ impl Incoming {
         let _ = self.decoder.feed(piece);
     }
 
-    /// The oldest command, which is taken out; none where more is to come first; or the fault behind the commands.
+    /// The oldest command, which is taken out; none where more is to come first; or the fault after the commands.
     pub(crate) fn next(&mut self) -> Result<Option<Command>, Fault>
         ensures given { result ≡ oldest self.old }
         ensures left { self.new ≡ without_oldest self.old }

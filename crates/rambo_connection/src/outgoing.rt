@@ -8,9 +8,9 @@ use itoa::Buffer;
 use rambo_names::Refusal;
 use rambo_resp::Fault;
 
-/// Appends the spelling of the error that tells a fault of the stream. Where the buffer has room for it no memory is taken.
+/// Appends the spelling of the error for a fault of the stream. Where the buffer has room for it nothing is allocated.
 ///
-/// `OutOfMemory` where the buffer can't grow; it is then as before.
+/// `OutOfMemory` where the buffer can't grow; it is then unchanged.
 pub(crate) fn append_fault(fault: Fault, out: &mut BytesMut) -> Result<(), Refusal>
     ensures ok { OnOk result (out.new.items ≡ out.old.items ++ reply_spelling (spec.fault_reply fault)) }
     ensures err { OnErr result (out.new.items ≡ out.old.items) }

@@ -1,4 +1,4 @@
--- What a step does that a node takes, where this is the letter that it lets come
+-- What a step that a node takes does, where this is the letter that it delivers
 use Rattle.std.specs.Prelude.{◌≡◌, ℕ, Option, None, Some, List, []}
 use Rattle.std.specs.Option.{option_and_then, option_map_or}
 use Rattle.rambo_names.specs.declared.refusal.Refusal.{Refusal}
@@ -25,7 +25,7 @@ use Rattle.rambo_sequence.specs.declared.mark.Mark.{Mark}
 use Rattle.rambo_deeds.specs.declared.half.Half.{Half}
 use Rattle.rambo_deeds.specs.declared.half.Half.TheVariants as half
 
--- what a step means where this is the letter that it lets come, if it was sent
+-- what a step means where this is the letter that it delivers, if it was sent
 abbrev pub meant_by : {Q : Type 0} → Option (Letter Q) → Step Q → Option (Meant Q)
 meant_by o st = option_map_or (λ number. delivery o) (delivered_by st) (meant_in [] st)
 
@@ -34,7 +34,7 @@ abbrev pub judged : {Q : Type 0} → QuorumSystem Q → NodeState Q → Option (
 judged s x None = Some NoSuchLetter
 judged s x (Some m) = refusal_of s x m.change
 
--- the letter that a step lets come, if it lets one come that was sent
+-- the letter that a step delivers, if it delivers one that was sent
 abbrev pub letter_in : {Q : Type 0} → List (Letter Q) → Step Q → Option (Letter Q)
 letter_in ls st = option_and_then (letter_at ls) (delivered_by st)
 
@@ -43,21 +43,21 @@ abbrev pub outline_of : {Q : Type 0} → Option (Letter Q) → Option (Letter Q)
 outline_of None = None
 outline_of (Some l) = Some (letter_with l copies.empty)
 
--- a letter comes to the node that is told by this outline, and may be heard so
+-- a letter with this outline comes to the node, and may be heard so
 pub record IsReadyDelivery {Q : Type 0} (v : RoomyNode Q) (outline : Option (Letter Q)) (c : Change Q) (h : Hearing) : Type 0 where
   pub letter : Letter Q
   pub delivers : c ≡ change.Deliver letter
   pub told : outline ≡ Some (letter_with letter copies.empty)
   pub hearing : IsHearing v letter h
 
--- the first half of a change is made, where a letter that comes is told by this outline
+-- the first half of a change is made, where a letter that comes has this outline
 abbrev pub IsHalf : {Q : Type 0} → QuorumSystem Q → RoomyNode Q → Option (Letter Q) → Change Q → Half Q → Type 0
 IsHalf {Q} s v outline c (half.Send l) = (to : ℕ) × (c ≡ change.Send to)
 IsHalf s v outline c (half.Hear h) = IsReadyDelivery v outline c h
 IsHalf s v outline c (half.Call p) = Prepares s v c p.value
 IsHalf s v outline c (half.Quick q) = c ≡ quick_change q
 
--- what it tells: an event, a mark, a letter
+-- what it has: an event, a mark, a letter
 abbrev pub event_of : {Q : Type 0} → Half Q → Option Event
 event_of (half.Call p) = p.value.event
 event_of (half.Send l) = None
@@ -83,7 +83,7 @@ SendsFor v None (Some whole) = ⊥
 SendsFor v (Some l) None = ⊥
 SendsFor v (Some l) (Some whole) = IsName whole.addressee × IsDeltaLetter (full v) whole.addressee l
 
--- and what it tells is what the change does, which isn't refused
+-- and what it has is what the change does, which isn't refused
 pub record IsReadyStep {Q : Type 0} (s : QuorumSystem Q) (v : RoomyNode Q) (outline : Option (Letter Q)) (c : Change Q) (h : Half Q) : Type 0 where
   pub accepted : refusal_of s v.state c ≡ None
   pub half : IsHalf s v outline c h
@@ -98,7 +98,7 @@ pub record Done (Q : Type 0) : Type 0 where
   pub mark : Option Mark
   pub letter : Option (Letter Q)
 
--- what goes to the letters, the history and the marks, and is told
+-- what goes to the letters, the history and the marks, and what is reported
 abbrev pub done : {Q : Type 0} → List (Letter Q) → Made Q → Done Q
 done ls m = record { effect = effect_in ls m.deed.effect m.letter; event = m.deed.event; mark = m.deed.mark; letter = m.letter }
 

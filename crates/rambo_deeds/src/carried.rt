@@ -3,8 +3,8 @@
 use rambo_gossip::LetterOutline;
 use rambo_names::Quorums;
 
-// So many copies cost about as much to hear again as a call does.
-const MANY: usize = 1000;
+// So many copies cost about as much to hear again as a step does without a letter.
+const MANY: usize = 8;
 
 /// How many copies the letters of a node carried since its phase number last rose.
 #[derive(Clone, Copy)]
@@ -22,7 +22,7 @@ impl Carried {
         }
     }
 
-    /// A letter of this outline carries so many.
+    /// Counts the copies that a letter of this outline carries.
     pub(crate) fn add<Q: Quorums>(&mut self, outline: &LetterOutline<'_, Q>, copies: usize) {
         let Some(gossip) = &outline.gossip else {
             return;
@@ -38,6 +38,6 @@ impl Carried {
 
     /// Whether they are so many that a call would have cost less.
     pub(crate) fn are_many(&self) -> bool {
-        self.copies > MANY
+        self.copies >= MANY
     }
 }

@@ -65,7 +65,7 @@ fn addressee<Q: Quorums>(letters: &[SharedLetter<Q>], number: u64) -> Option<Nam
     }
 }
 
-/// The letter that a step lets come, if it lets one come that was sent.
+/// The letter that a step delivers, if it delivers one that was sent.
 pub fn letter_named<'a, Q: Quorums>(
     letters: &'a [SharedLetter<Q>],
     step: &Step<Q>,
@@ -80,9 +80,9 @@ pub fn letter_named<'a, Q: Quorums>(
 }
 
 impl<Q: Quorums, S: Replica> Worker<Q, S> {
-    /// Why the node refuses what the step means, if it does: by the least number. It takes no memory.
+    /// Why the node refuses what the step means, if it does: by the least number. It allocates nothing.
     ///
-    /// The letter is the one that the step lets come, if it was sent.
+    /// The letter is the one that the step delivers, if it was sent.
     pub fn judge(&self, letter: Option<&SharedLetter<Q>>, step: &Step<Q>) -> Result<(), Refusal>
         ensures ok { OnOk result (judged Q.system self.now.state (meant_by (option_copied letter.entry) step.now) ≡ None) }
         ensures refused { IfErr result (λ r. judged Q.system self.now.state (meant_by (option_copied letter.entry) step.now) ≡ Some r) }
@@ -99,10 +99,10 @@ impl<Q: Quorums, S: Replica> Worker<Q, S> {
         }
     }
 
-    /// The first half of what the step means: it is judged, room is made for it, and what it will do is found. The node stays,
-    /// whatever the answer.
+    /// The first half of what the step means: it is judged, room is made for it, and what it will do is found. In
+    /// either case the node itself is unchanged.
     ///
-    /// Refused is what `judge` says, else 22, where there is no room for it.
+    /// Refused with what `judge` says, else 22, where there is no room for it.
     pub fn ready(
         &mut self,
         alloc: Global,
@@ -129,9 +129,9 @@ impl<Q: Quorums, S: Replica> Worker<Q, S> {
         }
     }
 
-    /// The second half of a call, or of its advance: the node changes. What is told of it.
+    /// The second half of a call, or of its advance: the node changes. Returns what is reported.
     ///
-    /// It takes no memory and can't fail.
+    /// It allocates nothing and can't fail.
     pub fn finish(&mut self, prepared: Prepared<Q>) -> Effect<Q>
         requires { IsPrepared Q.system self.old prepared }
         ensures node { self.new.state ≡ (made_by self.old.state (change_of prepared)).node }
@@ -141,9 +141,9 @@ impl<Q: Quorums, S: Replica> Worker<Q, S> {
         self.node.finish(prepared)
     }
 
-    /// That of a delivery: the letter, or another that differs from it in copies alone, is heard.
+    /// The second half of a delivery: the letter, or another that differs from it in copies alone, is heard.
     ///
-    /// It takes no memory and can't fail.
+    /// It allocates nothing and can't fail.
     pub fn finish_delivery(&mut self, letter: &SharedLetter<Q>, hearing: Hearing)
         requires { IsReadyKind self.old letter.now.kind hearing.copies hearing.number }
         ensures node { self.new.state ≡ heard_letter self.old.state (letter_with letter.now hearing.copies) }
@@ -152,7 +152,7 @@ impl<Q: Quorums, S: Replica> Worker<Q, S> {
         self.node.finish_outlined(&letter.outline(), hearing);
     }
 
-    /// That of a change that needs no memory and isn't refused.
+    /// The second half of a change that allocates nothing and isn't refused.
     pub fn finish_quick(&mut self, quick: Quick<Q>) -> Effect<Q>
         requires { refusal_of Q.system self.old.state (quick_change quick) ≡ None }
         ensures node { self.new.state ≡ (made_by self.old.state (quick_change quick)).node }
@@ -220,8 +220,8 @@ fn ready_advance<Q: Quorums, S: Replica>(
     Ok(Half::Call(Box::new(alloc, prepared)?))
 }
 
-// That of the node's letter, with those copies that its addressee may lack. It shares what it tells of configurations with
-// the node's last one, if that told the same. How many copies it carries is noted.
+// That of the node's letter, with those copies that its addressee may lack. It shares what it reports of configurations
+// with the node's last one, if that reported the same. How many copies it carries is noted.
 fn ready_send<Q: Quorums, S: Replica>(
     alloc: Global,
     node: &Node<Q, S>,
@@ -262,7 +262,7 @@ fn ready_delivery<Q: Quorums, S: Replica>(
     Ok(Half::Hear(hearing))
 }
 
-// That of a change that needs no memory and sends no letter.
+// That of a change that allocates nothing and sends no letter.
 fn ready_quick<Q: Quorums, S: Replica>(
     node: &Node<Q, S>,
     quick: Quick<Q>,

@@ -13,7 +13,7 @@ pub enum Half<Q: Quorums> {
     Send(SharedLetter<Q>),
     /// The letter that comes is heard.
     Hear(Hearing),
-    /// A call is made, or goes on.
+    /// A call is made, or advances.
     Call(Box<Prepared<Q>>),
     /// Any other change.
     Quick(Quick<Q>),

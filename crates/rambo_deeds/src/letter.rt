@@ -12,7 +12,7 @@ use rambo_node::{Hearing, Node};
 use rambo_tag::{Pack, Replica};
 use std::alloc::Global;
 
-/// Why a node refuses a letter, if it does. It takes no memory.
+/// Why a node refuses a letter, if it does. It allocates nothing.
 pub fn may_hear<Q: Quorums, S: Replica>(
     node: &Node<Q, S>,
     letter: &SharedLetter<Q>,
@@ -23,7 +23,8 @@ pub fn may_hear<Q: Quorums, S: Replica>(
     node.may_hear_outlined(&letter.outline())
 }
 
-// The first half of hearing a letter: it is judged, and room is made for it. The node stays, whatever the answer.
+// The first half of hearing a letter: it is judged, and room is made for it. In either case the node itself is
+// unchanged.
 pub(crate) fn ready_letter<Q: Quorums, S: Replica>(
     alloc: Global,
     node: &mut Node<Q, S>,

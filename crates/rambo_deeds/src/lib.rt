@@ -1,9 +1,9 @@
-//! Steps as the node takes them that each means: why it refuses one, and what it makes of one.
+//! Steps as their nodes take them: why a node refuses one, and what it makes of one.
 //!
-//! - `Worker`: a node that takes steps; `Half`: the first half of a step, which left its node as it is.
+//! - `Worker`: a node that takes steps; `Half`: the first half of a step, which left its node as it was.
 //! - `SharedLetter`, of `rambo_letters`: a letter that several own; `Mail`: one in a tray, with its number.
 //! - `may_hear`: why a node refuses such a letter; `letter_of`: the letter of a number; `letter_named`: the one that a
-//!   step lets come; `named_by`: whose step a step is.
+//!   step delivers; `named_by`: whose step a step is.
 #![tactic(auto)]
 
 mod carried;

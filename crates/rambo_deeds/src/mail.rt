@@ -3,9 +3,13 @@
 use rambo_letters::SharedLetter;
 use rambo_names::Quorums;
 
-/// A letter in a tray, and its number.
+/// A letter in a tray.
 #[derive(Drop)]
 pub struct Mail<Q: Quorums> {
+    /// Its number: the first letter that was sent is 1.
     pub number: u64,
+    /// Whether it asks for one in return.
+    pub asks: bool,
+    /// The letter itself.
     pub letter: SharedLetter<Q>,
 }

@@ -14,7 +14,7 @@ use std::sync::Arc;
 
 /// A node that takes steps.
 pub struct Worker<Q: Quorums, S: Replica> {
-    // What it told of configurations in its last letter, for the next ones that tell the same.
+    // What it reported of configurations in its last letter, for the next ones that report the same.
     pub(crate) told: Option<Arc<Standing<Q>, Global>>,
     // What its letters carried lately.
     pub(crate) carried: Carried,
@@ -92,8 +92,8 @@ impl<Q: Quorums, S: Replica> Worker<Q, S> {
         self.node.status().is_stopped()
     }
 
-    /// Whether its letters carried so many copies since its node's phase number last rose that a call, by which that rises,
-    /// would have cost less.
+    /// Whether its letters carried so many copies since its node's phase number last rose that a step by which that rises would
+    /// have cost less.
     pub fn carries_much(&self) -> bool {
         self.carried.are_many()
     }
@@ -110,7 +110,7 @@ impl<Q: Quorums, S: Replica> Worker<Q, S> {
     }
 }
 
-// Whether this is told of what is open.
+// Whether this is the verdict on something open.
 fn goes_on(verdict: Result<(), Refusal>) -> bool {
     match verdict {
         Ok(()) => true,

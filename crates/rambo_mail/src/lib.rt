@@ -1,13 +1,16 @@
 //! The mail of a book: which letters wait for which name, in the order in which they were sent, and which are lost or come
 //! twice.
 //!
-//! - `Mails`: what waits for each name, and how many passes were given.
+//! - `Mails`: what waits for each name.
+//! - `Entry`: a letter that waits, and whether it asks for one in return.
 //! - `Posting`: what a step means for the mail.
 #![tactic(auto)]
 
+mod entry;
 mod mails;
 mod posting;
 mod queue;
 
+pub use entry::Entry;
 pub use mails::Mails;
 pub use posting::Posting;

@@ -1,15 +1,16 @@
 //! Letters that wait for one name.
 ghost use Rattle.std.specs.Prelude.{◌≡◌, ◌<◌, ◌≤◌, ◌-◌, ◌++◌, ◌∷◌, [], drop, slice_get, OnOk, IfErr};
 
+use crate::entry::Entry;
 use rambo_names::Refusal;
 use std::alloc::Global;
 use std::collections::VecDeque;
 use std::marker::Model;
 
-/// The letters that wait for one name, by their numbers, in the order in which they were sent.
+/// The letters that wait for one name, in the order in which they were sent.
 #[derive(Drop)]
 pub(crate) struct Queue {
-    numbers: VecDeque<u64>,
+    entries: VecDeque<Entry>,
 }
 
 impl Model for Queue {
@@ -19,16 +20,16 @@ impl Model for Queue {
 
     ghost Value = { QueueState };
 
-    ghost view = { λ q. record { numbers = q.numbers.items; room = deque_capacity q.numbers - deque_len q.numbers } };
+    ghost view = { λ q. record { entries = q.entries.items; room = deque_capacity q.entries - deque_len q.entries } };
 }
 
 impl Queue {
-    /// No letter. It takes no memory.
+    /// No letter. It allocates nothing.
     pub(crate) fn new(alloc: Global) -> Queue
-        ensures { result.numbers ≡ [] }
+        ensures { result.entries ≡ [] }
     {
         Queue {
-            numbers: VecDeque::new(alloc),
+            entries: VecDeque::new(alloc),
         }
     }
 
@@ -36,36 +37,36 @@ impl Queue {
     ///
     /// `OutOfMemory` where there is none.
     pub(crate) fn make_room(&mut self) -> Result<(), Refusal>
-        ensures same { self.new.numbers ≡ self.old.numbers }
+        ensures same { self.new.entries ≡ self.old.entries }
         ensures more { self.old.room ≤ self.new.room }
         ensures room { OnOk result (2 ≤ self.new.room) }
         ensures refused { IfErr result (λ r. r ≡ Refusal.OutOfMemory) }
     {
-        Ok(self.numbers.reserve(2)?)
+        Ok(self.entries.reserve(2)?)
     }
 
-    /// The letter of this number waits too, for which there is room.
-    pub(crate) fn push(&mut self, number: u64)
-        ensures { 0 < self.old.room → self.new ≡ record { numbers = self.old.numbers ++ number ∷ []; room = self.old.room - 1 } }
+    /// This letter waits too, for which there is room.
+    pub(crate) fn push(&mut self, entry: Entry)
+        ensures { 0 < self.old.room → self.new ≡ record { entries = self.old.entries ++ entry ∷ []; room = self.old.room - 1 } }
     {
-        let _ = self.numbers.push_back(number).is_ok();
+        let _ = self.entries.push_back(entry).is_ok();
     }
 
     /// The letter that waits for the longest time.
-    pub(crate) fn first(&self) -> Option<u64>
-        ensures { result ≡ slice_get self.now.numbers 0 }
+    pub(crate) fn first(&self) -> Option<Entry>
+        ensures { result ≡ slice_get self.now.entries 0 }
     {
-        match self.numbers.front() {
-            Some(number) => Some(*number),
+        match self.entries.front() {
+            Some(entry) => Some(*entry),
             None => None,
         }
     }
 
     /// That letter waits no more.
     pub(crate) fn drop_first(&mut self)
-        ensures rest { self.new.numbers ≡ drop 1 self.old.numbers }
+        ensures rest { self.new.entries ≡ drop 1 self.old.entries }
         ensures more { self.old.room ≤ self.new.room }
     {
-        let _ = self.numbers.pop_front();
+        let _ = self.entries.pop_front();
     }
 }

@@ -6,7 +6,7 @@ use Rattle.rambo_names.specs.Quorums.{QuorumSystem}
 use Rattle.rambo_outbox.specs.declared.asking.Choice.{Choice}
 use Rattle.rambo_outbox.specs.Bids.{agree}
 
--- a name more, unless there is a quorum already
+-- one more name, unless there is a quorum already
 abbrev pub with_next : {Q : Type 0} → QuorumSystem Q → Q → NameSet → ℕ → NameSet
 with_next s q who n = if s.is_quorum q who then who else set.insert who n
 
@@ -26,14 +26,14 @@ turned place ns = drop place ns ++ take place ns
 abbrev pub in_turn : {Q : Type 0} → QuorumSystem Q → Choice → Q → List ℕ
 in_turn s c q = let all = others s c.reach q in turned (c.turn % max 1 (count_of all)) (names all)
 
--- of these those that were silent of late, or the rest
+-- of these those that were silent lately, or the rest
 abbrev pub those : NameSet → Bool → List ℕ → List ℕ
 those silent is_silent ns = filter (λ n. agree (set.contains silent n) is_silent) ns
 
--- a quorum of one configuration more: the silent ones come last
+-- a quorum of one more configuration: the silent ones come last
 abbrev pub with_quorum : {Q : Type 0} → QuorumSystem Q → Choice → NameSet → Q → NameSet
 with_quorum s c who q = enough s q (enough s q who (those c.silent false (in_turn s c q))) (those c.silent true (in_turn s c q))
 
--- so many as make a quorum of each configuration, together with the node itself
+-- enough for a quorum of each configuration, together with the node itself
 abbrev pub first_asked : {Q : Type 0} → QuorumSystem Q → Choice → List Q → NameSet
 first_asked s c qs = set.remove (fold (with_quorum s c) (set.insert set.empty c.me) qs) c.me

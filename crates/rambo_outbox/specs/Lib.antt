@@ -1,6 +1,5 @@
 pub mod Waiting
 pub mod Pauses
-pub mod Carrying
 pub mod Bids
 pub mod Found
 pub mod Outboxes

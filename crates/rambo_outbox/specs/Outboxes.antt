@@ -3,7 +3,6 @@ use Rattle.std.specs.Prelude.{ℕ, Bool, false, nat_eq, if◌then◌else◌, Lis
 use Rattle.std.specs.FinSet as set
 use Rattle.rambo_names.specs.Names.{NameSet}
 use Rattle.rambo_calls.specs.declared.open_call.OpenCall.{OpenCall}
-use Rattle.rambo_outbox.specs.declared.carried.Carried.{Carried}
 use Rattle.rambo_outbox.specs.declared.entry.Entry.{Entry}
 use Rattle.rambo_outbox.specs.declared.opened.BidStage.{BidStage}
 use Rattle.rambo_outbox.specs.declared.opened.Opened.{Opened}
@@ -15,7 +14,7 @@ use Rattle.rambo_outbox.specs.Waiting.{forgotten}
 -- how often it was time to ask again, by which it is told whose turn it is; reminders since something went on; when the next
 -- one is due
 -- how many bids of the attempt were asked for, and when the last is to be made anew
--- the call that is kept open, and what letters carried
+-- the call that is kept open
 pub record OutboxState : Type 0 where
   pub waiting : List Entry
   pub asked : ℕ
@@ -30,11 +29,10 @@ pub record OutboxState : Type 0 where
   pub bids : ℕ
   pub rebid_at : ℕ
   pub idle : Option ℕ
-  pub carried : Carried
 
 -- an outbox of a node that has asked for nothing
 abbrev pub first_outbox : OutboxState
-first_outbox = record { waiting = []; asked = 0; bid = None; joins = false; owes = set.empty; first = set.empty; silent = set.empty; turn = 0; stood = 0; due = 0; bids = 0; rebid_at = 0; idle = None; carried = record { number = 0; copies = 0 } }
+first_outbox = record { waiting = []; asked = 0; bid = None; joins = false; owes = set.empty; first = set.empty; silent = set.empty; turn = 0; stood = 0; due = 0; bids = 0; rebid_at = 0; idle = None }
 
 -- the number of an open call, and that of its phase
 pub record CallNumbers : Type 0 where

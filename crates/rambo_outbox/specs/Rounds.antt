@@ -27,14 +27,15 @@ whom s b o More = newly_asked s b o
 whom s b o First = newly_asked s b o
 whom s b o Again = o.reach
 
--- when the next reminder is due: one pause behind what is asked now, and else as it was, but never later than in one pause
+-- when the next reminder is due: one pause after what is asked now, and else as it was, but never later than in one
+-- pause
 abbrev pub due_after : OutboxState → Asks → ℕ → ℕ
 due_after b Nothing now = min b.due (later now (pause b.stood))
 due_after b More now = min b.due (later now (pause b.stood))
 due_after b First now = later now (pause b.stood)
 due_after b Again now = later now (pause (more b.stood))
 
--- whether it is time to make the bid anew that was asked for
+-- whether it is time to retry the attempt that was asked for
 abbrev pub rebids : {Q : Type 0} → OutboxState → OpenedState Q → ℕ → Bool
 rebids b o now = is_asked_bid b.bid o.bid && nat_le b.rebid_at now
 

@@ -19,7 +19,7 @@ is_anothers client connection e = not (nat_eq e.who.client client && nat_eq e.wh
 abbrev pub is_waited : List Entry → ℕ → Bool
 is_waited es number = list_any (is_of number) es
 
--- somebody waits for a call more
+-- somebody waits for one more call
 abbrev pub awaited : ℕ → Waiter → List Entry → List Entry
 awaited number who es = es ++ record { number = number; who = who } ∷ []
 

@@ -27,11 +27,11 @@ greatest ns = fold max 0 ns
 abbrev pub is_under_way : {Q : Type 0} → OutboxState → OpenedState Q → Bool
 is_under_way b o = list_any (λ n. nat_le n b.asked) (wished b o)
 
--- something was asked for, and isn't there yet
+-- something was asked for, and hasn't come yet
 abbrev pub has_asked : {Q : Type 0} → OutboxState → OpenedState Q → Bool
 has_asked b o = is_under_way b o || is_asked_bid b.bid o.bid || (o.joins && b.joins)
 
--- something is to be asked for: a bid, or to join; or a phase, while no other is under way
+-- something is to be asked for: a bid, or to join; or a phase, while no other is in flight
 abbrev pub is_new : {Q : Type 0} → OutboxState → OpenedState Q → Bool
 is_new b o = is_new_bid b.bid o.bid || (o.joins && not b.joins) || (not (is_under_way b o) && nat_lt b.asked (greatest (wished b o)))
 

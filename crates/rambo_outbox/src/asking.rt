@@ -8,7 +8,7 @@ ghost use Rattle.rambo_outbox.specs.Asking.{with_next, enough, turned, those, wi
 use rambo_config_map::ConfigMap;
 use rambo_names::{Members, Name, Quorums};
 
-/// By what a node chooses whom to ask: itself, whom it may write to, who was silent of late, and whose turn it is.
+/// What a node chooses by whom to ask: itself, whom it may write to, who was silent lately, and whose turn it is.
 #[derive(Clone, Copy)]
 pub struct Choice {
     pub me: Name,
@@ -109,7 +109,7 @@ fn enough<Q: Quorums>(
 }
 
 impl Choice {
-    // With a quorum of one configuration more.
+    // With a quorum of one more configuration.
     fn with_quorum<Q: Quorums>(&self, config: &Q, who: Members) -> Members
         ensures { result ≡ with_quorum Q.system self.now who config.now }
     {
@@ -119,7 +119,7 @@ impl Choice {
         enough(config, awake, others, place, self.silent, true)
     }
 
-    /// So many names as make a quorum of each active configuration of a map, together with the node itself.
+    /// Enough names for a quorum of each active configuration of a map, together with the node itself.
     pub(crate) fn first_asked<Q: Quorums>(&self, map: &ConfigMap<Q>) -> Members
         ensures { result ≡ first_asked Q.system self.now map.now.configs }
     {

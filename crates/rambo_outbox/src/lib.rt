@@ -9,7 +9,6 @@
 
 mod asking;
 mod asks;
-mod carried;
 mod entry;
 mod found;
 mod laws;

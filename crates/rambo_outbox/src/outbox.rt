@@ -1,17 +1,15 @@
 //! Who writes to whom, and when.
-ghost use Rattle.std.specs.Prelude.{◌≡◌, ◌||◌, not, nat_le, map, Some, OnOk, OnErr, IfErr};
+ghost use Rattle.std.specs.Prelude.{◌≡◌, ◌||◌, ℕ, [], not, nat_le, map, Some, MatchOption, OnOk, OnErr, IfErr};
 ghost use Rattle.std.specs.FinSet as set;
 ghost use Rattle.rambo_outbox.specs.Bids.{is_asked_bid, is_new_bid};
-ghost use Rattle.rambo_outbox.specs.Carrying.{carrying, is_much};
 ghost use Rattle.rambo_outbox.specs.Outboxes.{first_outbox, numbers_of, seen, progressed, answered, is_idle, heard_by};
 ghost use Rattle.rambo_outbox.specs.Rounds.{whom, due_after, rebids, begins, rebid_after, bids_after, noted, wake_of, round_of, after_round};
-ghost use Rattle.rambo_outbox.specs.Waiting.{awaited, without, waiter_of};
+ghost use Rattle.rambo_outbox.specs.Waiting.{awaited, is_waited, without, waiter_of};
 ghost use Rattle.rambo_outbox.specs.Found.{found_in, nothing_found};
 ghost use Rattle.rambo_outbox.specs.Wishes.{is_wished, phases, wished, greatest, is_under_way, has_asked, is_new, has_wished, asks_by, asks_of};
 
 use crate::asking::Choice;
 use crate::asks::Asks;
-use crate::carried::Carried;
 use crate::entry::{Entry, Waiter};
 use crate::found::Found;
 use crate::opened::{BidStage, Opened};
@@ -41,7 +39,6 @@ pub struct Outbox {
     bids: u64,
     rebid_at: u64,
     idle: Option<u64>,
-    carried: Carried,
 }
 
 impl Model for Outbox {
@@ -67,12 +64,11 @@ impl Model for Outbox {
       bids = b.bids;
       rebid_at = b.rebid_at;
       idle = b.idle;
-      carried = b.carried;
     } };
 }
 
 impl Outbox {
-    /// An outbox of a node that has asked for nothing. Its memory will come from this allocator.
+    /// An outbox of a node that has asked for nothing. Later allocations come from this allocator.
     pub fn new(alloc: Global) -> Outbox
         ensures { result ≡ first_outbox }
     {
@@ -90,16 +86,22 @@ impl Outbox {
             bids: 0,
             rebid_at: 0,
             idle: None,
-            carried: Carried {
-                number: 0,
-                copies: 0,
-            },
         }
+    }
+
+    /// Makes room for one more who waits.
+    ///
+    /// `OutOfMemory` where there is none.
+    pub fn make_room(&mut self) -> Result<(), Refusal>
+        ensures same { self.new ≡ self.old }
+        ensures refused { IfErr result (λ r. r ≡ Refusal.OutOfMemory) }
+    {
+        Ok(self.waiting.reserve(1)?)
     }
 
     /// Somebody waits for a call that was just made, of this number.
     ///
-    /// `OutOfMemory` where there is no room for it; the outbox is then as before.
+    /// `OutOfMemory` where there is no room for it; the outbox is then unchanged.
     pub fn await_call(&mut self, number: u64, who: Waiter) -> Result<(), Refusal>
         ensures ok { OnOk result (self.new ≡ record self.old { waiting = awaited number who self.old.waiting }) }
         ensures err { OnErr result (self.new ≡ self.old) }
@@ -109,7 +111,14 @@ impl Outbox {
         Ok(())
     }
 
-    /// The call of a number was answered: who waited for it is to be told.
+    /// Whether somebody waits for the call of a number.
+    pub fn is_waited(&self, number: u64) -> bool
+        ensures { result ≡ is_waited self.now.waiting number }
+    {
+        is_waited(self.waiting.as_slice(), number)
+    }
+
+    /// The call of a number was answered. Returns who waited for it.
     pub fn answered(&mut self, number: u64) -> Option<Waiter>
         ensures told { result ≡ waiter_of number self.old.waiting }
         ensures after { self.new ≡ answered number self.old }
@@ -126,6 +135,17 @@ impl Outbox {
         }
     }
 
+    /// One of those who wait, who waits no more. None where nobody waits.
+    pub fn take_waiter(&mut self) -> Option<Waiter>
+        ensures taken { MatchOption result (self.old.waiting ≡ []) (λ w. (n : ℕ) × (self.old.waiting ≡ awaited n w self.new.waiting)) }
+        ensures rest { self.new ≡ record self.old { waiting = self.new.waiting } }
+    {
+        match self.waiting.pop() {
+            Some(entry) => Some(entry.who),
+            None => None,
+        }
+    }
+
     /// A connection has ended: nobody waits for its calls any more. They stay open.
     pub fn leave(&mut self, client: u32, connection: u32)
         ensures { self.new ≡ record self.old { waiting = without client connection self.old.waiting } }
@@ -133,7 +153,7 @@ impl Outbox {
         let_go(&mut self.waiting, client, connection);
     }
 
-    /// A phase of a call, a collection or an attempt went on.
+    /// A phase of a call, a collection or an attempt advanced.
     pub fn moved(&mut self)
         ensures { self.new ≡ progressed self.old }
     {
@@ -151,8 +171,25 @@ impl Outbox {
         self.silent = self.silent.without(from);
     }
 
-    /// The call of this number is kept open from now on: nobody waits for it, and nobody is asked for it. So that letters stay
-    /// short, it begins anew where they carried much.
+    /// Who is owed a letter. From now on nobody is.
+    pub fn take_owed(&mut self) -> Members
+        ensures names { result ≡ self.old.owes }
+        ensures rest { self.new ≡ record self.old { owes = set.empty } }
+    {
+        let owed = self.owes;
+        self.owes = Members::empty();
+        owed
+    }
+
+    /// A name is owed a letter.
+    pub fn owe(&mut self, to: Name)
+        ensures { self.new ≡ record self.old { owes = set.insert self.old.owes to } }
+    {
+        self.owes = self.owes.with(to);
+    }
+
+    /// The call of this number is kept open from now on: nobody waits for it, and nobody is asked for it. So that
+    /// letters stay short, it restarts where they carried much.
     pub fn keep_open(&mut self, number: u64)
         ensures { self.new ≡ record self.old { idle = Some number } }
     {
@@ -164,16 +201,6 @@ impl Outbox {
         ensures { result ≡ self.now.idle }
     {
         self.idle
-    }
-
-    /// A letter carries so many copies, and this phase number of the node. Whether its letters carried so many under this
-    /// number that another one would cost less.
-    pub fn carried(&mut self, number: u64, copies: u64) -> bool
-        ensures much { result ≡ is_much (carrying self.old.carried number copies) }
-        ensures after { self.new ≡ record self.old { carried = carrying self.old.carried number copies } }
-    {
-        self.carried.add(number, copies);
-        self.carried.is_much()
     }
 
     // Whether a call is the one that is kept open.
@@ -193,7 +220,7 @@ impl Outbox {
     fn is_wished(&self, wants_room: bool, number: u64) -> bool
         ensures { result ≡ is_wished self.now wants_room number }
     {
-        is_waited(self.waiting.as_slice(), number) || (wants_room && !self.is_idle(number))
+        self.is_waited(number) || (wants_room && !self.is_idle(number))
     }
 
     // What is wished for of some calls.
@@ -367,15 +394,16 @@ impl Outbox {
         }
     }
 
-    /// Whether it is time for the node to make its bid anew. It is asked before `next`, and what is then open again goes there.
+    /// Whether it is time for the node to retry its attempt. It is asked before `next`, and what is then open again
+    /// goes there.
     pub fn rebids<Q: Quorums>(&self, opened: &Opened<'_, Q>, now: u64) -> bool
         ensures { result ≡ rebids self.now (seen opened.now) now }
     {
         self.is_asked_bid(&opened.bid) && self.rebid_at <= now
     }
 
-    /// Whom the node writes to now, and when to look again at the latest. All of these letters are to be written: who is asked
-    /// counts as asked, and nobody is owed a letter any more.
+    /// Whom the node writes to now, and when to look again at the latest. All of these letters are to be written: those
+    /// asked count as asked, and nobody is owed a letter any more.
     pub fn next<Q: Quorums>(&mut self, opened: &Opened<'_, Q>, now: u64) -> Round
         ensures round { result ≡ round_of Q.system self.old (seen opened.now) now }
         ensures after { self.new ≡ after_round Q.system self.old (seen opened.now) now }

@@ -16,7 +16,7 @@ const LONGEST: u64 = 1000;
 // How often a pause doubles, until it is the longest one.
 const DOUBLINGS: u64 = 6;
 
-// The pause behind so many reminders: 20 ms for a second, and then twice as long each time, up to a second.
+// The pause after so many reminders: 20 ms for a second, and then twice as long each time, up to a second.
 pub(crate) fn pause(stood: u64) -> u64
     ensures { result ≡ pause stood }
 {

@@ -1,4 +1,4 @@
-//! What an outbox tells a node to do.
+//! What an outbox has a node do.
 
 use rambo_names::Members;
 

@@ -38,7 +38,7 @@ mine_with mine place (effect.Answered id answer) = mine
 mine_with mine place (effect.Collected n p) = mine
 mine_with mine place (effect.Decided n d) = mine
 
--- what was seen goes on by some steps and then this one, which was accepted and had this effect; a call is one entry more,
+-- what was seen goes on by some steps and then this one, which was accepted and had this effect; a call adds one entry,
 -- at its place
 pub record Acted {Q : Type 0} (s : QuorumSystem Q) (founders : Q) (before after : PassView Q) (st : Step Q) (e : Effect Q) : Type 0 where
   pub between : List (Step Q)
@@ -48,8 +48,8 @@ pub record Acted {Q : Type 0} (s : QuorumSystem Q) (founders : Q) (before after 
   pub told : e ≡ (turn (run s founders (before.seen ++ between)) st).effect
   pub mine : after.mine ≡ mine_with before.mine (length (before.seen ++ between)) e
 
--- the first half of a step was refused for this cause: by the rules of its kind in what the keeper had seen; or, where these
--- let it, for want of memory
+-- the first half of a step was refused for this cause: by the rules of its kind in what the keeper had seen; or out of
+-- memory, where these allow it
 abbrev pub IsRefusedHalf : {Q : Type 0} → QuorumSystem Q → Option Q → KeeperView Q → Step Q → Refusal → Type 0
 IsRefusedHalf {Q} s agreed k st r = (f : Q) → agreed ≡ Some f → IsRefusal (refusal s (run s f k.seen) st) r
 
@@ -59,7 +59,7 @@ pub record IsHalf {Q : Type 0} (s : QuorumSystem Q) (agreed : Option Q) (k : Kee
   pub made : IfOk half (λ r. r.step ≡ st)
   pub refused : IfErr half (IsRefusedHalf s agreed k st)
 
--- after some legal steps that these begin a step isn't refused, and there is room for it
+-- after some legal steps that begin with these a step isn't refused, and there is room for it
 pub record CouldGo {Q : Type 0} (s : QuorumSystem Q) (founders : Q) (most : ℕ) (seen : List (Step Q)) (st : Step Q) : Type 0 where
   pub later : List (Step Q)
   pub begins : IsPrefix seen later
@@ -67,7 +67,8 @@ pub record CouldGo {Q : Type 0} (s : QuorumSystem Q) (founders : Q) (most : ℕ)
   pub accepted : refusal s (run s founders later) st ≡ None
   pub room : length later < most
 
--- why a client's step isn't done: want of memory, where it could go; or what is told of it in what the client has then seen
+-- why a client's step isn't done: out of memory, where it could be taken; or the refusal of it in what the client has
+-- then seen
 abbrev pub WhyUndone : {Q : Type 0} → QuorumSystem Q → Q → ℕ → PassView Q → PassView Q → Step Q → Refusal → Type 0
 WhyUndone s founders most before after st r =
     ((r ≡ refused.OutOfMemory) × CouldGo s founders most before.seen st)
@@ -108,7 +109,7 @@ IsNone es id = All (λ e. e.id ≢ id) es
 abbrev pub IsOne : List Entry → CallId → Type 0
 IsOne es id = (at : ℕ) × IsEntry es id at
 
--- the places tell where each call stands that is one of these
+-- the places have the place of each call that is one of these
 abbrev pub AreFound : List Entry → List (CallId × ℕ) → Type 0
 AreFound es places = (id : CallId) → MatchOption (lookup (same_call id) places) (IsNone es id) (IsEntry es id)
 
@@ -124,15 +125,16 @@ IsGoing {Q} w name = (x : NodeState Q) × ((node_at w name ≡ Some x) × (is_st
 abbrev pub IsAnswered : {Q : Type 0} → WorldState Q → CallId → Type 0
 IsAnswered w id = is_some (answer_in w.history id) ≡ true
 
--- it has one after some legal steps that these begin
+-- it has one after some legal steps that begin with these
 pub record IsAnsweredLater {Q : Type 0} (s : QuorumSystem Q) (founders : Q) (seen : List (Step Q)) (id : CallId) : Type 0 where
   pub later : List (Step Q)
   pub begins : IsPrefix seen later
   pub legal : IsLegal s founders later
   pub answered : IsAnswered (run s founders later) id
 
--- why there is no answer: want of memory, where the call is this client's and has one; or it isn't this client's; or it is,
--- and its node has stopped in what was seen, where it has no answer
+-- why there is no answer. `OutOfMemory`: the call is this client's, and has an answer after some legal steps.
+-- `NoSuchCall`: it isn't this client's. `Stopped`: it is this client's, and its node has stopped in what was seen,
+-- where it has no answer
 abbrev pub WhyNot : {Q : Type 0} → QuorumSystem Q → Q → PassView Q → PassView Q → CallId → Refusal → Type 0
 WhyNot s founders before after id r =
     ((r ≡ refused.OutOfMemory) × ((after ≡ before) × (IsOne before.mine id × IsAnsweredLater s founders before.seen id)))

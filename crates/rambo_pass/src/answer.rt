@@ -26,9 +26,11 @@ fn share_twice(answer: Option<&Answer>) -> Result<Option<(Answer, Answer)>, Refu
     }
 }
 
-/// The answer of a call of this client, if the steps have one: the client has then seen all of them. Else the pass stays.
+/// The answer of a call of this client, if the steps have one: the client has then seen all of them. Else the pass is
+/// unchanged.
 ///
-/// `NoSuchCall` where the call isn't this client's; `OutOfMemory` where the answer can't be shared. The pass is then as it was.
+/// `NoSuchCall` where the call isn't this client's; `OutOfMemory` where the answer can't be shared. The pass is then
+/// unchanged.
 pub fn take_given<J: Terms<Q>, Q: Quorums>(
     book: &mut Book<J, Q>,
     pass: &mut Pass<J, Q>,
@@ -78,7 +80,8 @@ fn has_stopped<J: Terms<Q>, Q: Quorums, S: Replica>(
 /// The answer of a call of this client, who has then seen all steps.
 ///
 /// `NoSuchCall` where the call isn't this client's; `Stopped` where it has no answer and its node has stopped;
-/// `OutOfMemory` where the answer can't be shared. None where the steps have no answer of it yet, and its node goes on.
+/// `OutOfMemory` where the answer can't be shared. None where the steps have no answer of it yet, and its node hasn't
+/// stopped.
 pub fn take_in<J: Terms<Q>, Q: Quorums, S: Replica>(
     book: &mut Book<J, Q>,
     keeper: &mut Keeper<J, Q, S>,

@@ -1,7 +1,7 @@
 //! Passes: what a client has seen of a book, and its own calls.
 //!
 //! - `Pass`: what one client has seen, and its calls; `Entry`: one of these.
-//! - `named`: of whose node a step is.
+//! - `named`: whose step a step is.
 //! - `act_in`, `act_ready_in`, `call_in`, `take_given`, `take_in`, `meet_in`: what a client does.
 //! - `close_in`: the end, `Closed`; `Left`: what that leaves.
 #![tactic(auto)]

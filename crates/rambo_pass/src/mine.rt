@@ -13,7 +13,7 @@ use std::marker::Model;
 /// A call of a client.
 #[derive(Drop)]
 pub struct Entry {
-    /// How many steps stood before it.
+    /// How many steps were before it.
     pub place: usize,
     /// Its id.
     pub id: CallId,
@@ -42,7 +42,7 @@ impl Model for Mine {
 }
 
 impl Mine {
-    // No call. It takes no memory.
+    // No call. It allocates nothing.
     pub(crate) fn new(alloc: Global) -> Mine
         ensures { result.entries ≡ [] }
     {
@@ -52,7 +52,7 @@ impl Mine {
         }
     }
 
-    // Makes room for one call more.
+    // Makes room for one more call.
     pub(crate) fn reserve(&mut self) -> Result<(), AllocError>
         ensures entries { self.new.entries ≡ self.old.entries }
         ensures ok { OnOk result (0 < self.new.room) }
@@ -92,7 +92,7 @@ impl Mine {
     }
 }
 
-// Where a call stands from now on.
+// Notes the place of a call.
 fn put_place(places: &mut HashMap<CallId, usize>, id: &CallId, place: usize)
     requires { 0 < spare places.old }
     ensures { (q : CallId) → lookup (same_call q) places.new.entries ≡ (if same_call id.now q then Some place else lookup (same_call q) places.old.entries) }

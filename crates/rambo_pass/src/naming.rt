@@ -7,7 +7,7 @@ use rambo_deeds::{SharedLetter, named_by};
 use rambo_names::{Name, Quorums};
 use rambo_run::Step;
 
-/// Of whose node a step is, by what it says itself. None of a letter that comes: the book knows whom it is for.
+/// The node whose step a step is, by what it says itself. None for a delivery: the book knows the letter's addressee.
 pub fn named<Q: Quorums>(step: &Step<Q>) -> Option<Name>
     ensures { result ≡ name_in (meant_in [] step.now) }
 {

@@ -53,7 +53,7 @@ impl<J: Terms<Q>, Q: Quorums> Model for Pass<J, Q> {
 }
 
 impl<J: Terms<Q>, Q: Quorums> Pass<J, Q> {
-    /// A pass of a book that has seen nothing and made no call. It takes no memory.
+    /// A pass of a book that has seen nothing and made no call. It allocates nothing.
     ///
     /// `NoPassLeft` where 32 were given.
     pub fn new(alloc: Global, book: &mut Book<J, Q>) -> Result<Pass<J, Q>, Refusal>
@@ -113,8 +113,8 @@ fn note_call<Q: Quorums>(mine: &mut Mine, place: usize, effect: &Effect<Q>)
 
 /// Does a step for this client, who has then seen it.
 ///
-/// Refused is what the rules of the step's kind say, by the least number; else 23 where the book is full; else 22. After 22
-/// the pass is as before; after another number its calls are, and it has seen all steps.
+/// Refused with what the rules of the step's kind say, by the least number; else 23 where the book is full; else 22.
+/// After 22 the pass is as before; after another number its calls are, and it has seen all steps.
 pub fn act_in<J: Terms<Q>, Q: Quorums, S: Replica>(
     book: &mut Book<J, Q>,
     keeper: &mut Keeper<J, Q, S>,
@@ -153,7 +153,8 @@ pub fn act_in<J: Terms<Q>, Q: Quorums, S: Replica>(
     Ok(effect)
 }
 
-// Why a step is refused whose first half was refused for this cause: 23 where that was want of memory, and the book is full.
+// Why a step is refused whose first half was refused for this cause: 23 where that was out of memory, and the book is
+// full.
 fn unready<J: Terms<Q>, Q: Quorums, S: Replica>(
     book: &mut Book<J, Q>,
     keeper: &mut Keeper<J, Q, S>,
@@ -269,7 +270,7 @@ pub fn call_in<J: Terms<Q>, Q: Quorums, S: Replica>(
     }
 }
 
-/// Both have then seen what the longer one had, which the other begins.
+/// Both have then seen what the longer one had. What the other one had seen begins that.
 pub fn meet_in<J: Terms<Q>, Q: Quorums>(
     book: &mut Book<J, Q>,
     one: &mut Pass<J, Q>,

@@ -25,8 +25,8 @@ abbrev pub of_configurations : {Q : Type 0} → ℕ → List (Candidate Q)
 of_configurations name =
     record { step = step.AdvanceCollect name; change = change.AdvanceCollect } ∷ record { step = step.AdvanceRecon name; change = change.AdvanceRecon } ∷ []
 
--- of a node that has this tray: each letter comes, the oldest first; each open call goes on, the oldest first; its
--- collection goes on; its attempt goes on
+-- of a node that has this tray: each letter comes, the oldest first; each open call advances, the oldest first; its
+-- collection advances; its attempt advances
 abbrev pub candidates : {Q : Type 0} → NodeState Q → List (Mail Q) → List (Candidate Q)
 candidates x tray = map delivery tray ++ (map (advance x.name) x.calls ++ of_configurations x.name)
 

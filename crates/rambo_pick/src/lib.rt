@@ -1,4 +1,4 @@
-//! What a node does by itself: it hears letters, goes on with its calls, with its collection and with its attempt.
+//! What a node does by itself: it hears letters, and advances its calls, its collection and its attempt.
 //!
 //! - `first_step`: the first of these that it doesn't refuse.
 #![tactic(auto)]

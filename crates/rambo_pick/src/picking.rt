@@ -32,7 +32,7 @@ fn unmoved<Q: Quorums, S: Replica>(node: &Node<Q, S>, id: &CallId) -> Option<Ref
     }
 }
 
-// Why a node refuses a change that needs no memory, if it does.
+// Why a node refuses a change that allocates nothing, if it does.
 fn refused<Q: Quorums, S: Replica>(node: &Node<Q, S>, quick: &Quick<Q>) -> Option<Refusal>
     ensures { result ≡ refusal_of Q.system node.now.state (quick_change quick.now) }
 {
@@ -88,10 +88,11 @@ fn turned_first<Q: Quorums, S: Replica>(worker: &Worker<Q, S>) -> Option<Step<Q>
     None
 }
 
-/// What a node that has this tray does by itself: the first that it doesn't refuse of the delivery of each letter in the tray,
-/// the oldest first, the advance of each open call, the oldest first, and the advances of its collection and its attempt.
+/// What a node that has this tray does by itself: the first of these that it doesn't refuse. They are the delivery of
+/// each letter in the tray, the oldest first; the advance of each open call, the oldest first; the advances of its
+/// collection and its attempt.
 ///
-/// It takes no memory.
+/// It allocates nothing.
 pub fn first_step<Q: Quorums, S: Replica>(
     worker: &Worker<Q, S>,
     tray: &[Mail<Q>],

@@ -1,2 +1,1 @@
 pub mod Closings
-pub mod Happenings

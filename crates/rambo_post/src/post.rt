@@ -13,7 +13,7 @@ ghost use Rattle.rambo_run.specs.Legal.{IsLegal};
 ghost use Rattle.rambo_history.specs.Histories.{answer_in};
 ghost use Rattle.rambo_history.specs.Proper.{IsProperForAll};
 ghost use Rattle.rambo_pass.specs.Passes.{Acted, IsAnsweredLater, IsGoing, IsNone, IsNoted, IsOne, WhyNot, WhyUndone};
-ghost use Rattle.rambo_post.specs.Happened.{Happened, HasMap, HasTurned, IsHeldUp, IsLast};
+ghost use Rattle.rambo_visit.specs.Happened.{Happened, HasMap, HasNoRoom, HasTurned, IsHeldUp, IsLast};
 
 use crate::gate::Gate;
 use rambo_book::{Actor, Book, Keeper, Terms, ready};
@@ -22,6 +22,7 @@ use rambo_history::{Answer, CallId, Op};
 use rambo_mail::Mails;
 use rambo_names::{Members, Name, Quorums, Refusal};
 use rambo_node::Effect;
+use rambo_outbox::{Outbox, Waiter};
 use rambo_pass::{
     Closed, Pass, act_in, act_ready_in, call_in, close_in, meet_in, named, take_given, take_in,
 };
@@ -29,24 +30,37 @@ use rambo_roll::Opened;
 use rambo_run::{Step, may_found};
 use rambo_tag::Replica;
 use rambo_turn::{Turn, begin_in, commit_next, ready_next, send_in};
+use rambo_visit::{Visited, came_by, note, visit_in};
 use std::alloc::Global;
 use std::sync::{Mutex, MutexGuard, Wait};
 
-/// A lock for each keeper, and one for the book: a keeper's is taken before the book's, and no thread holds two keepers'.
+/// A lock for each keeper and for each node's outbox, and one for the book. A keeper's is taken before its outbox's, and the book's
+/// last; no thread holds two keepers'.
 ///
-/// What one list of steps promises holds of all that clients see, since each pass is a beginning of the book's steps.
+/// What holds of one list of steps holds of all that clients see, since each pass is a prefix of the book's steps.
 #[derive(Drop)]
 pub struct Post<J: Terms<Q>, Q: Quorums, S: Replica> {
     pub(crate) keepers: Vec<Mutex<Keeper<J, Q, S>>>,
+    pub(crate) outboxes: Vec<Mutex<Outbox>>,
     pub(crate) book: Mutex<Book<J, Q>>,
-    // Never filled: it tells the prover that a keeper has a size, which it doesn't see behind a `Vec`.
+    // Never filled: it tells the prover that a keeper has a size, which it doesn't see through a `Vec`.
     spare: Option<Mutex<Keeper<J, Q, S>>>,
     ghost names: { vec_len keepers ≡ 64 },
+    ghost boxes: { vec_len outboxes ≡ 64 },
+}
+
+/// A call that was made, for whose answer somebody waits.
+#[derive(Clone, Copy)]
+pub struct Asked {
+    /// Its id.
+    pub id: CallId,
+    /// Whether who waits will be given once it is answered. Else there was no room to note that.
+    pub is_awaited: bool,
 }
 
 impl<J: Terms<Q>, Q: Quorums, S: Replica> Post<J, Q, S> {
-    /// A post of these founders, whose nodes have done nothing, with room for so many steps. Each node's copies are made by
-    /// `fresh` of the replica.
+    /// A post of these founders, whose nodes have done nothing, with room for this many steps. Each node's copies are
+    /// made by `fresh` of the replica.
     ///
     /// `EmptyMembers` where there is no founder; `OutOfMemory` where there is no room for it.
     pub fn new(
@@ -87,6 +101,33 @@ impl<J: Terms<Q>, Q: Quorums, S: Replica> Post<J, Q, S> {
         ensures refused { IfErr result (IsRefusal (least (founding_causes Q.system founders))) }
     {
         may_found(founders)?;
+        let outboxes = outboxes_of(alloc)?;
+        Post::with_boxes(
+            alloc, opened, founders, capacity, replica, lose, twice, outboxes,
+        )
+    }
+
+    // The same, with these outboxes, which know of nothing.
+    fn with_boxes(
+        alloc: Global,
+        opened: Opened<Step<Q>, Actor>,
+        founders: Q,
+        capacity: usize,
+        replica: &S,
+        lose: u64,
+        twice: u64,
+        outboxes: Vec<Mutex<Outbox>>,
+    ) -> Result<Post<J, Q, S>, Refusal>
+        requires name { opened ≡ J.table }
+        requires founders { J.founders ≡ Some founders }
+        requires capacity { capacity ≡ J.capacity }
+        requires lose { lose ≡ J.lose }
+        requires twice { twice ≡ J.twice }
+        requires boxes { vec_len outboxes ≡ 64 }
+        ensures founded { OnOk result (least (founding_causes Q.system founders) ≡ None) }
+        ensures refused { IfErr result (IsRefusal (least (founding_causes Q.system founders))) }
+    {
+        may_found(founders)?;
         let mails = Mails::new(alloc, lose, twice)?;
         let mut roll = opened.named::<J>();
         // Nobody has the name 0.
@@ -103,12 +144,13 @@ impl<J: Terms<Q>, Q: Quorums, S: Replica> Post<J, Q, S> {
         }
         Ok(Post {
             keepers,
+            outboxes,
             book: Mutex::new(Book::new(alloc, founders, capacity, roll, mails)),
             spare: None,
         })
     }
 
-    /// A pass that has seen nothing and made no call. It takes no memory.
+    /// A pass that has seen nothing and made no call. It allocates nothing.
     ///
     /// `NoPassLeft` where 32 were given.
     pub fn pass<R: Wait>(&self, rt: &R, alloc: Global) -> Result<Pass<J, Q>, Refusal>
@@ -118,11 +160,12 @@ impl<J: Terms<Q>, Q: Quorums, S: Replica> Post<J, Q, S> {
         Pass::new(alloc, &mut self.book.lock(rt))
     }
 
-    /// Makes a call at a node for a client: its id. The client has then seen all steps up to it, and it stands last.
+    /// Makes a call at a node for a client, and returns its id. The client has then seen all steps up to it, and it is
+    /// the last.
     ///
-    /// Refused is what the rules of a call say, by the least number; else 23 where the book is full; else 22 where there is no
-    /// room. After 22 the pass is as before; after another number its calls are, and the cause holds in the run of what it
-    /// has then seen.
+    /// Refused with what the rules of a call say, by the least number; else 23 where the book is full; else 22 where
+    /// there is no room. After 22 the pass is as before; after another number its calls are, and the cause holds in the
+    /// run of what it has then seen.
     pub fn call<R: Wait>(
         &self,
         rt: &R,
@@ -139,8 +182,46 @@ impl<J: Terms<Q>, Q: Quorums, S: Replica> Post<J, Q, S> {
         self.call_noted(rt, pass, name, op, |_| {})
     }
 
-    /// The same, and tells `noted` of the call before its node takes another step: whoever is to know of all that the node
-    /// does for the call misses nothing of it. `noted` is told with the keeper's lock held, so it may use nothing of the post.
+    /// The same, for somebody who waits for the answer: a visit of the node gives them once the call is answered.
+    ///
+    /// It is refused as a call is, and nobody waits then.
+    pub fn ask<R: Wait>(
+        &self,
+        rt: &R,
+        pass: &mut Pass<J, Q>,
+        name: Name,
+        op: Op,
+        who: Waiter,
+    ) -> Result<Asked, Refusal>
+        ensures acted { IfOk result (λ a. (f : Q) → J.founders ≡ Some f → Acted Q.system f pass.old pass.new (Step.Call name op) (Effect.Called a.id)) }
+        ensures begins { IsPrefix pass.old.seen pass.new.seen }
+        ensures err { OnErr result (pass.new.mine ≡ pass.old.mine) }
+        ensures memory { IfErr result (λ r. r ≡ Refusal.OutOfMemory → pass.new ≡ pass.old) }
+        ensures cause { IfErr result (λ r. (f : Q) → J.founders ≡ Some f → WhyUndone Q.system f J.capacity pass.old pass.new (Step.Call name op) r) }
+    {
+        let outbox = &self.outboxes[place_of(name)];
+        let mut awaited = Ok(());
+        let called = self.call_noted(rt, pass, name, op, |id| {
+            awaited = outbox.lock(rt).await_call(id.number, who);
+        });
+        match called {
+            Ok(id) => Ok(Asked {
+                id,
+                is_awaited: awaited.is_ok(),
+            }),
+            Err(refusal) => Err(refusal),
+        }
+    }
+
+    /// Whoever waits by this name of a connection at a node doesn't wait any more. The call stays open, and nobody is asked for it.
+    pub fn give_up<R: Wait>(&self, rt: &R, name: Name, client: u32, connection: u32) {
+        self.outboxes[place_of(name)]
+            .lock(rt)
+            .leave(client, connection);
+    }
+
+    /// The same as `call`, and tells `noted` of the call before its node takes another step: whoever is to know of all that the node
+    /// does for the call misses nothing of it. `noted` is told with the keeper's lock held, so it may not wait for that.
     /// It is refused as a call is, and `noted` is told nothing then.
     pub fn call_noted<R: Wait, F: FnOnce(CallId)>(
         &self,
@@ -169,11 +250,12 @@ impl<J: Terms<Q>, Q: Quorums, S: Replica> Post<J, Q, S> {
         called
     }
 
-    /// Does a step for a client: what it did. The client has then seen all steps up to it, and it stands last.
+    /// Does a step for a client, and returns what it did. The client has then seen all steps up to it, and it is the
+    /// last.
     ///
-    /// Refused is what the rules of the step's kind say, by the least number; else 23 where the book is full; else 22 where
-    /// there is no room. After 22 the pass is as before; after another number its calls are, and the cause holds in the run
-    /// of what it has then seen.
+    /// Refused with what the rules of the step's kind say, by the least number; else 23 where the book is full; else 22
+    /// where there is no room. After 22 the pass is as before; after another number its calls are, and the cause holds
+    /// in the run of what it has then seen.
     pub fn act<R: Wait>(
         &self,
         rt: &R,
@@ -196,22 +278,24 @@ impl<J: Terms<Q>, Q: Quorums, S: Replica> Post<J, Q, S> {
         act_ready_in(&mut book, &mut keeper, pass, half)
     }
 
-    /// Sends a letter from one node to another: its number.
+    /// Sends a letter from one node to another, and returns its number.
     ///
-    /// Refused is what the rules of a send say, by the least number; else 23 where the book is full; else 22 where there is no
-    /// room.
+    /// Refused with what the rules of a send say, by the least number; else 23 where the book is full; else 22 where
+    /// there is no room.
     pub fn send<R: Wait>(&self, rt: &R, from: Name, to: Name) -> Result<u64, Refusal>
         ensures sent { IfOk result (λ number. (f : Q) → J.founders ≡ Some f → Happened Q.system f J.capacity (IsLast Q.system f (Step.Send from to) (Effect.Sent number))) }
         ensures told { IfErr result (λ r. (f : Q) → J.founders ≡ Some f → Happened Q.system f J.capacity (λ l. Told (refusal Q.system (run Q.system f l) (Step.Send from to)) (length l) J.capacity r)) }
     {
         let mut keeper = self.keeper_of(rt, from);
         let half = ready(*self.keepers.allocator(), &mut keeper, Step::Send(from, to));
+        let asks = keeper.is_open();
         let mut book = self.book.lock(rt);
-        send_in(&mut book, &mut keeper, from, to, half)
+        send_in(&mut book, &mut keeper, from, to, asks, half)
     }
 
-    /// To whom a worker of this name writes: while its node is joining or has a call, a collection or an attempt open, all
-    /// that it knows; else those whose marked letters it heard since this was last asked. Itself is never among them.
+    /// The nodes to which a worker of this name writes. While its node is joining or has a call, a collection or an
+    /// attempt open, these are all that it knows; else those whose marked letters it heard since this was last asked.
+    /// Itself is never among them.
     pub fn wanted<R: Wait>(&self, rt: &R, name: Name) -> Members
         ensures { set.contains result name ≡ false }
     {
@@ -224,7 +308,7 @@ impl<J: Terms<Q>, Q: Quorums, S: Replica> Post<J, Q, S> {
         if keeper.is_open() {
             return keeper.known();
         }
-        self.book.lock(rt).take_heard(name)
+        self.outboxes[place_of(name)].lock(rt).take_owed()
     }
 
     // Takes the lock of the keeper that may do the step, and then the book's.
@@ -324,10 +408,10 @@ impl<J: Terms<Q>, Q: Quorums, S: Replica> Post<J, Q, S> {
     /// The node of this name takes its mail, and does what it then picks. The book is free while the node picks, and makes the
     /// first half of that.
     ///
-    /// The gate is told when the mail was taken, all of it or as much as there was room for; when the first half is made, if there
-    /// is something to do; and when both locks are free again. The first and the last it is told whatever the turn answers.
-    /// Refused is 23 where the book is full and there is something to do, 22 where there is no room; the letters that it took
-    /// stay in its tray.
+    /// The gate is called when the mail was taken, all of it or as much as there was room for; when the first half is
+    /// made, if there is something to do; and when both locks are free again. The first and the last come whatever the
+    /// turn returns. Refused is 23 where the book is full and there is something to do, 22 where there is no room; the
+    /// letters that it took stay in its tray.
     pub fn turn<R: Wait, G: Gate>(&self, rt: &R, name: Name, gate: &G) -> Result<Turn<Q>, Refusal>
         ensures told { IfOk result (λ t. (f : Q) → J.founders ≡ Some f → HasTurned Q.system f J.capacity name t) }
         ensures cause { IfErr result (λ r. (r ≡ Refusal.OutOfMemory) ⊎ ((r ≡ Refusal.HistoryFull) × ((f : Q) → J.founders ≡ Some f → IsHeldUp Q.system f J.capacity name))) }
@@ -354,8 +438,27 @@ impl<J: Terms<Q>, Q: Quorums, S: Replica> Post<J, Q, S> {
             return Ok(Turn::Nothing);
         };
         gate.prepared(name);
+        let came = came_by(&keeper, &half.step);
         let mut again = self.book.lock(rt);
-        commit_next(&mut again, &mut keeper, half)
+        let turn = commit_next(&mut again, &mut keeper, half);
+        drop(again);
+        self.note_turn(rt, name, &keeper, &turn, came);
+        turn
+    }
+
+    // The outbox of this name knows what a turn did, of a letter of this sender that asks or doesn't, if of one.
+    fn note_turn<R: Wait>(
+        &self,
+        rt: &R,
+        name: Name,
+        keeper: &Keeper<J, Q, S>,
+        turn: &Result<Turn<Q>, Refusal>,
+        came: Option<(Name, bool)>,
+    ) {
+        if let Ok(Turn::Did(step)) = turn {
+            let mut outbox = self.outboxes[place_of(name)].lock(rt);
+            note(&mut outbox, keeper, step, came);
+        }
     }
 
     // The keeper takes its mail.
@@ -366,13 +469,61 @@ impl<J: Terms<Q>, Q: Quorums, S: Replica> Post<J, Q, S> {
         begin_in(&mut self.book.lock(rt), keeper)
     }
 
-    /// Whether the letters of the node of this name carried so many copies since its phase number last rose that a call, by
-    /// which that rises, would have cost less.
-    pub fn carries_much<R: Wait>(&self, rt: &R, name: Name) -> bool {
-        self.keeper_of(rt, name).carries_much()
+    /// Does all that there is to do at the node of this name, by one thread at one go: the node takes its mail, and all steps that
+    /// it may take by itself, and writes the letters that are wanted. Who waited for a call that was answered meanwhile is given.
+    ///
+    /// The time is in milliseconds since one moment, and it is told whether somebody waits for room for a call. The gate is told when
+    /// the mail was taken, all of it or as much as there was room for, and when the keeper's lock is free again. Left is 23 where
+    /// the book is full and there is something to do, 22 where memory is out; what was left is done by a later visit.
+    pub fn visit<R: Wait, G: Gate>(
+        &self,
+        rt: &R,
+        gate: &G,
+        name: Name,
+        now: u64,
+        wants_room: bool,
+        given: &mut Vec<Waiter>,
+    ) -> Visited
+        ensures cause { IfSome result.left (HasNoRoom Q.system J.founders J.capacity) }
+    {
+        let visited = self.visit_held(rt, gate, name, now, wants_room, given);
+        gate.ended(name);
+        visited
     }
 
-    /// The map of the node of this name. It takes no memory.
+    // What it does with the keeper's lock held.
+    fn visit_held<R: Wait, G: Gate>(
+        &self,
+        rt: &R,
+        gate: &G,
+        name: Name,
+        now: u64,
+        wants_room: bool,
+        given: &mut Vec<Waiter>,
+    ) -> Visited
+        ensures cause { IfSome result.left (HasNoRoom Q.system J.founders J.capacity) }
+    {
+        let mut keeper = self.keeper_of(rt, name);
+        let begun = self.begin(rt, &mut keeper);
+        gate.working(name);
+        if let Err(refusal) = begun {
+            return Visited::left(Members::empty(), refusal, now);
+        }
+        let mut outbox = self.outboxes[place_of(name)].lock(rt);
+        let alloc = *self.keepers.allocator();
+        visit_in(
+            rt,
+            alloc,
+            &self.book,
+            &mut keeper,
+            &mut outbox,
+            now,
+            wants_room,
+            given,
+        )
+    }
+
+    /// The map of the node of this name. It allocates nothing.
     pub fn map<R: Wait>(&self, rt: &R, name: Name) -> ConfigMap<Q>
         ensures { (f : Q) → J.founders ≡ Some f → Happened Q.system f J.capacity (λ l. HasMap (run Q.system f l) name result) }
     {
@@ -381,8 +532,8 @@ impl<J: Terms<Q>, Q: Quorums, S: Replica> Post<J, Q, S> {
         keeper.map()
     }
 
-    /// Two clients meet: both have then seen what the one had that had seen more, which what the other had seen begins. So
-    /// what either calls later stands behind all that both had seen.
+    /// Two clients meet. Both have then seen what the one had that had seen more; what the other had seen begins that.
+    /// So what either calls later comes after all that both had seen.
     pub fn meet<R: Wait>(
         &self,
         rt: &R,
@@ -397,8 +548,8 @@ impl<J: Terms<Q>, Q: Quorums, S: Replica> Post<J, Q, S> {
         Ok(())
     }
 
-    /// All steps: none was refused in its turn, and what each client has seen begins them. And the one order of the calls in
-    /// them, which is None where there is no room for it; nothing else here takes memory.
+    /// All steps: none was refused in its turn, and what each client has seen begins them. Also the one order of the
+    /// calls in them, which is None where there is no room for it; nothing else here allocates.
     pub fn close(self, passes: Vec<Pass<J, Q>>) -> Closed<J, Q>
         ensures legal { (f : Q) → J.founders ≡ Some f → IsLegal Q.system f result.steps }
         ensures fits { length result.steps ≤ J.capacity }
@@ -408,6 +559,7 @@ impl<J: Terms<Q>, Q: Quorums, S: Replica> Post<J, Q, S> {
     {
         let Post {
             keepers: _keepers,
+            outboxes: _outboxes,
             book,
             spare: _spare,
         } = self;
@@ -420,4 +572,16 @@ fn place_of(name: Name) -> usize
     ensures { result < 64 }
 {
     name.number() as usize - 1
+}
+
+// An outbox for each of the 64 names.
+fn outboxes_of(alloc: Global) -> Result<Vec<Mutex<Outbox>>, Refusal>
+    ensures all { IfOk result (λ o. vec_len o ≡ 64) }
+    ensures refused { IfErr result (λ r. r ≡ Refusal.OutOfMemory) }
+{
+    let mut outboxes = Vec::new(alloc);
+    for place in 0..64u64 {
+        outboxes.push(Mutex::new(Outbox::new(alloc)))?;
+    }
+    Ok(outboxes)
 }

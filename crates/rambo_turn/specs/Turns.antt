@@ -22,7 +22,7 @@ first_of {Q} s w sts = find (λ (st : Step Q). is_none (refusal s w st)) sts
 abbrev pub steps_of : {Q : Type 0} → NodeState Q → List (Mail Q) → List (Step Q)
 steps_of {Q} x tray = map (λ (c : Candidate Q). c.step) (candidates x tray)
 
--- a book has a step more
+-- a book has one more step
 abbrev pub longer : {Q : Type 0} → BookView Q → Step Q → BookView Q
 longer b st = record b { steps = b.steps ++ st ∷ [] }
 

@@ -14,7 +14,7 @@ use rambo_tag::Replica;
 /// The step that a keeper does by itself: the first that isn't refused of the delivery of each letter in the tray, the
 /// oldest first, the advance of each open call, the oldest first, and the advances of its collection and its attempt.
 ///
-/// It takes no memory.
+/// It allocates nothing.
 pub fn pick<J: Terms<Q>, Q: Quorums, S: Replica>(keeper: &Keeper<J, Q, S>) -> Option<Step<Q>>
     ensures first { (f : Q) → J.founders ≡ Some f → result ≡ first_of Q.system (run Q.system f keeper.now.seen) (steps_of keeper.now.node keeper.now.tray) }
     ensures own { (f : Q) → J.founders ≡ Some f → IfSome result (λ st. (m : Meant _) → meant_in [] st ≡ Some m → m.name ≡ keeper.now.name) }

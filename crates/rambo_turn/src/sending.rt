@@ -1,9 +1,9 @@
 //! A letter is sent.
-ghost use Rattle.std.specs.Prelude.{◌≡◌, ◌<◌, ◌≤◌, ◌++◌, ◌∷◌, [], None, Some, length, OnOk, OnErr, IfOk, IfErr};
+ghost use Rattle.std.specs.Prelude.{◌≡◌, ◌<◌, ◌≤◌, ◌++◌, ◌∷◌, [], Option, None, Some, length, OnOk, OnErr, IfOk, IfErr};
 ghost use Rattle.rambo_run.specs.Legal.{IsLegal};
 ghost use Rattle.rambo_run.specs.Steps.{refusal, turn};
 ghost use Rattle.rambo_book.specs.Readying.{IsReadyFor};
-ghost use Rattle.rambo_book.specs.Kept.{IsServedBy, Told, state};
+ghost use Rattle.rambo_book.specs.Kept.{IsServedBy, KeeperView, Told, state};
 ghost use Rattle.rambo_book.specs.Mailing.{waiting_after};
 
 use rambo_book::{Book, Keeper, Ready, Terms, commit_ready, may_commit};
@@ -29,14 +29,24 @@ fn why_not<J: Terms<Q>, Q: Quorums, S: Replica>(
     }
 }
 
-/// Sends a letter from the keeper's node to another, of which the first half was made, or refused: its number.
+// The same step, whose letter asks for one in return or doesn't.
+fn asking_if<Q: Quorums>(ready: Ready<Q>, asks: bool) -> Ready<Q>
+    ensures step { result.step ≡ ready.step }
+    ensures ready { (agreed : Option Q) (k : KeeperView Q) → IsReadyFor Q.system agreed k ready → IsReadyFor Q.system agreed k result }
+{
+    if asks { ready.asking() } else { ready }
+}
+
+/// Sends a letter from the keeper's node to another, of which the first half was made, or refused: its number. Whether it asks
+/// for one in return is given.
 ///
-/// Refused is what the rules of a send say, by the least number; else 23 where the book is full; else 22.
+/// Refused with what the rules of a send say, by the least number; else 23 where the book is full; else 22.
 pub fn send_in<J: Terms<Q>, Q: Quorums, S: Replica>(
     book: &mut Book<J, Q>,
     keeper: &mut Keeper<J, Q, S>,
     from: Name,
     to: Name,
+    asks: bool,
     ready: Result<Ready<Q>, Refusal>,
 ) -> Result<u64, Refusal>
     requires name { keeper.old.name ≡ from }
@@ -56,7 +66,7 @@ pub fn send_in<J: Terms<Q>, Q: Quorums, S: Replica>(
     let Ok(ready) = ready else {
         return Err(why_not(book, keeper, &Step::Send(from, to)));
     };
-    match commit_ready(book, keeper, ready)? {
+    match commit_ready(book, keeper, asking_if(ready, asks))? {
         Effect::Sent(number) => Ok(number),
         _ => unreachable!(),
     }

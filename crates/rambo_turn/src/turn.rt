@@ -25,7 +25,8 @@ pub enum Turn<Q: Quorums> {
     Nothing,
 }
 
-/// A turn begins: the keeper has seen all steps, and takes its mail. What has stopped hears nothing more, and leaves it.
+/// A turn begins: the keeper has seen all steps, and takes its mail. A node that has stopped hears nothing more, and
+/// leaves it.
 ///
 /// `OutOfMemory` where there is no room for a letter; those before it were taken, and the others wait.
 pub fn begin_in<J: Terms<Q>, Q: Quorums, S: Replica>(
@@ -76,8 +77,8 @@ fn clear_up<J: Terms<Q>, Q: Quorums, S: Replica>(keeper: &mut Keeper<J, Q, S>, s
 
 /// The second half of what the keeper picked, a turn's end. A letter that came leaves its tray, once where it is there twice.
 ///
-/// `HistoryFull` where the book is full, else `OutOfMemory` where it has no room for the step; book and keeper are then as
-/// before.
+/// `HistoryFull` where the book is full, else `OutOfMemory` where it has no room for the step; book and keeper are then
+/// unchanged.
 pub fn commit_next<J: Terms<Q>, Q: Quorums, S: Replica>(
     book: &mut Book<J, Q>,
     keeper: &mut Keeper<J, Q, S>,

@@ -12,7 +12,7 @@ use Rattle.rambo_deeds.specs.Deeds.{event_of, letter_of, mark_of}
 use Rattle.rambo_book.specs.Kept.{BookView, Told, lightened, state}
 use Rattle.rambo_run.specs.Runs.{run}
 use Rattle.rambo_run.specs.Actors.{sent_by}
-use Rattle.rambo_mail.specs.Waiting.{MailState}
+use Rattle.rambo_mail.specs.Waiting.{MailState, numbers_of}
 use Rattle.rambo_book.specs.Mailing.{waiting_after}
 use Rattle.rambo_book.proofs.Posting.{same_to, posted_lose, posted_twice, posted_waiting, kept_with}
 use Rattle.rambo_book.proofs.Commits.{book_same, counted_light, ready_inside, half_here, finished_here, book_after, keeper_after}
@@ -57,9 +57,9 @@ invariant_of-book-2 g c =
     let done = finished_here c.book.invariant.0 c.keeper.invariant c.agree.ensures.idle c.args.ready.step c.keeper.inside.worker.room c.keeper.inside.tray.items c.keeper.inside.holder.1 c.args.ready.half ready c.make_room.new.letters.items c.make_room.ensures.same.1 c.finish-effect.new.worker c.finish-effect.result (c.finish-effect.ensures.node ready.change step) (c.finish-effect.ensures.beside ready.change step) (c.finish-effect.ensures.effect ready.change step) in
     let less : length c.book.inside.steps.items < c.book.inside.capacity = omega (arith, c.if-len-capacity.false, c.len.ensures, c.book.inside.steps.ok.0) in
     let m = c.make_room.new.mails in
-    let p = c.posting_of-posting.result in
+    let p = c.new-posting.result in
     let n = c.len-2.result in
-    let posted = c.post.ensures (same_to p.to m.ready (sent_by c.args.ready.step) c.posting_of-posting.ensures c.in-Ok.ensures.ready) in
+    let posted = c.post.ensures (same_to p.to m.ready (sent_by c.args.ready.step) c.new-posting.ensures.to c.in-Ok.ensures.ready) in
     let lose = ap (λ (m : MailState). m.lose) posted ∙ posted_lose m p n ∙ ap (λ (m : MailState). m.lose) room.4 in
     let twice = ap (λ (m : MailState). m.twice) posted ∙ posted_twice m p n ∙ ap (λ (m : MailState). m.twice) room.4 in
     let book = book_after c.book.invariant.0 c.keeper.invariant c.agree.ensures.idle c.args.ready.step done c.add.new.self.1 c.push_reserved.new.self.items c.leave_out_copies.new.letters.items c.finish-effect.new.history.events c.finish-effect.new.marks.items less
@@ -98,37 +98,37 @@ returns-clause-effect g c =
 pub returns-clause-book : goal.returns-clause-book
 returns-clause-book g c =
     let m = c.make_room.new.mails in
-    let p = c.posting_of-posting.result in
+    let p = c.new-posting.result in
     let n = c.len-2.result in
-    let posted = c.post.ensures (same_to p.to m.ready (sent_by c.args.ready.step) c.posting_of-posting.ensures c.in-Ok.ensures.ready) in
+    let posted = c.post.ensures (same_to p.to m.ready (sent_by c.args.ready.step) c.new-posting.ensures.to c.in-Ok.ensures.ready) in
     let lose = ap (λ (m : MailState). m.lose) posted ∙ posted_lose m p n ∙ ap (λ (m : MailState). m.lose) c.make_room.ensures.same.4 in
     let twice = ap (λ (m : MailState). m.twice) posted ∙ posted_twice m p n ∙ ap (λ (m : MailState). m.twice) c.make_room.ensures.same.4 in
     (λ i. record {
       founders = c.book.inside.founders;
       steps = (c.push_reserved.ensures.items ∙ ap (λ l. l ++ c.args.ready.step ∷ []) c.make_room.ensures.same.0) i;
       capacity = c.book.inside.capacity;
-      waiting = c.post.new.self.waiting;
+      waiting = numbers_of c.post.new.self.waiting;
       lose = lose i;
       twice = twice i;
     })
-    ∙ ap (λ (b : BookView _). record b { steps = b.steps ++ c.args.ready.step ∷ []; waiting = c.post.new.self.waiting }) c.book.view_is
+    ∙ ap (λ (b : BookView _). record b { steps = b.steps ++ c.args.ready.step ∷ []; waiting = numbers_of c.post.new.self.waiting }) c.book.view_is
 
 pub returns-clause-waiting : goal.returns-clause-waiting
 returns-clause-waiting g c =
     let s = g.Q.Quorums.system in
     let m = c.make_room.new.mails in
-    let p = c.posting_of-posting.result in
+    let p = c.new-posting.result in
     let n = c.len-2.result in
-    let posted = c.post.ensures (same_to p.to m.ready (sent_by c.args.ready.step) c.posting_of-posting.ensures c.in-Ok.ensures.ready) in
+    let posted = c.post.ensures (same_to p.to m.ready (sent_by c.args.ready.step) c.new-posting.ensures.to c.in-Ok.ensures.ready) in
     let ready = ready_inside s _ _ _ _ c.args.ready c.book.view_is c.keeper.view_is c.requires in
     let step = half_here c.book.invariant.0 c.keeper.invariant c.agree.ensures.idle c.args.ready.step c.keeper.inside.worker.room c.keeper.inside.tray.items c.keeper.inside.holder.1 c.args.ready.half ready c.make_room.new.letters.items c.make_room.ensures.same.1 in
     let done = finished_here c.book.invariant.0 c.keeper.invariant c.agree.ensures.idle c.args.ready.step c.keeper.inside.worker.room c.keeper.inside.tray.items c.keeper.inside.holder.1 c.args.ready.half ready c.make_room.new.letters.items c.make_room.ensures.same.1 c.finish-effect.new.worker c.finish-effect.result (c.finish-effect.ensures.node ready.change step) (c.finish-effect.ensures.beside ready.change step) (c.finish-effect.ensures.effect ready.change step) in
     let letters = c.leave_out_copies.ensures ∙ ap (λ ls. lightened ls c.delivered-came.result) (c.finish-effect.ensures.letters ∙ ap (λ ls. with_letter ls (letter_of c.args.ready.half)) c.make_room.ensures.same.1) in
     let steps = c.push_reserved.ensures.items ∙ ap (λ l. l ++ c.args.ready.step ∷ []) c.make_room.ensures.same.0 in
     let count = c.len-2.ensures ∙ c.leave_out_copies.new.letters.ok.0 ∙ ap length letters ∙ counted_light done c.delivered-came.result ∙ ap (λ l. length (run s c.book.inside.founders l).letters) (sym steps) in
-    ap (λ (m : MailState). m.waiting) posted
+    ap (λ (m : MailState). numbers_of m.waiting) posted
     ∙ posted_waiting c.book.inside.founders c.book.inside.steps.items c.book.inside.capacity m p n
-    ∙ (λ i. waiting_after (kept_with c.book.inside.founders c.book.inside.steps.items c.book.inside.capacity (c.make_room.ensures.same.4 i)) (c.posting_of-posting.ensures i) (count i))
+    ∙ (λ i. waiting_after (kept_with c.book.inside.founders c.book.inside.steps.items c.book.inside.capacity (c.make_room.ensures.same.4 i)) (c.new-posting.ensures.to i) (count i))
     ∙ ap (λ b. waiting_after b (sent_by c.args.ready.step) (length (run s c.book.inside.founders c.push_reserved.new.self.items).letters)) c.book.view_is
 
 pub returns-clause-keeper : goal.returns-clause-keeper
@@ -142,10 +142,7 @@ returns-clause-node g c =
     let ready = ready_inside s _ _ _ _ c.args.ready c.book.view_is c.keeper.view_is c.requires in
     let step = half_here c.book.invariant.0 c.keeper.invariant c.agree.ensures.idle c.args.ready.step c.keeper.inside.worker.room c.keeper.inside.tray.items c.keeper.inside.holder.1 c.args.ready.half ready c.make_room.new.letters.items c.make_room.ensures.same.1 in
     let done = finished_here c.book.invariant.0 c.keeper.invariant c.agree.ensures.idle c.args.ready.step c.keeper.inside.worker.room c.keeper.inside.tray.items c.keeper.inside.holder.1 c.args.ready.half ready c.make_room.new.letters.items c.make_room.ensures.same.1 c.finish-effect.new.worker c.finish-effect.result (c.finish-effect.ensures.node ready.change step) (c.finish-effect.ensures.beside ready.change step) (c.finish-effect.ensures.effect ready.change step) in
-    (λ i. node_at (state s (record { founders = c.book.inside.founders; steps = (c.push_reserved.ensures.items ∙ ap (λ l. l ++ c.args.ready.step ∷ []) c.make_room.ensures.same.0) i; capacity = c.book.inside.capacity; waiting = c.post.new.self.waiting; lose = c.post.new.self.lose; twice = c.post.new.self.twice })) (sym c.keeper.view_is i).name) ∙ done.node
-
-pub posting_of-posting-requires : goal.posting_of-posting-requires
-posting_of-posting-requires g c = back_fits _ _ _ (up_fits _ _ _ c.requires-raw.1.1.1.0)
+    (λ i. node_at (state s (record { founders = c.book.inside.founders; steps = (c.push_reserved.ensures.items ∙ ap (λ l. l ++ c.args.ready.step ∷ []) c.make_room.ensures.same.0) i; capacity = c.book.inside.capacity; waiting = numbers_of c.post.new.self.waiting; lose = c.post.new.self.lose; twice = c.post.new.self.twice })) (sym c.keeper.view_is i).name) ∙ done.node
 
 pub invariant_of-book : goal.invariant_of-book
 invariant_of-book g c = (book_same c.agree.new.self.1 c.book.inside.steps.items c.book.inside.letters.items c.book.inside.history.events c.book.inside.marks.items c.book.invariant.0 (ap (λ r. r.1) c.agree.ensures.roll) refl refl refl refl, c.book.invariant.1, c.book.invariant.2)

@@ -1,4 +1,4 @@
-use Rattle.std.proofs.Common.{◌≡◌, None, sym, ap, ◌∙◌, subst}
+use Rattle.std.proofs.Common.{◌≡◌, None, false, sym, ap, ◌∙◌, subst}
 use Rattle.std.specs.Option.{option_copied}
 use Rattle.rambo_names.specs.declared.refusal.Refusal.TheVariants.{OutOfMemory}
 use Rattle.rambo_names.specs.Refusals.{IsRefusal}
@@ -42,7 +42,7 @@ returns-clause-ready g c =
     let legal = verdict c.book.invariant.0 c.keeper.invariant c.agree.ensures.idle c.args.step served (option_copied c.letter_named-letter.result) c.as_slice.result.now c.as_slice.ensures.value c.letter_named-letter.ensures.meant ∙ c.in_ok-half.ensures.judged in
     let letter = c.letter_named-letter.ensures.letter ∙ ap (λ ls. letter_in ls c.args.step) c.as_slice.ensures.value in
     let named = c.letter_named-letter.ensures.meant ∙ ap (λ ls. meant_in ls c.args.step) c.as_slice.ensures.value in
-    subst (λ b. IsReadyIn s (state s b) (record { name = c.keeper.inside.name; node = c.ready.new.self.state; room = c.ready.new.self.room; beside = c.ready.new.self.beside; tray = c.keeper.inside.tray.items; seen = c.agree.new.keeper.1 }) (record { step = c.args.step; half = c.in_ok-half.half })) c.book.view_is
+    subst (λ b. IsReadyIn s (state s b) (record { name = c.keeper.inside.name; node = c.ready.new.self.state; room = c.ready.new.self.room; beside = c.ready.new.self.beside; tray = c.keeper.inside.tray.items; seen = c.agree.new.keeper.1 }) (record { step = c.args.step; half = c.in_ok-half.half; asks = false })) c.book.view_is
     (ready_here c.book.invariant.0 c.keeper.invariant c.agree.ensures.idle c.args.step served (option_copied c.letter_named-letter.result) c.in_ok-half.half c.ready.new.self c.keeper.inside.tray.items c.agree.new.keeper.1 c.ready.ensures.same letter named legal c.in_ok-half.ensures.ready)
 
 pub returns-in_err-half-clause-refused : goal.returns-in_err-half-clause-refused

@@ -13,16 +13,16 @@ use Rattle.rambo_book.proofs.mail.take_letter.Goals as goal
 pub invariant_of-keeper-2 : goal.invariant_of-keeper-2
 invariant_of-keeper-2 g c =
     let same = ap (λ (k : KeeperView _). k.seen) c.keeper.view_is ∙ c.requires ∙ sym (ap (λ (b : BookView _). b.steps) c.book.view_is) in
-    let there = ap (λ ls. letter_at ls c.args.number) (sym c.as_slice.ensures.value) ∙ sym c.in-Some.ensures ∙ ap Some (sym c.in_ok-letter.ensures.same) in
+    let there = ap (λ ls. letter_at ls c.args.entry.number) (sym c.as_slice.ensures.value) ∙ sym c.in-Some.ensures ∙ ap Some (sym c.in_ok-letter.ensures.same) in
     let own = ap (λ (l : Letter _). l.addressee) c.in_ok-letter.ensures.same ∙ sym c.addressee.ensures ∙ eqb-true c.addressee.result c.keeper.inside.name (not-false (nat_eq c.addressee.result c.keeper.inside.name) (sym c.ne.ensures ∙ c.if-ne.false)) in
-    tray_more c.book.invariant.0 c.keeper.invariant same c.args.number c.in_ok-letter.letter c.push_reserved.new.self.items there own
-    (c.push_reserved.ensures.items ∙ ap (λ tray. tray ++ record { number = c.args.number; letter = c.in_ok-letter.letter } ∷ []) c.in_ok-reserve.ensures.items)
+    tray_more c.book.invariant.0 c.keeper.invariant same c.args.entry.number c.args.entry.asks c.in_ok-letter.letter c.push_reserved.new.self.items there own
+    (c.push_reserved.ensures.items ∙ ap (λ tray. tray ++ record { number = c.args.entry.number; asks = c.args.entry.asks; letter = c.in_ok-letter.letter } ∷ []) c.in_ok-reserve.ensures.items)
 
 pub returns-in_default-clause-tray : goal.returns-in_default-clause-tray
 returns-in_default-clause-tray g c =
     let s = g.Q.Quorums.system in
     let b = c.book.inside in
-    let n = c.args.number in
+    let n = c.args.entry.number in
     let k = c.args.keeper.now in
     let other = ap (λ ls. goes_to k.name (letter_at ls n)) (sym c.as_slice.ensures.value) ∙ ap (goes_to k.name) (sym c.in_default.ensures) in
     subst (λ b. IsBehind k.tray (sent_to (state s b) k.name (n ∷ [])) k.tray) c.book.view_is
@@ -37,7 +37,7 @@ returns-then-ne-clause-tray g c =
     let s = g.Q.Quorums.system in
     let b = c.book.inside in
     let k = c.keeper.inside in
-    let n = c.args.number in
+    let n = c.args.entry.number in
     let tray = k.tray.items in
     let there = ap (λ ls. letter_at ls n) (sym c.as_slice.ensures.value) ∙ sym c.in-Some.ensures in
     let other = ap (goes_to k.name) there ∙ ap (λ a. nat_eq a k.name) (sym c.addressee.ensures) ∙ unlike (nat_eq c.addressee.result k.name) (sym c.ne.ensures ∙ c.if-ne.true) in
@@ -50,11 +50,11 @@ returns-clause-tray g c =
     let s = g.Q.Quorums.system in
     let b = c.book.inside in
     let k = c.keeper.inside in
-    let n = c.args.number in
+    let n = c.args.entry.number in
     let there = ap (λ ls. letter_at ls n) (sym c.as_slice.ensures.value) ∙ sym c.in-Some.ensures in
     let own : nat_eq c.addressee.result k.name ≡ true = not-false (nat_eq c.addressee.result k.name) (sym c.ne.ensures ∙ c.if-ne.false) in
     let here = ap (goes_to k.name) there ∙ ap (λ a. nat_eq a k.name) (sym c.addressee.ensures) ∙ own in
-    let mail : Mail _ = record { number = n; letter = c.in_ok-letter.letter } in
+    let mail : Mail _ = record { number = n; asks = c.args.entry.asks; letter = c.in_ok-letter.letter } in
     let pushed : IsBehind k.tray.items (sent_to (run s b.founders b.steps.items) k.name (n ∷ [])) c.push_reserved.new.self.items = record {
       more = mail ∷ [];
       tray = c.push_reserved.ensures.items ∙ ap (λ tray. tray ++ mail ∷ []) c.in_ok-reserve.ensures.items;

@@ -8,7 +8,7 @@ use Rattle.rambo_book.proofs.Taking.{none_taken, next_below, one_more, all_taken
 use Rattle.rambo_book.proofs.mail.take_mail.Goals as goal
 
 pub take_letter-requires : goal.take_letter-requires
-take_letter-requires g c = (c.requires-raw.1.1.1.0, ap (λ (k : KeeperView _). k.seen) c.loop-number.invariant.1 ∙ c.requires ∙ ap (λ (b : BookView _). b.steps) (sym c.loop-number.invariant.0))
+take_letter-requires g c = (c.requires-raw.1.1.1.0, ap (λ (k : KeeperView _). k.seen) c.loop-entry.invariant.1 ∙ c.requires ∙ ap (λ (b : BookView _). b.steps) (sym c.loop-entry.invariant.0))
 
 pub returns-then-has_stopped-clause-all : goal.returns-then-has_stopped-clause-all
 returns-then-has_stopped-clause-all g c =
@@ -17,30 +17,30 @@ returns-then-has_stopped-clause-all g c =
     let w = state g.Q.Quorums.system b in
     subst (λ count. AreTaken w k.name count b.waiting b.waiting k.tray k.tray) (ap (λ t. if t then 0 else length (waiting_for b.waiting k.name)) c.if-has_stopped.ensures) (none_taken w k.name b.waiting k.tray)
 
-pub loop-number-init : goal.loop-number-init
-loop-number-init g c =
+pub loop-entry-init : goal.loop-entry-init
+loop-entry-init g c =
     let b = c.args.book.now in
     let k = c.args.keeper.now in
     (refl, refl, 0, omega arith, none_taken (state g.Q.Quorums.system b) k.name b.waiting k.tray)
 
-pub loop-number-smaller : goal.loop-number-smaller
-loop-number-smaller g c =
-    let b = c.loop-number.book in
+pub loop-entry-smaller : goal.loop-entry-smaller
+loop-entry-smaller g c =
+    let b = c.loop-entry.book in
     let named = c.name-name.ensures in
     let first = c.in-Some.ensures ∙ ap (λ n. slice_get (waiting_for b.waiting n) 0) named in
     let rest = ap (λ (b : BookView _). b.waiting) c.drop_mail.ensures ∙ ap (λ n. with_waiting b.waiting n (drop 1 (waiting_for b.waiting n))) named in
-    fewer b.waiting c.drop_mail.new.self.waiting c.args.keeper.now.name c.in-Some.number first rest
+    fewer b.waiting c.drop_mail.new.self.waiting c.args.keeper.now.name c.in-Some.entry.number first rest
 
-pub loop-number-preserved : goal.loop-number-preserved
-loop-number-preserved g c =
+pub loop-entry-preserved : goal.loop-entry-preserved
+loop-entry-preserved g c =
     let s = g.Q.Quorums.system in
     let b = c.args.book.now in
     let k = c.args.keeper.now in
     let w = state s b in
-    let book = c.loop-number.book in
-    let keeper = c.loop-number.keeper in
-    let inv = c.loop-number.invariant in
-    let number = c.in-Some.number in
+    let book = c.loop-entry.book in
+    let keeper = c.loop-entry.keeper in
+    let inv = c.loop-entry.invariant in
+    let number = c.in-Some.entry.number in
     let tray = c.take_letter.new.keeper.tray in
     let named = c.name-name.ensures in
     let first = c.in-Some.ensures ∙ ap (λ n. slice_get (waiting_for book.waiting n) 0) named in
@@ -62,11 +62,11 @@ returns-in_err-take_letter-clause-some g c =
     let b = c.args.book.now in
     let k = c.args.keeper.now in
     let w = state g.Q.Quorums.system b in
-    let book = c.loop-number.book in
-    let keeper = c.loop-number.keeper in
-    let inv = c.loop-number.invariant in
+    let book = c.loop-entry.book in
+    let keeper = c.loop-entry.keeper in
+    let inv = c.loop-entry.invariant in
     let first = c.in-Some.ensures ∙ ap (λ n. slice_get (waiting_for book.waiting n) 0) c.name-name.ensures in
-    let below = next_below w k.name b.waiting k.tray inv.2 c.in-Some.number book.waiting keeper.tray inv.4 first in
+    let below = next_below w k.name b.waiting k.tray inv.2 c.in-Some.entry.number book.waiting keeper.tray inv.4 first in
     on_err c.from_residual.result (
       inv.2,
       subst (λ most. inv.2 < most) (ap (λ t. if t then 0 else length (waiting_for b.waiting k.name)) c.if-has_stopped.ensures) below,
@@ -78,9 +78,9 @@ returns-clause-all g c =
     let b = c.args.book.now in
     let k = c.args.keeper.now in
     let w = state g.Q.Quorums.system b in
-    let book = c.loop-number.book in
-    let keeper = c.loop-number.keeper in
-    let inv = c.loop-number.invariant in
+    let book = c.loop-entry.book in
+    let keeper = c.loop-entry.keeper in
+    let inv = c.loop-entry.invariant in
     let ended = c.in_default.ensures ∙ ap (λ n. slice_get (waiting_for book.waiting n) 0) c.name-name.ensures in
     subst (λ count. AreTaken w k.name count b.waiting book.waiting k.tray keeper.tray)
     (all_taken w k.name b.waiting k.tray inv.2 book.waiting keeper.tray inv.4 inv.3 ended ∙ ap (λ t. if t then 0 else length (waiting_for b.waiting k.name)) c.if-has_stopped.ensures) inv.4

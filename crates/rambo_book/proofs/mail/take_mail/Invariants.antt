@@ -4,12 +4,12 @@ use Rattle.rambo_mail.specs.Waiting.{waiting_for}
 use Rattle.rambo_book.specs.Mailing.{AreTaken}
 use Rattle.rambo_book.proofs.mail.take_mail.Given as goal
 
-abbrev pub invariant-loop-number : goal.invariant-loop-number
-invariant-loop-number g l =
+abbrev pub invariant-loop-entry : goal.invariant-loop-entry
+invariant-loop-entry g l =
     (l.book ≡ record l.fn.book { waiting = l.book.waiting })
     × (l.keeper ≡ record l.fn.keeper { tray = l.keeper.tray })
     × (count : ℕ) × (count ≤ length (waiting_for l.fn.book.waiting l.fn.keeper.name))
     × AreTaken (state g.Q.Quorums.system l.fn.book) l.fn.keeper.name count l.fn.book.waiting l.book.waiting l.fn.keeper.tray l.keeper.tray
 
-abbrev pub decreases-loop-number : goal.decreases-loop-number
-decreases-loop-number g l = length (waiting_for l.book.waiting l.fn.keeper.name)
+abbrev pub decreases-loop-entry : goal.decreases-loop-entry
+decreases-loop-entry g l = length (waiting_for l.book.waiting l.fn.keeper.name)

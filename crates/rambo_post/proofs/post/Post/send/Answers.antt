@@ -5,7 +5,7 @@ use Rattle.rambo_run.proofs.Lists.{some_inj}
 use Rattle.rambo_book.specs.Kept.{KeeperView}
 use Rattle.rambo_book.specs.Readying.{IsReadyFor}
 use Rattle.rambo_run.specs.declared.step.Step.TheVariants as step
-use Rattle.rambo_post.proofs.Happenings.{sent_so, unsent_so}
+use Rattle.rambo_visit.proofs.Happenings.{sent_so, unsent_so}
 use Rattle.rambo_post.proofs.post.Post.send.Goals as goal
 
 pub keeper_of-keeper-requires : goal.keeper_of-keeper-requires
@@ -35,3 +35,6 @@ pub returns-clause-told : goal.returns-clause-told
 returns-clause-told g c =
     let h = c.send_in.ensures in
     unsent_so g.Q.Quorums.system g.J.Terms.founders g.J.Terms.capacity c.deref_mut-2.result.now h.terms.0 h.terms.1 h.before c.send_in.result (step.Send c.args.from c.args.to) h.fits h.told
+
+pub is_open-asks-requires : goal.is_open-asks-requires
+is_open-asks-requires g c = back_fits _ _ _ (up_fits _ _ _ (back_fits _ _ _ (up_fits _ _ _ (variant_fits _ _ _ _ (back_fits _ _ _ (up_fits _ _ _ c.requires-raw.1.1.1.1))))))

@@ -1,0 +1,3 @@
+pub mod Happened
+pub mod Open
+pub mod Advances

@@ -1,0 +1,145 @@
+//! What is open at a node goes on.
+ghost use Rattle.std.specs.Prelude.{◌≡◌, ◌<◌, ◌++◌, IfErr};
+ghost use Rattle.std.specs.Vec.{vec_len, vec_capacity};
+ghost use Rattle.rambo_visit.specs.Advances.{given_by, settled};
+ghost use Rattle.rambo_visit.specs.Happened.{HasNoRoom};
+
+use crate::entering::take;
+use crate::opening::calls_of;
+use rambo_book::{Book, Keeper, Terms};
+use rambo_history::CallId;
+use rambo_names::{Quorums, Refusal};
+use rambo_node::Effect;
+use rambo_outbox::{Outbox, Waiter};
+use rambo_run::Step;
+use rambo_tag::Replica;
+use std::alloc::Global;
+use std::sync::{Mutex, Wait};
+
+/// Each open call goes on that may, and so do the collection and the attempt. Who waited for a call that is answered now is
+/// given.
+pub(crate) fn go_on<J: Terms<Q>, Q: Quorums, S: Replica, R: Wait>(
+    rt: &R,
+    alloc: Global,
+    book: &Mutex<Book<J, Q>>,
+    keeper: &mut Keeper<J, Q, S>,
+    outbox: &mut Outbox,
+    given: &mut Vec<Waiter>,
+) -> Result<(), Refusal>
+    ensures cause { IfErr result (HasNoRoom Q.system J.founders J.capacity) }
+{
+    for _ in rt.forever() {
+        advance_all(rt, alloc, book, keeper, outbox, given)?;
+        if !advance_configurations(rt, alloc, book, keeper, outbox)? {
+            return Ok(());
+        }
+    }
+    Ok(())
+}
+
+// Each open call goes on that may, the oldest first, but the one that is kept open.
+fn advance_all<J: Terms<Q>, Q: Quorums, S: Replica, R: Wait>(
+    rt: &R,
+    alloc: Global,
+    book: &Mutex<Book<J, Q>>,
+    keeper: &mut Keeper<J, Q, S>,
+    outbox: &mut Outbox,
+    given: &mut Vec<Waiter>,
+) -> Result<(), Refusal>
+    ensures cause { IfErr result (HasNoRoom Q.system J.founders J.capacity) }
+{
+    let mut place = 0usize;
+    for _ in rt.forever() {
+        let Some(number) = number_at(keeper, place) else {
+            return Ok(());
+        };
+        let stays = outbox.idle() == Some(number);
+        if stays || !advance(rt, alloc, book, keeper, outbox, number, given)? {
+            place = place.wrapping_add(1);
+        }
+    }
+    Ok(())
+}
+
+// The number of the open call at a place.
+fn number_at<J: Terms<Q>, Q: Quorums, S: Replica>(
+    keeper: &Keeper<J, Q, S>,
+    place: usize,
+) -> Option<u64> {
+    match calls_of(keeper).get(place) {
+        Some(call) => Some(call.number),
+        None => None,
+    }
+}
+
+// The call of this number goes on, if it may. Where it is answered, who waited for it is given. Whether it went on.
+fn advance<J: Terms<Q>, Q: Quorums, S: Replica, R: Wait>(
+    rt: &R,
+    alloc: Global,
+    book: &Mutex<Book<J, Q>>,
+    keeper: &mut Keeper<J, Q, S>,
+    outbox: &mut Outbox,
+    number: u64,
+    given: &mut Vec<Waiter>,
+) -> Result<bool, Refusal>
+    ensures cause { IfErr result (HasNoRoom Q.system J.founders J.capacity) }
+{
+    given.reserve(1)?;
+    let name = keeper.name();
+    let step = Step::Advance(CallId { name, number });
+    let Some(effect) = take(rt, alloc, book, keeper, step)? else {
+        return Ok(false);
+    };
+    settle(outbox, number, &effect, given);
+    Ok(true)
+}
+
+// A step of the call of this number had this effect: its outbox knows that something went on, and who waited for an answer is
+// given. There is room for that.
+fn settle<Q: Quorums>(outbox: &mut Outbox, number: u64, effect: &Effect<Q>, given: &mut Vec<Waiter>)
+    requires { vec_len given.old < vec_capacity given.old }
+    ensures outbox { outbox.new ≡ settled effect.now number outbox.old }
+    ensures given { given.new.items ≡ given.old.items ++ given_by effect.now number outbox.old }
+{
+    match effect {
+        Effect::Answered(_, _) => {
+            if let Some(who) = outbox.answered(number) {
+                given.push_reserved(who);
+            }
+        }
+        _ => outbox.moved(),
+    }
+}
+
+// The collection and the attempt of the node go on, if they may. Whether one did.
+fn advance_configurations<J: Terms<Q>, Q: Quorums, S: Replica, R: Wait>(
+    rt: &R,
+    alloc: Global,
+    book: &Mutex<Book<J, Q>>,
+    keeper: &mut Keeper<J, Q, S>,
+    outbox: &mut Outbox,
+) -> Result<bool, Refusal>
+    ensures cause { IfErr result (HasNoRoom Q.system J.founders J.capacity) }
+{
+    let name = keeper.name();
+    let collects = take(rt, alloc, book, keeper, Step::AdvanceCollect(name))?.is_some();
+    let bids = take(rt, alloc, book, keeper, Step::AdvanceRecon(name))?.is_some();
+    if collects || bids {
+        outbox.moved();
+    }
+    Ok(collects || bids)
+}
+
+/// The node makes its bid anew, where its outbox says that it is time. What the rules refuse isn't done.
+pub(crate) fn bid_again<J: Terms<Q>, Q: Quorums, S: Replica, R: Wait>(
+    rt: &R,
+    alloc: Global,
+    book: &Mutex<Book<J, Q>>,
+    keeper: &mut Keeper<J, Q, S>,
+) -> Result<(), Refusal>
+    ensures cause { IfErr result (HasNoRoom Q.system J.founders J.capacity) }
+{
+    let name = keeper.name();
+    take(rt, alloc, book, keeper, Step::Rebid(name))?;
+    Ok(())
+}

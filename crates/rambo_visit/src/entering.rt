@@ -1,0 +1,62 @@
+//! Steps of a node that is visited.
+ghost use Rattle.std.specs.Prelude.{◌≡◌, ◌⊎◌, [], Some, OnOk, OnErr, IfOk, IfErr};
+ghost use Rattle.rambo_book.specs.Readying.{IsReadyFor};
+ghost use Rattle.rambo_deeds.specs.Deeds.{name_in};
+ghost use Rattle.rambo_run.specs.Steps.{meant_in};
+ghost use Rattle.rambo_visit.specs.Happened.{Happened, HasNoRoom, IsLast};
+
+use rambo_book::{Book, Keeper, Ready, Terms, commit_ready, ready};
+use rambo_names::{Quorums, Refusal};
+use rambo_node::Effect;
+use rambo_run::Step;
+use rambo_tag::Replica;
+use std::alloc::Global;
+use std::sync::{Mutex, Wait};
+
+/// The second half of a step, for which the book is locked: what it did.
+///
+/// `HistoryFull` where the book is full, else `OutOfMemory` where it has no room for the step. The keeper is then as before.
+pub(crate) fn enter<J: Terms<Q>, Q: Quorums, S: Replica, R: Wait>(
+    rt: &R,
+    book: &Mutex<Book<J, Q>>,
+    keeper: &mut Keeper<J, Q, S>,
+    half: Ready<Q>,
+) -> Result<Effect<Q>, Refusal>
+    requires { IsReadyFor Q.system J.founders keeper.old half }
+    ensures same { (keeper.new.name ≡ keeper.old.name) × (keeper.new.tray ≡ keeper.old.tray) }
+    ensures did { IfOk result (λ e. (f : Q) → J.founders ≡ Some f → Happened Q.system f J.capacity (IsLast Q.system f half.step e)) }
+    ensures err { OnErr result (keeper.new ≡ keeper.old) }
+    ensures cause { IfErr result (HasNoRoom Q.system J.founders J.capacity) }
+{
+    let mut book = book.lock(rt);
+    book.facts();
+    commit_ready(&mut book, keeper, half)
+}
+
+/// Takes a step of the node, but no delivery, unless its rules refuse it: what it did.
+///
+/// `HistoryFull` where the book is full, else `OutOfMemory` where there is no room for the step.
+pub(crate) fn take<J: Terms<Q>, Q: Quorums, S: Replica, R: Wait>(
+    rt: &R,
+    alloc: Global,
+    book: &Mutex<Book<J, Q>>,
+    keeper: &mut Keeper<J, Q, S>,
+    step: Step<Q>,
+) -> Result<Option<Effect<Q>>, Refusal>
+    requires { name_in (meant_in [] step) ≡ Some keeper.old.name }
+    ensures same { (keeper.new.name ≡ keeper.old.name) × (keeper.new.tray ≡ keeper.old.tray) }
+    ensures cause { IfErr result (HasNoRoom Q.system J.founders J.capacity) }
+{
+    match ready(alloc, keeper, step) {
+        Ok(half) => Ok(Some(enter(rt, book, keeper, half)?)),
+        Err(Refusal::OutOfMemory) => Err(no_room(rt, book)),
+        Err(_) => Ok(None),
+    }
+}
+
+/// Why there is no room for a step: the book is full, or memory is out.
+pub(crate) fn no_room<J: Terms<Q>, Q: Quorums, R: Wait>(rt: &R, book: &Mutex<Book<J, Q>>) -> Refusal
+    ensures { HasNoRoom Q.system J.founders J.capacity result }
+{
+    book.lock(rt).no_room()
+}

@@ -1,0 +1,59 @@
+//! What an outbox is told of a step.
+ghost use Rattle.std.specs.Prelude.{◌≡◌};
+
+use crate::opening::calls_of;
+use rambo_book::{Keeper, Terms};
+use rambo_names::{Name, Quorums};
+use rambo_outbox::Outbox;
+use rambo_run::Step;
+use rambo_tag::Replica;
+
+/// Who wrote the letter of a keeper's tray that a step would deliver, and whether that letter asks; if it delivers one.
+pub fn came_by<J: Terms<Q>, Q: Quorums, S: Replica>(
+    keeper: &Keeper<J, Q, S>,
+    step: &Step<Q>,
+) -> Option<(Name, bool)> {
+    let Step::Deliver(number) = step else {
+        return None;
+    };
+    for mail in keeper.tray() {
+        if mail.number == *number {
+            return Some((mail.letter.sender(), mail.asks));
+        }
+    }
+    None
+}
+
+/// Tells the outbox of a step that its node took: of a call that is answered, of what went on, and of the letter that came, if
+/// one came.
+pub fn note<J: Terms<Q>, Q: Quorums, S: Replica>(
+    outbox: &mut Outbox,
+    keeper: &Keeper<J, Q, S>,
+    step: &Step<Q>,
+    came: Option<(Name, bool)>,
+) {
+    if let Some((from, asks)) = came {
+        outbox.heard(from, asks);
+    }
+    match step {
+        Step::Advance(id) => {
+            if is_open(keeper, id.number) {
+                outbox.moved();
+            } else {
+                let _ = outbox.answered(id.number);
+            }
+        }
+        Step::AdvanceCollect(_) | Step::AdvanceRecon(_) => outbox.moved(),
+        _ => {}
+    }
+}
+
+// Whether the call of a number is open at the keeper's node.
+fn is_open<J: Terms<Q>, Q: Quorums, S: Replica>(keeper: &Keeper<J, Q, S>, number: u64) -> bool {
+    for call in calls_of(keeper) {
+        if call.number == number {
+            return true;
+        }
+    }
+    false
+}

@@ -1,0 +1,131 @@
+//! Visits of nodes.
+ghost use Rattle.std.specs.Prelude.{◌≡◌, Some, IfErr, IfSome};
+ghost use Rattle.rambo_visit.specs.Happened.{HasNoRoom};
+
+use crate::advancing::{bid_again, go_on};
+use crate::hearing::hear_all;
+use crate::opening::{has_room, opened};
+use crate::unloading::unload;
+use crate::writing::write_all;
+use rambo_book::{Book, Keeper, Terms};
+use rambo_names::{Members, Quorums, Refusal};
+use rambo_outbox::{Outbox, Waiter};
+use rambo_tag::Replica;
+use std::alloc::Global;
+use std::sync::{Mutex, Wait};
+
+// After so many milliseconds what failed is tried again.
+const PAUSE: u64 = 20;
+
+/// What came of a visit.
+#[derive(Clone, Copy)]
+pub struct Visited {
+    /// To whom letters were written: there is something to do at their nodes.
+    pub written: Members,
+    /// When the node is to be visited again at the latest, if nothing happens before. None where nothing is open.
+    pub wake: Option<u64>,
+    /// Whether the node has room for a call more.
+    pub has_room: bool,
+    /// Why something was left to be done, if it was.
+    pub left: Option<Refusal>,
+}
+
+impl Visited {
+    /// Something was left to be done, at this time, after letters were written to these.
+    pub fn left(written: Members, refusal: Refusal, now: u64) -> Visited
+        ensures { result.left ≡ Some refusal }
+    {
+        Visited {
+            written,
+            wake: Some(now.saturating_add(PAUSE)),
+            has_room: false,
+            left: Some(refusal),
+        }
+    }
+}
+
+/// Does all that there is to do at a node, whose mail was taken: it hears its letters, each call, its collection and its attempt
+/// go on, its bid is made anew where it is time, and it writes the letters that its outbox then tells of. Who waited for a call
+/// that was answered meanwhile is given; where the node has stopped, whoever waits there.
+///
+/// Times are in milliseconds since one moment. Whether somebody waits for room for a call is told. `HistoryFull` is left where the
+/// book is full and there is something to do, `OutOfMemory` where memory is out.
+pub fn visit_in<J: Terms<Q>, Q: Quorums, S: Replica, R: Wait>(
+    rt: &R,
+    alloc: Global,
+    book: &Mutex<Book<J, Q>>,
+    keeper: &mut Keeper<J, Q, S>,
+    outbox: &mut Outbox,
+    now: u64,
+    wants_room: bool,
+    given: &mut Vec<Waiter>,
+) -> Visited
+    ensures cause { IfSome result.left (HasNoRoom Q.system J.founders J.capacity) }
+{
+    let mut written = Members::empty();
+    match take_steps(
+        rt,
+        alloc,
+        book,
+        keeper,
+        outbox,
+        now,
+        wants_room,
+        given,
+        &mut written,
+    ) {
+        Ok(wake) => Visited {
+            written,
+            wake,
+            has_room: has_room(keeper),
+            left: None,
+        },
+        Err(refusal) => Visited::left(written, refusal, now),
+    }
+}
+
+// The same: when to look again, and to whom letters were written, some of them though something was left.
+fn take_steps<J: Terms<Q>, Q: Quorums, S: Replica, R: Wait>(
+    rt: &R,
+    alloc: Global,
+    book: &Mutex<Book<J, Q>>,
+    keeper: &mut Keeper<J, Q, S>,
+    outbox: &mut Outbox,
+    now: u64,
+    wants_room: bool,
+    given: &mut Vec<Waiter>,
+    written: &mut Members,
+) -> Result<Option<u64>, Refusal>
+    ensures cause { IfErr result (HasNoRoom Q.system J.founders J.capacity) }
+{
+    if keeper.has_stopped() {
+        return give_all(rt, outbox, given);
+    }
+    hear_all(rt, alloc, book, keeper, outbox)?;
+    go_on(rt, alloc, book, keeper, outbox, given)?;
+    if outbox.rebids(&opened(keeper, wants_room), now) {
+        bid_again(rt, alloc, book, keeper)?;
+    }
+    let round = outbox.next(&opened(keeper, wants_room), now);
+    write_all(rt, alloc, book, keeper, outbox, &round, written)?;
+    unload(rt, alloc, book, keeper, outbox)?;
+    Ok(round.wake)
+}
+
+// Whoever waits is given.
+fn give_all<R: Wait>(
+    rt: &R,
+    outbox: &mut Outbox,
+    given: &mut Vec<Waiter>,
+) -> Result<Option<u64>, Refusal>
+    ensures refused { IfErr result (λ r. r ≡ Refusal.OutOfMemory) }
+{
+    for _ in rt.forever() {
+        given.reserve(1)?;
+        let Some(who) = outbox.take_waiter() else {
+            return Ok(None);
+        };
+        given.push_reserved(who);
+    }
+    Ok(None)
+}
