@@ -9,7 +9,7 @@ use Rattle.std.specs.Str.{bytes_eq}
 abbrev pub held_in : List (Bor (List ℕ) × Bor (List ℕ)) → List ℕ → Option (List ℕ)
 held_in entries key = option_map (λ v. v.now) (lookup (λ k. bytes_eq key k.now) entries)
 
--- and at a key where the last one that was set stands apart
+-- and at a key, where the last one that was set is kept apart
 abbrev pub held_of : Option (Bor (List ℕ) × Bor (List ℕ)) → List (Bor (List ℕ) × Bor (List ℕ)) → List ℕ → Option (List ℕ)
 held_of None others key = held_in others key
 held_of (Some e) others key = if bytes_eq e.0.now key then Some e.1.now else held_in others key

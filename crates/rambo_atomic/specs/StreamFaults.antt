@@ -1,4 +1,4 @@
--- How faults of streams are told
+-- How faults of streams are reported
 use Rattle.std.specs.Prelude.{ℕ, List, codes}
 use Rattle.rambo_atomic.specs.declared.whole.StreamFault.{StreamFault}
 use Rattle.rambo_atomic.specs.declared.whole.StreamFault.TheVariants.{Read, Write, Memory}

@@ -26,7 +26,7 @@ IsTallied h entries = (key : List ℕ) → count_at entries key ≡ how_many (is
 abbrev pub all_due : List Event → ℕ
 all_due h = how_many (is_due h (λ op. true)) h
 
--- whether an answered call of those within was made there and stands in the order
+-- whether an answered call of those within was made there and is in the order
 abbrev pub is_found : List Event → (Op → Bool) → List CallId → Event → Bool
 is_found h within order e = is_due h within e && has_entry order e
 

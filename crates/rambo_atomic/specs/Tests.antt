@@ -25,12 +25,12 @@ abbrev pub is_due : List Event → (Op → Bool) → Event → Bool
 is_due h within (event.Call c op) = within op && is_some (answer_in h c)
 is_due h within (event.Answer c a) = false
 
--- whether the call that was made there stands in the order
+-- whether the call that was made there is in the order
 abbrev pub has_entry : List CallId → Event → Bool
 has_entry order (event.Call c op) = stands_in order c
 has_entry order (event.Answer c a) = false
 
--- whether each answered call of those within among these events stands in the order
+-- whether each answered call of those within among these events is in the order
 abbrev pub is_complete : List Event → (Op → Bool) → List CallId → List Event → Bool
 is_complete h within order es = list_all (λ e. not (is_due h within e) || has_entry order e) es
 
@@ -49,7 +49,7 @@ is_own h within c = is_own_op within (is_some (answer_in h c)) (call_in h c)
 abbrev pub has_no_stranger : List Event → (Op → Bool) → List CallId → Bool
 has_no_stranger h within order = list_all (is_own h within) order
 
--- whether an answer tells what a key holds
+-- whether an answer is what a key holds
 abbrev pub tells : Option (List ℕ) → Option Answer → Bool
 tells held None = false
 tells held (Some answer.Ok) = false
@@ -58,13 +58,13 @@ tells (Some v) (Some answer.Nil) = false
 tells None (Some (answer.Value w)) = false
 tells (Some v) (Some (answer.Value w)) = bytes_eq v w
 
--- whether a get was told what its key holds
+-- whether a get was answered what its key holds
 abbrev pub is_told : (List ℕ → Option (List ℕ)) → Option Op → Option Answer → Bool
 is_told held None a = true
 is_told held (Some (op.Get key)) a = tells (held key) a
 is_told held (Some (op.Set key value)) a = true
 
--- whether each get of these calls, before which the keys hold this, is told what its key holds
+-- whether each get of these calls, before which the keys hold this, is answered what its key holds
 abbrev pub all_told : List Event → (List ℕ → Option (List ℕ)) → List CallId → Bool
 all_told h held [] = true
 all_told h held (c ∷ cs) = if is_told held (call_in h c) (answer_in h c) then all_told h (λ key. after_op key (call_in h c) (held key)) cs else false
@@ -78,7 +78,7 @@ abbrev pub later : ℕ → Option ℕ → ℕ
 later n None = n
 later n (Some m) = max n m
 
--- whether no call of these was answered before place n, nor before one that stands before it was made
+-- whether no call of these was answered before place n, nor before one that comes before it was made
 abbrev pub keeps_real_time : List Event → ℕ → List CallId → Bool
 keeps_real_time h n [] = true
 keeps_real_time h n (c ∷ cs) = if is_before n (answered_at h c) then false else keeps_real_time h (later n (called_at h c)) cs

@@ -11,15 +11,15 @@ pub record UnreadState : Type 0 where
 abbrev pub KnowsEnd : UnreadState → Option (List ℕ) → Type 0
 KnowsEnd u left = u.ended ≡ true → IsAtEnd left
 
--- what a source gave is held behind what was held before
+-- what a source gave is held after what was held before
 abbrev pub TakesIn : Option (List ℕ) → Option (List ℕ) → List ℕ → List ℕ → Type 0
 TakesIn old new before after = (given : List ℕ) × Consumes old new given × (after ≡ before ++ given)
 
--- a line feed stands somewhere
+-- there is a line feed
 abbrev pub HasFeed : List ℕ → Type 0
 HasFeed bytes = (front : List ℕ) × (back : List ℕ) × (bytes ≡ front ++ 10 ∷ back)
 
--- no line feed stands at this place or behind it
+-- there is no line feed at this place or after it
 abbrev pub HasNoFeedFrom : ℕ → List ℕ → Type 0
 HasNoFeedFrom place bytes = (k : ℕ) → place ≤ k → k < length bytes → slice_index bytes k ≢ 10
 
@@ -35,6 +35,7 @@ HoldsLine u = (u.held ≢ []) × (HasFeed u.held ⊎ (u.ended ≡ true))
 abbrev pub IsDone : UnreadState → Type 0
 IsDone u = (u.held ≡ []) × (u.ended ≡ true)
 
--- how much is left to do for one who uses a byte at least each time: this falls with each read and with each byte that is used
+-- how much is left to do where each time at least one byte is used: this falls with each read and with each byte that
+-- is used
 abbrev pub work_left : ℕ → UnreadState → ℕ
 work_left reads u = reads * 2 ^ 64 + length u.held

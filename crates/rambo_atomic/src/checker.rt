@@ -19,7 +19,7 @@ use rambo_names::{Bytes, Refusal};
 use std::collections::HashMap;
 use std::marker::Model;
 
-/// A checker of the orders that are to explain one history.
+/// A checker of the orders that may explain one history.
 #[derive(Drop)]
 pub struct Checker<'a> {
     history: &'a History,
@@ -43,7 +43,7 @@ impl<'a> Model for Checker<'a> {
 }
 
 impl<'a> Checker<'a> {
-    /// A checker of the orders that are to explain a history. The time is linear in the history's length.
+    /// A checker of the orders that may explain a history. The time is linear in the history's length.
     ///
     /// `OutOfMemory` where there is no room for a count of each key.
     pub fn new(history: &'a History) -> Result<Checker<'a>, Refusal>
@@ -69,8 +69,8 @@ impl<'a> Checker<'a> {
         })
     }
 
-    /// Whether an order of calls explains what the history says of a key, or the least rule that it
-    /// breaks: what `check` answers. The key is any bytes, and the order any list.
+    /// Whether an order of calls explains what the history says of a key, or the least rule that it breaks: what
+    /// `check` returns. The key is any bytes, and the order any list.
     ///
     /// The time is linear in the order's length, and doesn't grow with the history's. `OutOfMemory` where
     /// there is no room for a set of the order's calls.
@@ -82,7 +82,7 @@ impl<'a> Checker<'a> {
     }
 
     /// Whether one order of calls explains what the history says of all keys, or the least rule that it breaks: what
-    /// `check_all` answers. The order is any list.
+    /// `check_all` returns. The order is any list.
     ///
     /// The time is linear in the order's length, and doesn't grow with the history's. `OutOfMemory` where there is no room
     /// for a set of the order's calls and for what each key holds.
@@ -197,7 +197,7 @@ fn put<'a>(
 struct Tally {
     // How many of the answered calls of those within, each counted once.
     found: usize,
-    // Whether no call stands twice.
+    // Whether no call occurs twice.
     is_distinct: bool,
 }
 

@@ -1,4 +1,4 @@
-//! A checker that takes no memory.
+//! A checker that allocates nothing.
 ghost use Rattle.std.specs.Prelude.{◌≡◌, true};
 ghost use Rattle.rambo_history.specs.Forms.{IsWellFormed};
 ghost use Rattle.rambo_atomic.specs.Scopes.{within, IsVerdictIn};
@@ -12,13 +12,13 @@ use rambo_history::{CallId, History};
 
 /// Whether an order of calls explains what a history says of a key, or the least rule that it breaks.
 ///
-/// An order explains it where each answered call of the key stands in it, none twice; each entry is a
-/// call of the key, and a get only if it was answered; each get's answer is the value of the latest set
-/// before it, or nil; and what was answered before a call was made doesn't stand behind it (Herlihy and
-/// Wing, "Linearizability", TOPLAS 1990). The key is any bytes, and the order any list.
+/// An order explains it if each answered call of the key is in it, and no call twice. Each entry is a call of the key,
+/// and a get only if it was answered. Each get's answer is the value of the latest set before it, or nil. What was
+/// answered before a call was made doesn't come after it (Herlihy and Wing, "Linearizability", TOPLAS 1990). The key is
+/// any bytes, and the order any list.
 ///
-/// It takes no memory. The time grows with the product of the order's and the history's lengths; a
-/// `Checker` takes memory and less time.
+/// It allocates nothing. The time grows with the product of the order's and the history's lengths; a `Checker` takes
+/// memory and less time.
 pub fn check(history: &History, key: &[u8], order: &[CallId]) -> Verdict
     ensures { IsVerdict history.now.events key.now order.now result }
 {
@@ -27,11 +27,11 @@ pub fn check(history: &History, key: &[u8], order: &[CallId]) -> Verdict
 
 /// Whether one order of calls explains what a history says of all keys, or the least rule that it breaks.
 ///
-/// An order explains it by the rules that `check` has, with "of the key" left out: each answered call stands in it, none
-/// twice; each entry is a call, and a get only if it was answered; each get's answer is the value of the latest set of its
-/// key before it, or nil; and what was answered before a call was made doesn't stand behind it. The order is any list.
+/// An order explains it by the rules of `check`, with "of the key" left out. Each answered call is in it, and no call
+/// twice. Each entry is a call, and a get only if it was answered. Each get's answer is the value of the latest set of
+/// its key before it, or nil. What was answered before a call was made doesn't come after it. The order is any list.
 ///
-/// It takes no memory. The time grows with the product of the order's and the history's lengths; `judge_all` of a
+/// It allocates nothing. The time grows with the product of the order's and the history's lengths; `judge_all` of a
 /// `Checker` takes memory and less time.
 pub fn check_all(history: &History, order: &[CallId]) -> Verdict
     ensures { IsVerdictForAll history.now.events order.now result }

@@ -21,7 +21,7 @@ fn is_due(history: &History, scope: Scope, event: &Event) -> bool
     }
 }
 
-// Whether the call that was made there stands in the order.
+// Whether the call that was made there is in the order.
 fn has_entry(order: &[CallId], event: &Event) -> bool
     ensures { result ≡ has_entry order.now event.now }
 {
@@ -31,7 +31,7 @@ fn has_entry(order: &[CallId], event: &Event) -> bool
     }
 }
 
-// Whether each answered call of those within stands in the order.
+// Whether each answered call of those within is in the order.
 pub(crate) fn is_complete(history: &History, scope: Scope, order: &[CallId]) -> bool
     ensures test { result ≡ is_complete history.now.events (within scope.entry) order.now history.now.events }
     ensures well_formed { IsWellFormed history.now.events }
@@ -40,7 +40,7 @@ pub(crate) fn is_complete(history: &History, scope: Scope, order: &[CallId]) -> 
     events.iter().all(|event| !is_due(history, scope, event) || has_entry(order, event))
 }
 
-// Whether no call stands twice.
+// Whether no call occurs twice.
 pub(crate) fn is_distinct(order: &[CallId]) -> bool
     ensures { result ≡ is_distinct order.now }
 {
@@ -71,7 +71,7 @@ pub(crate) fn has_no_stranger(history: &History, scope: Scope, order: &[CallId])
     order.iter().all(|id| is_own(history, scope, id))
 }
 
-// Whether an answer tells what a key holds.
+// Whether an answer is what a key holds.
 pub(crate) fn tells(held: Option<&Bytes>, answer: Option<&Answer>) -> bool
     ensures { result ≡ tells (option_copied held.entry) (option_copied answer.entry) }
 {
@@ -82,7 +82,7 @@ pub(crate) fn tells(held: Option<&Bytes>, answer: Option<&Answer>) -> bool
     }
 }
 
-// What an ordinary map holds at a key behind an operation.
+// What an ordinary map holds at a key after an operation.
 fn after_op<'a>(key: &[u8], op: &'a Op, held: Option<&'a Bytes>) -> Option<&'a Bytes>
     ensures { option_copied result ≡ after_op key.now (Some op.now) (option_copied held.entry) }
 {
@@ -92,7 +92,7 @@ fn after_op<'a>(key: &[u8], op: &'a Op, held: Option<&'a Bytes>) -> Option<&'a B
     }
 }
 
-// What an ordinary map, empty at first, holds at a key behind the calls of an order.
+// What an ordinary map, empty at first, holds at a key after the calls of an order.
 fn held_after<'a>(history: &'a History, key: &[u8], order: &[CallId]) -> Option<&'a Bytes>
     ensures { option_copied result ≡ held_after history.now.events key.now order.now }
 {
@@ -123,7 +123,7 @@ pub(crate) fn answers_latest(history: &History, order: &[CallId]) -> bool
     true
 }
 
-// Whether an answer stands before a place.
+// Whether an answer is before a place.
 fn is_before(place: usize, answered: Option<usize>) -> bool
     ensures { result ≡ is_before place answered }
 {
@@ -133,7 +133,7 @@ fn is_before(place: usize, answered: Option<usize>) -> bool
     }
 }
 
-// Whether no call stands behind one that was made after it was answered.
+// Whether no call comes after one that was made after it was answered.
 pub(crate) fn keeps_real_time(history: &History, order: &[CallId]) -> bool
     ensures { result ≡ keeps_real_time history.now.events 0 order.now }
 {

@@ -1,4 +1,4 @@
-//! The readers and writers of this product.
+//! The streams that texts are read from and written to.
 ghost use Rattle.std.specs.Prelude.{◌≡◌, ◌≤◌, ◌<◌, ◌-◌, ◌^◌, ℕ, List, Option, take, length, IfOk, OnOk, OnErr};
 ghost use Rattle.std.specs.Io.KnownBytes.{Appends, Consumes, IsAtEnd, Keeps};
 ghost use Rattle.rambo_atomic.specs.Streams.{counted};
@@ -10,7 +10,7 @@ pub const READ_LIMIT: u64 = 1 << 60;
 #[derive(Clone, Copy, PartialEq, Eq, Debug)]
 pub struct Failed;
 
-/// A reader that tells its bytes and counts its failed calls.
+/// A reader whose bytes contracts can name, and that counts its failed calls.
 pub trait Source {
     // The bytes that reads will give from here on, where they are known.
     ghost left: { Self → Option (List ℕ) };
@@ -21,8 +21,7 @@ pub trait Source {
     // How often it can still be read.
     ghost reads_left: { Self → ℕ };
 
-    /// Reads some bytes into the front of a buffer that isn't empty, and answers how many: 0 only at the
-    /// end.
+    /// Reads some bytes into the beginning of a buffer that isn't empty, and returns how many: 0 only at the end.
     ///
     /// `Failed` where the reader failed, and after the first 2^60 reads.
     fn read(&mut self, into: &mut [u8]) -> Result<usize, Failed>
@@ -40,7 +39,7 @@ pub trait Source {
     ghost limited: { (s : Self) → reads_left s ≤ 2 ^ 60 };
 }
 
-/// A writer that tells its bytes and counts its failed calls.
+/// A writer whose bytes contracts can name, and that counts its failed calls.
 pub trait Sink {
     // The bytes that it holds, where they are known.
     ghost taken: { Self → Option (List ℕ) };
@@ -48,7 +47,7 @@ pub trait Sink {
     // How many calls failed; it stops at 2^64 - 1.
     ghost failures: { Self → ℕ };
 
-    /// Writes a front of some bytes, at least one byte, and answers how many.
+    /// Writes a prefix of some bytes, at least one byte, and returns how many.
     ///
     /// `Failed` where the writer failed or took no byte.
     fn write(&mut self, bytes: &[u8]) -> Result<usize, Failed>

@@ -5,10 +5,10 @@ ghost use Rattle.rambo_atomic.specs.Streams.{counted, tape_left, tape_after_read
 use crate::stream::{Failed, READ_LIMIT, Sink, Source};
 use std::marker::Model;
 
-/// Bytes in memory that are read from the front on, and written at the end.
+/// Bytes in memory that are read from the beginning, and written at the end.
 ///
-/// Each call takes as many bytes as there are and as there is room for, up to the longest piece. One call
-/// can be set to fail, for tests of what comes of it.
+/// Each call takes as many bytes as there are and as there is room for, up to the longest piece. One call can be set to
+/// fail, to test what follows.
 #[derive(Drop)]
 pub struct Tape {
     bytes: Vec<u8>,
@@ -66,7 +66,7 @@ impl Tape {
         }
     }
 
-    /// All bytes, those that were read too.
+    /// All bytes, including those that were read.
     pub fn bytes(&self) -> &[u8]
         ensures { result.now ≡ self.now.bytes }
     {
@@ -143,7 +143,7 @@ impl Sink for Tape {
         ensures count { IfOk result (λ n. (0 < n) × (n ≡ min (length bytes.now) self.old.piece)) }
         ensures room { self.old.room ≤ self.new.room + length bytes.now }
 
-        // The set call fails. Any other finds room for its piece, or fails for want of memory.
+        // The set call fails. Any other finds room for its piece, or is out of memory.
         ensures fails { self.old.until ≡ 1 → IsErr result }
         ensures succeeds { self.old.until ≢ 1 → min (length bytes.now) self.old.piece ≤ self.old.room → IsOk result }
     {

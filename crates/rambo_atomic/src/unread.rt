@@ -13,8 +13,7 @@ use std::marker::Model;
 
 /// What was read of a source and isn't used yet.
 ///
-/// By it a text of any length is gone through line by line, and only the lines of one piece of it are held
-/// at once.
+/// With it a text of any length is read line by line, while only the lines of one piece are held at once.
 #[derive(Drop)]
 pub struct Unread {
     // What a read may fill. It has no place before the first read.
@@ -39,7 +38,7 @@ impl Model for Unread {
 }
 
 impl Unread {
-    /// Nothing was read. It takes no memory.
+    /// Nothing was read. It allocates nothing.
     pub fn new(alloc: Global) -> Unread
         ensures { result ≡ record { held = []; ended = false } }
     {
@@ -68,9 +67,9 @@ impl Unread {
         self.start += count;
     }
 
-    /// Reads on until a line is held, with its line feed or up to the source's end, and answers whether there
-    /// is one. It reads nothing where a line is held already, nothing behind the end, and no piece behind one in which a
-    /// line ends.
+    /// Reads on until a line is held, with its line feed or up to the source's end, and returns whether there is one.
+    /// It reads nothing where a line is held already, nothing past the end, and no piece after one in which a line
+    /// ends.
     ///
     /// `Read` where the source fails, and `Memory` where there is no room for the bytes. What was read is
     /// held then too.
@@ -134,7 +133,7 @@ impl Unread {
         self.start < self.lines || self.ended
     }
 
-    // Reads a piece more. It may forget nothing but what was used.
+    // Reads one more piece. It may forget nothing but what was used.
     fn read_piece<R: Source>(&mut self, reader: &mut R) -> Result<(), StreamFault>
         requires { self.old.ended ≡ false }
         ensures knows { KnowsEnd self.new (R.left reader.new) }

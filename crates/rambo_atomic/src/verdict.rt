@@ -7,13 +7,13 @@ ghost use Rattle.std.specs.Prelude.{◌≡◌};
 pub enum Rule {
     /// An answered call of the key isn't in the order.
     Missing = 1,
-    /// A call stands twice.
+    /// A call occurs twice.
     Repeated = 2,
     /// An entry is no call of the key, or is a get without an answer.
     Stranger = 3,
     /// A get's answer isn't the value of the latest set before it, or nil where there is none.
     WrongAnswer = 4,
-    /// A call stands behind one that was made after it was answered.
+    /// A call comes after one that was made after it was answered.
     OutOfOrder = 5,
 }
 

@@ -21,7 +21,7 @@ pub enum StreamFault {
 impl StreamFault {
     ghost use Rattle.rambo_atomic.specs.StreamFaults.{words_of};
 
-    /// The words that tell the fault to a user.
+    /// The words that report the fault to a user.
     pub fn words(self) -> &'static str
         ensures { result.now ≡ words_of self }
     {
@@ -94,7 +94,7 @@ pub(crate) fn append_piece<R: Source>(
 
 /// Writes all of some bytes.
 ///
-/// `Write` where the sink fails; then a front of the bytes was written.
+/// `Write` where the sink fails; then a prefix of the bytes was written.
 pub fn write_all<W: Sink>(writer: &mut W, bytes: &[u8]) -> Result<(), StreamFault>
     ensures ok { OnOk result (Appends (W.taken writer.old) (W.taken writer.new) bytes.now) }
     ensures err { OnErr result (Begins (W.taken writer.old) (W.taken writer.new) bytes.now) }

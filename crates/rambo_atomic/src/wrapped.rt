@@ -1,4 +1,4 @@
-//! Readers and writers of std as streams of this product.
+//! Readers and writers of std as a `Source` and a `Sink`.
 ghost use Rattle.std.specs.Prelude.{◌≡◌, ◌⊎◌, ◌↔◌, ◌≤◌, ◌<◌, ◌^◌, ℕ, List, Option, Result, Ok, Err, take, length, IfOk, OnErr, IsErr, IsTrue, MatchResult, ⊤};
 ghost use Rattle.std.specs.declared.io.Error.{Error};
 ghost use Rattle.std.specs.Io.{ReadsAtMost, WritesAtMost};
@@ -12,8 +12,8 @@ use std::marker::Model;
 
 /// A reader of std.
 ///
-/// std says of no reader when a read fails. So what reads give is left open here: whoever is lent a `Reader` knows of a
-/// failure only by a read that failed.
+/// std doesn't say when a read fails, so this is left open here. Code that borrows a `Reader` learns of a failure only
+/// by a read that failed.
 pub trait Reader {
     // The bytes that reads will give from here on, where they are known.
     ghost left: { Self → Option (List ℕ) };
@@ -28,7 +28,7 @@ pub trait Reader {
         ensures gives { read_gives self.old result self.new };
 }
 
-/// A writer of std. What writes give is left open, as what reads of a `Reader` give.
+/// A writer of std. When a write fails is left open, as for a read of a `Reader`.
 pub trait Writer {
     // The bytes that it holds, where they are known.
     ghost taken: { Self → Option (List ℕ) };
@@ -63,7 +63,7 @@ impl<T: Write> Writer for T {
     }
 }
 
-/// A reader or writer of std. It tells the bytes that the inner one tells.
+/// A reader or writer of std. Its bytes are those of the inner one.
 ///
 /// A call that a signal interrupts is made again, and it fails only where the inner one did.
 #[derive(Drop)]
@@ -131,7 +131,7 @@ impl<T: Reader> Source for Wrapped<T> {
         ensures end { IfOk result (λ n. n ≡ 0 → IsAtEnd (T.left self.new.inner)) }
         ensures kept { OnErr result (Keeps (T.left self.old.inner) (T.left self.new.inner)) }
 
-        // It tells what the reader answers, if it isn't read too often.
+        // It gives what the reader answers, if it isn't read too often.
         ensures answer { self.old.reads < 2 ^ 60 → (answer : Result ℕ Error) × Answers T.read_gives self.old.inner answer self.new.inner
             × MatchResult answer (λ n. result ≡ Ok n) (λ _. IsErr result) }
 
@@ -165,7 +165,7 @@ impl<T: Writer> Sink for Wrapped<T> {
         ensures bytes { IfOk result (λ n. Appends (T.taken self.old.inner) (T.taken self.new.inner) (take n bytes.now)) }
         ensures kept { OnErr result (Keeps (T.taken self.old.inner) (T.taken self.new.inner)) }
 
-        // It tells what the writer answers, and fails where that took no byte.
+        // It gives what the writer answers, and fails where that took no byte.
         ensures answer { (answer : Result ℕ Error) × Answers (T.write_gives bytes.now) self.old.inner answer self.new.inner
             × MatchResult answer (λ n. (result ≡ Ok n) ⊎ ((n ≡ 0) × IsErr result)) (λ _. IsErr result) }
     {

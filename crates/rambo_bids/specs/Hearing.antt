@@ -1,4 +1,4 @@
--- What a node tells of its own attempt, and what its vote and its attempt make of another's
+-- What a node sends of its own attempt, and what its vote and its attempt make of another's
 use Rattle.std.specs.Prelude.{ℕ, Bool, if◌then◌else◌, nat_eq, nat_lt, Option, None, Some}
 use Rattle.rambo_config_map.specs.Maps.{MapState, end_of, merged_map}
 use Rattle.rambo_paxos.specs.declared.offer.Offer.{Offer}
@@ -10,11 +10,11 @@ abbrev pub offer_for : {Q : Type 0} → ℕ → Option (AttemptState Q) → Opti
 offer_for place None = None
 offer_for place (Some a) = if nat_eq a.place place then Some (offer_of a) else None
 
--- whether a map that is told has the first unknown place of the two merged: then what is told with it is for this place
+-- whether a map that is sent has the first unknown place of the two merged: then what is sent with it is for this place
 abbrev pub is_level : {Q : Type 0} → MapState Q → MapState Q → Bool
 is_level m told = nat_eq (end_of told) (end_of (merged_map m told))
 
--- a vote is for the first unknown place: where that place has come to be known, the vote for the next one is empty
+-- a vote is for the first unknown place: where that place has become known, the vote for the next one is empty
 abbrev pub vote_kept : {Q : Type 0} → MapState Q → VoteState Q → MapState Q → VoteState Q
 vote_kept m v told = if nat_lt (end_of m) (end_of told) then empty_vote else v
 

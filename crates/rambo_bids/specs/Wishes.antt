@@ -1,4 +1,4 @@
--- Why a node may not begin to have a configuration chosen, or go on
+-- Why a node may not begin to have a configuration chosen, or advance
 use Rattle.std.specs.Prelude.{ℕ, ◌^◌, ◌-◌, Bool, false, not, ◌&&◌, nat_eq, nat_le, nat_lt, List, [], ◌∷◌, length, Option, None, Some, is_none}
 use Rattle.std.specs.FinSet as set
 use Rattle.rambo_names.specs.declared.refusal.Refusal.TheVariants.{NotMember, ReconOpen, TooManyActive, UnknownMember, EmptyMembers, NumbersSpent}
@@ -15,7 +15,8 @@ abbrev pub is_member : {Q : Type 0} → QuorumSystem Q → ℕ → Option Q → 
 is_member s name None = false
 is_member s name (Some c) = set.contains (s.members c) name
 
--- what speaks against a wish of node me, which knows these names and has this map, vote and attempt: by rising numbers
+-- why a wish of node me may be refused, which knows these names and has this map, vote and attempt: in ascending order
+-- of number
 abbrev pub wish_causes : {Q : Type 0} → QuorumSystem Q → ℕ → NameSet → MapState Q → VoteState Q → Option (AttemptState Q) → Q → List Cause
 wish_causes s me known m v o wish =
     cause NotMember (not (is_member s me (active_at m (top_of m)))) ∷ cause ReconOpen (not (is_none o))

@@ -20,8 +20,8 @@ pub fn offer_of<Q: Quorums>(attempt: &Option<Attempt<Q>>, map: &ConfigMap<Q>) ->
     }
 }
 
-/// The attempt of a node with this map, if there is one, hears the vote that another node tells with its map: it
-/// counts where both are for the first place that the two maps, merged, don't know.
+/// The attempt of a node with this map, if there is one, hears the vote that another node sends with its map. It counts
+/// where both are for the first place that the two maps, merged, don't know.
 #[inline(always)]
 pub fn hear_vote<Q: Quorums>(
     attempt: &mut Option<Attempt<Q>>,
@@ -42,8 +42,8 @@ pub fn hear_vote<Q: Quorums>(
     }
 }
 
-/// The vote of a node with this map hears what another one tells with its map: it is emptied where its place has
-/// come to be known, and takes an offer that is for the same place.
+/// The vote of a node with this map hears what another one sends with its map. It is emptied where its place has become
+/// known, and it takes an offer that is for the same place.
 #[inline(always)]
 pub fn hear_offer<Q: Quorums>(
     vote: &mut Vote<Q>,
@@ -59,8 +59,8 @@ pub fn hear_offer<Q: Quorums>(
     }
 }
 
-// Takes an offer that is told with a map, if it is for the first place that the two maps, merged, don't know.
-// (few letters have an offer)
+// Takes an offer that is sent with a map, if it is for the first place that the two maps, merged, don't know. (few
+// letters have an offer)
 #[inline(never)]
 fn take_offer<Q: Quorums>(
     vote: &mut Vote<Q>,
@@ -101,7 +101,7 @@ fn hear_vote_for<Q: Quorums>(
     }
 }
 
-// Whether a map that is told has as many places as it and another one, merged.
+// Whether a map that is sent has as many places as it and another one, merged.
 fn is_level<Q: Quorums>(map: &ConfigMap<Q>, told: &ConfigMap<Q>) -> bool
     ensures level { result ≡ is_level map.now told.now }
     ensures active { (1 ≤ length map.now.configs) × (1 ≤ length told.now.configs) }

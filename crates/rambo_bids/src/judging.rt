@@ -1,4 +1,4 @@
-//! When a node may begin to have a configuration chosen, and go on.
+//! When a node may begin to have a configuration chosen, and advance.
 ghost use Rattle.std.specs.Prelude.{◌≡◌, nat_le, length, OnOk, IfErr, None, Some};
 ghost use Rattle.rambo_names.specs.Refusals.{least};
 ghost use Rattle.rambo_config_map.specs.Maps.{active_at, end_of, top_of};
@@ -10,15 +10,16 @@ use rambo_config_map::ConfigMap;
 use rambo_names::{Members, Name, Quorums, Refusal};
 use rambo_paxos::{Attempt, Vote};
 
-// A map has at most so many active places.
+// The greatest number of active places of a map.
 const ACTIVE_LIMIT: usize = 8;
 
 /// Whether a node of this name, which knows these names and has this map, vote and attempt, may begin to have a
 /// configuration chosen.
 ///
-/// Refused are 13 where it is no member of the configuration at its top, 14 where an attempt is open, 16 where eight
-/// places are active, 17 where the wish has a member that it doesn't know, 18 where the wish has no member, 21 where
-/// the round that its vote promised, or the top, is the greatest number. Of several causes the least number is told.
+/// Refused with 13 where it is no member of the configuration at its top, 14 where an attempt is open, 16 where eight
+/// places are active. Refused with 17 where the wish has a member that it doesn't know, 18 where the wish has no
+/// member. Refused with 21 where the round that its vote promised, or the top, is the greatest number. Of several
+/// causes the least number is reported.
 pub fn may_wish<Q: Quorums>(
     me: Name,
     known: Members,
@@ -62,8 +63,8 @@ pub fn is_bidding<Q: Quorums>(attempt: &Option<Attempt<Q>>, map: &ConfigMap<Q>) 
     }
 }
 
-/// Whether an attempt is open whose place a map doesn't know yet and whose quorum isn't there: one of the
-/// configuration at the top.
+/// Whether an attempt is open whose place a map doesn't know yet, and whose quorum, one of the configuration at the
+/// top, hasn't replied.
 pub fn is_waiting<Q: Quorums>(
     attempt: &Option<Attempt<Q>>,
     vote: &Vote<Q>,
@@ -87,14 +88,14 @@ fn is_member<Q: Quorums>(me: Name, map: &ConfigMap<Q>) -> bool
     }
 }
 
-// Whether as many places of a map are active as may be.
+// Whether the greatest number of places of a map are active.
 fn is_crowded<Q: Quorums>(map: &ConfigMap<Q>) -> bool
     ensures { result ≡ nat_le 8 (length map.now.configs) }
 {
     map.places().len() >= ACTIVE_LIMIT
 }
 
-// Whether the repliers of an attempt hold a quorum of the configuration at the top of a map.
+// Whether the repliers of an attempt contain a quorum of the configuration at the top of a map.
 fn has_replies<Q: Quorums>(attempt: &Attempt<Q>, vote: &Vote<Q>, map: &ConfigMap<Q>) -> bool
     ensures { result ≡ has_quorum Q.system (active_at map.now (top_of map.now)) attempt.now.repliers }
 {
@@ -104,7 +105,7 @@ fn has_replies<Q: Quorums>(attempt: &Attempt<Q>, vote: &Vote<Q>, map: &ConfigMap
     }
 }
 
-// Whether the repliers of an attempt hold a quorum of a configuration. It is tried on copies.
+// Whether the repliers of an attempt contain a quorum of a configuration. It is tried on copies.
 fn is_met<Q: Quorums>(attempt: &Attempt<Q>, vote: &Vote<Q>, old: &Q) -> bool
     ensures { result ≡ Q.system.is_quorum old.now attempt.now.repliers }
 {

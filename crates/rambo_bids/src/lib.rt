@@ -1,7 +1,8 @@
-//! How a node has the next configuration chosen: what it offers, what it makes of the votes and offers of others, and
-//! when it may begin and go on (Lamport, "Paxos Made Simple", 2001).
+//! How a node has the next configuration chosen (Lamport, "Paxos Made Simple", 2001): what it offers, what it makes of
+//! others' votes and offers, when it may begin and advance.
 //!
-//! An attempt and a vote are for a place; here they meet a map, which tells the first place that isn't known.
+//! An attempt and a vote are for one place. Here they are combined with a map, which says what the first unknown place
+//! is.
 #![tactic(auto)]
 
 mod hearing;

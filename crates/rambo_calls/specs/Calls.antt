@@ -19,7 +19,7 @@ abbrev pub propagates : Stage → Bool
 propagates Query = false
 propagates (Propagation kept) = true
 
--- the copy that a call sends round
+-- the copy that a call propagates
 abbrev pub kept_in : Stage → Option Version
 kept_in Query = None
 kept_in (Propagation kept) = kept

@@ -12,11 +12,11 @@ abbrev pub any_gap : {Q : Type 0} → ℕ → MapState Q → List (CallState Q) 
 any_gap heard m [] = false
 any_gap heard m (c ∷ cs) = if has_gap heard m c then true else any_gap heard m cs
 
--- the phase number after a letter: one more where some phase restarts
+-- the phase number after a letter: greater by one where some phase restarts
 abbrev pub number_after : {Q : Type 0} → ℕ → ℕ → MapState Q → List (CallState Q) → ℕ
 number_after number heard m cs = if any_gap heard m cs then suc number else number
 
--- the call with its phase begun anew
+-- the call with its phase restarted
 abbrev pub restarted : {Q : Type 0} → ℕ → MapState Q → ℕ → CallState Q → CallState Q
 restarted number m me c = record { number = c.number; op = c.op; stage = c.stage; phase = started number m me }
 

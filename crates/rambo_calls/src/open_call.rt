@@ -20,12 +20,12 @@ pub struct OpenCall<Q: Quorums> {
     pub op: Op,
     /// How far it is.
     pub stage: Stage,
-    /// Its present phase.
+    /// Its current phase.
     pub phase: Phase<Q>,
 }
 
 impl<Q: Quorums> OpenCall<Q> {
-    // Sends a copy round, in a phase that begins under this number with this map.
+    // Propagates a copy, in a phase that begins under this number with this map.
     pub(crate) fn propagate(
         &mut self,
         kept: Option<Version>,
@@ -39,15 +39,15 @@ impl<Q: Quorums> OpenCall<Q> {
         self.phase.begin(number, map, me);
     }
 
-    // Begins its present phase anew, under this number with this map.
+    // Begins its current phase anew, under this number with this map.
     pub(crate) fn restart(&mut self, number: u64, map: &ConfigMap<Q>, me: Name)
         ensures { call_of self.new ≡ restarted number map.now me (call_of self.old) }
     {
         self.phase.begin(number, map, me);
     }
 
-    // Hears a letter that has this heard number and map, for which there is room, and begins anew where it has
-    // to: under this number, with this merged map.
+    // Hears a letter that has this heard number and map, for which there is room, and restarts where it has to: under
+    // this number, with this merged map.
     pub(crate) fn hear(
         &mut self,
         from: Name,

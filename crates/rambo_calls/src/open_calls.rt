@@ -16,10 +16,10 @@ use rambo_tag::Version;
 use std::alloc::Global;
 use std::marker::Model;
 
-/// The calls of a node that aren't answered yet, the oldest first. Of several calls of one number the first is meant.
+/// The calls of a node that aren't answered yet, the oldest first. Where several have one number, the first is meant.
 pub struct OpenCalls<Q: Quorums> {
     list: Vec<OpenCall<Q>>,
-    // Never filled: it tells the prover that an open call has a size, which it doesn't see behind a `Vec`.
+    // Never filled: it tells the prover that an open call has a size, which it doesn't see through a `Vec`.
     spare: Option<OpenCall<Q>>,
 }
 
@@ -48,7 +48,7 @@ impl<Q: Quorums> Model for OpenCalls<Q> {
 }
 
 impl<Q: Quorums> OpenCalls<Q> {
-    /// No call. Its memory will come from this allocator.
+    /// No call. Later allocations come from this allocator.
     pub fn new(alloc: Global) -> Self
         ensures { result.list ≡ [] }
     {
@@ -65,7 +65,7 @@ impl<Q: Quorums> OpenCalls<Q> {
         self.list.as_slice()
     }
 
-    /// Makes room for one call more. The calls stay, whatever the answer, and so does the room that there is.
+    /// Makes room for one more call. In either case the calls are unchanged, and no room is lost.
     ///
     /// `OutOfMemory` where there is none.
     pub fn reserve(&mut self) -> Result<(), Refusal>
@@ -78,8 +78,8 @@ impl<Q: Quorums> OpenCalls<Q> {
         Ok(())
     }
 
-    /// Opens a call of this number in its query, where there is room for one call more, under a phase number: its phase
-    /// begins with this map, and with the node itself as a replier. It takes no memory and can't fail.
+    /// Opens a call of this number in its query, where there is room for one more call. Its phase begins under this
+    /// phase number with this map, and with the node itself as a replier. It allocates nothing and can't fail.
     pub fn open_reserved(
         &mut self,
         number: u64,
@@ -99,12 +99,12 @@ impl<Q: Quorums> OpenCalls<Q> {
             stage: Stage::Query,
             phase: Phase::new(alloc),
         });
-        // (it begins where it lies: a phase is large, and where it is moved it is copied whole)
+        // (it begins in place: a phase is large, and to move it copies all of it)
         self.restart(place, phase_number, map, me);
     }
 
-    /// The call at a place sends a copy round, in a phase that begins under this phase number with this map. It takes no
-    /// memory. Where there is no call, nothing changes.
+    /// The call at a place propagates a copy, in a phase that begins under this phase number with this map. It
+    /// allocates nothing. Where there is no call, nothing changes.
     pub fn propagate(
         &mut self,
         place: usize,
@@ -121,7 +121,7 @@ impl<Q: Quorums> OpenCalls<Q> {
         self.list[place].propagate(kept, phase_number, map, me);
     }
 
-    /// The phase of the call at a place begins anew, under this phase number with this map. It takes no memory. Where
+    /// The phase of the call at a place restarts, under this phase number with this map. It allocates nothing. Where
     /// there is no call, nothing changes.
     pub fn restart(&mut self, place: usize, phase_number: u64, map: &ConfigMap<Q>, me: Name)
         ensures { calls_of self.new.list ≡ with_call place (slice_get (calls_of self.old.list) place) (restarted phase_number map.now me) (calls_of self.old.list) }
@@ -132,7 +132,7 @@ impl<Q: Quorums> OpenCalls<Q> {
         self.list[place].restart(phase_number, map, me);
     }
 
-    /// Takes the call at a place out, if there is one.
+    /// Removes the call at a place, if there is one.
     pub fn close(&mut self, place: usize)
         ensures { calls_of self.new.list ≡ remove (calls_of self.old.list) place }
     {
@@ -142,10 +142,10 @@ impl<Q: Quorums> OpenCalls<Q> {
         self.list.remove(place);
     }
 
-    /// Makes room for what a map has above the phases, so that to hear it takes no memory.
+    /// Makes room for what a map has above the phases, so that to hear it allocates nothing.
     ///
-    /// `OutOfMemory` where there is none; never where the calls have this room already. The calls are as they were,
-    /// whatever the answer.
+    /// `OutOfMemory` where there is none; never where the calls have this room already. In either case the calls are
+    /// unchanged.
     pub fn make_room(&mut self, map: &ConfigMap<Q>) -> Result<(), Refusal>
         ensures same { calls_of self.new.list ≡ calls_of self.old.list }
         ensures ok { OnOk result (IsRoomy map.now self.new.list) }
@@ -155,9 +155,9 @@ impl<Q: Quorums> OpenCalls<Q> {
         make_room(self.list.as_mut_slice(), map)
     }
 
-    /// Hears a letter that has this heard number and map, for which room was made: a call whose phase it replies to
+    /// Hears a letter that has this heard number and map, for which room was made. A call whose phase it replies to
     /// counts the sender, with the configurations that the map has above its own. Where these leave a gap, the phase
-    /// begins anew, under this number with this merged map (Lynch and Shvartsman, "RAMBO", DISC 2002).
+    /// restarts, under this number with this merged map (Lynch and Shvartsman, "RAMBO", DISC 2002).
     #[inline(always)]
     pub fn hear(
         &mut self,

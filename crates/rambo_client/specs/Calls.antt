@@ -25,7 +25,7 @@ Calls name m (Does o ∷ qs) events =
 abbrev pub IsHistory : ℕ → List Request → List Event → Type 0
 IsHistory name qs history = Calls name no_values qs history
 
--- a beginning of it
+-- a prefix of it
 abbrev pub BeginsHistory : ℕ → List Request → List Event → Type 0
 BeginsHistory name qs history = (more : List Event) × Calls name no_values qs (history ++ more)
 
@@ -33,7 +33,7 @@ BeginsHistory name qs history = (more : List Event) × Calls name no_values qs (
 abbrev pub lowest : NameSet → ℕ
 lowest s = slice_index (names s) 0
 
--- what a call that goes on adds to the history
+-- what a call that advances adds to the history
 abbrev pub answered : CallId → Option Answer → List Event
 answered id None = []
 answered id (Some a) = event.Answer id a ∷ []

@@ -28,7 +28,7 @@ no_steps founders = record { founders = founders; steps = []; sent = 0 }
 abbrev pub history_of : Course → List Event
 history_of c = (run weighted_majorities c.founders c.steps).history
 
--- a step more that sends no letter
+-- one more step that sends no letter
 abbrev pub stepped : Course → Step Weights → Course
 stepped c st = record c { steps = c.steps ++ st ∷ [] }
 
@@ -40,11 +40,11 @@ lettered c from to = record { founders = c.founders; steps = c.steps ++ step.Sen
 abbrev pub exchanged : ℕ → Course → ℕ → Course
 exchanged name c peer = lettered (lettered c name peer) peer name
 
--- the other founders, in rising order
+-- the other founders, in ascending order
 abbrev pub others : ℕ → List ℕ → List ℕ
 others name ns = filter (λ n. not (nat_eq n name)) ns
 
--- a phase of a call: letters with each of these, one after another, and then the call goes on
+-- a phase of a call: letters with each of these, one after another, and then the call advances
 abbrev pub phase : Course → List ℕ → CallId → Course
 phase c peers id = stepped (fold (exchanged id.name) c peers) (step.Advance id)
 
@@ -58,7 +58,7 @@ Asks name peers c [] d = d ≡ c
 Asks name peers c (Says r ∷ qs) d = Asks name peers c qs d
 Asks name peers c (Does o ∷ qs) d = (number : ℕ) × Asks name peers (operated c peers (id_at name number) o) qs d
 
--- the steps of one course are a beginning of those of another
+-- the steps of one course are a prefix of those of another
 abbrev pub IsBeginning : Course → Course → Type 0
 IsBeginning c d = (c.founders ≡ d.founders) × IsPrefix c.steps d.steps
 
@@ -68,13 +68,13 @@ abbrev pub HasDone : ℕ → Weights → List Request → (Course → Type 0) �
 HasDone name founders qs took =
     (c : Course) × took c × IsHistory name qs (history_of c) × Asks name (others name (names (members_of founders))) (no_steps founders) qs c
 
--- a beginning of both
+-- a prefix of both
 abbrev pub HasBegun : ℕ → Weights → List Request → (Course → Type 0) → Type 0
 HasBegun name founders qs took =
     (c : Course) × took c × BeginsHistory name qs (history_of c)
     × ((d : Course) × Asks name (others name (names (members_of founders))) (no_steps founders) qs d × IsBeginning c d)
 
--- at Ok the nodes took these steps, and else a beginning of them
+-- at Ok the nodes took these steps, and else a prefix of them
 abbrev pub Ends : {A E : Type 0} → Result A E → (Course → Type 0) → Course → Type 0
 Ends (Ok x) took d = took d
 Ends (Err e) took d = (c : Course) × took c × IsBeginning c d

@@ -19,7 +19,7 @@ writes_failed Read n = n
 writes_failed Write n = counted n
 writes_failed Memory n = n
 
--- how a fault is told
+-- how a fault is reported
 abbrev pub told : LocalFault → List ℕ
 told Read = words_of stream.Read
 told Write = words_of stream.Write

@@ -36,7 +36,7 @@ abbrev pub last_reply : Ending → List ℕ
 last_reply (open_at bytes place) = []
 last_reply (faulty fault) = reply_spelling (fault_reply fault)
 
--- all that is replied to a stream of these commands that ends so: what an ordinary map, empty at first, replies to each
--- command, and then the reply to the fault, if there is one
+-- all that is replied to a stream of these commands that ends so. To each command it is what an ordinary map, empty at
+-- first, replies; last comes the reply to the fault, if there is one
 abbrev pub text_of : List (List (List ℕ)) → Ending → List ℕ
 text_of commands ending = replies no_values (requests commands) ++ last_reply ending

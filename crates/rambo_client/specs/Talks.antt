@@ -16,8 +16,8 @@ abbrev pub IsOver : Ending → Option (List ℕ) → Type 0
 IsOver (open_at bytes place) left = IsAtEnd left
 IsOver (faulty fault) left = Unit {0}
 
--- these are the commands of what was read, which is over, and to each of them was written what an ordinary map replies,
--- and then the reply to the fault, if there is one
+-- these are the commands of what was read, which is over. What an ordinary map replies to each was written, and then
+-- the reply to the fault, if there is one
 pub record Serves (commands : List (List (List ℕ))) (left left_now taken taken_now : Option (List ℕ)) : Type 0 where
   pub stream : List ℕ
   pub ending : Ending
@@ -26,7 +26,7 @@ pub record Serves (commands : List (List (List ℕ))) (left left_now taken taken
   pub over : IsOver ending left_now
   pub written : Appends taken taken_now (text_of commands ending)
 
--- these are the commands of what was read, and a beginning of the replies to them was written
+-- these are the commands of what was read, and a prefix of the replies to them was written
 pub record Stops (commands : List (List (List ℕ))) (left left_now taken taken_now : Option (List ℕ)) : Type 0 where
   pub stream : List ℕ
   pub ending : Ending
@@ -41,7 +41,7 @@ pub record ServesAt (name : ℕ) (founders : Weights) (left left_now taken taken
   pub serves : Serves commands left left_now taken taken_now
   pub calls : HasDone name founders (requests commands) took
 
--- or a beginning of this
+-- or a prefix of this
 pub record StopsAt (name : ℕ) (founders : Weights) (left left_now taken taken_now : Option (List ℕ)) (took : Course → Type 0) : Type 0 where
   pub commands : List (List (List ℕ))
   pub stops : Stops commands left left_now taken taken_now
@@ -69,13 +69,13 @@ pub record IsTalk (name : ℕ) (founders : Weights) (d : DecoderState) (took : C
   pub given : d.waiting ≡ []
   pub calls : HasDone name founders (requests commands) took
 
--- the same after a piece more, where these are the replies to what is new
+-- the same after one more piece, where these are the replies to what is new
 pub record Answers (name : ℕ) (founders : Weights) (d : DecoderState) (took : Course → Type 0) (stream : List ℕ) (commands : List (List (List ℕ))) (new : List ℕ) : Type 0 where
   pub commands_now : List (List (List ℕ))
   pub talk : IsTalk name founders d took stream commands_now
   pub text : text_of commands_now d.ending ≡ replies no_values (requests commands) ++ new
 
--- a piece more was carried out in part
+-- one more piece was carried out in part
 pub record BreaksOff (name : ℕ) (founders : Weights) (took : Course → Type 0) (stream : List ℕ) (commands : List (List (List ℕ))) : Type 0 where
   pub commands_now : List (List (List ℕ))
   pub ending : Ending

@@ -34,7 +34,7 @@ impl Client {
         Some(Client { name, founders })
     }
 
-    /// Asks for an operation, and goes on until it is answered: once all founders answered its query, and once all
+    /// Asks for an operation, and advances it until it is answered: once all founders answered its query, and once all
     /// answered its propagation.
     ///
     /// Where it is refused the call may have been made.

@@ -11,7 +11,7 @@ use rambo_names::{Name, Refusal};
 
 /// Nodes that a client asks, and whose letters go where it says.
 ///
-/// `By` is a type of the crate that has the impl: with it a crate may say how nodes of another are asked.
+/// `By` is a type of the crate that has the impl. With it a crate may implement this for the nodes of another crate.
 pub trait Cluster<By> {
     // The calls and answers.
     ghost history: { Self → List Event };
@@ -19,7 +19,7 @@ pub trait Cluster<By> {
     // The nodes are those of the founders of a course, and took its steps. They need keep no letter.
     ghost took: { Self → Course → Type 0 };
 
-    /// A node is asked for an operation: the call.
+    /// Asks a node for an operation. Returns the call.
     ///
     /// Where it is refused there is no call.
     fn ask(&mut self, name: Name, op: Op) -> Result<CallId, Refusal>
@@ -33,7 +33,7 @@ pub trait Cluster<By> {
         ensures history { history self.new ≡ history self.old }
         ensures steps { (c : Course) → took self.old c → Ends result (took self.new) (exchanged name c peer) };
 
-    /// A call goes on: its answer, if it got one.
+    /// Advances a call. Returns its answer, if it got one.
     ///
     /// Where that is refused nothing is answered.
     fn go_on(&mut self, id: &CallId) -> Result<Option<Answer>, Refusal>

@@ -14,7 +14,7 @@ pub enum LocalFault {
     Read,
     /// The sink failed.
     Write,
-    /// There is no room for what is to be kept.
+    /// There is no room for what has to be stored.
     Memory,
 }
 
@@ -59,7 +59,7 @@ impl From<AllocError> for LocalFault {
     }
 }
 
-// No step of a client's world should be refused but for want of memory: its nodes never stop, and are asked in form.
+// No step of a client's world should be refused unless memory runs out: its nodes never stop, and are asked in form.
 impl From<Refusal> for LocalFault {
     ghost use Rattle.rambo_client.specs.declared.fault.LocalFault.TheVariants.{Memory};
 

@@ -25,17 +25,17 @@ use std::alloc::Global;
 /// How many bytes are asked for at once.
 const PIECE: usize = 64 * 1024;
 
-/// Serves a client of nodes that took no step yet, until its input ends or has a fault: the commands that a source gives,
-/// in RESP2, are answered into a sink.
+/// Serves a client of nodes that took no step yet, until its input ends or has a fault. The commands that a source
+/// gives, in RESP2, are answered into a sink.
 ///
-/// What is written is what an ordinary map replies, and behind a fault of the input the reply to it, after which no more
+/// What is written is what an ordinary map replies, and after a fault of the input the reply to it, after which no more
 /// is read. A command that the end of the input cuts short is not answered. Those that are whole are answered before
-/// more is read. The steps that the nodes take are, for each `GET` and `SET` that isn't refused, its call at the client's
-/// node, and then twice a letter to each other founder and one back, in rising order, and an advance of the call. So the
+/// more is read. For each `GET` and `SET` that isn't refused the nodes take its call at the client's node. Then they
+/// take, twice, a letter to each other founder and one back, in ascending order, and an advance of the call. So the
 /// history is that of the calls, each with its answer.
 ///
-/// `Read` and `Write` where a call of that stream fails; `Memory` where there is no room for what is to be kept. Then a
-/// beginning of the replies was written, and steps and history are beginnings of these.
+/// `Read` and `Write` where a call of that stream fails; `Memory` where there is no room for what has to be stored.
+/// Then a prefix of the replies was written, and steps and history are prefixes of these.
 pub fn serve<By, C: Cluster<By>, R: Source, W: Sink>(
     client: &Client,
     alloc: Global,
@@ -103,7 +103,7 @@ fn serve_pieces<By, C: Cluster<By>, R: Source, W: Sink>(
 }
 
 // Takes a piece of the input, carries out the commands that are whole with it, and puts the replies to them, and to a
-// fault behind them, into `out`. Tells whether there is a fault.
+// fault after them, into `out`. Returns whether there is a fault.
 fn take<By, C: Cluster<By>>(
     client: &Client,
     alloc: Global,
@@ -145,7 +145,7 @@ fn feed(decoder: &mut Decoder, piece: &[u8]) -> Result<(), LocalFault>
     }
 }
 
-// Carries out the whole commands of a decoder, and appends the replies to them. Tells the fault behind them, if there
+// Carries out the whole commands of a decoder, and appends the replies to them. Returns the fault after them, if there
 // is one.
 fn answer_all<By, C: Cluster<By>>(
     client: &Client,

@@ -6,33 +6,30 @@ use Rattle.std.specs.Option.{option_and_then, option_map_or, unwrap_or}
 use Rattle.std.specs.Str.{bytes_eq, chars}
 use Rattle.std.proofs.lemmas.Slice.Eq.{bytes_eq-Decides}
 use Rattle.clap.specs.Lexer.{long_of, short_of}
-use Rattle.clap.specs.Kinds.{HasKind, Kinds, or_else}
-use Rattle.clap.specs.Walk.{Held, Names, Outcome, Row, Rule, Step, Text, Walk, after_flag, arg_by_index, arg_by_long, arg_by_short, bundle_met, bundle_step, first_of, idle, rows_of, long_or_other, nothing_held, plain, short_or_plain, subcommand_met, takes_values, value, walk_from, walked}
+use Rattle.clap.specs.Kinds.{HasKind, Kinds}
+use Rattle.clap.specs.Walk.{Held, Names, Outcome, Row, Rule, Step, Text, Walk, after_flag, arg_by_index, arg_by_long, arg_by_short, bundle_met, bundle_step, first_of, one_of, idle, rows_of, long_or_other, nothing_held, plain, short_or_plain, subcommand_met, takes_values, value, walk_from, walked}
 use Rattle.clap.specs.Simple.{App, Shape, built, entered, built_leaf, inherited, marked_built, HasMatchesOf, is_simple, names_of, subcommand_of, subcommand_rows_of, with_leaf_noted}
 use Rattle.clap.specs.Faults.{bundle_fault, bundle_step_fault, entered_fault, fault_of, is_simple_and_free, flag_word_fault, flags_fault, long_fault, short_fault, step_fault, stray_fault, turn_fault, use_fault, walk_fault}
-use Rattle.clap.specs.Matches.{first_value, found_of, subcommand_name_of}
+use Rattle.clap.specs.Matches.{first_value, found_of, one_text, subcommand_name_of}
 use Rattle.clap.specs.Values.{kind_of}
 use Rattle.clap.specs.declared.error.Error.{Error}
 use Rattle.clap.specs.declared.parser.matches.ArgMatches.{ArgMatches}
 use Rattle.clap.specs.declared.parser.matches.ArgMatches.TheViews.{out-ArgMatches}
-use Rattle.clap.specs.declared.error.kind.ErrorKind.{ErrorKind}
 use Rattle.clap.specs.declared.error.kind.ErrorKind.TheVariants.{UnknownArgument, InvalidSubcommand, OutOfMemory}
 use Rattle.clap.proofs.OnLiterals.{clap_on_literals}
-use Rattle.clap.proofs.WalkLemmas.{first_value-rows, walk_stopped}
+use Rattle.clap.proofs.WalkLemmas.{first_value-rows, one_text-rows, walk_stopped}
 use Rattle.rambo_command_line.proofs.NoKinds.{first_none, second_none, some_kind}
 use Rattle.rambo_command_line.specs.declared.line.Task.{Task as AnyTask}
 use Rattle.rambo_command_line.specs.declared.line.Task.TheVariants as line
 use Rattle.rambo_command_line.specs.Lines as lines
-use Rattle.rambo_command_line.specs.Lines.{AsksByName, AsksFor, named, plain as plain_shape, rambo, word_behind}
+use Rattle.rambo_command_line.specs.Lines.{AsksByName, AsksFor, flag_told, named, plain as plain_shape, rambo, word_behind}
 
--- the tasks that have no arguments
+-- the task that has no arguments
 pub data Task : Type 0 where
   Replay : Task
-  Check : Task
 
 abbrev name_of : Task → Text
 name_of Replay = codes "replay"
-name_of Check = codes "check"
 
 abbrev Asks : List Text → Task → Type 0
 Asks words t = AsksByName words (name_of t)
@@ -152,32 +149,26 @@ top = (built rambo).top
 
 abbrev leaf : Task → Shape
 leaf Replay = built_leaf (inherited (with_leaf_noted (marked_built rambo.top)) (subcommand Replay))
-leaf Check = built_leaf (inherited (with_leaf_noted (marked_built rambo.top)) (subcommand Check))
 
 leaf_requests : (t : Task) → AreRequests (leaf t).rules
 leaf_requests Replay = ((refl, λ rows e. some_kind _ _ e), tt)
-leaf_requests Check = ((refl, λ rows e. some_kind _ _ e), tt)
 
 top_requests : AreRequests top.rules
 top_requests = ((refl, λ rows e. some_kind _ _ e), ((refl, λ rows e. some_kind _ _ e), tt))
 
 leaf_none : (t : Task) → arg_by_index (leaf t).rules 1 ≡ None
 leaf_none Replay = refl
-leaf_none Check = refl
 
 leaf_once : (t : Task) → (leaf t).args_override_self ≡ false
 leaf_once Replay = refl
-leaf_once Check = refl
 
 -- the fault of the words behind a task is a fault of all words
 below : (t : Task) (words : List Text) → fault_of rambo (name_of t ∷ words) ≡ [] → entered_fault (built rambo) (Some (name_of t, words)) ≡ []
 unfolding walked
 below Replay words e = subst (λ (w : Walk). entered_fault (built rambo) w.stopped ≡ []) (sym (walk_stopped top.rules names (walk_from nothing_held) (codes "replay") [] words)) (first_none _ _ (second_none _ _ e))
-below Check words e = subst (λ (w : Walk). entered_fault (built rambo) w.stopped ≡ []) (sym (walk_stopped top.rules names (walk_from nothing_held) (codes "check") [] words)) (first_none _ _ (second_none _ _ e))
 
 leaf_fault : (t : Task) (words : List Text) → entered_fault (built rambo) (Some (name_of t, words)) ≡ [] → walk_fault (leaf t) [] (walk_from nothing_held) words ≡ []
 leaf_fault Replay words e = first_none _ _ e
-leaf_fault Check words e = first_none _ _ e
 
 behind : (t : Task) (words : List Text) → (words ≡ []) ⊎ (words ≡ codes "--" ∷ []) → Asks (name_of t ∷ words) t
 behind t words (inl is) = inl (ap (λ (ws : List Text). name_of t ∷ ws) is)
@@ -210,7 +201,14 @@ other_at true word words is unmet e =
     mark_fails (subst (λ (ws : List Text). fault_of rambo ws ≡ []) (ap₂ (λ (w : Text) (ws : List Text). w ∷ ws) mark none) e)
 other_at false word words is unmet e = other_fails top names top_requests refl refl word unmet is (first_none _ _ (first_none _ _ e))
 
--- the words behind `local` are left to it
+-- the words behind `check` are left to it
+pub check_named : (words : List Text) → option_map (λ p. p.0) (subcommand_of rambo (codes "check" ∷ words)) ≡ Some (codes "check")
+unfolding walked
+check_named words =
+    subst (λ (w : Walk). option_map (λ p. p.0) (entered (built rambo) w.stopped) ≡ Some (codes "check"))
+    (walk_stopped top.rules names (walk_from nothing_held) (codes "check") [] words) refl
+
+-- those behind `local`
 pub local_named : (words : List Text) → option_map (λ p. p.0) (subcommand_of rambo (codes "local" ∷ words)) ≡ Some (codes "local")
 unfolding walked
 local_named words =
@@ -226,16 +224,18 @@ serve_named words =
 
 -- the first word is one of the five names, or none
 abbrev Found : List Text → Type 0
-Found words = ((t : Task) × Asks words t) ⊎ (named words ≡ Some (codes "local")) ⊎ (named words ≡ Some (codes "serve"))
+Found words =
+    ((t : Task) × Asks words t) ⊎ (named words ≡ Some (codes "check")) ⊎ (named words ≡ Some (codes "local")) ⊎ (named words ≡ Some (codes "serve"))
 
 first_at : (r c l s h : Bool) (word : Text) (words : List Text) → bytes_eq (codes "replay") word ≡ r → bytes_eq (codes "check") word ≡ c → bytes_eq (codes "local") word ≡ l
     → bytes_eq (codes "serve") word ≡ s → bytes_eq (codes "help") word ≡ h → fault_of rambo (word ∷ words) ≡ [] → Found (word ∷ words)
 first_at true c l s h word words is_r is_c is_l is_s is_h e = inl (Replay, named_at Replay word words ((bytes_eq-Decides (codes "replay") word).0 is_r) e)
-first_at false true l s h word words is_r is_c is_l is_s is_h e = inl (Check, named_at Check word words ((bytes_eq-Decides (codes "check") word).0 is_c) e)
+first_at false true l s h word words is_r is_c is_l is_s is_h e =
+    inr (inl (subst (λ (w : Text). named (w ∷ words) ≡ Some (codes "check")) ((bytes_eq-Decides (codes "check") word).0 is_c) (check_named words)))
 first_at false false true s h word words is_r is_c is_l is_s is_h e =
-    inr (inl (subst (λ (w : Text). named (w ∷ words) ≡ Some (codes "local")) ((bytes_eq-Decides (codes "local") word).0 is_l) (local_named words)))
+    inr (inr (inl (subst (λ (w : Text). named (w ∷ words) ≡ Some (codes "local")) ((bytes_eq-Decides (codes "local") word).0 is_l) (local_named words))))
 first_at false false false true h word words is_r is_c is_l is_s is_h e =
-    inr (inr (subst (λ (w : Text). named (w ∷ words) ≡ Some (codes "serve")) ((bytes_eq-Decides (codes "serve") word).0 is_s) (serve_named words)))
+    inr (inr (inr (subst (λ (w : Text). named (w ∷ words) ≡ Some (codes "serve")) ((bytes_eq-Decides (codes "serve") word).0 is_s) (serve_named words))))
 first_at false false false false true word words is_r is_c is_l is_s is_h e =
     absurd (help_fails words (subst (λ (w : Text). fault_of rambo (w ∷ words) ≡ []) (sym ((bytes_eq-Decides (codes "help") word).0 is_h)) e))
 first_at false false false false false word words is_r is_c is_l is_s is_h e =
@@ -253,12 +253,10 @@ faultless_asks (word ∷ words) e =
 at_literal : (t : Task) → (fault_of rambo (name_of t ∷ []) ≡ []) × (option_map (λ p. p.0) (subcommand_of rambo (name_of t ∷ [])) ≡ Some (name_of t))
 unfolding clap_on_literals
 at_literal Replay = (refl, refl)
-at_literal Check = (refl, refl)
 
 at_marked : (t : Task) → (fault_of rambo (name_of t ∷ codes "--" ∷ []) ≡ []) × (option_map (λ p. p.0) (subcommand_of rambo (name_of t ∷ codes "--" ∷ [])) ≡ Some (name_of t))
 unfolding clap_on_literals
 at_marked Replay = (refl, refl)
-at_marked Check = (refl, refl)
 
 pub asks_faultless : (words : List Text) (t : Task) → Asks words t → fault_of rambo words ≡ []
 asks_faultless words t (inl is) = subst (λ (ws : List Text). fault_of rambo ws ≡ []) (sym is) (at_literal t).0
@@ -280,13 +278,13 @@ not_both words a b apart is also =
 
 pub task_faultless : (words : List Text) (t : AnyTask) → lines.Asks words t → fault_of rambo words ≡ []
 task_faultless words line.Replay asks = asks_faultless words Replay asks
-task_faultless words line.Check asks = asks_faultless words Check asks
+task_faultless words (line.Check why) asks = asks.0.0
 task_faultless words (line.Local founders) asks = asks.0.0
 task_faultless words (line.Serve serving) asks = asks.0.0
 
 pub task_named : (words : List Text) (t : AnyTask) → lines.Asks words t → named words ≡ Some (lines.name_of t)
 task_named words line.Replay asks = asks_named words Replay asks
-task_named words line.Check asks = asks_named words Check asks
+task_named words (line.Check why) asks = asks.0.1
 task_named words (line.Local founders) asks = asks.0.1
 task_named words (line.Serve serving) asks = asks.0.1
 
@@ -343,27 +341,22 @@ module _ (words : List Text) (m : ArgMatches) (faultless : fault_of rambo words 
       both (Some p) is also =
           ap₂ (λ (n : Text) (rs : List Row). Some (n, rs)) (ap (λ (o : Option Text). unwrap_or o name) is) (ap (λ (o : Option (List Row)). unwrap_or o p.1) also)
 
-  by_name : (name : Text) (t : Task) → Asks words t → named words ≡ Some name → bytes_eq (name_of t) name ≡ false → ⊥
-  by_name name t asks is apart = not_both words (name_of t) name apart (asks_named words t asks) is
-
-  pub met_replay : subcommand_name_of m ≡ Some (codes "replay") → AsksByName words (codes "replay")
-  met_replay met = at (faultless_asks words faultless)
+  pub met_replay : ¬ (subcommand_name_of m ≡ Some (codes "check")) → ¬ (subcommand_name_of m ≡ Some (codes "local")) → ¬ (subcommand_name_of m ≡ Some (codes "serve"))
+      → AsksByName words (codes "replay")
+  met_replay not_check not_local not_serve = at (faultless_asks words faultless)
     where
       at : Found words → AsksByName words (codes "replay")
       at (inl (Replay, asks)) = asks
-      at (inl (Check, asks)) = absurd (by_name (codes "replay") Check asks (named_is ∙ met) refl)
-      at (inr (inl local)) = absurd (not_both words (codes "local") (codes "replay") refl local (named_is ∙ met))
-      at (inr (inr serve)) = absurd (not_both words (codes "serve") (codes "replay") refl serve (named_is ∙ met))
+      at (inr (inl check)) = absurd (not_check (sym named_is ∙ check))
+      at (inr (inr (inl local))) = absurd (not_local (sym named_is ∙ local))
+      at (inr (inr (inr serve))) = absurd (not_serve (sym named_is ∙ serve))
 
-  pub met_check : ¬ (subcommand_name_of m ≡ Some (codes "replay")) → ¬ (subcommand_name_of m ≡ Some (codes "local")) → ¬ (subcommand_name_of m ≡ Some (codes "serve"))
-      → AsksByName words (codes "check")
-  met_check unmet not_local not_serve = at (faultless_asks words faultless)
-    where
-      at : Found words → AsksByName words (codes "check")
-      at (inl (Replay, asks)) = absurd (unmet (sym named_is ∙ asks_named words Replay asks))
-      at (inl (Check, asks)) = asks
-      at (inr (inl local)) = absurd (not_local (sym named_is ∙ local))
-      at (inr (inr serve)) = absurd (not_serve (sym named_is ∙ serve))
+  -- what clap tells of a flag
+  pub flag_is : (option : Text) (sub : ArgMatches) → option_map (λ p. p.1) (subcommand_rows_of m) ≡ Some (rows_of (found_of sub))
+      → flag_told option words ≡ one_text (found_of sub) option
+  flag_is option sub e =
+      ap (option_and_then (λ p. one_of option p.1)) (sym rows_are)
+      ∙ rows_read (one_of option) (subcommand_rows_of m) ∙ ap (option_and_then (one_of option)) e ∙ sym (one_text-rows (found_of sub) option)
 
 -- the kind of an error that words give in which there is no fault
 pub faultless_memory : (words : List Text) (e : Error) → fault_of rambo words ≡ [] → HasKind (fault_of rambo words) e → kind_of e ≡ OutOfMemory

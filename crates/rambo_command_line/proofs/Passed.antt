@@ -1,5 +1,5 @@
 -- That what a command holds of its options has passed their parsers, where clap finds no fault in the words
-use Rattle.std.proofs.Common.{◌≡◌, ◌∙◌, ◌⊎◌, ℕ, zero, suc, Bool, true, false, cond, refl, sym, ap, subst, inl, inr, List, [], ◌∷◌, ◌++◌, ◌&&◌, length, codes, drop, is_some, true≢false}
+use Rattle.std.proofs.Common.{◌≡◌, ◌∙◌, ◌⊎◌, ℕ, zero, suc, Bool, true, false, cond, refl, sym, ap, subst, inl, inr, List, [], ◌∷◌, ◌++◌, ◌&&◌, length, drop, is_some, true≢false}
 use Rattle.std.specs.Prelude.{Option, Some, None, IfSome, encode_utf8, slice_get, option_map}
 use Rattle.std.specs.List.{AllByRecursion, find, fold}
 use Rattle.std.specs.Option.{option_and_then, option_map_or, unwrap_or}
@@ -13,9 +13,7 @@ use Rattle.clap.specs.Facts.{parser_of_value}
 use Rattle.clap.specs.Values.{read_as}
 use Rattle.clap.specs.Walk.{answers_to, first_of, one_of, row_text, walked_from}
 use Rattle.clap.specs.Faults.{action_fault, bundle_fault, bundle_step_fault, check_fault, defaults_fault, entered_fault, flag_word_fault, flags_fault, level_fault, long_fault, option_fault, other_fault, positional_fault, react_fault, settle_fault, short_fault, step_fault, turn_fault, use_fault, values_fault, walk_fault, word_fault}
-use Rattle.clap.specs.declared.builder.action.ArgAction.{ArgAction}
 use Rattle.clap.specs.declared.builder.action.ArgAction.TheVariants.{Set, Help}
-use Rattle.clap.specs.declared.error.kind.ErrorKind.{ErrorKind}
 use Rattle.clap.specs.declared.parser.matches.ValueSource.TheVariants.{CommandLine}
 use Rattle.rambo_command_line.proofs.NoKinds.{first_none, second_none, some_kind}
 

@@ -1,5 +1,5 @@
 -- That the numbers behind the options of `serve` lie in their ranges, where clap finds no fault
-use Rattle.std.proofs.Common.{◌≡◌, ◌∙◌, ◌<◌, ◌≤◌, ◌^◌, ◌<◌, ℕ, Bool, true, false, cond, refl, sym, ap, subst, inl, inr, List, [], ◌∷◌, codes, arith, true≢false}
+use Rattle.std.proofs.Common.{◌≡◌, ◌∙◌, ◌<◌, ◌≤◌, ◌<◌, ℕ, Bool, true, false, cond, refl, sym, ap, subst, inl, inr, List, [], codes, arith, true≢false}
 use Rattle.std.specs.Prelude.{Option, Some, None, option_map, slice_get}
 use Rattle.std.specs.List.{AllByRecursion, find, slice_index_or}
 use Rattle.std.specs.Option.{option_and_then, option_map_or}
@@ -7,14 +7,12 @@ use Rattle.std.specs.Str.{bytes_eq}
 use Rattle.std.specs.Str.Parse.{IsNumeral, without_leading_plus}
 use Rattle.clap.specs.Kinds.{Kinds, value_kinds}
 use Rattle.clap.specs.Matches.{found_of, one_text}
-use Rattle.clap.specs.ValueTests.{accepts}
 use Rattle.clap.specs.Values.{Accepts}
 use Rattle.clap.specs.Walk.{Row, Rule, Text, arg_by_id, first_of, one_of, row_text, rows_of, stop_after}
 use Rattle.clap.specs.Simple.{argument_words, built, built_leaf, inherited, marked_built, names_of, new_rule, subcommand_of, with_leaf_noted}
 use Rattle.clap.specs.Faults.{fault_of}
 use Rattle.clap.proofs.ValueTestLemmas.{accepts-Accepts}
-use Rattle.clap.proofs.WalkLemmas.{first_value-rows, one_text-rows}
-use Rattle.clap.specs.declared.builder.value_parser.ValueParser.{ValueParser}
+use Rattle.clap.proofs.WalkLemmas.{one_text-rows}
 use Rattle.clap.specs.declared.builder.value_parser.ValueParser.TheVariants.{Unsigned}
 use Rattle.clap.specs.declared.parser.matches.ArgMatches.{ArgMatches}
 use Rattle.rambo_command_line.proofs.NoKinds.{first_none, second_none, some_kind}
@@ -27,8 +25,8 @@ options = (built_leaf (inherited (with_leaf_noted (marked_built rambo.top)) with
 
 are_options : AreOptions options
 are_options = record {
-  options = (inl (refl, refl), (inl (refl, refl), (inl (refl, refl), (inl (refl, refl), (inl (refl, refl), (inl (refl, refl), (inr refl, tt)))))));
-  no_defaults = (refl, (refl, (refl, (refl, (refl, (refl, (refl, tt)))))));
+  options = (inl (refl, refl), (inl (refl, refl), (inl (refl, refl), (inl (refl, refl), (inl (refl, refl), (inl (refl, refl), (inl (refl, refl), (inr refl, tt))))))));
+  no_defaults = (refl, (refl, (refl, (refl, (refl, (refl, (refl, (refl, tt))))))));
 }
 
 other_name : (name : Text) → bytes_eq name serve_name ≡ false → name ≡ serve_name → ⊥

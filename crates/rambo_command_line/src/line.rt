@@ -3,6 +3,7 @@ ghost use Rattle.std.specs.Prelude.{◌≡◌, ℕ, List, [], map, IfOk, IfErr};
 ghost use Rattle.clap.specs.Words.{HasKind, HasMatchesOf, app_of, fault_of, with_subcommand};
 ghost use Rattle.rambo_command_line.specs.Lines.{
   Asks,
+  IsCheck,
   IsLocal,
   program as program_app,
   rambo,
@@ -10,7 +11,7 @@ ghost use Rattle.rambo_command_line.specs.Lines.{
   with_options,
 };
 
-use crate::parts::{bare_command, founders_of, founders_option};
+use crate::parts::{bare_command, flag, founders_of, founders_option};
 use crate::serving::{Serving, serve_command, serving_in};
 use clap::{ArgMatches, Command, Error};
 use rambo_names::Weighted;
@@ -22,13 +23,13 @@ const STATUSES: &str = "Exit statuses:
   1  a stream or socket failed or memory ran out (fault read, fault write,
      fault socket, fault memory)
   2  the command line or the input is faulty
-  3  check said no of some key, or of the order of all keys";
+  3  check said no for some key, or for the order of all keys";
 
 const SCRIPTS: &str =
-    "A script is lines, each a step of its words with one space between. A NAME is a
-node, 1 to 64. A SET is names in rising order with commas between, or - for
-none. A CONF is such names with weights, each behind a colon, from 2 to 15; a
-name with none weighs 1. A CALL is the name of its node, a dot and its number
+    "A script has one step a line, its words separated by single spaces. A NAME is a
+node, 1 to 64. A SET is names in ascending order, separated by commas, or - for
+none. A CONF is such names with weights, each after a colon, from 2 to 15; a
+name without one weighs 1. A CALL is the name of its node, a dot and its number
 there, from 1. Keys and values are HEX, pairs of digits 0 to 9 and a to f, or -
 for no bytes.
 
@@ -37,20 +38,20 @@ for no bytes.
   get NAME KEY          a client asks a node for the value of a key
   set NAME KEY VALUE    a client asks a node to set a key to a value
   send NAME NAME        the first node sends a letter to the second
-  deliver NUMBER        a letter comes to its addressee; they count from 1
-  advance CALL          a call whose replies suffice goes on, or is answered
-  again CALL            a call begins its present phase anew
+  deliver NUMBER        a letter comes to its addressee; letters count from 1
+  advance CALL          a call with a quorum's replies goes on, or is answered
+  again CALL            a call restarts its current phase
   recon NAME CONF       a node begins to have this chosen as next members
-  rebid NAME            the node begins this anew, with a higher ballot
-  advance-recon NAME    it goes on where its replies suffice, to the decision
+  rebid NAME            the node retries this with a higher ballot
+  advance-recon NAME    with a quorum's replies it goes on, to the decision
   collect NAME          a node begins to remove its oldest set of members
-  advance-collect NAME  it goes on where its replies suffice, to the removal
+  advance-collect NAME  with a quorum's replies it goes on, to the removal
   stop NAME             a node stops for good
 
-Behind a first line of its own, rambo 2, a script gives an outcome of version 2:
+After a first line of its own, rambo 2, a script gives an outcome of version 2:
 its first line is rambo 2 too, and it has one order of the calls of all keys.
 
-The first faulty line is told with its number, as script fault S2 at line 3:
+The first faulty line is reported by its number, as script fault S2 at line 3:
   S1  the first line names no founders
   S2  the first word of a line is none of these
   S3  a line has another number of words than its step has
@@ -65,9 +66,9 @@ Exit statuses:
   2  the command line or the script is faulty";
 
 const OUTCOMES: &str =
-    "What replay writes is read: the calls and their answers in order, for each key
+    "It reads what replay writes: the calls and their answers in order, for each key
 the sequence of its calls, and lines on members, refusals and maps, which are
-passed over.
+skipped.
 
   call CALL get KEY
   call CALL set KEY VALUE
@@ -85,15 +86,21 @@ passed over.
 For each key the verdict is yes KEY, or no KEY and the least rule that its
 sequence breaks:
   1  an answered call of the key is missing
-  2  a call stands there twice
+  2  a call occurs twice
   3  an entry is no call of the key, or a get without an answer
-  4  a get does not answer the set before it, or nil where there is none
-  5  a call was answered before another was made, and stands behind it
+  4  a get does not answer the set before it, or nil if there is none
+  5  a call was answered before another was made, and comes after it
 
-Where the first line is rambo 2 an order line may stand, and the last verdict is
+If the first line is rambo 2 there may be an order line, and the last verdict is
 yes order, or no order and the least rule that this one order of all keys breaks.
 
-The first faulty line is told with its number, as script fault S2 at line 3:
+With --why a line after each no names the first call that breaks the rule, and
+the lines of the input where it is found, as
+  2.1 answered 61 (line 9), and the latest set before it is 1.2 of 62 (line 7)
+Keys and values that are printable ASCII without a space or a quote are written
+in quotes too, as 6b \"k\".
+
+The first faulty line is reported by its number, as script fault S2 at line 3:
   S2  the first word of a line is none of these, or the third of a call or answer
   S3  a line has another number of words than its kind has
   S4  a word is not the number, name, set, CONF or call that belongs there
@@ -103,23 +110,23 @@ The first faulty line is told with its number, as script fault S2 at line 3:
       a key has a second sequence, or all keys a second order
 
 Exit statuses:
-  0  yes of all keys, and of their order
+  0  yes for all keys, and for their order
   1  a stream failed or memory ran out (fault read, fault write, fault memory)
   2  the command line or the outcome text is faulty
-  3  no of some key, or of the order of all keys";
+  3  no for some key, or for the order of all keys";
 
 const COMMANDS: &str =
     "Commands are RESP2 arrays of bulk strings, as redis clients send them. Names of
-commands are read in small and capital letters. Keys have at most 256 bytes.
+commands are case-insensitive. Keys have at most 256 bytes.
 
   PING         replies PONG
   PING WORD    replies the word
   GET KEY      replies the value of the key, or nil
   SET KEY VAL  sets the key to the value, and replies OK
 
-A command is an error that is none of these, has another number of words, or
-has too long a key. Behind bytes that spell no command the fault is replied,
-and the end is as at the end of the input:
+A command that is none of these, has another number of words, or has too long a
+key gets an error. After bytes that spell no command the fault is the reply, and
+it ends as at the end of the input:
   P1  a command does not begin with *, or an item with $
   P2  a number is not in plain decimal
   P3  a command has over 128 items
@@ -132,26 +139,26 @@ Example:
 Exit statuses:
   0  done
   1  a stream failed or memory ran out (fault read, fault write, fault memory)
-  2  the command line is faulty, or the founders are none (bad founders)";
+  2  the command line is faulty, or the founders are invalid (bad founders)";
 
-/// The founders of a store where no others are told.
+/// The founders of a store where none are given.
 const FOUNDERS: &str = "1";
 
 /// What a command line asks for.
 #[derive(Clone, Copy, Debug)]
 pub enum Task {
-    /// From a script to the text of what its run gives.
+    /// A script is run, and its outcome written.
     Replay,
-    /// From an outcome text to a verdict on each key.
-    Check,
-    /// A client is served by a store of these founders, of which there is one at least; none where a word is no sign of
-    /// such a configuration.
+    /// An outcome text is read, and a verdict on each key written; and if so, why each no is one.
+    Check(bool),
+    /// One client is served by a store of these founders, at least one. None where the word isn't the sign of such a
+    /// configuration.
     Local(Option<Weighted>),
     /// Many clients are served, on a port of this machine.
     Serve(Serving),
 }
 
-/// What the words behind the program's name ask for.
+/// What the words after the program's name ask for.
 ///
 /// An error is clap's: a mistake in the words, a request for help or the version, or `OutOfMemory`.
 pub fn task_of<S: AsStr>(alloc: Global, words: &[S]) -> Result<Task, Error>
@@ -175,11 +182,10 @@ fn task_in(matches: &ArgMatches<'_>) -> Task
     if let Some(serve) = matches.subcommand_matches("serve") {
         return Task::Serve(serving_in(serve));
     }
-    if matches.subcommand_matches("replay").is_some() {
-        Task::Replay
-    } else {
-        Task::Check
+    if let Some(check) = matches.subcommand_matches("check") {
+        return Task::Check(check.get_flag("why"));
     }
+    Task::Replay
 }
 
 // The program and its four commands.
@@ -199,15 +205,27 @@ fn text_commands<'a>(alloc: Global) -> Result<Command<'a>, AllocError>
         .subcommand(bare_command(
             alloc,
             "replay",
-            "Runs the script on standard input and writes what its run gives",
+            "Runs the script on standard input and writes its outcome",
             SCRIPTS,
         ))?
-        .subcommand(bare_command(
-            alloc,
-            "check",
-            "Reads the outcome text on standard input and writes yes or no for each of its keys",
-            OUTCOMES,
-        ))
+        .subcommand(check_command(alloc)?)
+}
+
+// The command that checks an outcome text.
+fn check_command<'a>(alloc: Global) -> Result<Command<'a>, AllocError>
+    ensures { IfOk result IsCheck }
+{
+    bare_command(
+        alloc,
+        "check",
+        "Reads the outcome on standard input and writes yes or no for each of its keys",
+        OUTCOMES,
+    )
+    .arg(flag(
+        alloc,
+        "why",
+        "After each no, names the first call that breaks the rule, and its lines",
+    ))
 }
 
 // The program, still without its commands.
@@ -217,7 +235,7 @@ fn program<'a>(alloc: Global) -> Result<Command<'a>, AllocError>
     bare_command(
         alloc,
         "rambo",
-        "Runs scripts of a replicated key-value store, checks what they give, and serves clients",
+        "Runs scripts of a replicated key-value store, checks their outcomes, and serves clients",
         STATUSES,
     )
     .version("0.1.0")
@@ -238,6 +256,6 @@ fn local_command<'a>(alloc: Global) -> Result<Command<'a>, AllocError>
     )
     .arg(founders_option(
         alloc,
-        "The nodes of the store, names in rising order with commas between, weights behind colons [default: 1]",
+        "The nodes of the store, names in ascending order with commas between, weights after colons [default: 1]",
     ))
 }

@@ -1,8 +1,8 @@
-//! What the commands are made of, and what the sign of the founders tells.
+//! What the commands are made of, and which founders a sign gives.
 ghost use Rattle.std.specs.Prelude.{◌≡◌, false};
 ghost use Rattle.clap.specs.declared.builder.command.Command.TheViews.{out-Command as fields_of};
 ghost use Rattle.clap.specs.Words.{app_of, new_app, rule_of};
-ghost use Rattle.rambo_command_line.specs.Lines.{IsFounders, founders_rule};
+ghost use Rattle.rambo_command_line.specs.Lines.{IsFounders, flag_rule, founders_rule};
 
 use clap::{Arg, ArgAction, Command};
 use rambo_names::{Quorums, Weighted, read_conf};
@@ -22,7 +22,18 @@ pub(crate) fn bare_command<'a>(
     Command::new(alloc, name).about(about).after_help(help)
 }
 
-/// The option that tells the founders, with what its help says.
+/// A flag of a name, with its help.
+pub(crate) fn flag<'a>(alloc: Global, name: &'a str, help: &'a str) -> Arg<'a>
+    ensures rule { rule_of result ≡ flag_rule name.now }
+    ensures own { result.global ≡ false }
+{
+    Arg::new(alloc, name)
+        .long(name)
+        .action(ArgAction::SetTrue)
+        .help(help)
+}
+
+/// The option that gives the founders, with its help.
 pub(crate) fn founders_option<'a>(alloc: Global, help: &'a str) -> Arg<'a>
     ensures rule { rule_of result ≡ founders_rule }
     ensures own { result.global ≡ false }
@@ -34,7 +45,7 @@ pub(crate) fn founders_option<'a>(alloc: Global, help: &'a str) -> Arg<'a>
         .help(help)
 }
 
-/// The founders that a word tells, where it is the sign of some.
+/// The founders that a word gives, where it is the sign of some.
 pub(crate) fn founders_of(word: &str) -> Option<Weighted>
     ensures { IsFounders word.now result }
 {

@@ -11,6 +11,7 @@ ghost use Rattle.rambo_command_line.specs.Lines.{
   number_rule,
   rambo,
   serve_name,
+  with_clients,
   with_network,
 };
 
@@ -20,12 +21,12 @@ use clap::{Arg, ArgAction, ArgMatches, Command};
 use rambo_names::Weighted;
 use std::alloc::{AllocError, Global};
 
-const SERVER: &str = "The port is told on standard error, as listening 7379. Clients send RESP2
+const SERVER: &str = "The port is reported on standard error, as listening 7379. Clients send RESP2
 commands, as redis clients do. Keys have at most 256 bytes, values 4,096.
 
   PING, PING WORD, GET KEY, SET KEY VALUE
   RAMBO USE NAME       this connection asks this node from now on; at first it
-                       asks the lowest founder
+                       asks the lowest founder that wasn't stopped
   RAMBO JOIN NAME SET  this node begins to join, by way of these contacts
   RAMBO RECON CONF     the connection's node begins to have this chosen as next
                        members
@@ -34,18 +35,18 @@ commands, as redis clients do. Keys have at most 256 bytes, values 4,096.
   RAMBO STOP NAME      this node stops for good
   RAMBO SHUTDOWN       the server ends
 
-A NAME is a node, 1 to 64. A SET is names in rising order with commas between, a
-CONF such names with weights, each behind a colon, from 2 to 15; a name with
-none weighs 1.
+A NAME is a node, 1 to 64. A SET is names in ascending order, separated by
+commas. A CONF is such names with weights, each after a colon, from 2 to 15; a
+name without one weighs 1.
 
-What happens is kept in a book of steps. The default 100,000 steps hold some
-9,000 gets and sets; where the book is full each command is refused 23. After
-RAMBO SHUTDOWN, and then alone, the book is written to standard output, as a
-script: replay gives the answers that the clients got. A signal ends the server
-at once, and the trace is lost.
+What happens is recorded in a book of steps. The default 100,000 steps hold some
+9,000 gets and sets; once it is full, each further step is refused with 23. Only
+after RAMBO SHUTDOWN is the book written to standard output, as a script: replay
+gives the answers that the clients got. A signal ends the server at once, and
+the trace is lost.
 
-Where as many clients are served as --clients tells, a further connection, by
-default the ninth, gets no reply until another ends: RAMBO SHUTDOWN waits too.
+A connection beyond --connections is refused. RAMBO SHUTDOWN is heard on each
+other one.
 
 Example:
   rambo serve --port 7379 >trace &
@@ -60,9 +61,9 @@ Exit statuses:
   0  done
   1  a socket or stream failed or memory ran out (fault socket, fault write,
      fault memory)
-  2  the command line is faulty, or the founders are none (bad founders)";
+  2  the command line is faulty, or the founders are invalid (bad founders)";
 
-/// The founders of a server where no others are told.
+/// The founders of a server where none are given.
 const FOUNDERS: &str = "1,2,3";
 
 /// How a server is asked to serve.
@@ -70,10 +71,12 @@ const FOUNDERS: &str = "1,2,3";
 pub struct Serving {
     /// The port that it listens on; where it is 0 the system chooses one.
     pub port: u16,
-    /// The founders, of which there is one at least; none where a word is no sign of such a configuration.
+    /// The founders, at least one. None where the word isn't the sign of such a configuration.
     pub founders: Option<Weighted>,
-    /// How many clients it serves at once, 1 to 32.
+    /// How many threads serve clients, 1 to 32.
     pub clients: u64,
+    /// How many connections it serves at once, 1 to 1,000,000.
+    pub connections: u64,
     /// How many steps its book holds, 1 to 1,000,000.
     pub steps: u64,
     /// A letter is lost where this divides its number; 0 loses none.
@@ -82,7 +85,7 @@ pub struct Serving {
     pub twice: u64,
 }
 
-/// What the words behind `serve` tell, which a parse without a fault met.
+/// What the words after `serve` ask for, after a parse without a fault.
 pub(crate) fn serving_in(matches: &ArgMatches<'_>) -> Serving
     ensures { (words : List (List ℕ)) → AsksServe words
         → subcommand_of rambo words ≡ Some (serve_name, rows_of (found_of matches.now))
@@ -91,14 +94,15 @@ pub(crate) fn serving_in(matches: &ArgMatches<'_>) -> Serving
     Serving {
         port: port_in(matches),
         founders: founders_of(matches.get_str("founders").unwrap_or(FOUNDERS)),
-        clients: number_in(matches, "clients", 8),
+        clients: number_in(matches, "clients", 2),
+        connections: number_in(matches, "connections", 10_000),
         steps: number_in(matches, "steps", 100_000),
         lose: number_in(matches, "lose", 0),
         twice: number_in(matches, "twice", 0),
     }
 }
 
-// The port, or 0 where none is told.
+// The port, or 0 where none is given.
 fn port_in(matches: &ArgMatches<'_>) -> u16
     ensures none { one_text (found_of matches.now) (codes "port") ≡ None → result ≡ 0 }
     ensures some { (word : List ℕ) → one_text (found_of matches.now) (codes "port") ≡ Some word
@@ -107,7 +111,7 @@ fn port_in(matches: &ArgMatches<'_>) -> u16
     matches.get_one::<u16>("port").unwrap_or(0)
 }
 
-// The number behind an option, or the default where it has none.
+// The number after an option, or the default where it has none.
 fn number_in(matches: &ArgMatches<'_>, option: &str, default: u64) -> u64
     ensures none { one_text (found_of matches.now) option.now ≡ None → result ≡ default }
     ensures some { (word : List ℕ) → one_text (found_of matches.now) option.now ≡ Some word
@@ -137,15 +141,37 @@ pub(crate) fn serve_command<'a>(alloc: Global) -> Result<Command<'a>, AllocError
         ))
 }
 
-// The same, still without what befalls its letters.
+// The same, still without the options about its letters.
 fn network_command<'a>(alloc: Global) -> Result<Command<'a>, AllocError>
     ensures app { IfOk result (λ c. app_of c ≡ with_network) }
+    ensures local { IfOk result (λ c. (fields_of c).has_globals ≡ false) }
+{
+    clients_command(alloc)?
+        .arg(number_option(
+            alloc,
+            "connections",
+            1,
+            1_000_000,
+            "How many connections are served at once, 1 to 1000000; others are refused [default: 10000]",
+        ))?
+        .arg(number_option(
+            alloc,
+            "steps",
+            1,
+            1_000_000,
+            "How many steps the book holds, 1 to 1000000 [default: 100000]",
+        ))
+}
+
+// The same, still without how many connections and steps there may be.
+fn clients_command<'a>(alloc: Global) -> Result<Command<'a>, AllocError>
+    ensures app { IfOk result (λ c. app_of c ≡ with_clients) }
     ensures local { IfOk result (λ c. (fields_of c).has_globals ≡ false) }
 {
     bare_command(
         alloc,
         "serve",
-        "Serves many clients in RESP2 on a port of this machine, and writes the trace of it all",
+        "Serves many clients in RESP2 on a port of this machine, and writes a trace of all steps",
         SERVER,
     )
     .arg(number_option(
@@ -157,25 +183,18 @@ fn network_command<'a>(alloc: Global) -> Result<Command<'a>, AllocError>
     ))?
     .arg(founders_option(
         alloc,
-        "The first nodes of the store, names in rising order with commas between, weights behind colons [default: 1,2,3]",
+        "The first nodes of the store, names in ascending order with commas between, weights after colons [default: 1,2,3]",
     ))?
     .arg(number_option(
         alloc,
         "clients",
         1,
         32,
-        "How many clients are served at once, 1 to 32; others wait [default: 8]",
-    ))?
-    .arg(number_option(
-        alloc,
-        "steps",
-        1,
-        1_000_000,
-        "How many steps the book holds, 1 to 1000000 [default: 100000]",
+        "How many threads serve clients, 1 to 32 [default: 2]",
     ))
 }
 
-// An option that tells a number from the least to the most, with what its help says.
+// An option for a number from the least to the most, with its help.
 fn number_option<'a>(alloc: Global, name: &'a str, least: u64, most: u64, help: &'a str) -> Arg<'a>
     ensures rule { rule_of result ≡ number_rule name.now least most }
     ensures own { result.global ≡ false }

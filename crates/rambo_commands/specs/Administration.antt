@@ -41,7 +41,7 @@ pub record IsOfConf (word : List ℕ) (c : Weights) : Type 0 where
 abbrev pub IsNamed : (ℕ → ServerRequest) → ℕ → ServerRequest → Type 0
 IsNamed make n asked = (IsName n × (asked ≡ make n)) ⊎ (¬ (IsName n) × (asked ≡ wrong (Refused NoSuchName)))
 
--- the word behind the action names a node
+-- the word after the action names a node
 abbrev pub ActsOnNode : (ℕ → ServerRequest) → List (List ℕ) → ServerRequest → Type 0
 ActsOnNode make [] asked = asked ≡ wrong WrongCount
 ActsOnNode make (word ∷ []) asked =
@@ -49,7 +49,7 @@ ActsOnNode make (word ∷ []) asked =
     ⊎ (¬ (IsSpelt form.Num word) × (asked ≡ wrong BadArgument))
 ActsOnNode make (word ∷ next ∷ words) asked = asked ≡ wrong WrongCount
 
--- the words behind `JOIN` name a node, and those that it knows at first
+-- the words after `JOIN` name a node, and those that it knows at first
 abbrev pub Joins : List (List ℕ) → ServerRequest → Type 0
 Joins [] asked = asked ≡ wrong WrongCount
 Joins (word ∷ []) asked = asked ≡ wrong WrongCount
@@ -58,7 +58,7 @@ Joins (word ∷ known ∷ []) asked =
     ⊎ (¬ (IsSpelt form.Num word × IsSpelt form.Set known) × (asked ≡ wrong BadArgument))
 Joins (word ∷ known ∷ next ∷ words) asked = asked ≡ wrong WrongCount
 
--- the word behind `RECON` tells a configuration
+-- the word after `RECON` spells a configuration
 abbrev pub Changes : List (List ℕ) → ServerRequest → Type 0
 Changes [] asked = asked ≡ wrong WrongCount
 Changes (word ∷ []) asked =
@@ -66,12 +66,12 @@ Changes (word ∷ []) asked =
     ⊎ (¬ (IsSpelt form.Conf word) × (asked ≡ wrong BadArgument))
 Changes (word ∷ next ∷ words) asked = asked ≡ wrong WrongCount
 
--- no word is behind the action
+-- no word follows the action
 abbrev pub ActsAlone : ServerRequest → List (List ℕ) → ServerRequest → Type 0
 ActsAlone own [] asked = asked ≡ own
 ActsAlone own (word ∷ words) asked = asked ≡ wrong WrongCount
 
--- the word that names an action, in small or capital letters
+-- the action that a word names, in upper or lower case
 abbrev pub action_of : List ℕ → Option Action
 action_of word =
     if str_eq_ignore_ascii_case word (codes "USE") then Some action.Use
@@ -95,7 +95,7 @@ abbrev pub ActsIfKnown : Option Action → List (List ℕ) → ServerRequest →
 ActsIfKnown None words asked = asked ≡ wrong UnknownCommand
 ActsIfKnown (Some known) words asked = Acts known words asked
 
--- the words behind `RAMBO`, the first of which names an action
+-- the words after `RAMBO`, the first of which names an action
 abbrev pub Administers : List (List ℕ) → ServerRequest → Type 0
 Administers [] asked = asked ≡ wrong WrongCount
 Administers (word ∷ words) asked = ActsIfKnown (action_of word) words asked

@@ -1,4 +1,4 @@
--- How it is told what is wrong with a command
+-- How it is reported what is wrong with a command
 use Rattle.std.specs.Prelude.{ℕ, List, ◌∷◌, ◌++◌, codes, decimal}
 use Rattle.rambo_names.specs.declared.refusal.Refusal.{Refusal}
 use Rattle.rambo_names.specs.Refusals.{number_of, word_of}
@@ -7,7 +7,7 @@ use Rattle.rambo_resp.specs.declared.reply.Reply.TheVariants.{Error}
 use Rattle.rambo_commands.specs.declared.mistake.Mistake.{Mistake}
 use Rattle.rambo_commands.specs.declared.mistake.Mistake.TheVariants.{UnknownCommand, WrongCount, BadArgument, Refused}
 
--- a refusal is told by its number and its word
+-- a refusal is reported by its number and its word
 abbrev pub refused_words : Refusal → List ℕ
 refused_words refusal = codes "ERR refused " ++ decimal (number_of refusal) ++ 32 ∷ word_of refusal
 

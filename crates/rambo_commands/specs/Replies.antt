@@ -12,7 +12,7 @@ use Rattle.rambo_resp.specs.declared.reply.Reply.TheVariants as reply
 use Rattle.rambo_resp.specs.Faults.{number_of}
 use Rattle.rambo_commands.specs.Mistakes.{refused_words}
 
--- the reply that tells an answer
+-- the reply with an answer
 abbrev pub telling : Answer → Reply
 telling answer.Ok = reply.Ok
 telling answer.Nil = reply.Nil

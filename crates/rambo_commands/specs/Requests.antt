@@ -20,7 +20,7 @@ fails mistake = Says (error_for mistake)
 abbrev pub asks : Op → Request
 asks o = if nat_lt 256 (length (key_of o)) then fails (Refused KeyTooLong) else Does o
 
--- `PING`, by the words behind it
+-- `PING`, by the words after it
 abbrev pub ping : List (List ℕ) → Request
 ping [] = Says Pong
 ping (word ∷ []) = Says (Bulk word)
@@ -39,7 +39,7 @@ set (key ∷ []) = fails WrongCount
 set (key ∷ value ∷ []) = asks (op.Set key value)
 set (key ∷ value ∷ next ∷ words) = fails WrongCount
 
--- the first word says what is asked for, in small or capital letters
+-- the first word says what is asked for, in upper or lower case
 abbrev pub named : List ℕ → List (List ℕ) → Request
 named name words =
     if str_eq_ignore_ascii_case name (codes "PING") then ping words

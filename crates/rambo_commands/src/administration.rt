@@ -1,4 +1,4 @@
-//! What the commands of a server ask for that no other client's have: those whose first word is `RAMBO`.
+//! What the commands whose first word is `RAMBO` ask for, which only clients of a server have.
 ghost use Rattle.std.specs.Prelude.{◌≡◌};
 ghost use Rattle.rambo_commands.specs.Administration as spec;
 ghost use Rattle.rambo_commands.specs.declared.server_request.ServerRequest.TheVariants as asked;
@@ -9,7 +9,7 @@ use crate::server_request::ServerRequest;
 use crate::words::is_word;
 use rambo_names::Bytes;
 
-// What a server is told to do.
+// What a server is asked to do.
 #[derive(Clone, Copy)]
 enum Action {
     Use,
@@ -21,7 +21,7 @@ enum Action {
     Shutdown,
 }
 
-// The action of this name, in small and capital letters.
+// The action of this name, in upper or lower case.
 fn action_of(word: &[u8]) -> Option<Action>
     ensures { result ≡ spec.action_of word.now }
 {
@@ -44,7 +44,7 @@ fn action_of(word: &[u8]) -> Option<Action>
     }
 }
 
-// What `RAMBO` asks for with these words behind it, or what is wrong with them.
+// What `RAMBO` asks for with these words after it, or what is wrong with them.
 pub(crate) fn administration(words: &[Bytes]) -> Result<ServerRequest, Mistake>
     ensures { spec.Administers words.now (spec.judged result) }
 {
@@ -57,7 +57,7 @@ pub(crate) fn administration(words: &[Bytes]) -> Result<ServerRequest, Mistake>
     }
 }
 
-// What an action asks for with these words behind it, or what is wrong with them.
+// What an action asks for with these words after it, or what is wrong with them.
 fn acting(action: Action, arguments: &[Bytes]) -> Result<ServerRequest, Mistake>
     ensures { spec.Acts action arguments.now (spec.judged result) }
 {
@@ -116,7 +116,7 @@ fn stopping(arguments: &[Bytes]) -> Result<ServerRequest, Mistake>
     }
 }
 
-// This request, which has no words behind it.
+// This request, which has no words after it.
 fn alone(request: ServerRequest, arguments: &[Bytes]) -> Result<ServerRequest, Mistake>
     ensures { spec.ActsAlone request arguments.now (spec.judged result) }
 {

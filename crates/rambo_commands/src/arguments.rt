@@ -1,4 +1,4 @@
-//! Reading the words behind a command of a server.
+//! Reading the words after a command of a server.
 ghost use Rattle.std.specs.Prelude.{◌≡◌, IfOk, IfErr};
 ghost use Rattle.rambo_names.specs.Names.{IsName};
 ghost use Rattle.rambo_text.specs.Forms.{IsSpelt};

@@ -2,9 +2,9 @@
 //!
 //! - `Request`: what each client may ask for: a reply, or an operation of the store.
 //! - `ServerRequest`: what a client of a server may ask for, which may also change the members and end the server.
-//! - `telling`, `refusal_reply`, `fault_reply`, `map_reply`: the reply to an answer, a refusal and a fault, and the one
-//!   that tells a map.
-//! - `append_reply`, `append_refusal`: replies put behind others.
+//! - `telling`, `refusal_reply`, `fault_reply`, `map_reply`: the replies to an answer, a refusal and a fault, and the
+//!   one with a map.
+//! - `append_reply`, `append_refusal`: replies appended to others.
 //! - `one_request`: a law of commands.
 #![tactic(auto)]
 

@@ -14,14 +14,14 @@ pub(crate) enum Mistake {
     UnknownCommand,
     // A command of this name has another number of words.
     WrongCount,
-    // A word isn't the number or the set that should stand there.
+    // A word isn't the number or the set that belongs there.
     BadArgument,
     // It is in form, and refused.
     Refused(Refusal),
 }
 
 impl Mistake {
-    // The error that tells it.
+    // The error that reports it.
     //
     // `OutOfMemory` where there is no room for its words.
     pub(crate) fn reply(self, alloc: Global) -> Result<Reply, Refusal>

@@ -14,7 +14,7 @@ use rambo_resp::{Fault, Reply, write_reply};
 use rambo_text::write_num;
 use std::alloc::Global;
 
-/// The reply that tells an answer.
+/// The reply with an answer.
 pub fn telling(answer: Answer) -> Reply
     ensures { result ≡ spec.telling answer }
 {
@@ -25,7 +25,7 @@ pub fn telling(answer: Answer) -> Reply
     }
 }
 
-/// The error that tells a refusal by its number and its word, as `ERR refused 19 KeyTooLong`.
+/// The error for a refusal, with its number and its word, as `ERR refused 19 KeyTooLong`.
 ///
 /// `OutOfMemory` where there is no room for its words.
 pub fn refusal_reply(alloc: Global, refusal: Refusal) -> Result<Reply, Refusal>
@@ -37,7 +37,7 @@ pub fn refusal_reply(alloc: Global, refusal: Refusal) -> Result<Reply, Refusal>
     Ok(Reply::Error(Bytes::from_slice(alloc, words.as_slice())?))
 }
 
-/// The error that tells a fault of a stream by its number, as `ERR protocol fault P2`.
+/// The error for a fault of a stream, with its number, as `ERR protocol fault P2`.
 ///
 /// `OutOfMemory` where there is no room for its words.
 pub fn fault_reply(alloc: Global, fault: Fault) -> Result<Reply, Refusal>
@@ -50,7 +50,7 @@ pub fn fault_reply(alloc: Global, fault: Fault) -> Result<Reply, Refusal>
     Ok(Reply::Error(Bytes::from_vec(words)?))
 }
 
-/// The bulk that tells a map by its lowest active place and the configurations from there on, as `0 1,2,3 2:2,3,4`.
+/// The bulk with a map: its lowest active place and the configurations from there on, as `0 1,2,3 2:2,3,4`.
 ///
 /// `OutOfMemory` where there is no room for it.
 pub fn map_reply(alloc: Global, floor: u64, configs: &[Weighted]) -> Result<Reply, Refusal>
@@ -63,7 +63,7 @@ pub fn map_reply(alloc: Global, floor: u64, configs: &[Weighted]) -> Result<Repl
     Ok(Reply::Bulk(Bytes::from_vec(text)?))
 }
 
-// Appends each configuration behind a space, or after a refusal some bytes.
+// Appends each configuration after a space, or after a refusal some bytes.
 fn append_configs(configs: &[Weighted], text: &mut Vec<u8>) -> Result<(), Refusal>
     ensures ok { OnOk result (text.new.items ≡ text.old.items ++ more_words (map conf_text configs.now)) }
     ensures refused { IfErr result (λ r. r ≡ Refusal.OutOfMemory) }
@@ -77,7 +77,7 @@ fn append_configs(configs: &[Weighted], text: &mut Vec<u8>) -> Result<(), Refusa
 
 /// Appends the one spelling of a reply.
 ///
-/// `OutOfMemory` where the buffer can't grow; it is then as before.
+/// `OutOfMemory` where the buffer can't grow; it is then unchanged.
 pub fn append_reply(reply: &Reply, out: &mut BytesMut) -> Result<(), Refusal>
     ensures ok { OnOk result (out.new.items ≡ out.old.items ++ reply_spelling reply.now) }
     ensures err { OnErr result (out.new.items ≡ out.old.items) }
@@ -86,9 +86,9 @@ pub fn append_reply(reply: &Reply, out: &mut BytesMut) -> Result<(), Refusal>
     write_reply(reply, out).map_err(|_| Refusal::OutOfMemory)
 }
 
-/// Appends the spelling of the error that tells a refusal. Where the buffer has room for it no memory is taken.
+/// Appends the spelling of the error for a refusal. Where the buffer has room for it nothing is allocated.
 ///
-/// `OutOfMemory` where the buffer can't grow; it is then as before.
+/// `OutOfMemory` where the buffer can't grow; it is then unchanged.
 pub fn append_refusal(refusal: Refusal, out: &mut BytesMut) -> Result<(), Refusal>
     ensures ok { OnOk result (out.new.items ≡ out.old.items ++ reply_spelling (spec.refusal_reply refusal)) }
     ensures err { OnErr result (out.new.items ≡ out.old.items) }
@@ -102,7 +102,7 @@ pub fn append_refusal(refusal: Refusal, out: &mut BytesMut) -> Result<(), Refusa
     written
 }
 
-// Appends the line that tells a refusal, or after one some front of it.
+// Appends the line for a refusal, or after a failure a prefix of it.
 fn append_refusal_line(refusal: Refusal, out: &mut BytesMut) -> Result<(), Refusal>
     ensures ok { OnOk result (out.new.items ≡ out.old.items ++ reply_spelling (spec.refusal_reply refusal)) }
     ensures err { OnErr result ((more : List ℕ) × (out.new.items ≡ out.old.items ++ more)) }
@@ -114,7 +114,7 @@ fn append_refusal_line(refusal: Refusal, out: &mut BytesMut) -> Result<(), Refus
     Ok(())
 }
 
-// Appends the words that tell a refusal, or after one some front of them.
+// Appends the words for a refusal, or after a failure a prefix of them.
 fn append_refused(refusal: Refusal, out: &mut BytesMut) -> Result<(), Refusal>
     ensures ok { OnOk result (out.new.items ≡ out.old.items ++ refused_words refusal) }
     ensures err { OnErr result ((more : List ℕ) × (out.new.items ≡ out.old.items ++ more)) }

@@ -22,7 +22,7 @@ pub enum Request {
 }
 
 impl Request {
-    /// What a command asks for, or the error that it is answered. Its first word is read in small and capital letters.
+    /// What a command asks for, or the error that is the reply to it. Its first word is case-insensitive.
     ///
     /// `OutOfMemory` where there is no room for its bytes.
     pub fn of(alloc: Global, command: &Command) -> Result<Request, Refusal>
@@ -97,7 +97,7 @@ fn asks(alloc: Global, op: Op) -> Result<Request, Refusal>
     Ok(Request::Does(op))
 }
 
-// A request that is answered by the error that tells a mistake.
+// A request that is answered by the error for a mistake.
 fn fails(alloc: Global, mistake: Mistake) -> Result<Request, Refusal>
     ensures ok { IfOk result (λ q. q ≡ spec.fails mistake) }
     ensures refused { IfErr result (λ r. r ≡ Refusal.OutOfMemory) }

@@ -32,9 +32,9 @@ pub enum ServerRequest {
 }
 
 impl ServerRequest {
-    /// What a command asks for, or the error that it is answered. The words that name it, the first, and behind `RAMBO`
-    /// the second, are read in small and capital letters. What is wrong is judged in this order: the name, the number of
-    /// words, the form of each number and set, and whether the number of a node is a name.
+    /// What a command asks for, or the error that is the reply to it. Its first word, and after `RAMBO` its second, are
+    /// case-insensitive. Mistakes are judged in this order: the name, the number of words, the form of numbers and
+    /// sets, and whether the number of a node is a name.
     ///
     /// `OutOfMemory` where there is no room for its bytes.
     pub fn of(alloc: Global, command: &Command) -> Result<ServerRequest, Refusal>
@@ -50,7 +50,7 @@ impl ServerRequest {
     }
 }
 
-// What is asked for, or the error that tells what is wrong.
+// What is asked for, or the error that says what is wrong.
 fn told(alloc: Global, asked: Result<ServerRequest, Mistake>) -> Result<ServerRequest, Refusal>
     ensures ok { IfOk result (λ q. q ≡ judged asked) }
     ensures refused { IfErr result (λ r. r ≡ Refusal.OutOfMemory) }

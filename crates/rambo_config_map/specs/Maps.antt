@@ -27,7 +27,7 @@ abbrev pub entry_of : {Q : Type 0} → Option Q → Entry Q
 entry_of None = entry.Unknown
 entry_of (Some q) = entry.Active q
 
--- what stands at a place
+-- what a map has at a place
 abbrev pub entry_at : {Q : Type 0} → MapState Q → ℕ → Entry Q
 entry_at m p = if nat_lt p m.floor then entry.Removed else entry_of (slice_get m.configs (p - m.floor))
 
@@ -35,8 +35,8 @@ entry_at m p = if nat_lt p m.floor then entry.Removed else entry_of (slice_get m
 abbrev pub first_map : {Q : Type 0} → Q → MapState Q
 first_map q = record { floor = 0; configs = q ∷ [] }
 
--- what is left of the first above both floors, then what the second has beyond it: at each place the greater entry of
--- unknown, active and removed, and the first one's where both are active
+-- what is left of the first above both floors, then what the second has beyond it. So each place has the greater entry
+-- of unknown, active and removed, and the first one's where both are active
 abbrev pub merged_map : {Q : Type 0} → MapState Q → MapState Q → MapState Q
 merged_map a b =
     let floor = max a.floor b.floor in

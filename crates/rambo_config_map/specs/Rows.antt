@@ -1,4 +1,4 @@
--- Rows of configurations, as they are kept
+-- Rows of configurations, as they are stored
 use Rattle.std.specs.Prelude.{ℕ, ◌-◌, Bool, true, Option, None, Some, List, [], ◌∷◌, slice_get}
 use Rattle.rambo_names.specs.Names.{NameSet}
 use Rattle.rambo_names.specs.Quorums.{QuorumSystem}
@@ -18,7 +18,7 @@ pub record RowState (Q : Type 0) : Type 0 where
 abbrev pub row_at : {Q : Type 0} → ℕ → List Q → ℕ → Option Q
 row_at lo qs p = slice_get qs (p - lo)
 
--- the names hold a quorum of the configuration in a slot, if there is one
+-- the names contain a quorum of the configuration in a slot, if there is one
 abbrev pub slot_has_quorum : {Q : Type 0} → QuorumSystem Q → NameSet → Option Q → Bool
 slot_has_quorum s who None = true
 slot_has_quorum s who (Some q) = s.is_quorum q who

@@ -11,7 +11,7 @@ use std::marker::Model;
 /// Which configuration is in use at which place: a chain of configurations, of which the oldest are
 /// removed and one to eight are active (Lynch and Shvartsman, "RAMBO", DISC 2002).
 ///
-/// Places are the numbers of a `u64`. A map lies in the value itself, and takes no memory.
+/// Places are the numbers of a `u64`. A map is stored inline, and allocates nothing.
 #[derive(Drop)]
 pub struct ConfigMap<Q: Quorums> {
     floor: u64,
@@ -60,8 +60,8 @@ impl<Q: Quorums> ConfigMap<Q> {
         self.floor + (self.places.len() as u64 - 1)
     }
 
-    /// The configurations of the active places, from the floor on. Whatever was done to the map, they lie in the value
-    /// itself, where there is room for eight: no call of it took memory.
+    /// The configurations of the active places, from the floor on. They are always stored inline, where there is room
+    /// for eight.
     pub fn places(&self) -> &Places<Q>
         ensures row { result.now.configs ≡ self.now.configs }
         ensures inline { result.now.capacity ≡ 8 }
@@ -72,7 +72,7 @@ impl<Q: Quorums> ConfigMap<Q> {
         &self.places
     }
 
-    /// What stands at a place.
+    /// What the map has at a place.
     pub fn entry(&self, place: u64) -> Entry<Q>
         ensures { result ≡ entry_at self.now place }
     {
@@ -102,8 +102,8 @@ impl<Q: Quorums> ConfigMap<Q> {
         }
     }
 
-    /// Takes from another map what it knows beyond this one: at each place the greater of unknown, active and
-    /// removed stays, and this map's own configuration where both are active.
+    /// Merges another map into this one. Each place becomes the greater one of unknown, active and removed. Where both
+    /// are active, this map's own configuration remains.
     pub fn merge(&mut self, other: &ConfigMap<Q>)
         ensures { self.new ≡ merged_map self.old other.now }
     {
@@ -113,10 +113,10 @@ impl<Q: Quorums> ConfigMap<Q> {
         self.take_new(other);
     }
 
-    /// Puts a configuration at the place above the top, and answers that place.
+    /// Puts a configuration at the place above the top, and returns that place.
     ///
-    /// Refused with `TooManyActive` where eight places are active, and else with `NumbersSpent` where the top is
-    /// the greatest number. The map then stays as it was.
+    /// Refused with `TooManyActive` where eight places are active, and else with `NumbersSpent` where the top is the
+    /// greatest number. The map is then unchanged.
     pub fn learn(&mut self, config: Q) -> Result<u64, Refusal>
         ensures answer { result ≡ learn_answer self.old }
         ensures ok { OnOk result (self.new ≡ learnt self.old config) }
@@ -130,9 +130,9 @@ impl<Q: Quorums> ConfigMap<Q> {
         Ok(place)
     }
 
-    /// Removes the configuration at the lowest active place, and answers that place.
+    /// Removes the configuration at the lowest active place, and returns that place.
     ///
-    /// Refused with `NothingToCollect` where only one place is active. The map then stays as it was.
+    /// Refused with `NothingToCollect` where only one place is active. The map is then unchanged.
     pub fn remove_lowest(&mut self) -> Result<u64, Refusal>
         ensures answer { result ≡ remove_answer self.old }
         ensures ok { OnOk result (self.new ≡ without_lowest self.old) }
@@ -149,8 +149,8 @@ impl<Q: Quorums> ConfigMap<Q> {
 }
 
 impl<Q: Quorums> ConfigMap<Q> {
-    // Takes from another map what it knows beyond this one.
-    // (a function of its own: most maps that are heard of tell nothing new, and then little is done)
+    // Takes from another map what it knows beyond this one. (a function of its own: most maps that are heard have
+    // nothing new, and then little is done)
     #[inline(never)]
     fn take_new(&mut self, other: &ConfigMap<Q>)
         ensures { self.new ≡ merged_map self.old other.now }

@@ -1,6 +1,6 @@
-//! What stands at a place of a map.
+//! What a map has at a place.
 
-/// What a configuration map says of a place.
+/// What a configuration map has at a place.
 #[derive(Clone, Copy, PartialEq, Eq, Debug)]
 pub enum Entry<Q> {
     /// No configuration is known there yet.

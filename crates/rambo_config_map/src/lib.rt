@@ -1,6 +1,6 @@
 //! Configuration maps: which configuration is in use at which place.
 //!
-//! Nothing of a `ConfigMap` takes memory or can fail for want of it. A row of `Places` takes memory only past eight
+//! No call of a `ConfigMap` allocates, so none is ever out of memory. A row of `Places` allocates only past eight
 //! configurations.
 #![tactic(auto)]
 

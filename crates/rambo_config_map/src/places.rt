@@ -9,7 +9,7 @@ use smallvec::SmallVec;
 use std::alloc::Global;
 use std::marker::Model;
 
-/// The configurations of places that follow each other. The first eight lie in the value itself.
+/// The configurations of consecutive places. Up to eight are stored inline.
 #[derive(Drop)]
 pub struct Places<Q: Quorums> {
     // A slot holds a default before it is filled, which a configuration doesn't have.
@@ -51,7 +51,7 @@ impl<Q: Quorums> Places<Q> {
         Places { slots }
     }
 
-    /// Where memory for more than eight comes from.
+    /// The allocator for more than eight.
     pub fn alloc(&self) -> Global {
         *self.slots.allocator()
     }
@@ -73,7 +73,7 @@ impl<Q: Quorums> Places<Q> {
         }
     }
 
-    /// Whether these names hold a quorum of every configuration.
+    /// Whether these names contain a quorum of every configuration.
     pub fn have_quorums(&self, who: Members) -> bool
         ensures { result ≡ list_all (λ q. Q.system.is_quorum q who) self.now.configs }
     {
@@ -87,9 +87,9 @@ impl<Q: Quorums> Places<Q> {
         self.slots.as_slice() == other.slots.as_slice()
     }
 
-    /// A copy, which takes memory only for more than eight configurations.
+    /// A copy, which allocates only for more than eight configurations.
     ///
-    /// Refused with `OutOfMemory` where there is none.
+    /// Refused with `OutOfMemory` where there is no memory for that.
     pub fn copy(&self) -> Result<Self, Refusal>
         ensures ok { IfOk result (λ p. p.configs ≡ self.now.configs) }
         ensures refused { IfErr result (λ r. r ≡ Refusal.OutOfMemory) }
@@ -101,7 +101,7 @@ impl<Q: Quorums> Places<Q> {
         Ok(Places { slots })
     }
 
-    /// A copy of at most eight configurations, which takes no memory.
+    /// A copy of at most eight configurations, which allocates nothing.
     pub fn copy_inline(&self) -> Self
         requires { length self.now.configs ≤ 8 }
         ensures configs { result.configs ≡ self.now.configs }
@@ -113,7 +113,7 @@ impl<Q: Quorums> Places<Q> {
         Places { slots }
     }
 
-    /// Takes another row's configurations, at most eight, in place of its own. It takes no memory.
+    /// Takes another row's configurations, at most eight, in place of its own. It allocates nothing.
     pub fn refill(&mut self, other: &Places<Q>)
         requires { length other.now.configs ≤ 8 }
         ensures configs { self.new.configs ≡ other.now.configs }
@@ -138,9 +138,9 @@ impl<Q: Quorums> Places<Q> {
         self.slots.truncate(len - start);
     }
 
-    /// Makes room for so many more configurations. It takes memory only where there is no room yet.
+    /// Makes room for this many more configurations. It allocates only where there is no room yet.
     ///
-    /// Refused with `OutOfMemory` where there is no memory for them. The row then stays as it was.
+    /// Refused with `OutOfMemory` where there is no memory for them. The row is then unchanged.
     pub fn reserve(&mut self, additional: usize) -> Result<(), Refusal>
         ensures configs { self.new.configs ≡ self.old.configs }
         ensures ok { OnOk result (length self.old.configs + additional ≤ self.new.capacity) }
@@ -154,7 +154,7 @@ impl<Q: Quorums> Places<Q> {
         Ok(())
     }
 
-    /// Appends a configuration, where there is room for it in the value itself.
+    /// Appends a configuration, where there is room for it inline.
     pub fn push(&mut self, config: Q)
         requires { length self.old.configs + 1 ≤ 8 }
         ensures configs { self.new.configs ≡ self.old.configs ++ config ∷ [] }
@@ -163,9 +163,9 @@ impl<Q: Quorums> Places<Q> {
         self.slots.push_reserved(Some(config));
     }
 
-    /// Appends another row's configurations from an index on. It takes memory only where there is no room.
+    /// Appends another row's configurations from an index on. It allocates only where there is no room.
     ///
-    /// Refused with `OutOfMemory` where there is none. The row then stays as it was.
+    /// Refused with `OutOfMemory` where there is no memory for that. The row is then unchanged.
     pub fn extend(&mut self, other: &Places<Q>, from: usize) -> Result<(), Refusal>
         ensures ok { OnOk result (self.new.configs ≡ self.old.configs ++ drop from other.now.configs) }
         ensures err { OnErr result (self.new ≡ self.old) }
@@ -187,7 +187,7 @@ impl<Q: Quorums> Places<Q> {
         Ok(())
     }
 
-    /// Appends another row's configurations from an index on, where all of them fit in the value itself.
+    /// Appends another row's configurations from an index on, where all of them fit inline.
     pub fn append(&mut self, other: &Places<Q>, from: usize)
         requires { length self.old.configs + (length other.now.configs - from) ≤ 8 }
         ensures configs { self.new.configs ≡ self.old.configs ++ drop from other.now.configs }

@@ -1,4 +1,4 @@
--- Bases, told by the journal of a node, and the copies that a node need not send to another again
+-- Bases, as the journal of a node gives them, and the copies that a node need not send to another again
 use Rattle.std.specs.Prelude.{◌≡◌, ◌≢◌, ℕ, ◌<◌, ◌≤◌, max, nat_eq, if◌then◌else◌, false, List, [], ◌∷◌, length, take, Some}
 use Rattle.std.specs.FinMap as map
 use Rattle.rambo_names.specs.Quorums.{QuorumSystem}

@@ -36,13 +36,13 @@ abbrev pub BasesAreCarried : {Q : Type 0} → QuorumSystem Q → Type 0
 BasesAreCarried {Q} s =
     (founders : Q) (steps : List (Step Q)) (n j : ℕ) → IsName j → heard_from (full_at s founders steps n).bases j ≡ base_in j (journal s founders n steps)
 
--- what node n has since its base for j may stand, where it is sent to j, for all that it has
+-- in a letter to j, what node n has since its base for j is enough in place of all that it has
 abbrev pub DeltasAreShort : {Q : Type 0} → QuorumSystem Q → Type 0
 DeltasAreShort {Q} s =
     (founders : Q) (steps : List (Step Q)) (n j : ℕ) (p : Copies) → IsName n → IsName j → IsDelta (full_at s founders steps n) j p
     → IsShort p (full_at s founders steps n).state.registers (held_by (run s founders steps) j)
 
--- and a letter of it stands for the whole letter at each later moment too
+-- and such a letter can replace the whole one at each later moment too
 abbrev pub LaterToo : {Q : Type 0} → QuorumSystem Q → Type 0
 LaterToo {Q} s =
     (founders : Q) (xs ys : List (Step Q)) (n j : ℕ) (p : Copies) → IsPrefix xs ys → IsName n → IsName j → IsDelta (full_at s founders xs n) j p

@@ -1,4 +1,4 @@
-//! Letters that tell only what is new: why they may stand for whole ones.
+//! Letters that carry only what is new, and why these are enough.
 #![tactic(auto)]
 
 mod laws;

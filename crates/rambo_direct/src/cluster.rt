@@ -13,13 +13,14 @@ use std::hash::{BuildHasherDefault, FoldHasher};
 /// Nodes over weighted majorities that hold their copies in hash tables. Their letters come as they are sent, and aren't kept.
 pub(crate) type WeightedDirect = Direct<Weighted, Registers<BuildHasherDefault<FoldHasher>>>;
 
-/// The same, as a client asks them. (A type of this crate alone: who stands on it needs to know nothing of it.)
+/// The same, as a client asks them. (A type of this crate alone, so that crates above it needn't know the type of the
+/// nodes.)
 #[derive(Drop)]
 pub(crate) struct Nodes {
     pub(crate) direct: WeightedDirect,
 }
 
-/// That nodes of a run are asked, which hear of each other by letters.
+/// Says that the nodes asked are those of a run, which hear of each other by letters.
 pub(crate) struct ByLetters;
 
 impl Cluster<ByLetters> for Nodes {

@@ -15,15 +15,15 @@ use rambo_tag::Registers;
 use std::alloc::Global;
 use std::hash::{BuildHasherDefault, FoldHasher};
 
-/// Serves one client of a store of its own, which these founders found: the commands that a source gives, in RESP2, are
+/// Serves one client of a store of its own with these founders. The commands that a source gives, in RESP2, are
 /// answered into a sink, as by the lowest founder, which asks all others.
 ///
-/// `PING` answers `PONG`, or its word; `GET` the value of a key, or nil; `SET` sets a key to a value. What is written is
-/// what an ordinary map replies, and behind a fault of the input the reply to it, after which no more is read. A
+/// `PING` answers `PONG`, or its word; `GET` the value of a key, or nil; `SET` sets a key to a value. What is written
+/// is what an ordinary map replies, and after a fault of the input the reply to it, after which no more is read. A
 /// command that the end of the input cuts short is not answered. Those that are whole are answered before more is read.
 ///
-/// `Read` and `Write` where a call of that stream fails; `Memory` where there is no room for what is to be kept. Then a
-/// beginning of the replies was written.
+/// `Read` and `Write` where a call of that stream fails; `Memory` where there is no room for what has to be stored.
+/// Then a prefix of the replies was written.
 pub fn local<R: Source, W: Sink>(
     alloc: Global,
     founders: Weighted,

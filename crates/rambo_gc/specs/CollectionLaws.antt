@@ -11,7 +11,7 @@ use Rattle.rambo_gc.specs.declared.gc_move.GcMove.TheVariants.{Propagating, Done
 use Rattle.rambo_gc.specs.Collections.{CollectionState, has_quorum, asked_place, is_met, next_move, move_of}
 use Rattle.rambo_gc.specs.Turns.{HasQuorumAt, HasFirstQuorum, IsOver}
 
--- a quorum of the configuration that there is is one of some configuration
+-- a quorum of the configuration, where there is one, is one of some configuration
 pub quorum_of : {Q : Type 0} (s : QuorumSystem Q) (o : Option Q) (who : NameSet) → has_quorum s o who ≡ true
     → (q : Q) × (o ≡ Some q) × (s.is_quorum q who ≡ true)
 quorum_of s None who e = cc

@@ -41,12 +41,12 @@ abbrev pub asked_place : Stage → ℕ → ℕ
 asked_place First place = place
 asked_place Second place = place + 1
 
--- the names hold a quorum of the configuration that there is
+-- the names contain a quorum of the configuration, if there is one
 abbrev pub has_quorum : {Q : Type 0} → QuorumSystem Q → Option Q → NameSet → Bool
 has_quorum s None who = false
 has_quorum s (Some q) who = s.is_quorum q who
 
--- the repliers hold a quorum of the configuration that is asked
+-- the repliers contain a quorum of the configuration that is asked
 abbrev pub is_met : {Q : Type 0} → QuorumSystem Q → MapState Q → CollectionState → Bool
 is_met s m g = has_quorum s (active_at m (asked_place g.stage g.place)) g.repliers
 

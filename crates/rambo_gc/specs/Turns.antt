@@ -5,7 +5,7 @@ use Rattle.rambo_config_map.specs.Maps.{MapState, active_at}
 use Rattle.rambo_gc.specs.declared.stage.Stage.TheVariants.{First, Second}
 use Rattle.rambo_gc.specs.Collections.{CollectionState}
 
--- the repliers hold a quorum of the configuration that is active at a place
+-- the repliers contain a quorum of the configuration that is active at a place
 pub record HasQuorumAt {Q : Type 0} (s : QuorumSystem Q) (m : MapState Q) (g : CollectionState) (place : ℕ) : Type 0 where
   pub config : Q
   pub active : active_at m place ≡ Some config

@@ -8,8 +8,8 @@ use rambo_config_map::{ConfigMap, Entry};
 use rambo_names::{Members, Name, Quorums, Refusal};
 use std::marker::Model;
 
-/// A node's collection of one place: it asks a quorum of the configuration there, then under a new number one of the
-/// next place's, and then the place can be removed (Lynch and Shvartsman, "RAMBO", DISC 2002).
+/// A node's collection of one place. It asks a quorum of the configuration there, then under a new number one of the
+/// next place's. Then the place can be removed (Lynch and Shvartsman, "RAMBO", DISC 2002).
 #[derive(Clone, Copy)]
 pub struct Collection {
     node: Name,
@@ -83,7 +83,7 @@ impl Collection {
         }
     }
 
-    /// What an advance would do over the node's map, if it wouldn't be refused.
+    /// What an advance would do, given the node's map, if it wouldn't be refused.
     pub fn would_advance<Q: Quorums>(&self, map: &ConfigMap<Q>) -> Option<GcMove>
         ensures { result ≡ move_of Q.system map.now self.now }
     {
@@ -99,11 +99,11 @@ impl Collection {
         }
     }
 
-    /// Goes on, over the node's map. Where the first quorum is there, the second stage begins under a new number, with
-    /// the node's own reply alone. Where the second is there, or the place is removed already, the collection is done:
-    /// its owner drops it, and removes the place if it is still active.
+    /// Advances, given the node's map. Where the first quorum has replied, the second stage begins under a new number,
+    /// with the node's own reply alone. Where the second has replied, or the place is removed already, the collection
+    /// is done: its owner drops it, and removes the place if it is still active.
     ///
-    /// `NotYet` exactly where the place isn't removed and its quorum isn't there. The collection then stays as it was.
+    /// `NotYet` exactly where the place isn't removed and its quorum hasn't replied. The collection is then unchanged.
     pub fn advance<Q: Quorums>(
         &mut self,
         map: &ConfigMap<Q>,
@@ -121,7 +121,7 @@ impl Collection {
         Ok(next)
     }
 
-    // Whether the repliers hold a quorum of the configuration that is asked.
+    // Whether the repliers contain a quorum of the configuration that is asked.
     fn is_met<Q: Quorums>(&self, map: &ConfigMap<Q>) -> bool
         ensures { result ≡ is_met Q.system map.now self.now }
     {

@@ -7,11 +7,11 @@ ghost use Rattle.rambo_gc.specs.Turns.{HasFirstQuorum, IsOver};
 use crate::gc_move::GcMove;
 use rambo_names::Quorums;
 
-/// The laws of an advance, for readers and proofs: it does nothing when it runs.
+/// The laws of an advance, for readers and proofs; at run time it does nothing.
 ///
-/// The second stage begins only where the first one's repliers hold a quorum of the configuration at the collection's
-/// place. The collection is done only where the second one's hold a quorum of the next place's, or the place is removed
-/// already.
+/// The second stage begins only where the first one's repliers contain a quorum of the configuration at the
+/// collection's place. The collection is done only where the second one's contain a quorum of the next place's, or the
+/// place is removed already.
 pub fn collecting_laws<Q: Quorums>()
     ensures second { (m : MapState Q) (g : CollectionState) → move_of Q.system m g ≡ Some GcMove.Propagating
         → HasFirstQuorum Q.system m g }

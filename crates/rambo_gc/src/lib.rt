@@ -1,7 +1,7 @@
 //! Collections: how a node has the oldest configuration removed, once the next one is in use (Lynch and Shvartsman,
 //! "RAMBO", DISC 2002).
 //!
-//! Nothing here takes memory.
+//! Nothing here allocates.
 #![tactic(auto)]
 
 mod collection;

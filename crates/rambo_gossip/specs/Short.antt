@@ -1,4 +1,4 @@
--- Letters that leave out copies which their addressee has no need of
+-- Letters that leave out copies which their addressee doesn't need
 use Rattle.std.specs.Prelude.{◌≡◌, ℕ, List, Option, None, Some, false}
 use Rattle.std.specs.FinMap as map
 use Rattle.rambo_tag.specs.Copies.{Copies}
@@ -14,7 +14,7 @@ abbrev pub copies_in : {Q : Type 0} → Kind Q → Copies
 copies_in kind.Join = map.empty
 copies_in (kind.Gossip g) = g.copies
 
--- a letter stands for a whole one where its addressee holds these copies: the two differ in copies alone, each of its
+-- a letter can replace a whole one where its addressee holds these copies: the two differ in copies alone. Each of its
 -- copies is one of the whole letter's, and each that it lacks is at most what the addressee holds
 pub record IsShort {Q : Type 0} (l whole : Letter Q) (held : Copies) : Type 0 where
   pub rest : letter_with l (copies_in whole.kind) ≡ whole

@@ -82,7 +82,7 @@ impl<Q: Quorums> Gossip<Q> {
         Ok(self.outline().with_copies(copies))
     }
 
-    /// All of it but its copies, which borrows its map.
+    /// All of it but its copies; its map is borrowed.
     pub fn outline(&self) -> GossipOutline<'_, Q>
         ensures { gossip_outlined result ≡ gossip_with self.now map.empty }
     {

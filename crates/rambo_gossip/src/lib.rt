@@ -1,4 +1,4 @@
-//! Letters.
+//! Letters: what nodes send each other.
 #![tactic(auto)]
 
 mod letter;

@@ -14,13 +14,13 @@ use Rattle.rambo_history.specs.Proper.{EverySplit}
 abbrev pub CallsOnce : List Event → Type 0
 CallsOnce h = EverySplit (λ front e back. (c : CallId) (op : Op) → e ≡ event.Call c op → call_in front c ≡ None) h
 
--- each answer stands behind its call, is of its kind, and is its first
+-- each answer comes after its call, is of its kind, and is its first
 abbrev pub AnswersOpen : List Event → Type 0
 AnswersOpen h =
     EverySplit (λ front e back. (c : CallId) (a : Answer) → e ≡ event.Answer c a →
     IsSomeAnd (call_in front c) (λ op. fits op a ≡ true) × (answer_in front c ≡ None)) h
 
--- each call stands once; each answer stands once, behind its call and of its kind
+-- each call occurs once; each answer occurs once, after its call and of its kind
 pub record IsWellFormed (h : List Event) : Type 0 where
   pub calls_once : CallsOnce h
   pub answers_open : AnswersOpen h

@@ -14,7 +14,7 @@ call_in [] c = None
 call_in (event.Call d op ∷ es) c = if same_call d c then Some op else call_in es c
 call_in (event.Answer d a ∷ es) c = call_in es c
 
--- what a call was told, where the history has its answer
+-- the answer of a call, where the history has it
 abbrev pub answer_in : List Event → CallId → Option Answer
 answer_in [] c = None
 answer_in (event.Call d op ∷ es) c = answer_in es c
@@ -44,7 +44,7 @@ called_at h c = position (is_call c) h
 abbrev pub answered_at : List Event → CallId → Option ℕ
 answered_at h c = position (is_answer c) h
 
--- whether an answer stands before place n
+-- whether an answer is before place n
 abbrev pub is_before : ℕ → Option ℕ → Bool
 is_before n None = false
 is_before n (Some m) = nat_lt m n

@@ -11,7 +11,7 @@ op_of None = None
 op_of (Some (event.Call c op)) = Some op
 op_of (Some (event.Answer c a)) = None
 
--- what is told there
+-- what is answered there
 abbrev pub answer_of : Option Event → Option Answer
 answer_of None = None
 answer_of (Some (event.Call c op)) = None

@@ -1,4 +1,4 @@
--- Where the calls and answers of a history stand
+-- The places of the calls and answers of a history
 use Rattle.std.specs.Prelude.{◌≡◌, ℕ, ◌-◌, nat_eq, Bool, List, [], get_or, slice_get, Option, None, Some, is_some, if◌then◌else◌}
 use Rattle.std.specs.Map.{lookup}
 use Rattle.std.specs.Option.{option_map}
@@ -10,20 +10,20 @@ use Rattle.rambo_history.specs.Calls.{same_call}
 use Rattle.rambo_history.specs.Histories.{called_at, answered_at}
 use Rattle.rambo_history.specs.Forms.{IsWellFormed}
 
--- where a call stands, and its answer if it has one
+-- the place of a call, and of its answer if it has one
 pub record Places : Type 0 where
   pub called : ℕ
   pub answered : Option ℕ
 
--- where a call and its answer stand, where the history has the call
+-- the places of a call and its answer, where the history has the call
 abbrev pub places_in : List Event → CallId → Option Places
 places_in h c = option_map (λ n. record { called = n; answered = answered_at h c }) (called_at h c)
 
--- what a spot tells: no answer stands at place 0
+-- what a spot means: no answer is at place 0
 abbrev pub places_of : Spot → Places
 places_of s = record { called = s.called; answered = if nat_eq s.answered 0 then None else Some s.answered }
 
--- lists by name, of calls by number from 1 on; other calls; and how many more can be taken with no memory taken
+-- lists by name, of calls by number from 1 on; other calls; and how many more can be taken without allocating
 pub record PlacesState : Type 0 where
   pub lists : List (List Spot)
   pub others : List (CallId × Spot)
@@ -50,7 +50,7 @@ spot_of s c = found (listed s.lists c) (lookup (same_call c) s.others)
 abbrev pub called_spot : ℕ → Spot
 called_spot n = record { called = n; answered = 0 }
 
--- once the answer stands at place n
+-- once the answer is at place n
 abbrev pub answered_spot : ℕ → Spot → Spot
 answered_spot n s = record s { answered = n }
 
@@ -58,7 +58,7 @@ answered_spot n s = record s { answered = n }
 abbrev pub IsListed : ℕ → Spot → List Spot → List Spot → Type 0
 IsListed number s old new = (k : ℕ) → spot_in new k ≡ (if nat_eq number k then Some s else spot_in old k)
 
--- a list tells whether it has a number, and where the answer of its call stands
+-- a list with the answer of a number's call at place n, and whether it has the number
 pub record IsAnswered (number n : ℕ) (old new : List Spot) (has : Bool) : Type 0 where
   pub spots : (k : ℕ) → spot_in new k ≡ (if nat_eq number k then option_map (answered_spot n) (spot_in old number) else spot_in old k)
   pub has_it : has ≡ is_some (spot_in old number)
@@ -67,15 +67,15 @@ pub record IsAnswered (number n : ℕ) (old new : List Spot) (has : Bool) : Type
 abbrev pub KeepsSpots : PlacesState → PlacesState → Type 0
 KeepsSpots old new = (q : CallId) → spot_of new q ≡ spot_of old q
 
--- a call stands at place n
+-- a call is at place n
 abbrev pub TakesCall : CallId → ℕ → PlacesState → PlacesState → Type 0
 TakesCall c n old new = (q : CallId) → spot_of new q ≡ (if same_call c q then Some (called_spot n) else spot_of old q)
 
--- the answer of a call stands at place n
+-- the answer of a call is at place n
 abbrev pub TakesAnswer : CallId → ℕ → PlacesState → PlacesState → Type 0
 TakesAnswer c n old new = (q : CallId) → spot_of new q ≡ (if same_call c q then option_map (answered_spot n) (spot_of old c) else spot_of old q)
 
--- an event stands at place n
+-- an event is at place n
 abbrev pub TakesEvent : Event → ℕ → PlacesState → PlacesState → Type 0
 TakesEvent (event.Call c op) n old new = TakesCall c n old new
 TakesEvent (event.Answer c a) n old new = TakesAnswer c n old new
@@ -85,7 +85,7 @@ abbrev pub FitsSpots : Event → PlacesState → Type 0
 FitsSpots (event.Call c op) s = spot_of s c ≡ None
 FitsSpots (event.Answer c a) s = Unit {0}
 
--- the spots tell where each call of the history stands
+-- the spots have the places of each call of the history
 abbrev pub IsIndexed : List Event → PlacesState → Type 0
 IsIndexed h s = (c : CallId) → option_map places_of (spot_of s c) ≡ places_in h c
 

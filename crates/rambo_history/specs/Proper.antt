@@ -9,7 +9,7 @@ use Rattle.rambo_history.specs.declared.event.Event.{Event}
 use Rattle.rambo_history.specs.Calls.{key_of, is_get, answer_for}
 use Rattle.rambo_history.specs.Histories.{call_in, answer_in, answered_before}
 
--- P holds of each item, with what stands before it and what behind it
+-- P holds of each item, with what comes before it and what after it
 abbrev pub EverySplit : {X : Type 0} → (List X → X → List X → Type 0) → List X → Type 0
 EverySplit {X} P xs = (front : List X) (x : X) (back : List X) → xs ≡ front ++ x ∷ back → P front x back
 
@@ -20,7 +20,7 @@ Stands {X} xs x = (front : List X) × (back : List X) × (xs ≡ front ++ x ∷ 
 abbrev pub IsCallOf : List Event → List ℕ → CallId → Type 0
 IsCallOf h key c = IsSomeAnd (call_in h c) (λ op. key_of op ≡ key)
 
--- what an ordinary map holds at a key after one operation more
+-- what an ordinary map holds at a key after one more operation
 abbrev pub after_op : List ℕ → Option Op → Option (List ℕ) → Option (List ℕ)
 after_op key None held = held
 after_op key (Some (op.Get k)) held = held
@@ -30,11 +30,11 @@ after_op key (Some (op.Set k value)) held = if bytes_eq k key then Some value el
 abbrev pub held_after : List Event → List ℕ → List CallId → Option (List ℕ)
 held_after h key cs = fold (λ held c. after_op key (call_in h c) held) None cs
 
--- each answered call of the key stands in the order
+-- each answered call of the key is in the order
 abbrev pub IsComplete : List Event → List ℕ → List CallId → Type 0
 IsComplete h key order = (c : CallId) → IsCallOf h key c → IsSome (answer_in h c) → Stands order c
 
--- no call stands behind itself
+-- no call occurs twice
 abbrev pub IsDistinct : List CallId → Type 0
 IsDistinct order = EverySplit (λ front c back. ¬ (Stands back c)) order
 
@@ -48,7 +48,7 @@ abbrev pub AnswersLatest : List Event → List CallId → Type 0
 AnswersLatest h order =
     EverySplit (λ front c back. (key : List ℕ) → call_in h c ≡ Some (op.Get key) → answer_in h c ≡ Some (answer_for (held_after h key front))) order
 
--- what was answered before a call was made doesn't stand behind it
+-- what was answered before a call was made doesn't come after it
 abbrev pub KeepsRealTime : List Event → List CallId → Type 0
 KeepsRealTime h order = EverySplit (λ front c back. (d : CallId) → Stands back d → ¬ (answered_before h d c ≡ true)) order
 
@@ -60,7 +60,7 @@ pub record IsProper (h : List Event) (key : List ℕ) (order : List CallId) : Ty
   pub latest : AnswersLatest h order
   pub real_time : KeepsRealTime h order
 
--- each answered call stands in the order
+-- each answered call is in the order
 abbrev pub HasAllAnswered : List Event → List CallId → Type 0
 HasAllAnswered h order = (c : CallId) → IsSome (answer_in h c) → Stands order c
 

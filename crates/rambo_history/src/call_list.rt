@@ -1,4 +1,4 @@
-//! Where the calls of one name stand.
+//! The places of the calls of one name.
 ghost use Rattle.std.specs.Prelude.{◌≡◌, []};
 ghost use Rattle.std.specs.Bool.{MatchBool};
 ghost use Rattle.std.specs.Option.{option_copied};
@@ -8,8 +8,8 @@ use crate::spot::Spot;
 use std::alloc::{AllocError, Global};
 use std::marker::Model;
 
-/// Where the calls of one name and their answers stand, of those calls that came with the numbers 1, 2, 3
-/// and so on.
+/// The places of the calls of one name and of their answers, for the calls that came with the numbers 1, 2, 3 and so
+/// on.
 #[derive(Drop)]
 pub(crate) struct CallList {
     spots: Vec<Spot>,
@@ -34,7 +34,7 @@ impl CallList {
         }
     }
 
-    // Where the call of a number stands.
+    // The places of the call of a number.
     pub(crate) fn get(&self, number: u64) -> Option<&Spot>
         ensures { option_copied result ≡ spot_in self.now number }
     {
@@ -44,14 +44,14 @@ impl CallList {
         self.spots.get(number as usize - 1)
     }
 
-    // Makes room for one call more.
+    // Makes room for one more call.
     pub(crate) fn prepare(&mut self) -> Result<(), AllocError>
         ensures { self.new ≡ self.old }
     {
         self.spots.reserve(1)
     }
 
-    // Puts a call at the end, if its number is the next one and there is room. Answers whether it did.
+    // Puts a call at the end, if its number is the next one and there is room. Returns whether it did.
     pub(crate) fn push(&mut self, number: u64, spot: Spot) -> bool
         ensures { MatchBool result (IsListed number spot self.old self.new) (self.new ≡ self.old) }
     {
@@ -63,7 +63,7 @@ impl CallList {
         true
     }
 
-    // Puts the place of an answer to its call, if the call of the number is here. Answers whether it is.
+    // Puts the place of an answer to its call, if the call of the number is here. Returns whether it is.
     pub(crate) fn answer(&mut self, number: u64, place: usize) -> bool
         ensures { IsAnswered number place self.old self.new result }
     {

@@ -1,4 +1,4 @@
-//! Where the calls of a history stand.
+//! The places of the calls of a history.
 ghost use Rattle.std.specs.Prelude.{◌≡◌, ◌≤◌, ◌<◌, ◌+◌, ◌^◌, ℕ, [], length, get_or, None, is_some, if◌then◌else◌, IsOk, OnOk};
 ghost use Rattle.std.specs.Bool.{MatchBool};
 ghost use Rattle.std.specs.Map.{lookup};
@@ -16,11 +16,11 @@ use std::alloc::{AllocError, Global};
 use std::collections::HashMap;
 use std::marker::Model;
 
-/// Where the calls of a history and their answers stand.
+/// The places of the calls of a history and of their answers.
 ///
-/// The calls of a name that come with the numbers 1, 2, 3 and so on, as a run makes them, stand in a list of
-/// that name, and any other in a map. So a call is found in constant time, and the memory that is taken
-/// grows with the number of calls, whatever their numbers are.
+/// The calls of a name that come with the numbers 1, 2, 3 and so on, as a run makes them, are in a list for that name.
+/// All others are in a map. So a call is found in constant time. Memory grows with the number of calls, whatever their
+/// numbers are.
 #[derive(Drop)]
 pub(crate) struct CallPlaces {
     // By the number of the name.
@@ -38,7 +38,7 @@ impl Model for CallPlaces {
 }
 
 impl CallPlaces {
-    // Of no call. It takes no memory.
+    // Of no call. It allocates nothing.
     pub(crate) fn new(alloc: Global) -> CallPlaces
         ensures { (q : CallId) → spot_of result q ≡ None }
     {
@@ -48,7 +48,7 @@ impl CallPlaces {
         }
     }
 
-    // Where a call and its answer stand.
+    // The places of a call and its answer.
     pub(crate) fn get(&self, id: &CallId) -> Option<&Spot>
         ensures { option_copied result ≡ spot_of self.now id.now }
     {
@@ -58,7 +58,7 @@ impl CallPlaces {
         }
     }
 
-    // Where a call stands, if it is in the list of its name.
+    // The places of a call, if it is in the list of its name.
     fn listed(&self, id: &CallId) -> Option<&Spot>
         ensures { option_copied result ≡ listed self.now.lists id.now }
     {
@@ -66,7 +66,7 @@ impl CallPlaces {
         list.get(id.number)
     }
 
-    // Makes room for some more calls, so that as many can be taken with no memory taken.
+    // Makes room for some more calls, so that as many can be taken without allocating.
     pub(crate) fn reserve(&mut self, additional: usize) -> Result<(), AllocError>
         ensures spots { KeepsSpots self.old self.new }
         ensures room { self.old.room ≤ self.new.room }
@@ -86,7 +86,7 @@ impl CallPlaces {
         self.lists[index].prepare()
     }
 
-    // An event stands at a place.
+    // Notes that an event is at a place.
     pub(crate) fn take(&mut self, event: &Event, place: usize)
         requires room { 0 < self.old.room }
         requires fits { FitsSpots event.now self.old }
@@ -139,7 +139,7 @@ fn widen(lists: &mut Vec<CallList>, index: usize) -> Result<(), AllocError>
     Ok(())
 }
 
-// Puts a call into the list of its name, if it is the next there and there is room. Answers whether it did.
+// Puts a call into the list of its name, if it is the next there and there is room. Returns whether it did.
 fn push_listed(lists: &mut Vec<CallList>, id: &CallId, spot: Spot) -> bool
     ensures { MatchBool result ((q : CallId) → listed lists.new.items q ≡ (if same_call id.now q then Some spot else listed lists.old.items q)) (lists.new.items ≡ lists.old.items) }
 {
@@ -147,7 +147,7 @@ fn push_listed(lists: &mut Vec<CallList>, id: &CallId, spot: Spot) -> bool
     index < lists.len() && lists[index].push(id.number, spot)
 }
 
-// Puts the place of an answer to its call, if that is in the list of its name. Answers whether it is.
+// Puts the place of an answer to its call, if that is in the list of its name. Returns whether it is.
 fn answer_listed(lists: &mut Vec<CallList>, id: &CallId, place: usize) -> bool
     ensures has { result ≡ is_some (listed lists.old.items id.now) }
     ensures spots { (q : CallId) → listed lists.new.items q ≡ (if same_call id.now q then option_map (answered_spot place) (listed lists.old.items id.now) else listed lists.old.items q) }
@@ -156,7 +156,7 @@ fn answer_listed(lists: &mut Vec<CallList>, id: &CallId, place: usize) -> bool
     index < lists.len() && lists[index].answer(id.number, place)
 }
 
-// Where a call stands, if it is in a map. It is seldom that one has any.
+// The places of a call, if it is in a map. Maps seldom have any.
 fn other<'a>(others: &'a HashMap<CallId, Spot>, id: &CallId) -> Option<&'a Spot>
     ensures { option_copied result ≡ lookup (same_call id.now) others.now.entries }
 {

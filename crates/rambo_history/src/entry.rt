@@ -1,13 +1,13 @@
-//! A call with all that a history has of it.
+//! A call with all that a history has about it.
 
 use crate::operation::{Answer, Op};
 
-/// What a call asked and what it was told, and the places of both in the list of events.
+/// What a call asked, its answer, and the places of both in the list of events.
 #[derive(Clone, Copy)]
 pub struct Entry<'a> {
     /// What it asked.
     pub op: &'a Op,
-    /// What it was told, if it was answered.
+    /// Its answer, if it has one.
     pub answer: Option<&'a Answer>,
     /// The place of the call in the list of events, from 0 on.
     pub called: usize,

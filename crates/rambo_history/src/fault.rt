@@ -1,4 +1,4 @@
-//! Why an event can't stand at a history's end.
+//! Why an event can't be appended to a history.
 ghost use Rattle.std.specs.Prelude.{◌≡◌};
 ghost use Rattle.rambo_history.specs.declared.fault.HistoryFault.TheVariants.{OutOfMemory};
 
@@ -11,7 +11,7 @@ pub enum HistoryFault {
     CalledTwice,
     /// The history doesn't have the call of this answer, or has its answer already.
     NotOpen,
-    /// A get was told that a set is done, or a set was told a value or nil.
+    /// A get is answered that a set is done, or a set is answered a value or nil.
     WrongKind,
     /// There is no room for one more event.
     OutOfMemory,

@@ -18,8 +18,8 @@ use rambo_names::Name;
 use std::alloc::{AllocError, Global};
 use std::marker::Model;
 
-/// The calls and answers of a run, in order: each call stands once, and each answer stands once, behind
-/// its call and of its kind.
+/// The calls and answers of a run, in order: each call occurs once, and each answer once, after its call and of its
+/// kind.
 ///
 /// A call and its answer are found by the call's name and number in constant time.
 pub struct History {
@@ -51,7 +51,7 @@ impl Model for History {
 }
 
 impl History {
-    /// A history of no event, which takes no memory.
+    /// A history of no event, which allocates nothing.
     pub fn new(alloc: Global) -> History
         ensures { result.events ≡ [] }
     {
@@ -61,7 +61,7 @@ impl History {
         }
     }
 
-    /// The events, the first of them first.
+    /// The events, in order.
     pub fn events(&self) -> &[Event]
         ensures events { result.now ≡ self.now.events }
         ensures well_formed { IsWellFormed self.now.events }
@@ -78,7 +78,7 @@ impl History {
         op_at(self.events(), places.called)
     }
 
-    /// What a call was told, if the history has its answer.
+    /// The answer of a call, if the history has it.
     pub fn answer(&self, id: &CallId) -> Option<&Answer>
         ensures { option_copied result ≡ answer_in self.now.events id.now }
     {
@@ -102,7 +102,7 @@ impl History {
         places.answered()
     }
 
-    /// What a call asked and what it was told, if the history has the call.
+    /// What a call asked, and its answer if there is one, if the history has the call.
     pub fn exchange(&self, id: &CallId) -> Option<(&Op, Option<&Answer>)>
         ensures op { option_map (λ e. e.0.now) result ≡ call_in self.now.events id.now }
         ensures answer { IfSome result (λ e. option_copied e.1 ≡ answer_in self.now.events id.now) }
@@ -111,7 +111,7 @@ impl History {
         Some((entry.op, entry.answer))
     }
 
-    /// A call with all that the history has of it, if it has the call.
+    /// A call with all that the history has about it, if it has the call.
     pub fn entry(&self, id: &CallId) -> Option<Entry<'_>>
         ensures op { option_map (λ e. e.op.now) result ≡ call_in self.now.events id.now }
         ensures answer { IfSome result (λ e. option_copied e.answer ≡ answer_in self.now.events id.now) }
@@ -141,7 +141,7 @@ impl History {
         *self.events.allocator()
     }
 
-    /// Where a call and its answer stand, if the history has the call.
+    /// The places of a call and of its answer, if the history has the call.
     pub fn places_of(&self, id: &CallId) -> Option<&Spot>
         ensures places { option_map places_of (option_copied result) ≡ places_in self.now.events id.now }
         ensures well_formed { IsWellFormed self.now.events }
@@ -149,7 +149,7 @@ impl History {
         self.places.get(id)
     }
 
-    /// Why an event can't stand at the end, if it can't.
+    /// Why an event can't be appended, if it can't.
     pub fn fault(&self, event: &Event) -> Option<HistoryFault>
         ensures { result ≡ fault_of self.now.events event.now }
     {
@@ -166,7 +166,7 @@ impl History {
         }
     }
 
-    /// Makes room for some more events, so that as many can be pushed with no memory taken.
+    /// Makes room for some more events, so that as many can be pushed without allocating.
     pub fn reserve(&mut self, additional: usize) -> Result<(), AllocError>
         ensures events { self.new.events ≡ self.old.events }
         ensures room { self.old.room ≤ self.new.room }
@@ -187,11 +187,11 @@ impl History {
         self.places.prepare(name)
     }
 
-    /// Puts an event at the end.
+    /// Appends an event.
     ///
-    /// `CalledTwice` where the history has this call. `NotOpen` where it doesn't have the answer's call,
-    /// or has its answer. `WrongKind` where the call asked for another kind of answer. `OutOfMemory`
-    /// where none of these holds, and no room was made and none is to be had.
+    /// `CalledTwice` where the history has this call. `NotOpen` where it doesn't have the answer's call, or has its
+    /// answer. `WrongKind` where the call asked for another kind of answer. `OutOfMemory` where none of these holds,
+    /// and no room was made and none can be allocated.
     pub fn push(&mut self, event: Event) -> Result<(), HistoryFault>
         ensures ok { OnOk result ((fault_of self.old.events event ≡ None) × (self.new.events ≡ self.old.events ++ event ∷ [])) }
         ensures err { OnErr result ((self.new.events ≡ self.old.events) × (self.old.room ≤ self.new.room)) }
@@ -210,7 +210,7 @@ impl History {
         Ok(())
     }
 
-    /// Puts an event at the end that can stand there, where room was made for it. It takes no memory.
+    /// Appends an event that has no fault, where room was made for it. It allocates nothing.
     pub fn push_reserved(&mut self, event: Event)
         requires room { 0 < self.old.room }
         requires fits { fault_of self.old.events event ≡ None }
@@ -232,7 +232,7 @@ fn op_at(events: &[Event], place: usize) -> Option<&Op>
     }
 }
 
-// What was told at a place.
+// What was answered at a place.
 fn answer_at(events: &[Event], place: usize) -> Option<&Answer>
     ensures { option_copied result ≡ answer_of (slice_get events.now place) }
 {

@@ -1,6 +1,6 @@
 //! Calls, their answers, and histories of both; what a proper order of calls is.
 //!
-//! - `Op`, `Answer`: what a call asks, and what it is told. `CallId`: which call it is.
+//! - `Op`, `Answer`: what a call asks, and how it is answered. `CallId`: which call it is.
 //! - `History`: the calls and answers of a run, in order.
 #![tactic(auto)]
 

@@ -33,7 +33,7 @@ impl Op {
 
     /// The same operation, which shares its bytes.
     ///
-    /// `OutOfMemory` where a count of owners is full.
+    /// `OutOfMemory` where a reference count is at its limit.
     #[inline(always)]
     pub fn clone(&self) -> Result<Op, Refusal>
         ensures same { IfOk result (λ op. op ≡ self.now) }
@@ -46,7 +46,7 @@ impl Op {
     }
 }
 
-/// What a client is told.
+/// What a client is answered.
 #[derive(Drop, Debug)]
 pub enum Answer {
     /// A set is done.
@@ -70,7 +70,7 @@ impl Answer {
 
     /// The same answer, which shares its bytes.
     ///
-    /// `OutOfMemory` where a count of owners is full.
+    /// `OutOfMemory` where a reference count is at its limit.
     pub fn clone(&self) -> Result<Answer, Refusal>
         ensures same { IfOk result (λ answer. answer ≡ self.now) }
         ensures refused { IfErr result (λ r. r ≡ Refusal.OutOfMemory) }

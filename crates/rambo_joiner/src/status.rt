@@ -48,7 +48,7 @@ impl Status {
 
     /// An idle node begins to join.
     ///
-    /// `NameUsed` where it isn't idle; the status stays.
+    /// `NameUsed` where it isn't idle; the status is then unchanged.
     pub fn join(&mut self) -> Result<(), Refusal>
         ensures ok { OnOk result ((is_idle self.old ≡ true) × (self.new ≡ Status.Joining)) }
         ensures refused { IfErr result (λ r. (r ≡ Refusal.NameUsed) × (is_idle self.old ≡ false)) }
@@ -61,7 +61,7 @@ impl Status {
         Ok(())
     }
 
-    /// A joining node hears from an active one, and is active. Any other stays as it is.
+    /// A joining node hears from an active one, and becomes active. Any other status is unchanged.
     pub fn wake(&mut self)
         ensures { self.new ≡ woken self.old }
     {
@@ -72,7 +72,7 @@ impl Status {
 
     /// A node stops, joining or active.
     ///
-    /// `NotActive` where it is idle, `Stopped` where it has stopped; the status stays.
+    /// `NotActive` where it is idle, `Stopped` where it has stopped; the status is then unchanged.
     pub fn stop(&mut self) -> Result<(), Refusal>
         ensures ok { OnOk result ((is_idle self.old ≡ false) × (is_stopped self.old ≡ false) × (self.new ≡ Status.Stopped)) }
         ensures refused { IfErr result (λ r. ((r ≡ Refusal.NotActive) × (is_idle self.old ≡ true)) ⊎ ((r ≡ Refusal.Stopped) × (is_stopped self.old ≡ true))) }

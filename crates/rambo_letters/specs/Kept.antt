@@ -1,11 +1,12 @@
--- Letters as they are kept
+-- Letters as they are stored
 use Rattle.std.specs.Prelude.{ℕ, zero, suc, List, Option, None, Some, slice_get}
 use Rattle.rambo_gossip.specs.declared.letter.Letter.{Letter}
 use Rattle.rambo_gossip.specs.declared.letter.Gossip.{Gossip}
 use Rattle.rambo_gossip.specs.declared.letter.Kind.{Kind}
 use Rattle.rambo_gossip.specs.declared.letter.Kind.TheVariants as kind
 
--- a letter as it is kept: without copies, and how long its sender's log then was, or 0 where it tells of no copies
+-- a letter as it is stored: without copies, and with the length that its sender's log then had, or 0 where it has no
+-- copies
 pub record SentState (Q : Type 0) : Type 0 where
   pub letter : Letter Q
   pub told : ℕ

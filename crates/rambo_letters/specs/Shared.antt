@@ -1,4 +1,4 @@
--- Letters as they are kept share what their senders told of configurations: each tells the place of its own
+-- Letters as they are stored share what their senders reported of configurations: each has the place of its own
 use Rattle.std.specs.Prelude.{◌≡◌, ◌<◌, ℕ, true, if◌then◌else◌, List, Option, None, slice_get, Some}
 use Rattle.std.specs.Option.{option_map}
 use Rattle.std.specs.FinMap as copies
@@ -8,23 +8,23 @@ use Rattle.rambo_letters.specs.declared.sent.Sent.{Sent}
 use Rattle.rambo_letters.specs.declared.standing.Standing.{Standing}
 use Rattle.rambo_letters.specs.Kept.{SentState, kind_of}
 
--- what gossip tells of configurations
+-- what gossip reports of configurations
 abbrev pub standing_of : {Q : Type 0} → GossipOutline Q → Standing Q
 standing_of g = record { vote = g.vote.now; offer = g.offer; map = g.map.now }
 
--- what an active node knew, with this told of configurations
+-- what an active node knew, with this as its report of configurations
 abbrev pub gossip_with : {Q : Type 0} → Sent → Standing Q → Gossip Q
 gossip_with s t = record { known = s.known; copies = copies.empty; map = t.map; number = s.number; heard = s.heard; vote = t.vote; offer = t.offer }
 
--- with what stands in its place
+-- with the standing at its place
 abbrev pub gossip_in : {Q : Type 0} → List (Standing Q) → Sent → Option (Gossip Q)
 gossip_in standings s = if s.gossips then option_map (gossip_with s) (slice_get standings s.standing) else None
 
--- the letter that is kept so, where the standings are these
+-- the letter that is stored so, where the standings are these
 abbrev pub sent_in : {Q : Type 0} → List (Standing Q) → Sent → SentState Q
 sent_in standings s = record { letter = record { sender = s.sender; addressee = s.addressee; kind = kind_of (gossip_in standings s) }; told = s.told }
 
--- its standing is one of so many
+-- its standing is one of this many
 abbrev pub IsHeld : ℕ → Sent → Type 0
 IsHeld count s = s.gossips ≡ true → s.standing < count
 

@@ -17,9 +17,9 @@ use std::marker::Model;
 pub struct Letters<Q: Quorums> {
     list: Vec<Sent>,
     standings: Vec<Standing<Q>>,
-    // The place of what each sender told last, of the names 1, 2, .. in turn; 0 before that.
+    // The place of what each sender reported last, of the names 1, 2, .. in turn; 0 before that.
     latest: [usize; 64],
-    // Never filled: it tells the prover that a standing has a size, which it doesn't see behind a `Vec`.
+    // Never filled: it tells the prover that a standing has a size, which it doesn't see through a `Vec`.
     spare: Option<Standing<Q>>,
 }
 
@@ -65,16 +65,16 @@ impl<Q: Quorums> Letters<Q> {
         }
     }
 
-    /// How many there are.
+    /// How many letters were sent.
     pub fn len(&self) -> usize
         ensures { result ≡ length self.now }
     {
         self.list.len()
     }
 
-    /// Makes room for so many more letters.
+    /// Makes room for this many more letters.
     ///
-    /// `OutOfMemory` where there is none. The letters are as they were, whatever the answer.
+    /// `OutOfMemory` where there is none. In either case the letters are unchanged.
     pub fn reserve(&mut self, count: usize) -> Result<(), Refusal>
         ensures same { self.new ≡ self.old }
         ensures refused { IfErr result (λ r. r ≡ Refusal.OutOfMemory) }
@@ -82,7 +82,7 @@ impl<Q: Quorums> Letters<Q> {
         Ok(self.list.reserve(count)?)
     }
 
-    /// The letter of a number, from 1 on, if it was sent. It takes no memory.
+    /// The letter of a number, from 1 on, if it was sent. It allocates nothing.
     // (who looks at a part of it needn't read the rest, where this is inlined)
     #[inline(always)]
     pub fn get(&self, number: u64) -> Option<Outline<'_, Q>>
@@ -98,7 +98,7 @@ impl<Q: Quorums> Letters<Q> {
         Some(read(self.standings.as_slice(), self.list[place]))
     }
 
-    /// Keeps a letter.
+    /// Appends a letter.
     ///
     /// `OutOfMemory` where there is no room for it; the letters are then as they were.
     pub fn push(&mut self, outline: &Outline<'_, Q>) -> Result<(), Refusal>
@@ -151,7 +151,7 @@ fn read_gossip<Q: Quorums>(standings: &[Standing<Q>], sent: Sent) -> Option<Goss
     }
 }
 
-// A letter as it is kept, where its sender told last what stands at a place.
+// A letter as it is stored, where its sender reported last what is at a place.
 fn keep<Q: Quorums>(
     standings: &mut Vec<Standing<Q>>,
     latest: usize,
@@ -187,7 +187,7 @@ fn keep<Q: Quorums>(
     }
 }
 
-// The place of what gossip tells of configurations: the latest one where that is the same, and else a new one.
+// The place of what gossip reports of configurations: the latest one where that is the same, and else a new one.
 fn shared<Q: Quorums>(
     standings: &mut Vec<Standing<Q>>,
     latest: usize,
@@ -203,8 +203,8 @@ fn shared<Q: Quorums>(
     added(standings, gossip)
 }
 
-// The place of what gossip tells of configurations, behind the others.
-// (few letters come here, and where this is inlined all of them clear its room)
+// The place of what gossip reports of configurations, after the others. (few letters come here, and where this is
+// inlined all of them clear its room)
 #[inline(never)]
 fn added<Q: Quorums>(
     standings: &mut Vec<Standing<Q>>,
@@ -219,7 +219,7 @@ fn added<Q: Quorums>(
     Ok(count)
 }
 
-// Whether gossip tells of configurations what stands at a place.
+// Whether gossip reports of configurations what is at a place.
 fn is_told_at<Q: Quorums>(
     standings: &[Standing<Q>],
     place: usize,
@@ -233,7 +233,7 @@ fn is_told_at<Q: Quorums>(
     }
 }
 
-// Where what a name told last stands.
+// Where what a name reported last is.
 fn place_of(name: Name) -> usize
     ensures place { result ≡ name - 1 }
     ensures within { result < 64 }

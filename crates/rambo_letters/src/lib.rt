@@ -1,8 +1,9 @@
-//! Letters as they are kept: in a world without their copies (`Letters`), and in a book for several owners (`SharedLetter`).
+//! How letters are stored: in a world without their copies (`Letters`), and in a book for several owners
+//! (`SharedLetter`).
 //!
-//! What a sender told of configurations is kept once for all letters that it sends one behind the other, as long as that
-//! stays the same (`Standing`). In a world the copies that a letter tells of are a beginning of its sender's log, and it has
-//! the length of that; in a book its owners share them.
+//! What a sender reports of configurations is stored once for consecutive letters in which it is the same (`Standing`).
+//! In a world the copies of a letter are a prefix of its sender's log, of which it has the length. In a book its owners
+//! share them.
 #![tactic(auto)]
 
 mod letters;

@@ -1,15 +1,15 @@
-//! Letters before they are kept.
+//! Letters before they are stored.
 
 use rambo_gossip::LetterOutline;
 use rambo_names::Quorums;
 use std::marker::Model;
 
-/// A letter with no copies in it: those that it tells of are the first so many of its sender's log.
+/// A letter without its copies, which are a prefix of its sender's log.
 #[derive(Drop)]
 pub struct Outline<'a, Q: Quorums> {
     /// The letter, without copies.
     pub letter: LetterOutline<'a, Q>,
-    /// How many of its sender's log it tells of.
+    /// The length of that prefix.
     pub told: usize,
 }
 

@@ -2,9 +2,9 @@
 
 use rambo_names::{Members, Name};
 
-/// A letter as it is kept, in 48 bytes: without its copies, which are the first so many of its sender's log, and with
-/// the place of its standing among those that the letters share. Where its sender wants to join, only the names and `told`
-/// say something.
+/// A letter as it is stored, in 48 bytes. It has the length of the prefix of its sender's log that its copies are, and
+/// the place of its standing among those that letters share. Where its sender wants to join, only the names and `told`
+/// mean something.
 #[derive(Clone, Copy)]
 pub(crate) struct Sent {
     pub(crate) told: usize,

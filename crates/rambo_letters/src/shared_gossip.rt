@@ -54,8 +54,8 @@ impl<Q: Quorums> Model for SharedGossip<Q> {
 }
 
 impl<Q: Quorums> SharedGossip<Q> {
-    // The gossip of this outline with these copies, which has one owner. What it tells of configurations it shares with what
-    // was told last, if that is the same, and else tells last.
+    // The gossip of this outline with these copies, which has one owner. What it reports of configurations it shares
+    // with the last report, if that is the same. Else it becomes the last report.
     //
     // `OutOfMemory` where there is no room for it.
     pub(crate) fn new(
@@ -76,9 +76,9 @@ impl<Q: Quorums> SharedGossip<Q> {
         })
     }
 
-    // The same for one owner more.
+    // The same for one more owner.
     //
-    // `OutOfMemory` where the count of owners is full.
+    // `OutOfMemory` where the reference count is at its limit.
     pub(crate) fn share(&self) -> Result<SharedGossip<Q>, Refusal>
         ensures same { IfOk result (λ g. g ≡ self.now) }
         ensures refused { IfErr result (λ r. r ≡ Refusal.OutOfMemory) }
@@ -128,7 +128,7 @@ impl<Q: Quorums> SharedGossip<Q> {
     }
 }
 
-// What gossip tells of configurations: what was told last, if that is the same.
+// What gossip reports of configurations: the last report, if that is the same.
 fn shared<Q: Quorums>(
     alloc: Global,
     told: &mut Option<Arc<Standing<Q>, Global>>,

@@ -13,8 +13,8 @@ use std::alloc::Global;
 use std::marker::Model;
 use std::sync::Arc;
 
-/// A letter that several own, seen as the letter, in 64 bytes. They share its copies, and it shares what its sender told of
-/// configurations with those that told the same.
+/// A letter that several own, in 64 bytes. In contracts it is the letter. Its owners share its copies, and letters that
+/// report the same of configurations share that.
 pub struct SharedLetter<Q: Quorums> {
     sender: Name,
     addressee: Name,
@@ -48,8 +48,8 @@ impl<Q: Quorums> Model for SharedLetter<Q> {
 }
 
 impl<Q: Quorums> SharedLetter<Q> {
-    /// The letter of this outline with these copies, which has one owner. What it tells of configurations it shares with what
-    /// was told last, if that is the same, and else tells last.
+    /// The letter of this outline with these copies, which has one owner. What it reports of configurations it shares
+    /// with the last report, if that is the same. Else it becomes the last report.
     ///
     /// `OutOfMemory` where there is no room for it.
     pub fn new(
@@ -72,9 +72,9 @@ impl<Q: Quorums> SharedLetter<Q> {
         })
     }
 
-    /// The same letter for one owner more. Nothing of it is copied.
+    /// The same letter for one more owner. Nothing of it is copied.
     ///
-    /// `OutOfMemory` where the count of owners is full.
+    /// `OutOfMemory` where the reference count is at its limit.
     pub fn share(&self) -> Result<SharedLetter<Q>, Refusal>
         ensures same { IfOk result (λ l. l ≡ self.now) }
         ensures refused { IfErr result (λ r. r ≡ Refusal.OutOfMemory) }
@@ -129,7 +129,7 @@ impl<Q: Quorums> SharedLetter<Q> {
         }
     }
 
-    /// It has no copies any more. Its other owners keep them.
+    /// Drops its copies, which its other owners keep.
     pub fn leave_out_copies(&mut self)
         ensures { self.new ≡ letter_with self.old map.empty }
     {

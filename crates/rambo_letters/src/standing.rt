@@ -7,7 +7,7 @@ use rambo_gossip::GossipOutline;
 use rambo_names::Quorums;
 use rambo_paxos::{Ballot, Offer, Proposal, Vote};
 
-/// What a sender told of configurations, which the letters that it sends one behind the other mostly have in common.
+/// What a sender reports of configurations, which its consecutive letters mostly have in common.
 #[derive(Drop)]
 pub struct Standing<Q: Quorums> {
     /// Its vote for the first place that its map doesn't know.
@@ -19,7 +19,7 @@ pub struct Standing<Q: Quorums> {
 }
 
 impl<Q: Quorums> Standing<Q> {
-    /// What gossip tells of configurations.
+    /// What gossip reports of configurations.
     pub fn of(gossip: &GossipOutline<'_, Q>) -> Standing<Q>
         ensures { result ≡ standing_of gossip.now }
     {
@@ -30,7 +30,7 @@ impl<Q: Quorums> Standing<Q> {
         }
     }
 
-    /// Whether gossip tells just this of configurations.
+    /// Whether gossip reports just this of configurations.
     pub fn is_told_by(&self, gossip: &GossipOutline<'_, Q>) -> bool
         ensures { IsTrue result → self.now ≡ standing_of gossip.now }
     {

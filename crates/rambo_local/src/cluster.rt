@@ -13,7 +13,7 @@ use std::hash::{BuildHasherDefault, FoldHasher};
 /// A world over weighted majorities that holds its copies in hash tables.
 pub type Host = World<Weighted, Registers<BuildHasherDefault<FoldHasher>>>;
 
-/// That nodes of a run are asked, which hear of each other by letters.
+/// Says that the nodes asked are those of a run, which hear of each other by letters.
 pub(crate) struct ByLetters;
 
 impl Cluster<ByLetters> for Host {

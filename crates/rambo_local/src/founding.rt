@@ -5,7 +5,7 @@ use crate::cluster::Host;
 use rambo_config_map::Entry;
 use rambo_names::{Name, Refusal, Weighted};
 
-/// The founders of a world just made, whose nodes all hold them at place 0.
+/// The founders of a new world, whose nodes all hold them at place 0.
 pub(crate) fn founders_of(world: &Host) -> Result<Weighted, Refusal>
     requires { world.now.steps ≡ [] }
     ensures { IfOk result (λ founders. founders ≡ world.now.founders) }

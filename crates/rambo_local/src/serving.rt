@@ -13,13 +13,13 @@ use rambo_atomic::{Sink, Source};
 use rambo_client::{Client, LocalFault, serve};
 use std::alloc::Global;
 
-/// Serves one client, as `local` does, of the nodes of a world just made.
+/// Serves one client, as `local` does, of the nodes of a new world.
 ///
-/// The steps that the world takes are, for each `GET` and `SET` that isn't refused, its call at the lowest founder, and
-/// then twice a letter from there to each other founder and one back, in rising order, and an advance of the call. So its
-/// history is that of the calls, each with its answer.
+/// For each `GET` and `SET` that isn't refused the world takes its call at the lowest founder. Then it takes, twice, a
+/// letter from there to each other founder and one back, in ascending order, and an advance of the call. So its history
+/// is that of the calls, each with its answer.
 ///
-/// After a fault steps and history are beginnings of these.
+/// After a fault steps and history are prefixes of these.
 pub fn local_on<R: Source, W: Sink>(
     alloc: Global,
     world: &mut Host,

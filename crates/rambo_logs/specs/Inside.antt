@@ -33,7 +33,7 @@ pub record HasRoom (l : Inside) (name number : ℕ) : Type 0 where
   pub row : hint_place number 64 ≤ length l.hints.items
   pub log : (d : Vec Entry Global) → vec_len (slice_index_or l.logs.items (name - 1) d) < vec_capacity (slice_index_or l.logs.items (name - 1) d)
 
--- the entries that were brought tell of copies, and there is room for them
+-- the entries that were brought refer to copies, and there is room for them
 pub record HasBrought (l : Inside) (to : ℕ) : Type 0 where
   pub entries : All (IsEntry l.puts.items l.keys l.hints.items) l.lacked.items
   pub log : (d : Vec Entry Global) → vec_len (slice_index_or l.logs.items (to - 1) d) + length l.lacked.items ≤ vec_capacity (slice_index_or l.logs.items (to - 1) d)

@@ -29,7 +29,7 @@ log_at logs name = slice_index_or logs (name - 1) []
 abbrev pub extended : List (List KeyedVersion) → ℕ → List KeyedVersion → List (List KeyedVersion)
 extended logs name more = slice_set logs (name - 1) (log_at logs name ++ more)
 
--- what a list has from one place up to another, as far as there is any
+-- what a list has from one place up to another, as far as it goes
 abbrev pub part : {X : Type 0} → List X → ℕ → ℕ → List X
 part log start end = drop start (take end log)
 

@@ -1,4 +1,4 @@
--- How the logs are stored: each copy once, entries that tell its place, and of each key and node a hint
+-- How the logs are stored: each copy once, entries with its place, and of each key and node a hint
 use Rattle.std.specs.Prelude.{◌≡◌, ℕ, zero, suc, ◌+◌, ◌*◌, ◌<◌, ◌≤◌, Bool, if◌then◌else◌, List, [], ◌∷◌, map, length, Option, None, Some, All, Vec, slice_index, slice_index_or, slice_set}
 use Rattle.std.specs.declared.alloc.Global.{Global}
 use Rattle.std.specs.FinMap.{get}
@@ -8,33 +8,33 @@ use Rattle.rambo_tag.specs.Tags.{no_tag, is_newer}
 use Rattle.rambo_tag.specs.Logs.{greatest_of}
 use Rattle.rambo_logs.specs.declared.entry.Entry.{Entry}
 
--- what stands past the end of what was put
+-- what is found past the end of what was put
 abbrev pub no_copy : KeyedVersion
 no_copy = record { key = []; version = record { tag = no_tag; value = None } }
 
 abbrev pub copy_at : List KeyedVersion → ℕ → KeyedVersion
 copy_at puts place = slice_index_or puts place no_copy
 
--- the copies that entries tell of
+-- the copies that entries refer to
 abbrev pub copy_of : List KeyedVersion → Entry → KeyedVersion
 copy_of puts e = copy_at puts e.place
 
 abbrev pub copies_of : List KeyedVersion → List Entry → List KeyedVersion
 copies_of puts es = map (copy_of puts) es
 
--- the copy that a hint tells of: 0 tells of none, and any other number of the copy at the place before it
+-- the copy that a hint refers to: 0 refers to none, and any other number to the copy at the place before it
 abbrev pub hinted : List KeyedVersion → ℕ → Option Version
 hinted puts zero = None
 hinted puts (suc place) = Some (copy_at puts place).version
 
--- where the hint of a key's number and a node stands
+-- where the hint of a key's number and a node is
 abbrev pub hint_place : ℕ → ℕ → ℕ
 hint_place number node = number * 64 + node
 
 abbrev pub hint_at : List ℕ → ℕ → ℕ → ℕ
 hint_at hints number node = slice_index hints (hint_place number node)
 
--- whether a copy is newer than what the node's hint tells of
+-- whether a copy is newer than what the node's hint refers to
 abbrev pub is_lacked : List KeyedVersion → List ℕ → ℕ → Entry → Bool
 is_lacked puts hints node e = is_newer (hinted puts (hint_at hints e.number node)) (copy_of puts e).version
 
@@ -47,11 +47,11 @@ abbrev pub all_raised : List KeyedVersion → ℕ → List ℕ → List Entry �
 all_raised puts node hints [] = hints
 all_raised puts node hints (e ∷ es) = all_raised puts node (raised puts node hints e) es
 
--- each hint tells of a copy that was put, or of none
+-- each hint refers to a copy that was put, or to none
 abbrev pub AreHints : List KeyedVersion → List ℕ → Type 0
 AreHints puts hints = All (λ h. h ≤ length puts) hints
 
--- an entry tells of a copy that was put, and of a key that has a row of hints
+-- an entry refers to a copy that was put, and to a key that has a row of hints
 pub record IsWithin (puts : List KeyedVersion) (hints : List ℕ) (e : Entry) : Type 0 where
   pub place : e.place < length puts
   pub row : hint_place e.number 64 ≤ length hints
@@ -66,7 +66,7 @@ pub record IsEntry (puts : List KeyedVersion) (keys : List (List ℕ)) (hints : 
 abbrev pub AreDistinct : List (List ℕ) → Type 0
 AreDistinct keys = (i j : ℕ) → i < length keys → j < length keys → slice_index_or keys i [] ≡ slice_index_or keys j [] → i ≡ j
 
--- a node's log: its hint of each key tells of the greatest copy of that key
+-- a node's log: its hint of each key refers to the greatest copy of that key
 pub record IsLog (puts : List KeyedVersion) (keys : List (List ℕ)) (hints : List ℕ) (node : ℕ) (es : List Entry) : Type 0 where
   pub entries : All (IsEntry puts keys hints) es
   pub hinted : (number : ℕ) → number < length keys → hinted puts (hint_at hints number node) ≡ get (greatest_of (copies_of puts es)) (slice_index_or keys number [])

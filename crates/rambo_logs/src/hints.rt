@@ -1,7 +1,7 @@
 //! Hints: of each key and node, the greatest copy in the node's log.
 //!
-//! A hint is 0, or one more than the copy's place among all that were put. The hints of a key's number
-//! stand in a row, one for each node.
+//! A hint is 0, or one more than the copy's place among all that were put. The hints for a key's number form a row, one
+//! for each node.
 ghost use Rattle.std.specs.Prelude.{◌≡◌, ◌+◌, ◌*◌, ◌-◌, ◌<◌, ◌≤◌, ◌^◌, ◌++◌, length, max, replicate, IfErr, OnOk, All};
 ghost use Rattle.rambo_names.specs.Names.{IsName};
 ghost use Rattle.rambo_logs.specs.Stored.{hint_place, is_lacked, raised, IsWithin, AreHints};
@@ -13,7 +13,7 @@ use rambo_tag::KeyedVersion;
 // How many nodes there are.
 pub(crate) const NODES: usize = 64;
 
-// Where the log of a name stands, and its hint in each row.
+// Where the log of a name is, and its hint in each row.
 pub(crate) fn place_of(name: Name) -> usize
     ensures place { result ≡ name - 1 }
     ensures within { result < 64 }
@@ -22,7 +22,7 @@ pub(crate) fn place_of(name: Name) -> usize
     name.number() as usize - 1
 }
 
-// Whether the node at a place lacks a copy: its hint of the key tells of none, or of a lesser one.
+// Whether the node at a place lacks a copy: its hint of the key refers to none, or to a lesser one.
 pub(crate) fn is_lacked(puts: &[KeyedVersion], hints: &[usize], node: usize, entry: &Entry) -> bool
     requires node { node < 64 }
     requires within { IsWithin puts.now hints.now entry.now }
@@ -59,7 +59,7 @@ pub(crate) fn make_rows(hints: &mut Vec<usize>, number: usize) -> Result<(), Ref
     ensures rows { length hints.new.items ≤ max (length hints.old.items) (hint_place number NODES) }
     ensures refused { IfErr result (λ r. r ≡ Refusal.OutOfMemory) }
 {
-    // (hints of which a number can't tell how many there are have no room in any memory)
+    // (more hints than a number can count would fit into no memory)
     let end = number.saturating_add(1).saturating_mul(NODES);
     if hints.len() < end {
         hints.resize(end, 0)?;
@@ -67,7 +67,7 @@ pub(crate) fn make_rows(hints: &mut Vec<usize>, number: usize) -> Result<(), Ref
     Ok(())
 }
 
-// Where the hint of an entry's key stands.
+// Where the hint of an entry's key is.
 fn hint_place(node: usize, entry: &Entry) -> usize
     requires node { node < 64 }
     requires row { hint_place entry.now.number 64 < 2 ^ 64 }

@@ -33,7 +33,7 @@ pub(crate) fn list_lacked(
     Ok(())
 }
 
-// The copies of entries, packed. Of none it takes no memory.
+// The copies of entries, packed. Of none it allocates nothing.
 pub(crate) fn pack_of(puts: &Vec<KeyedVersion>, entries: &[Entry]) -> Result<Pack, Refusal>
     requires { All (λ e. e.place < length puts.now.items) entries.now }
     ensures ok { IfOk result (λ p. p ≡ greatest_of (copies_of puts.now.items entries.now)) }

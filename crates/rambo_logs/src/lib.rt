@@ -1,8 +1,7 @@
-//! The logs of all nodes: of each node the list of the copies that its registers took on.
+//! The logs of all nodes: of each node the list of the copies that its registers took.
 //!
-//! Each copy that was put is stored once, and a log is a list of places. Of each node and each key it is
-//! kept which copy of the node's log is the greatest, so that what one node lacks of a part of another's
-//! log is found with no look-up of a key.
+//! Each copy that was put is stored once, and a log is a list of places. For each node and each key the greatest copy
+//! in the node's log is noted. So what a node lacks of a part of another's log is found without looking up a key.
 #![tactic(auto)]
 
 mod entry;

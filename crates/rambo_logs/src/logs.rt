@@ -16,10 +16,10 @@ use rambo_tag::{KeyedVersion, Pack};
 use std::alloc::Global;
 use std::marker::Model;
 
-/// The logs of the nodes of the names 1 to 64, each the list of the copies that the node's registers took
-/// on, the oldest first.
+/// The logs of the nodes of the names 1 to 64, each the list of the copies that the node's registers took, the oldest
+/// first.
 ///
-/// Each copy is stored once, in however many logs it stands.
+/// Each copy is stored once, however many logs have it.
 pub struct Logs {
     // Each copy that was put, in the order of the puts.
     puts: Vec<KeyedVersion>,
@@ -91,7 +91,7 @@ impl Logs {
 
     /// Makes room for one copy of a key in the log of a name, of any bytes.
     ///
-    /// `OutOfMemory` where there is none. The logs stay, and there is then room for nothing.
+    /// `OutOfMemory` where there is none. The logs are then unchanged, and there is room for nothing.
     pub fn reserve(&mut self, name: Name, key: &Bytes) -> Result<(), Refusal>
         ensures ok { OnOk result (self.new ≡ with_room self.old.logs name key.now) }
         ensures err { OnErr result (self.new ≡ settled self.old.logs) }
@@ -106,7 +106,7 @@ impl Logs {
         Ok(())
     }
 
-    /// Puts a copy at the end of the log of a name, where room was made for it. It takes no memory.
+    /// Appends a copy to the log of a name, where room was made for it. It allocates nothing.
     pub fn put(&mut self, name: Name, copy: KeyedVersion)
         requires { self.old.room ≡ Some (record { name = name; key = copy.key }) }
         ensures { self.new ≡ settled (extended self.old.logs name (copy ∷ [])) }
@@ -131,13 +131,13 @@ impl Logs {
         );
     }
 
-    /// Brings a name those copies that its log lacks of a part of another's, makes room for them, and gives them.
+    /// Finds the copies that the log of a name lacks of a part of another's, makes room for them, and returns them.
     ///
-    /// The part is from `start` on up to `end`, as far as there is any. A copy is lacked where it is newer
-    /// than the greatest of its key in the log; a key may be among those that are brought more than once.
+    /// The part goes from `start` up to `end`, as far as the log does. A copy is lacked if it is newer than the
+    /// greatest of its key in the log. A key may occur more than once among these.
     ///
-    /// `OutOfMemory` where there is no room for what is lacked. Where nothing is lacked no memory is taken.
-    /// The logs stay, whatever comes of it.
+    /// `OutOfMemory` where there is no room for what is lacked. Where nothing is lacked it can't fail. In either case
+    /// the logs are unchanged.
     pub fn bring(&mut self, to: Name, from: Name, start: usize, end: usize) -> Result<Pack, Refusal>
         ensures given { IfOk result (λ p. p ≡ greatest_of (lacked (greatest_of (log_at self.old.logs to)) (part (log_at self.old.logs from) start end))) }
         ensures ok { OnOk result (self.new ≡ with_brought self.old.logs to (lacked (greatest_of (log_at self.old.logs to)) (part (log_at self.old.logs from) start end))) }
@@ -162,7 +162,7 @@ impl Logs {
         Ok(pack)
     }
 
-    /// Puts the copies that were brought to a name at the end of its log. It takes no memory.
+    /// Appends the copies that `bring` found for a name to its log. It allocates nothing.
     pub fn take_on(&mut self, to: Name)
         requires { IsSomeAnd self.old.brought (λ b. b.to ≡ to) }
         ensures { (b : Brought) → self.old.brought ≡ Some b → self.new ≡ settled (extended self.old.logs to b.copies) }

@@ -7,7 +7,7 @@ use rambo_names::{Name, Refusal};
 use std::alloc::Global;
 use std::marker::Model;
 
-/// Of each two nodes, how much of the second one's log the first has merged: so many of its copies, from the first on.
+/// For each pair of nodes, how many copies of the second one's log the first has merged, counted from its start.
 #[derive(Drop)]
 pub struct MergedCounts {
     counts: Vec<usize>,
@@ -45,7 +45,8 @@ impl MergedCounts {
         self.counts[place_of(to, from)]
     }
 
-    /// The node `to` has merged so much of the log of `from`; less than it had merged changes nothing.
+    /// Notes that the node `to` has merged this many copies of the log of `from`. A count below the one noted before
+    /// changes nothing.
     pub fn raise(&mut self, to: Name, from: Name, count: usize)
         ensures { self.new ≡ merged_raised self.old to from count }
     {
@@ -54,7 +55,7 @@ impl MergedCounts {
     }
 }
 
-// Where the count of two names stands.
+// Where the count of two names is.
 fn place_of(to: Name, from: Name) -> usize
     ensures place { result ≡ (to - 1) * 64 + (from - 1) }
     ensures within { result < 4096 }

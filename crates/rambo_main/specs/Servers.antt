@@ -11,7 +11,7 @@ use Rattle.rambo_serving.specs.Endings.{Fails, WritesTo}
 use Rattle.rambo_cluster.specs.declared.fault.ServeFault.{ServeFault}
 use Rattle.rambo_cluster.specs.declared.fault.ServeFault.TheVariants as server
 
--- the line that tells why nothing was served
+-- the line that reports why nothing was served
 abbrev pub server_line : ServeFault → List ℕ
 server_line server.Socket = socket_line
 server_line server.Memory = fault_line Memory
@@ -20,7 +20,7 @@ server_line server.Memory = fault_line Memory
 abbrev pub Unserved : Ending → Stream → Stream → Type 0
 Unserved e write told = (f : ServeFault) × Takes [] write × Fails (server_line f) e told
 
--- how serving ends on a listener: steps of which none was refused where it stands, and of which the book has room, are
+-- how serving ends on a listener: steps of which none was refused in its place, and of which the book has room, are
 -- written; or the server failed
 abbrev pub GivesTo : Serving → Weights → Ending → Stream → Stream → Type 0
 GivesTo s founders e write told =
@@ -31,7 +31,7 @@ GivesTo s founders e write told =
 abbrev pub ListensOn : ℕ → ℕ → Type 0
 ListensOn asked port = (asked ≡ 0) ⊎ (port ≡ asked)
 
--- how serving ends: it doesn't listen; or its port was told first
+-- how serving ends: it doesn't listen; or its port was reported first
 abbrev pub ServesTo : {E : Type 0} → (E → Option (List ℕ)) → (E → ℕ) → Serving → Weights → Ending → Stream → E → E → Type 0
 ServesTo taken failures s founders e write old new =
     Unserved e write (stream taken failures old new)

@@ -14,15 +14,15 @@ use Rattle.rambo_names.specs.Weights.{Weights}
 use Rattle.rambo_client.specs.declared.fault.LocalFault.{LocalFault}
 use Rattle.rambo_client.specs.declared.fault.LocalFault.TheVariants as local
 use Rattle.rambo_client.specs.Talks.{Served, Stopped}
-use Rattle.rambo_command_line.specs.Lines.{rambo, founders_or, IsFounders, IsServing}
+use Rattle.rambo_command_line.specs.Lines.{rambo, founders_or, IsFlag, IsFounders, IsServing}
 use Rattle.rambo_command_line.specs.declared.serving.Serving.{Serving}
 use Rattle.rambo_serving.specs.declared.ending.Ending.{Ending}
 use Rattle.rambo_main.specs.Servers as servers
 use Rattle.rambo_telling.specs.Telling.{Stream, IsFine, Takes, Tells, GivesUp, EndsAs, fault_line, status_of, stream}
 
--- A command ended by a fault: one call of the reader failed after Read and one of the writer after Write, and none else;
--- and the line of the fault was told. So want of memory alone, told as Memory or as the fault of a line that was being
--- read, can't be told from a command that gives up.
+-- A command ended by a fault. One call of the reader failed after Read, and one of the writer after Write, and none
+-- else. The line of the fault was written. So a command that is out of memory, reported as Memory or as the fault of a
+-- line that was being read, can't be distinguished from one that gives up.
 pub record EndsBy (f : ReplayFault) (status : ℕ) (read write told : Stream) : Type 0 where
   pub status_is : status ≡ status_of f
   pub reads : read.failures_now ≡ reads_failed f read.failures
@@ -43,30 +43,30 @@ ReplaysTo status read write told =
     IsReplayed status read write
     ⊎ ((f : ReplayFault) × EndsBy f status read write told × Leaves f read.old write.old write.new)
 
--- the status after a check that said yes of all keys, or no of some
+-- the status after a check of which each verdict was yes, or some was no
 abbrev pub verdict_status : Bool → ℕ
 verdict_status all = if all then 0 else 3
 
 -- a check that is done
-pub record IsCheckedTo (status : ℕ) (read write : Stream) : Type 0 where
+pub record IsCheckedTo (why : Bool) (status : ℕ) (read write : Stream) : Type 0 where
   pub text : List ℕ
   pub lines : List ℕ
   pub all : Bool
   pub done : status ≡ verdict_status all
   pub left : IsLeft read.old text
-  pub checked : IsChecked text lines all
+  pub checked : IsChecked why text lines all
   pub end : IsAtEnd read.new
   pub reads : IsFine read
   pub writes : IsFine write
   pub written : Appends write.old write.new lines
 
--- a beginning of the lines of a check was written
-pub record StopsCheck (input old new : Option (List ℕ)) : Type 0 where
+-- a prefix of the lines of a check was written
+pub record StopsCheck (why : Bool) (input old new : Option (List ℕ)) : Type 0 where
   pub text : List ℕ
   pub lines : List ℕ
   pub all : Bool
   pub left : IsLeft input text
-  pub checked : IsChecked text lines all
+  pub checked : IsChecked why text lines all
   pub written : Begins old new lines
 
 -- the text that was read has this fault
@@ -74,17 +74,23 @@ abbrev pub HasTextFault : Option (List ℕ) → ScriptFault → Type 0
 HasTextFault input f = (text : List ℕ) × IsLeft input text × IsFaultIn text f
 
 -- what was written by a check that met a fault
-abbrev pub LeavesCheck : ReplayFault → Option (List ℕ) → Option (List ℕ) → Option (List ℕ) → Type 0
-LeavesCheck (Script f) input old new = HasTextFault input f × Keeps old new
-LeavesCheck Read input old new = Keeps old new
-LeavesCheck Write input old new = StopsCheck input old new
-LeavesCheck Memory input old new = Keeps old new
+abbrev pub LeavesCheck : Bool → ReplayFault → Option (List ℕ) → Option (List ℕ) → Option (List ℕ) → Type 0
+LeavesCheck why (Script f) input old new = HasTextFault input f × Keeps old new
+LeavesCheck why Read input old new = Keeps old new
+LeavesCheck why Write input old new = StopsCheck why input old new
+LeavesCheck why Memory input old new = Keeps old new
 
--- how a check ends: done, or by a fault
-abbrev pub ChecksTo : ℕ → Stream → Stream → Stream → Type 0
-ChecksTo status read write told =
-    IsCheckedTo status read write
-    ⊎ ((f : ReplayFault) × EndsBy f status read write told × LeavesCheck f read.old write.old write.new)
+-- how a check ends that is asked, or isn't, to tell why: done, or by a fault
+abbrev pub ChecksTo : Bool → ℕ → Stream → Stream → Stream → Type 0
+ChecksTo why status read write told =
+    IsCheckedTo why status read write
+    ⊎ ((f : ReplayFault) × EndsBy f status read write told × LeavesCheck why f read.old write.old write.new)
+
+-- how words end that ask for a check, unless there was no room to read them
+abbrev pub CheckTo : List Text → ℕ → Stream → Stream → Stream → Type 0
+CheckTo words status read write told =
+    (EndsBy Memory status read write told × Keeps write.old write.new)
+    ⊎ ((why : Bool) × IsFlag (codes "why") words why × ChecksTo why status read write told)
 
 -- the same fault, in the words of a replay
 abbrev pub of_local : LocalFault → ReplayFault
@@ -99,17 +105,17 @@ pub record IsServed (founders : Weights) (status : ℕ) (read write : Stream) : 
   pub writes : IsFine write
   pub served : Served founders read.old read.new write.old write.new
 
--- how serving a client ends: done, or by a fault, after which a beginning of the replies was written
+-- how serving a client ends: done, or by a fault, after which a prefix of the replies was written
 abbrev pub ServesTo : Weights → ℕ → Stream → Stream → Stream → Type 0
 ServesTo founders status read write told =
     IsServed founders status read write
     ⊎ ((f : LocalFault) × EndsBy (of_local f) status read write told × Stopped founders read.old read.new write.old write.new)
 
--- the line that tells of founders that are none
+-- the line that reports founders that aren't valid
 abbrev pub bad_founders : List ℕ
 bad_founders = codes "bad founders" ++ 10 ∷ []
 
--- founders that are none: nothing was written
+-- founders that aren't valid: nothing was written
 pub record IsRefused (status : ℕ) (write told : Stream) : Type 0 where
   pub status_is : status ≡ 2
   pub unwritten : Takes [] write

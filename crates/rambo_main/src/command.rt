@@ -2,11 +2,12 @@
 ghost use Rattle.std.specs.Prelude.{◌≡◌, ◌≤◌, ◌⊎◌, None, map};
 ghost use Rattle.rambo_names.specs.Names.{count_of};
 ghost use Rattle.rambo_names.specs.Weights.{members_of};
-ghost use Rattle.rambo_command_line.specs.Lines.{Asks, AsksLocal, AsksServe};
+ghost use Rattle.rambo_command_line.specs.Lines.{Asks, AsksCheck, AsksLocal, AsksServe};
 ghost use Rattle.clap.specs.Words.{kind_of};
 ghost use Rattle.rambo_telling.specs.Telling.{EndsAs, GivesUp, Tells, stream};
 ghost use Rattle.rambo_main.specs.Statuses.{
   AnswersTo,
+  CheckTo,
   ChecksTo,
   LocalTo,
   ReplaysTo,
@@ -39,18 +40,19 @@ use std::sync::Wait;
 use std::thread::Threads;
 use std::time::Clock;
 
-/// The exit status of a check that said no of some key.
+/// The exit status of a check that said no for some key, or for the order of all keys.
 const SAID_NO: u8 = 3;
 
-/// Does what the words behind the program's name ask for, and answers how that ended. Sockets and threads are the host's.
+/// Does what the words after the program's name ask for, and returns how that ended. Sockets and threads are the
+/// host's.
 ///
 /// - 0: done. Of words that ask for no task, help or the version was written.
 /// - 1: the reader, the writer or the server failed or memory ran out.
-/// - 2: the words ask for nothing that there is, the founders are none, or the input is faulty.
-/// - 3: the check said no of some key.
+/// - 2: the words ask for nothing that there is, the founders aren't valid, or the input is faulty.
+/// - 3: the check said no for some key, or for the order of all keys.
 ///
-/// After 1 and 2 the cause was told to `errors`, as far as these took it. A failure of `errors` themselves changes no
-/// status: there is nowhere left to tell it.
+/// After 1 and 2 the cause was reported to `errors`, as far as it took that. A failure of `errors` itself changes no
+/// status: there is nowhere left to report it.
 pub fn command<S: AsStr, H, R: Source, W: Sink, E: Sink>(
     host: &H,
     alloc: Global,
@@ -70,8 +72,8 @@ where
         → ReplaysTo result.status (stream R.left R.failures reader.old reader.new)
         (stream W.taken W.failures writer.old writer.new)
         (stream E.taken E.failures errors.old errors.new) }
-    ensures check { Asks (map S.text words.now) Task.Check
-        → ChecksTo result.status (stream R.left R.failures reader.old reader.new)
+    ensures check { AsksCheck (map S.text words.now)
+        → CheckTo (map S.text words.now) result.status (stream R.left R.failures reader.old reader.new)
         (stream W.taken W.failures writer.old writer.new)
         (stream E.taken E.failures errors.old errors.new) }
     ensures local { AsksLocal (map S.text words.now)
@@ -90,7 +92,7 @@ where
 {
     match task_of(alloc, words) {
         Ok(Task::Replay) => replayed(alloc, reader, writer, errors),
-        Ok(Task::Check) => checked(alloc, reader, writer, errors),
+        Ok(Task::Check(why)) => checked(alloc, why, reader, writer, errors),
         Ok(Task::Local(Some(founders))) => served(alloc, founders, reader, writer, errors),
         Ok(Task::Local(None)) => rejected(errors),
         Ok(Task::Serve(serving)) => serve(host, alloc, &serving, writer, errors),
@@ -122,7 +124,7 @@ where
     }
 }
 
-// Founders that are none are told.
+// Reports founders that aren't valid.
 fn rejected<E: Sink>(errors: &mut E) -> Ending
     ensures status { result.status ≡ 2 }
     ensures line { Tells bad_founders (stream E.taken E.failures errors.old errors.new) }
@@ -131,7 +133,7 @@ fn rejected<E: Sink>(errors: &mut E) -> Ending
     Ending::of(tell_bad_founders(errors))
 }
 
-// What clap answers in place of a task is shown.
+// What clap gives in place of a task is shown.
 fn shown<W: Sink, E: Sink>(alloc: Global, error: &Error, writer: &mut W, errors: &mut E) -> Ending
     ensures ends { GivesUp result.status (stream W.taken W.failures writer.old writer.new)
         (stream E.taken E.failures errors.old errors.new)
@@ -165,20 +167,21 @@ fn replayed<R: Source, W: Sink, E: Sink>(
     }
 }
 
-// From an outcome text to a verdict on each key.
+// From an outcome text to a verdict on each key, and if it is asked for, why.
 fn checked<R: Source, W: Sink, E: Sink>(
     alloc: Global,
+    why: bool,
     reader: &mut R,
     writer: &mut W,
     errors: &mut E,
 ) -> Ending
-    ensures ends { ChecksTo result.status (stream R.left R.failures reader.old reader.new)
+    ensures ends { ChecksTo why result.status (stream R.left R.failures reader.old reader.new)
         (stream W.taken W.failures writer.old writer.new)
         (stream E.taken E.failures errors.old errors.new) }
     ensures quiet { (result.status ≡ 0) ⊎ (result.status ≡ 3) → errors.new ≡ errors.old }
     ensures untraced { result.trace ≡ None }
 {
-    match check_text(alloc, reader, writer) {
+    match check_text(alloc, why, reader, writer) {
         Ok(true) => Ending::of(DONE),
         Ok(false) => Ending::of(SAID_NO),
         Err(fault) => Ending::of(tell(fault, errors)),

@@ -22,11 +22,12 @@ use std::sync::Wait;
 use std::thread::Threads;
 use std::time::Clock;
 
-/// Serves clients of a store of these founders on a port of 127.0.0.1, as it is asked, until one of them ends that; then
-/// the trace of it all is written.
+/// Serves clients of a store of these founders on a port of 127.0.0.1, as it is asked, until one of them ends the
+/// server. Then the trace of its steps is written.
 ///
-/// Once it listens, its port is told to `errors`. The status is 0 where the trace was written whole, and else 1, behind
-/// the line of the fault. After a fault of the writer, or want of memory, a beginning of the trace may be written.
+/// Once it listens, its port is reported to `errors`. The status is 0 where the trace was written whole. Else it is 1,
+/// and the fault is reported in a line. After a fault of the writer, or out of memory, a prefix of the trace may be
+/// written.
 pub(crate) fn serve_clients<R, W: Sink, E: Sink>(
     rt: &R,
     alloc: Global,
@@ -54,7 +55,7 @@ where
     }
 }
 
-// The same on a listener whose port is told.
+// The same on a listener, whose port is reported.
 fn served<R, W: Sink, E: Sink>(
     rt: &R,
     alloc: Global,
@@ -84,6 +85,7 @@ where
 fn options_of(founders: Weighted, serving: &Serving) -> Options<Weighted>
     ensures founders { result.founders ≡ founders }
     ensures clients { result.clients ≡ serving.now.clients }
+    ensures connections { result.connections ≡ serving.now.connections }
     ensures steps { result.steps ≡ serving.now.steps }
     ensures lose { result.lose ≡ serving.now.lose }
     ensures twice { result.twice ≡ serving.now.twice }
@@ -91,13 +93,14 @@ fn options_of(founders: Weighted, serving: &Serving) -> Options<Weighted>
     Options {
         founders,
         clients: serving.clients as usize,
+        connections: serving.connections as usize,
         steps: serving.steps as usize,
         lose: serving.lose,
         twice: serving.twice,
     }
 }
 
-// Tells why nothing was served.
+// Reports why nothing was served.
 fn unserved<E: Sink>(fault: ServeFault, errors: &mut E) -> Ending
     ensures { Fails (server_line fault) result (stream E.taken E.failures errors.old errors.new) }
 {

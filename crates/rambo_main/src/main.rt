@@ -41,7 +41,7 @@ fn main(rt: HostRuntime) -> ExitCode {
     ExitCode::from(ending.status)
 }
 
-// The words behind the program's name.
+// The words after the program's name.
 fn words(rt: &HostRuntime) -> io::Result<Vec<String>> {
     Ok(std::env::args(rt)?.skip(1).collect(rt.alloc())?)
 }

@@ -1,4 +1,4 @@
--- How a mask of 64 bits stands for a set of names
+-- How a mask of 64 bits represents a set of names
 use Rattle.std.specs.Prelude.{◌≡◌, ℕ, ◌+◌, ◌-◌, ◌*◌, ◌/◌, ◌%◌, ◌^◌, ◌<◌, ◌≤◌, ◌&&◌, ◌||◌, Bool, true, false, cond, nat_eq, List, [], ◌∷◌}
 use Rattle.std.proofs.Common.{refl, sym, ap, ◌∙◌, arith, zero, suc}
 use Rattle.std.proofs.lemmas.Bool.Decides.{nat_tests}
@@ -74,7 +74,7 @@ names_from-above zero n b q h = refl
 names_from-above (suc k) n b q h =
     among-cond (nat_eq (b % 2) 1) n q _ ∙ later (nat_eq (b % 2) 1) n q _ (omega arith) ∙ names_from-above k (n + 1) (b / 2) q (omega arith)
 
--- name n stands at bit n - 1
+-- name n is bit n - 1
 pub contains-set_of : (bits n : ℕ) → 1 ≤ n → n ≤ 64 → contains (set_of bits) n ≡ has_bit bits (n - 1)
 unfolding set_of
 contains-set_of bits n low high =

@@ -12,11 +12,11 @@ IsName n = (1 ≤ n) × (n ≤ 64)
 abbrev pub NameSet : Type 0
 NameSet = FinSet nat_cmp
 
--- a set has no number that is no name
+-- every number in the set is a name
 abbrev pub AreNames : NameSet → Type 0
 AreNames s = (n : ℕ) → contains s n ≡ true → IsName n
 
--- how a proof tells two sets apart
+-- how proofs compare two sets
 abbrev pub names_code : Coded NameSet
 names_code = code coded_ℕ
 

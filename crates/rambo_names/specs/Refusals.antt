@@ -64,12 +64,12 @@ pub record Cause : Type 0 where
 abbrev pub cause : Refusal → Bool → Cause
 cause r b = record { refusal = r; holds = b }
 
--- the first cause that holds, of a list with rising numbers
+-- the first cause that holds, of a list in ascending order of number
 abbrev pub least : List Cause → Option Refusal
 least [] = None
 least (c ∷ cs) = if c.holds then Some c.refusal else least cs
 
--- the refusal that there is, or want of memory where there is none
+-- that refusal; or `OutOfMemory`, where there is none
 abbrev pub IsRefusal : Option Refusal → Refusal → Type 0
 IsRefusal (Some f) r = r ≡ f
 IsRefusal None r = r ≡ OutOfMemory

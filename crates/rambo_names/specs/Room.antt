@@ -8,8 +8,7 @@ use prog.Memory.{size, align, aligns, alignss, end_of, endss, up}
 use denote.RattleType.{RattleType}
 use denote.Param.{layout}
 
--- no value of the type takes more bytes: each part is counted with 16 more, since it may have to begin at a multiple of
--- as many
+-- a bound on the bytes of a value of the type: each part counts for 16 more, since it may have to be aligned to as many
 abbrev mutual
   pub wide : Ty → ℕ
   wide (ty_int w) = 16
@@ -34,7 +33,7 @@ abbrev mutual
   widess ttnil = 0
   widess (ttcons τs τss) = wides τs + widess τss
 
--- a value of the type takes at most so many bytes
+-- a bound on the bytes that a value of the type takes
 abbrev pub room_of : RattleType → ℕ
 room_of R = wide (layout R)
 

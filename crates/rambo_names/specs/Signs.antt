@@ -4,7 +4,7 @@ use Rattle.std.specs.Char.{is_ascii_digit}
 use Rattle.rambo_names.specs.Names.{NameSet, AreNames, names}
 use Rattle.rambo_names.specs.Weights.{Weights, weight_of, members_of, evenly}
 
--- whether a number may start so: with no sign, and with a zero only where it is all
+-- whether a number may start so: without a sign, and with a zero only where that is all of it
 abbrev pub starts_plainly : List ℕ → Bool
 starts_plainly [] = false
 starts_plainly (b ∷ bs) = not (b == 43) && (not (b == 48) || length bs == 0)
@@ -19,7 +19,7 @@ pub record BeginsWith (line sign rest : List ℕ) : Type 0 where
   pub whole : line ≡ sign ++ rest
   pub ends : IsNumberEnd rest
 
--- further words, each behind a comma
+-- further words, each after a comma
 abbrev pub behind_commas : List (List ℕ) → List ℕ
 behind_commas [] = []
 behind_commas (w ∷ ws) = (44 ∷ w) ++ behind_commas ws
@@ -33,7 +33,7 @@ joined (w ∷ ws) = w ++ behind_commas ws
 abbrev pub set_text : NameSet → List ℕ
 set_text s = joined (map decimal (names s))
 
--- a weight stands behind a colon, but 1 isn't written
+-- a weight is written after a colon, but 1 isn't written
 abbrev pub weight_text : ℕ → List ℕ
 weight_text w = if nat_eq w 1 then [] else 58 ∷ decimal w
 
@@ -53,7 +53,7 @@ IsWeight w = (1 ≤ w) × (w ≤ 15)
 abbrev pub IsConf : Weights → Type 0
 IsConf c = AreNames (members_of c)
 
--- what stands before a member: a comma, unless it is the first
+-- what comes before a member: a comma, unless it is the first
 abbrev pub before : Bool → List ℕ
 before true = []
 before false = 44 ∷ []
@@ -63,7 +63,7 @@ abbrev pub IsEnd : List ℕ → Type 0
 IsEnd [] = Unit {0}
 IsEnd (b ∷ bs) = b ≡ 44
 
--- a text is that of one configuration at most
+-- no text is that of two configurations
 abbrev pub OneConf : Type 0
 OneConf = (c d : Weights) → IsConf c → IsConf d → conf_text c ≡ conf_text d → c ≡ d
 

@@ -4,7 +4,7 @@ use Rattle.std.specs.FinSet as set
 use Rattle.rambo_names.specs.Names.{NameSet, rising}
 use Rattle.rambo_names.specs.Quorums.{QuorumSystem}
 
--- a configuration by the weights of its members, 1 to 15: the names in whose weight there is a one, a two, a four, an eight
+-- a configuration by the weights of its members, 1 to 15: the names whose weight has the bit 1, 2, 4, 8
 pub record Weights : Type 0 where
   pub ones : NameSet
   pub twos : NameSet
@@ -20,16 +20,16 @@ weight_of c n =
 abbrev pub members_of : Weights → NameSet
 members_of c = set.union (set.union c.ones c.twos) (set.union c.fours c.eights)
 
--- what those names of a list weigh that pass a test
+-- the total weight of the names of a list that pass a test
 abbrev pub weight_among : Weights → (ℕ → Bool) → List ℕ → ℕ
 weight_among c p [] = 0
 weight_among c p (n ∷ ns) = cond (p n) (weight_of c n) 0 + weight_among c p ns
 
--- what all members weigh
+-- the total weight of all members
 unfoldable pub total : Weights → ℕ
 total c = weight_among c (λ _. true) (rising 64 1)
 
--- what those members weigh that are in a set
+-- the total weight of the members in a set
 unfoldable pub held : Weights → NameSet → ℕ
 held c who = weight_among c (set.contains who) (rising 64 1)
 
@@ -45,7 +45,7 @@ weighted_majorities = record { members = members_of; is_quorum = outweighs }
 abbrev pub evenly : NameSet → Weights
 evenly members = record { ones = members; twos = set.empty; fours = set.empty; eights = set.empty }
 
--- the names of a digit, among which this one is or isn't
+-- the names of a digit, with this one put in or taken out
 abbrev pub digit_put : NameSet → ℕ → Bool → NameSet
 digit_put s n true = set.insert s n
 digit_put s n false = set.remove s n

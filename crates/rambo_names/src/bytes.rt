@@ -16,8 +16,8 @@ use std::sync::ArcSlice;
 
 /// The bytes of a key or a value, of any length.
 ///
-/// Up to `Bytes::SHORT` bytes lie in the value itself, so that they take no memory and a clone of them is a copy.
-/// Of more bytes clones share one piece of memory.
+/// Up to `Bytes::SHORT` bytes are stored inline, so they allocate nothing and a clone copies them. Clones of a longer
+/// one share one allocation.
 pub struct Bytes {
     form: Form,
 }
@@ -29,7 +29,7 @@ impl Drop for Bytes {
     }
 }
 
-// Where the bytes lie.
+// Where the bytes are.
 #[derive(Drop)]
 enum Form {
     Short(ShortBytes),
@@ -47,12 +47,12 @@ impl Model for Bytes {
 }
 
 impl Bytes {
-    /// How many bytes may lie in the value itself.
+    /// The greatest number of bytes that are stored inline.
     pub const SHORT: usize = MOST;
 
     /// A copy of some bytes.
     ///
-    /// `OutOfMemory` where there is no room for it, which happens only where there are more than `SHORT`.
+    /// `OutOfMemory` where there is no room for it, which happens only for more than `SHORT` bytes.
     pub fn from_slice(alloc: Global, items: &[u8]) -> Result<Bytes, Refusal>
         ensures bytes { IfOk result (λ b. b ≡ items.now) }
         ensures refused { IfErr result (λ r. r ≡ Refusal.OutOfMemory) }
@@ -68,9 +68,9 @@ impl Bytes {
         })
     }
 
-    /// The bytes of a buffer, which is taken over as it is where there are more than `SHORT`.
+    /// The bytes of a buffer, which is taken over without a copy where there are more than `SHORT`.
     ///
-    /// `OutOfMemory` where there is no room for the count of owners of so many.
+    /// `OutOfMemory` where there is no room for the reference count of a longer one.
     pub fn from_vec(items: Vec<u8>) -> Result<Bytes, Refusal>
         ensures bytes { IfOk result (λ b. b ≡ items.items) }
         ensures refused { IfErr result (λ r. r ≡ Refusal.OutOfMemory) }
@@ -86,7 +86,7 @@ impl Bytes {
         })
     }
 
-    /// The first bytes of an array. They take no memory.
+    /// The first bytes of an array, stored inline.
     pub fn short(bytes: [u8; Bytes::SHORT], length: usize) -> Bytes
         requires { length ≤ 15 }
         ensures { result ≡ take length bytes }
@@ -163,7 +163,7 @@ impl PartialOrd for Bytes {
     }
 }
 
-// Byte by byte, and where one begins the other the shorter is the less.
+// Byte by byte, and where one is a prefix of the other the shorter is the lesser.
 impl Ord for Bytes {
     ghost cmp = { slice_cmp nat_cmp };
 

@@ -12,8 +12,9 @@ use crate::weighted::Weighted;
 use itoa::Buffer;
 use std::alloc::{AllocError, Allocator};
 
-/// The configuration that the bytes spell: `-` for the one with no member, else its members in strictly rising order,
-/// joined by commas: each its name, 1 to 64 in plain decimal, and behind a colon its weight, 2 to 15, unless that is 1.
+/// The configuration that the bytes spell: `-` for the one with no member, else its members in strictly ascending
+/// order, joined by commas. A member is its name, 1 to 64 in plain decimal, then a colon and its weight, 2 to 15. The
+/// colon and the weight are left out where that is 1.
 ///
 /// None where they spell no configuration.
 pub fn read_conf(bytes: &[u8]) -> Option<Weighted>
@@ -41,8 +42,8 @@ pub fn read_conf(bytes: &[u8]) -> Option<Weighted>
     }
 }
 
-// The weight of a member, and what stands behind it, where the text begins with it, with a comma before it unless it is
-// the first.
+// The weight of a member, and what follows it, where the text begins with it, with a comma before it unless it is the
+// first.
 fn after_member(text: &[u8], first: bool, place: u32) -> Option<(u8, &[u8])>
     requires { place < 64 }
     ensures found { IfSome result (λ r. IsWeight r.0 × (text.now ≡ before first ++ member_text (place + 1) r.0 ++ r.1.now) × IsEnd r.1.now) }
@@ -77,7 +78,7 @@ fn after_front<'a>(text: &'a [u8], front: &[u8]) -> Option<&'a [u8]>
     text.strip_prefix(front)
 }
 
-// The weight that stands behind a name, and what stands behind it.
+// The weight after a name, and what follows it.
 fn after_weight(text: &[u8]) -> Option<(u8, &[u8])>
     ensures found { IfSome result (λ r. IsWeight r.0 × (text.now ≡ weight_text r.0 ++ r.1.now) × IsEnd r.1.now) }
     ensures none { IfNone result ((w : ℕ) (r : List ℕ) → IsWeight w → IsEnd r → text.now ≢ weight_text w ++ r) }
@@ -88,7 +89,7 @@ fn after_weight(text: &[u8]) -> Option<(u8, &[u8])>
     }
 }
 
-// The weight whose digits these are, 2 to 15, and what stands behind it.
+// The weight whose digits these are, 2 to 15, and what follows it.
 fn written_weight(digits: &[u8]) -> Option<(u8, &[u8])>
     ensures found { IfSome result (λ r. (2 ≤ r.0) × (r.0 ≤ 15) × (digits.now ≡ decimal r.0 ++ r.1.now) × IsEnd r.1.now) }
     ensures none { IfNone result ((w : ℕ) (r : List ℕ) → 2 ≤ w → w ≤ 15 → IsEnd r → digits.now ≢ decimal w ++ r) }
@@ -111,10 +112,10 @@ fn ends(text: &[u8]) -> bool
     }
 }
 
-/// Appends the one spelling of a configuration: `-` where it has no member, else its members in rising order, joined by
-/// commas: each its name in plain decimal, and behind a colon its weight, unless that is 1.
+/// Appends the one spelling of a configuration: `-` where it has no member, else its members in ascending order, joined
+/// by commas. A member is its name in plain decimal, then a colon and its weight, which are left out where that is 1.
 ///
-/// `OutOfMemory` where the text can't grow; it is then as before.
+/// `OutOfMemory` where the text can't grow; it is then unchanged.
 pub fn write_conf<A: Allocator>(conf: &Weighted, out: &mut Vec<u8, A>) -> Result<(), Refusal>
     ensures ok { OnOk result (out.new.items ≡ out.old.items ++ conf_text conf.now) }
     ensures err { OnErr result (out.new.items ≡ out.old.items) }
@@ -128,7 +129,7 @@ pub fn write_conf<A: Allocator>(conf: &Weighted, out: &mut Vec<u8, A>) -> Result
     written
 }
 
-// Appends the text of a configuration, or after a refusal some front of it.
+// Appends the text of a configuration, or after a refusal a prefix of it.
 fn append_conf<A: Allocator>(conf: &Weighted, out: &mut Vec<u8, A>) -> Result<(), Refusal>
     ensures ok { OnOk result (out.new.items ≡ out.old.items ++ conf_text conf.now) }
     ensures err { OnErr result ((more : List ℕ) × (out.new.items ≡ out.old.items ++ more)) }
@@ -148,7 +149,7 @@ fn append_conf<A: Allocator>(conf: &Weighted, out: &mut Vec<u8, A>) -> Result<()
     Ok(())
 }
 
-// Appends the text of a member, or after a refusal some front of it.
+// Appends the text of a member, or after a refusal a prefix of it.
 fn append_member<A: Allocator>(name: Name, weight: u8, out: &mut Vec<u8, A>) -> Result<(), Refusal>
     ensures ok { OnOk result (out.new.items ≡ out.old.items ++ member_text name weight) }
     ensures err { OnErr result ((more : List ℕ) × (out.new.items ≡ out.old.items ++ more)) }

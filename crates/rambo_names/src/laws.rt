@@ -1,7 +1,7 @@
 //! What is true of the texts of configurations.
 ghost use Rattle.rambo_names.specs.Signs.{OneConf, EvenIsSet};
 
-/// A text is that of one configuration at most.
+/// No text is that of two configurations.
 pub fn one_conf()
     ensures { OneConf }
 {}

@@ -4,8 +4,10 @@
 //! - `Quorums`, `Majority` and `Weighted`: configurations, by their two laws.
 //! - `Refusal`: why a step is refused.
 //! - `read_num`, `leading_num`, `read_set`, `write_set`, `read_conf`, `write_conf`: numbers, sets and configurations in
-//!   texts; `one_conf` and `even_is_set`: a text is that of one configuration at most, and which ones are sets.
-//! - `Bytes`: a key or a value; clones of a long one share it.
+//!   texts.
+//!
+//! - `one_conf`, `even_is_set`: no text is that of two configurations, and which texts are those of sets.
+//! - `Bytes`: a key or a value; clones of a long one share its bytes.
 #![tactic(auto)]
 
 mod bytes;

@@ -11,8 +11,8 @@ use std::marker::Model;
 
 /// A configuration by its members: each set that holds more than half of them is a quorum.
 ///
-/// An empty configuration has no quorum. Any two majorities share a member, which is what the register
-/// emulation of Attiya, Bar-Noy and Dolev (JACM 1995) rests on.
+/// An empty configuration has no quorum. Any two majorities share a member, on which the register emulation of Attiya,
+/// Bar-Noy and Dolev (JACM 1995) relies.
 #[derive(Clone, Copy, PartialEq, Eq, Debug)]
 pub struct Majority {
     members: Members,

@@ -65,7 +65,7 @@ impl Members {
         (self.bits >> (name.number() - 1)) & 1 == 1
     }
 
-    /// The set with one name more, or itself where it has the name.
+    /// The set with one more name, or itself where it has the name.
     pub fn with(&self, name: Name) -> Self
         ensures { result ≡ set.insert self.now name }
     {
@@ -116,7 +116,7 @@ impl Members {
         self.bits.count_ones()
     }
 
-    /// The names of the set, in rising order.
+    /// The names of the set, in ascending order.
     pub fn iter(&self) -> MembersIter
         ensures { result ≡ names self.now }
     {
@@ -124,7 +124,7 @@ impl Members {
     }
 }
 
-/// The names of a set that are still to come, from the least on.
+/// The names of a set that an iteration has yet to give, the least first.
 #[derive(Drop, Debug)]
 pub struct MembersIter {
     bits: u64,

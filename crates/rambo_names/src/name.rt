@@ -47,7 +47,7 @@ impl Name {
         self.number as u64
     }
 
-    // The name whose bit stands at a place.
+    // The name whose bit is at a place.
     pub(crate) fn at(place: u32) -> Name
         requires { place < 64 }
         ensures { result ≡ place + 1 }

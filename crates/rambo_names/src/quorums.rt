@@ -5,10 +5,9 @@ ghost use Rattle.rambo_names.specs.Room.{room_of};
 
 use crate::members::Members;
 
-/// A configuration: a set of members, and which sets of names hold a quorum of it.
+/// A configuration: a set of members, and which sets of names contain a quorum of it.
 ///
-/// Two laws hold of every configuration: any two quorums share a member of it, and a set that holds a
-/// quorum is one.
+/// Two laws hold of every configuration: any two quorums share a member of it, and a set that contains a quorum is one.
 pub trait Quorums: Copy + Eq {
     ghost system: { QuorumSystem Self };
 
@@ -16,7 +15,7 @@ pub trait Quorums: Copy + Eq {
     fn members(&self) -> Members
         ensures { result ≡ system.members self.now };
 
-    /// Whether a set of names, of which any may be strangers, is a quorum.
+    /// Whether a set of names is a quorum. It may also have names that aren't members.
     fn is_quorum(&self, who: Members) -> bool
         ensures { result ≡ system.is_quorum self.now who };
 

@@ -5,14 +5,14 @@ ghost use Rattle.rambo_names.specs.declared.refusal.Refusal.TheVariants.{OutOfMe
 use std::alloc::{AllocError, AllocFailed};
 use std::fmt;
 
-/// Why a step was refused. Of several causes the one of the least number is told.
+/// Why a step was refused. Of several causes the least number is reported.
 #[derive(Clone, Copy, PartialEq, Eq, PartialOrd, Ord, Debug)]
 pub enum Refusal {
     /// A number names no node: names are 1 to 64.
     NoSuchName = 1,
     /// A node that joins has been used before.
     NameUsed = 2,
-    /// A node that acts, or that a letter comes to, is idle, or joining where that isn't enough.
+    /// A node that acts, or that a letter comes to, is idle; or it is joining, where it would have to be active.
     NotActive = 3,
     /// A node that acts, or that a letter comes to, has stopped.
     Stopped = 4,
@@ -48,13 +48,13 @@ pub enum Refusal {
     KeyTooLong = 19,
     /// A value has more than 4,096 bytes.
     ValueTooLong = 20,
-    /// A number that would rise is the greatest one.
+    /// A counter that would be raised has its greatest value.
     NumbersSpent = 21,
-    /// Memory could not be had.
+    /// Out of memory.
     OutOfMemory = 22,
     /// A book has as many steps as it may have.
     HistoryFull = 23,
-    /// All 32 passes are given out.
+    /// All 32 passes were given out.
     NoPassLeft = 24,
 }
 

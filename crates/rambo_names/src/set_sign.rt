@@ -10,8 +10,8 @@ use crate::refusal::Refusal;
 use crate::weighted::Weighted;
 use std::alloc::Allocator;
 
-/// The set that the bytes spell: `-` for the empty one, else names, 1 to 64 in plain decimal, in strictly
-/// rising order, joined by commas.
+/// The set that the bytes spell: `-` for the empty one, else names, 1 to 64 in plain decimal, in strictly ascending
+/// order, joined by commas.
 ///
 /// None where they spell no set.
 pub fn read_set(bytes: &[u8]) -> Option<Members>
@@ -28,10 +28,10 @@ pub fn read_set(bytes: &[u8]) -> Option<Members>
     }
 }
 
-/// Appends the one spelling of a set: `-` where it is empty, else its names in plain decimal, in rising
-/// order, joined by commas.
+/// Appends the one spelling of a set: `-` where it is empty, else its names in plain decimal, in ascending order,
+/// joined by commas.
 ///
-/// `OutOfMemory` where the text can't grow; it is then as before.
+/// `OutOfMemory` where the text can't grow; it is then unchanged.
 pub fn write_set<A: Allocator>(members: &Members, out: &mut Vec<u8, A>) -> Result<(), Refusal>
     ensures ok { OnOk result (out.new.items ≡ out.old.items ++ set_text members.now) }
     ensures err { OnErr result (out.new.items ≡ out.old.items) }

@@ -1,16 +1,16 @@
-//! A few bytes that take no memory of their own.
+//! A few bytes, stored inline.
 ghost use Rattle.std.specs.Prelude.{◌≡◌, ◌≤◌, length, take};
 
 /// How many bytes there may be.
 pub(crate) const MOST: usize = 15;
 
-// At most 15 bytes, which lie in the value itself.
+// At most 15 bytes, stored inline.
 #[derive(Clone, Copy)]
 pub(crate) struct ShortBytes {
-    // It holds nothing: it has the value lie, and move, in two whole words.
+    // It holds nothing: it aligns the value, so that it is moved as two whole words.
     words: [u64; 0],
     length: u8,
-    // What stands behind the bytes has no meaning.
+    // What comes after the bytes has no meaning.
     bytes: [u8; MOST],
     ghost few: { length ≤ 15 },
 }

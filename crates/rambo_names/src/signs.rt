@@ -3,7 +3,7 @@ ghost use Rattle.std.specs.Prelude.{◌≡◌, ◌≢◌, ℕ, List, ◌<◌, �
 ghost use Rattle.std.specs.Str.Parse.{AllDigits, digits_value};
 ghost use Rattle.rambo_names.specs.Signs.{starts_plainly, IsNumberEnd, BeginsWith};
 
-/// The number that the bytes spell in plain decimal: 0 to 2^64 - 1, with no sign and no zero in front.
+/// The number that the bytes spell in plain decimal: 0 to 2^64 - 1, without a sign or a leading zero.
 ///
 /// None where they spell no such number.
 pub fn read_num(bytes: &[u8]) -> Option<u64>
@@ -14,9 +14,9 @@ pub fn read_num(bytes: &[u8]) -> Option<u64>
     if rest.is_empty() { Some(number) } else { None }
 }
 
-/// The number that a line begins with, as `read_num` reads it, and what stands behind its last digit.
+/// The number that a line begins with, as `read_num` reads it, and what follows its last digit.
 ///
-/// None where the digits at the front, as many as there are, spell no such number.
+/// None where the digits that it begins with, all of them together, spell no such number.
 #[inline]
 pub fn leading_num(line: &[u8]) -> Option<(u64, &[u8])>
     ensures found { IfSome result (λ r. (r.0 < 2 ^ 64) × BeginsWith line.now (decimal r.0) r.1.now) }
@@ -33,8 +33,8 @@ pub fn leading_num(line: &[u8]) -> Option<(u64, &[u8])>
     ended(line, line.len(), number)
 }
 
-// The number that the digits before a place write, where they are all that stand at the front and are plain, and what
-// stands behind them.
+// The number that the digits before a place write, where they are all the digits at the beginning and are plain, and
+// what follows them.
 fn ended(line: &[u8], end: usize, number: u64) -> Option<(u64, &[u8])>
     requires within { end ≤ length line.now }
     requires digits { AllDigits 10 (take end line.now) }

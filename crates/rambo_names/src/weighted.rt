@@ -64,7 +64,7 @@ impl Weighted {
             + worth(self.eights, name, 8)
     }
 
-    /// Gives a member another weight, 1 to 15, and tells whether that was done: else nothing changes.
+    /// Gives a member another weight, 1 to 15, and says whether it did. If not, nothing changes.
     pub fn weigh(&mut self, name: Name, weight: u8) -> bool
         ensures told { IsTrue result ↔ ((set.contains (members_of self.old) name ≡ true) × (1 ≤ weight) × (weight ≤ 15)) }
         ensures changed { result ≡ true → (n : ℕ) → weight_of self.new n ≡ (if nat_eq n name then weight else weight_of self.old n) }

@@ -35,7 +35,7 @@ use Rattle.rambo_node.specs.Operations.{called, taken, query_answered, call_clos
 use Rattle.rambo_node.specs.Reconfigurations.{attempt_opened, attempt_rebid, attempt_moved, config_learnt, attempt_ended, collection_opened, collection_move, collection_moved, collection_ended}
 use Rattle.rambo_node.specs.Refusals.{join_causes, call_causes, send_causes, hear_causes, advance_causes, again_causes, stop_causes, collect_causes, advance_collect_causes, recon_causes, rebid_causes, advance_recon_causes}
 
--- the causes of refusal of a change, by rising numbers
+-- the causes of refusal of a change, in ascending order of number
 abbrev pub causes : {Q : Type 0} → QuorumSystem Q → NodeState Q → Change Q → List Cause
 causes s x (change.Join contacts) = join_causes x contacts
 causes s x (change.Call o) = call_causes x o
@@ -60,7 +60,7 @@ pub record Made (Q : Type 0) : Type 0 where
   pub deed : Deed Q
   pub letter : Option (Letter Q)
 
--- what is told of a change that does nothing else
+-- the deed of a change that has this effect and nothing else
 abbrev pub told : {Q : Type 0} → Effect Q → Deed Q
 told e = record { effect = e; event = None; mark = None; copy = None }
 
@@ -71,7 +71,7 @@ quiet_deed = told effect.Done
 abbrev pub quiet : {Q : Type 0} → NodeState Q → Made Q
 quiet x = record { node = x; deed = quiet_deed; letter = None }
 
--- a call stands in the history
+-- a call goes into the history
 abbrev pub call_made : {Q : Type 0} → NodeState Q → CallId → Op → Made Q
 call_made x id o = record { node = called x o; deed = record { effect = effect.Called id; event = Some (event.Call id o); mark = None; copy = None }; letter = None }
 
@@ -91,7 +91,7 @@ copy_put (op.Get key) kept = None
 copy_put (op.Set key value) None = None
 copy_put (op.Set key value) (Some v) = Some (record { key = key; version = v })
 
--- a met phase: of a query the propagation begins, and of a propagation the answer stands in the history
+-- a met phase: of a query the propagation begins, and of a propagation the answer goes into the history
 abbrev pub stage_met : {Q : Type 0} → NodeState Q → CallId → CallState Q → Stage → Made Q
 stage_met x id c Query = record {
   node = query_answered x c;
@@ -155,7 +155,7 @@ abbrev pub rebid_made : {Q : Type 0} → NodeState Q → Option (AttemptState Q)
 rebid_made x None = quiet x
 rebid_made x (Some a) = quiet (attempt_rebid x a)
 
--- an attempt ended for its place: what stands there now is told
+-- an attempt ended for its place: what is there now is reported
 abbrev pub decided : {Q : Type 0} → NodeState Q → AttemptState Q → Option Q → Effect Q
 decided x a c = effect.Decided x.name (record { place = a.place; config = c })
 
@@ -164,7 +164,7 @@ abbrev pub bid_made : {Q : Type 0} → NodeState Q → AttemptState Q → Bid Q 
 bid_made x a bid.Propose = record { node = attempt_moved x a; deed = told effect.Moved; letter = None }
 bid_made x a (bid.Chosen c) = record { node = config_learnt x a c; deed = told (decided x a (Some c)); letter = None }
 
--- where its place has come to be known by another's letter, it ends
+-- where its place has become known by another's letter, it ends
 abbrev pub attempt_advanced : {Q : Type 0} → NodeState Q → Option (AttemptState Q) → Made Q
 attempt_advanced x None = quiet x
 attempt_advanced x (Some a) =
@@ -172,7 +172,7 @@ attempt_advanced x (Some a) =
     then record { node = attempt_ended x; deed = told (decided x a (active_at x.map a.place)); letter = None }
     else bid_made x a (bid_of a)
 
--- what a change makes that isn't refused: who sends a letter stays as it is
+-- what a change makes that isn't refused: the sender of a letter is unchanged
 unfoldable pub made_by : {Q : Type 0} → NodeState Q → Change Q → Made Q
 made_by x (change.Join contacts) = quiet (joined_by x contacts)
 made_by x (change.Call o) = call_made x (record { name = x.name; number = x.made + 1 }) o

@@ -48,7 +48,7 @@ ShortLettersAreHeardAlike Q = (x : NodeState Q) (l : Letter Q) (a b : Copies) �
 abbrev pub LettersAreHeardByKey : Type 0 → Type 0
 LettersAreHeardByKey Q = (x : NodeState Q) (l : Letter Q) (a b : Copies) → MergeAlike x.registers a b → HeardAlike x l a b
 
--- and what is short for a whole letter, where the node holds what it leaves out, is heard as that one
+-- and a short letter, where the node holds what it leaves out, is heard as the whole one
 abbrev pub ShortIsHeardAsWhole : Type 0 → Type 0
 ShortIsHeardAsWhole Q =
     (x : NodeState Q) (l whole : Letter Q) → IsShort l whole x.registers

@@ -67,7 +67,7 @@ bases_after b change.Rebid = b
 bases_after b change.AdvanceRecon = b
 bases_after b change.Stop = b
 
--- what a node keeps beside after a change
+-- stamps and bases after a change
 abbrev pub beside_after : {Q : Type 0} → NodeState Q → Beside → Change Q → Beside
 beside_after x b c = record { stamps = stamps_after x b.stamps c; bases = bases_after b.bases c }
 

@@ -17,7 +17,7 @@ use Rattle.rambo_calls.specs.Hearing.{heard_call}
 use Rattle.rambo_bids.specs.Hearing as bids
 use Rattle.rambo_node.specs.Nodes.{NodeState, raised}
 
--- the phase number after a letter: one more where some phase restarts
+-- the phase number after a letter: greater by one where some phase restarts
 abbrev pub number_after : {Q : Type 0} → NodeState Q → Gossip Q → ℕ
 number_after x g = calls.number_after x.number g.heard g.map x.calls
 
@@ -49,7 +49,7 @@ heard_gossip x j g = record x {
   vote = vote_after x g;
 }
 
--- all of it but the copies
+-- all of that but the copies
 abbrev pub heard_rest : {Q : Type 0} → NodeState Q → ℕ → Gossip Q → NodeState Q
 heard_rest x j g = record (heard_gossip x j g) { registers = x.registers }
 

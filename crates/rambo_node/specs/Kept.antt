@@ -1,4 +1,4 @@
--- How a call goes on
+-- How a call advances
 use Rattle.std.specs.Prelude.{ℕ, ◌+◌, Option, None, Some, slice_get}
 use Rattle.rambo_phase.specs.Phases.{started}
 use Rattle.rambo_tag.specs.declared.version.Version.{Version}
@@ -26,7 +26,7 @@ propagation_begun x place kept = record x {
 abbrev pub move_deed : {Q : Type 0} → CallId → Op → Option Version → Deed Q
 move_deed id o kept = record { effect = effect.Moved; event = None; mark = set_mark id o kept; copy = copy_put o kept }
 
--- what a met propagation does, which sent a copy round
+-- what a met propagation does, which propagated a copy
 abbrev pub answer_deed : {Q : Type 0} → CallId → Op → Option Version → Deed Q
 answer_deed id o kept = record { effect = effect.Answered id (answer_of o kept); event = Some (event.Answer id (answer_of o kept)); mark = get_mark id o kept; copy = None }
 

@@ -8,10 +8,10 @@ use Rattle.rambo_joiner.specs.Statuses.{is_active}
 use Rattle.rambo_bids.specs.Hearing.{offer_for}
 use Rattle.rambo_node.specs.Nodes.{NodeState, heard_from}
 
--- what an active node tells another
+-- what an active node sends to another
 abbrev pub gossip_for : {Q : Type 0} → NodeState Q → ℕ → Gossip Q
 gossip_for x to = record { known = x.known; copies = x.registers; map = x.map; number = x.number; heard = heard_from x.heard to; vote = x.vote; offer = offer_for (end_of x.map) x.attempt }
 
--- an active node tells what it knows, and a joining one that it wants to join
+-- an active node sends what it knows, and a joining one that it wants to join
 abbrev pub letter_for : {Q : Type 0} → NodeState Q → ℕ → Letter Q
 letter_for x to = record { sender = x.name; addressee = to; kind = if is_active x.status then kind.Gossip (gossip_for x to) else kind.Join }

@@ -16,10 +16,11 @@ use Rattle.rambo_joiner.specs.declared.status.Status.TheVariants.{Idle, Active}
 use Rattle.rambo_calls.specs.Calls.{CallState, find_call}
 use Rattle.rambo_calls.specs.Kept.{KeptCalls}
 
--- status and names: who takes part, as far as the node knows; registers: its copies; map: its configurations;
--- number: its phase number; made: the number of its last call; heard: of the names 1, 2, .. the greatest phase number
--- that it heard; calls: its open calls, the oldest first; collection: of its lowest place, if it is open; attempt: to have
--- a configuration chosen, if one is open; vote: for the first place that the map doesn't know
+-- `status`, `known`: whether it takes part, and who does, as far as it knows. `registers`: its copies. `map`: its
+-- configurations. `number`: its phase number. `made`: the number of its last call. `heard`: of the names 1, 2, .. the
+-- greatest phase number that it heard. `calls`: its open calls, the oldest first. `collection`: of its lowest place, if
+-- it is open. `attempt`: to have a configuration chosen, if one is open. `vote`: for the first place that the map
+-- doesn't know
 pub record NodeState (Q : Type 0) : Type 0 where
   pub name : ℕ
   pub status : Status
@@ -34,18 +35,19 @@ pub record NodeState (Q : Type 0) : Type 0 where
   pub attempt : Option (AttemptState Q)
   pub vote : VoteState Q
 
--- the room that a node has made: for how many keys more, and its open calls as they are kept
+-- the room that a node has made: for how many more keys, and its open calls as they are stored
 pub record Room (Q : Type 0) : Type 0 where
   pub keys : ℕ
   pub calls : KeptCalls Q
 
--- what a node keeps for letters that tell only what is new: of each key the phase number before the change that last put
--- or merged its copy, and of the names 1, 2, .. the greatest phase number of the node that their letters carried as heard
+-- what a node keeps for letters that carry only what is new. Of each key it has the phase number before the change that
+-- last put or merged its copy. Of the names 1, 2, .. it has the greatest phase number of the node that their letters
+-- carried as heard
 pub record Beside : Type 0 where
   pub stamps : Stamps
   pub bases : List ℕ
 
--- a node, the room that it has made, and what it keeps beside
+-- a node, the room that it has made, and its stamps and bases
 pub record RoomyNode (Q : Type 0) : Type 0 where
   pub state : NodeState Q
   pub room : Room Q

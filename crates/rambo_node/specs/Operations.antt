@@ -1,5 +1,5 @@
--- What the calls of a node do (Attiya, Bar-Noy and Dolev, "Sharing Memory Robustly in Message-Passing Systems", JACM
--- 1995: both gets and sets ask a quorum and then tell a quorum)
+-- What the calls of a node do: both gets and sets ask a quorum, then tell a quorum (Attiya, Bar-Noy and Dolev, "Sharing
+-- Memory Robustly in Message-Passing Systems", JACM 1995)
 use Rattle.std.specs.Prelude.{ℕ, ◌+◌, List, [], ◌∷◌, ◌++◌, Option, None, Some, slice_set, remove}
 use Rattle.std.specs.FinSet as set
 use Rattle.std.specs.FinMap as map
@@ -59,7 +59,7 @@ abbrev pub answer_of : Op → Option Version → Answer
 answer_of (op.Set key value) kept = answer.Ok
 answer_of (op.Get key) kept = answer_for (value_of kept)
 
--- the present phase of a call begins anew, under a new number
+-- the current phase of a call restarts, under a new number
 unfoldable pub called_again : {Q : Type 0} → NodeState Q → CallState Q → NodeState Q
 called_again x c = record x {
   number = x.number + 1;

@@ -79,17 +79,17 @@ abbrev pub HasRoomFor : {Q : Type 0} → Room Q → Option KeyedVersion → Type
 HasRoomFor room None = Unit {0}
 HasRoomFor room (Some c) = 0 < room.keys
 
--- a node once the call at a place has gone on from its query: a copy is put, and a copy goes round
+-- a node once the call at a place has advanced from its query: a copy is put, and a copy is propagated
 abbrev pub query_done : {Q : Type 0} → NodeState Q → ℕ → Option Version → Option KeyedVersion → NodeState Q
 query_done x place kept put = propagation_begun (record x { registers = with_put x.registers put }) place kept
 
--- the sequence number of the key's tag that a set in its query goes on from, and 0 of any other call
+-- the sequence number of the key's tag that a set in its query starts from, and 0 of any other call
 abbrev pub sequence_before : {Q : Type 0} → NodeState Q → Option Op → ℕ
 sequence_before x None = 0
 sequence_before x (Some (op.Get key)) = 0
 sequence_before x (Some (op.Set key value)) = (tag_of (map.get x.registers key)).sequence
 
--- an open call that may go on was found here
+-- an open call that may advance was found here
 pub record IsFound {Q : Type 0} (s : QuorumSystem Q) (x : NodeState Q) (id : CallId) (f : Found) : Type 0 where
   pub accepted : refusal_of s x (change.Advance id) ≡ None
   pub own : f.place ≡ place_of id.number x.calls
@@ -106,7 +106,7 @@ pub record IsAlone (m : Moving) : Type 0 where
   pub kept : m.kept ≡ None
   pub put : m.put ≡ None
 
--- a call may go on with what it takes, and there is room for the copy that it puts
+-- a call may advance with what it takes, and there is room for the copy that it puts
 pub record IsMoving {Q : Type 0} (s : QuorumSystem Q) (v : RoomyNode Q) (m : Moving) : Type 0 where
   pub found : IsFound s v.state m.id m.found
   pub kept : m.kept ≡ kept_by v.state (query_in (open_call v.state m.id))
@@ -130,7 +130,7 @@ pub record IsHearing {Q : Type 0} (v : RoomyNode Q) (l : Letter Q) (h : Hearing)
   pub alike : joined v.state.registers h.copies ≡ joined v.state.registers (copies_in l.kind)
   pub stamped : AreStampedAlike v.state.registers h.copies (copies_in l.kind)
 
--- there is room for a turn, and what it has is right
+-- there is room for a turn, and what it has prepared is right
 abbrev pub IsReady : {Q : Type 0} → QuorumSystem Q → RoomyNode Q → Turn Q → Type 0
 IsReady s v (turn.Call o) = 0 < v.room.calls.room
 IsReady s v (turn.Advance t) = IsMoving s v t.moving × (t.effect ≡ (made_by v.state (change.Advance t.moving.id)).deed.effect)
@@ -142,11 +142,11 @@ pub record IsReadyTurn {Q : Type 0} (s : QuorumSystem Q) (v : RoomyNode Q) (t : 
   pub accepted : refusal_of s v.state (turn_change t) ≡ None
   pub ready : IsReady s v t
 
--- a change is prepared, whatever became of what will be told of it
+-- a change is prepared, whatever became of what it will report
 abbrev pub IsPrepared : {Q : Type 0} → QuorumSystem Q → RoomyNode Q → Prepared Q → Type 0
 IsPrepared s v p = IsReadyTurn s v p.turn
 
--- it comes to this change, and what that will do besides changing the node is told
+-- it comes to this change, and it has what that will do besides changing the node
 pub record Prepares {Q : Type 0} (s : QuorumSystem Q) (v : RoomyNode Q) (c : Change Q) (p : Prepared Q) : Type 0 where
   pub prepared : IsPrepared s v p
   pub same : made_by v.state (change_of p) ≡ made_by v.state c

@@ -1,5 +1,5 @@
--- How a node has a configuration chosen for the first place that its map doesn't know (Lamport, "Paxos Made Simple",
--- 2001), and has its lowest place removed (Lynch and Shvartsman, "RAMBO", DISC 2002)
+-- How a node has the first unknown place's configuration chosen (Lamport, "Paxos Made Simple", 2001), and its lowest
+-- place removed (Lynch and Shvartsman, "RAMBO", DISC 2002)
 use Rattle.std.specs.Prelude.{◌+◌, nat_lt, if◌then◌else◌, None, Some}
 use Rattle.rambo_config_map.specs.Maps.{MapState, end_of, learnt, without_lowest}
 use Rattle.rambo_gc.specs.declared.gc_move.GcMove.{GcMove}
@@ -16,14 +16,14 @@ attempt_opened x wish = record x {
   vote = vote_opened x.vote x.name;
 }
 
--- it begins again with a fresh ballot
+-- it is retried with a fresh ballot
 unfoldable pub attempt_rebid : {Q : Type 0} → NodeState Q → AttemptState Q → NodeState Q
 attempt_rebid x a = record x {
   attempt = Some (rebid a x.vote);
   vote = vote_opened x.vote a.ballot.name;
 }
 
--- it goes on from promises to a proposal, which the own vote takes
+-- it advances from promises to a proposal, which the node's own vote takes
 unfoldable pub attempt_moved : {Q : Type 0} → NodeState Q → AttemptState Q → NodeState Q
 attempt_moved x a = record x {
   attempt = Some (advanced a x.vote);
@@ -38,7 +38,7 @@ config_learnt x a c = record x {
   vote = vote_advanced a x.vote;
 }
 
--- it ends where its place has come to be known
+-- it ends where its place has become known
 unfoldable pub attempt_ended : {Q : Type 0} → NodeState Q → NodeState Q
 attempt_ended x = record x { attempt = None }
 
@@ -53,14 +53,14 @@ collection_opened x = record x {
 abbrev pub collection_move : {Q : Type 0} → MapState Q → CollectionState → GcMove
 collection_move m g = if nat_lt g.place m.floor then Done else next_move g.stage
 
--- its first quorum was there: it asks the next configuration, under a new phase number
+-- its first quorum had replied: it asks the next configuration, under a new phase number
 unfoldable pub collection_moved : {Q : Type 0} → NodeState Q → CollectionState → NodeState Q
 collection_moved x g = record x {
   number = x.number + 1;
   collection = Some (collection.moved (Some Propagating) (x.number + 1) g);
 }
 
--- its second quorum was there, or its place is removed already
+-- its second quorum had replied, or its place is removed already
 unfoldable pub collection_ended : {Q : Type 0} → NodeState Q → CollectionState → NodeState Q
 collection_ended x g = record x {
   map = if nat_lt g.place x.map.floor then x.map else without_lowest x.map;

@@ -61,7 +61,7 @@ abbrev pub tags_spent : {Q : Type 0} → NodeState Q → Op → Bool
 tags_spent x (op.Get key) = false
 tags_spent x (op.Set key value) = is_last (tag_of (map.get x.registers key)).sequence
 
--- whether what is asked for in a query can't go on
+-- whether the query of what is asked for can't advance
 abbrev pub query_spent : {Q : Type 0} → NodeState Q → Option Op → Bool
 query_spent x None = false
 query_spent x (Some o) = is_last x.number || tags_spent x o

@@ -1,5 +1,5 @@
-//! How open calls begin and go on: each in two halves, of which the first makes room and finds what is new, and the second
-//! (in `finishing`) changes the node; and how a phase begins anew.
+//! How open calls begin and advance, and how a phase restarts. Each has two halves: the first makes room and finds what
+//! is new, and the second (in `finishing`) changes the node.
 ghost use Rattle.std.specs.Prelude.{◌≡◌, ◌+◌, ◌<◌, None, Some, false, slice_get, IfOk, IfErr, OnOk, OnErr};
 ghost use Rattle.std.specs.FinMap.{get};
 ghost use Rattle.rambo_tag.specs.Tags.{tag_of};
@@ -33,7 +33,7 @@ impl<Q: Quorums, S: Replica> Node<Q, S> {
         }
     }
 
-    /// The first half of a call: room is made for it. The node stays, whatever the answer.
+    /// The first half of a call: room is made for it. In either case the node itself is unchanged.
     ///
     /// `OutOfMemory` where there is no room for it.
     pub fn ready_call(&mut self) -> Result<(), Refusal>
@@ -45,7 +45,7 @@ impl<Q: Quorums, S: Replica> Node<Q, S> {
         self.calls.reserve()
     }
 
-    // A phase that isn't refused begins anew.
+    // A phase that isn't refused restarts.
     #[tactic(auto, unfolding(crate::specs::Changes::made_by, crate::specs::Operations::called_again))]
     pub(crate) fn do_again(&mut self, id: CallId)
         requires { refusal_of Q.system self.old.state (change.Again id) ≡ None }
@@ -57,13 +57,12 @@ impl<Q: Quorums, S: Replica> Node<Q, S> {
         self.calls.restart(place, self.number, &self.map, self.name);
     }
 
-    /// The first half of the advance of a call that may go on: room is made for the copy that it puts, and what it takes to
-    /// its propagation, if its query is met, is found. The node stays, whatever the answer.
+    /// The first half of the advance of a call that may advance. Room is made for the copy that it puts, and what it
+    /// takes to its propagation, if its query is met, is found. In either case the node itself is unchanged.
     ///
-    /// What it takes along is noted beside the call, for which nothing was found before, and what it will do is told in this
-    /// deed, which told of nothing before: so what is large is written where its owner has it, and isn't handed on from one to
-    /// another. `OutOfMemory` where there is no room for what is new; the deed and what is beside the call are then as they
-    /// were.
+    /// What the call takes along is written to `moving`, which has nothing of it yet. What the advance will do is
+    /// written to `deed`, which has nothing yet. So large values are written where their owner keeps them, and aren't
+    /// moved. `OutOfMemory` where there is no room for what is new; both are then unchanged.
     pub fn ready_advance(&mut self, moving: &mut Moving, deed: &mut Deed<Q>) -> Result<(), Refusal>
         requires found { IsFound Q.system self.old.state moving.old.id moving.old.found }
         requires alone { IsAlone moving.old }
@@ -98,8 +97,8 @@ impl<Q: Quorums, S: Replica> Node<Q, S> {
         }
     }
 
-    // What a met query that asked for this takes along is noted beside its call, and what it does is told in this deed, which
-    // told of nothing before.
+    // What a met query that asked for this takes along is written to `moving`, and what it does to `deed`, which has
+    // nothing yet.
     fn tell_query(&self, moving: &mut Moving, asked: &Op, deed: &mut Deed<Q>) -> Result<(), Refusal>
         requires before { moving.old.found.sequence ≡ sequence_before self.now.state (Some asked.now) }
         requires tags { tags_spent self.now.state asked.now ≡ false }
@@ -122,7 +121,7 @@ impl<Q: Quorums, S: Replica> Node<Q, S> {
         }
     }
 
-    // What a met propagation at this place does is told in this deed, which told of nothing before.
+    // What a met propagation at this place does is written to `deed`, which has nothing yet.
     fn tell_answer(&self, id: CallId, place: usize, deed: &mut Deed<Q>) -> Result<(), Refusal>
         requires { deed.old ≡ quiet_deed }
         ensures deed { OnOk result (deed.new ≡ answered_from id (slice_get self.now.state.calls place)) }
@@ -132,7 +131,7 @@ impl<Q: Quorums, S: Replica> Node<Q, S> {
         tell_answered(deed, id, self.call_at(place))
     }
 
-    // A set takes the next tag of its key, and its new copy will be put and go round.
+    // A set takes the next tag of its key, and its new copy will be put and be propagated.
     fn tell_set(
         &self,
         moving: &mut Moving,

@@ -15,19 +15,19 @@ pub enum Change<Q: Quorums> {
     Send(Name),
     /// This letter comes to it.
     Deliver(Letter<Q>),
-    /// Its call whose phase is met goes on.
+    /// Its call whose phase is met advances.
     Advance(CallId),
-    /// The present phase of its call begins anew.
+    /// The current phase of its call restarts.
     Again(CallId),
     /// It begins to collect the lowest place of its map.
     Collect,
-    /// Its collection, whose quorum is there, goes on.
+    /// Its collection, whose quorum has replied, advances.
     AdvanceCollect,
     /// It begins to have this configuration chosen for the first place that its map doesn't know.
     Recon(Q),
-    /// Its attempt begins again with a fresh ballot.
+    /// Its attempt is retried with a fresh ballot.
     Rebid,
-    /// Its attempt, whose quorum is there, goes on.
+    /// Its attempt, whose quorum has replied, advances.
     AdvanceRecon,
     /// It stops for ever.
     Stop,

@@ -5,6 +5,6 @@
 pub struct Decided<Q> {
     /// The place.
     pub place: u64,
-    /// The configuration that stands there, or none where the place is removed already.
+    /// The configuration at that place, or none where the place is removed already.
     pub config: Option<Q>,
 }

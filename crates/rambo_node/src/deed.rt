@@ -16,7 +16,7 @@ use rambo_tag::{KeyedVersion, Version};
 /// What an accepted change of a node did besides changing it.
 #[derive(Drop, Debug)]
 pub struct Deed<Q> {
-    /// What is told of it. A letter that is sent has no number here: of it `Done` is told.
+    /// What is reported of it. A letter that is sent has no number here: `Done` is reported of it.
     pub effect: Effect<Q>,
     /// The call or the answer that goes into the history.
     pub event: Option<Event>,
@@ -41,7 +41,7 @@ impl<Q: Copy> Default for Deed<Q> {
 }
 
 impl<Q: Copy> Deed<Q> {
-    // Tells of a met propagation, which sent a copy round.
+    // Writes what a met propagation does, which propagated a copy.
     fn tell_answer(&mut self, id: CallId, op: &Op, kept: &Option<Version>) -> Result<(), Refusal>
         requires { self.old ≡ quiet_deed }
         ensures ok { OnOk result (self.new ≡ answer_deed id op.now kept.now) }
@@ -75,7 +75,7 @@ impl<Q: Copy> Deed<Q> {
     }
 }
 
-// Tells in a deed what a call does when its propagation is met, if there is one that is in it.
+// Writes to a deed what a call does when its propagation is met, if there is one that is in it.
 pub(crate) fn tell_answered<Q: Quorums>(
     deed: &mut Deed<Q>,
     id: CallId,
@@ -95,7 +95,7 @@ pub(crate) fn tell_answered<Q: Quorums>(
     }
 }
 
-// The answer to an operation that sent a copy round.
+// The answer to an operation that propagated a copy.
 fn answer_of(op: &Op, kept: &Option<Version>) -> Result<Answer, Refusal>
     ensures ok { IfOk result (λ answer. answer ≡ answer_of op.now kept.now) }
     ensures refused { IfErr result (λ r. r ≡ Refusal.OutOfMemory) }

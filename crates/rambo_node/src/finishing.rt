@@ -1,6 +1,6 @@
-//! The second half of a call and of its advance: what was found is done.
+//! The second halves of a call and of its advance, which do what the first ones found.
 //!
-//! Nothing here takes memory, and nothing fails.
+//! Nothing here allocates, and nothing fails.
 ghost use Rattle.std.specs.Prelude.{◌≡◌, ◌+◌, ◌<◌, None, false, remove};
 ghost use Rattle.rambo_node.specs.Changes.{refusal_of, made_by};
 ghost use Rattle.rambo_node.specs.FullNodes.{beside_after, stamp_put};
@@ -16,9 +16,9 @@ use rambo_names::Quorums;
 use rambo_tag::{KeyedVersion, Replica, Version};
 
 impl<Q: Quorums, S: Replica> Node<Q, S> {
-    /// The second half of a call that isn't refused, for which there is room: it begins. The answer is its id.
+    /// The second half of a call that isn't refused, for which there is room: it begins. Returns its id.
     ///
-    /// It takes no memory and can't fail.
+    /// It allocates nothing and can't fail.
     #[tactic(auto, unfolding(crate::specs::Changes::made_by, crate::specs::Operations::called))]
     pub fn finish_call(&mut self, op: Op) -> CallId
         requires accepted { refusal_of Q.system self.old.state (change.Call op) ≡ None }
@@ -35,9 +35,10 @@ impl<Q: Quorums, S: Replica> Node<Q, S> {
         id
     }
 
-    /// The second half of the advance of a call that is ready: it goes on with what it takes along, or is answered.
+    /// The second half of the advance of a call that is ready: it goes on to its propagation with what it takes along,
+    /// or is answered.
     ///
-    /// It takes no memory and can't fail. What the call took along is no longer beside it.
+    /// It allocates nothing and can't fail. What the call took along is no longer in `moving`.
     pub fn finish_advance(&mut self, moving: &mut Moving)
         requires { IsMoving Q.system self.old moving.old }
         ensures node { self.new.state ≡ (made_by self.old.state (change.Advance moving.old.id)).node }

@@ -8,7 +8,7 @@ use std::marker::Model;
 /// Of each name the greatest phase number that was heard, 0 at first.
 #[derive(Drop)]
 pub(crate) struct HeardNumbers {
-    // Name n stands at place n - 1.
+    // Name n is at place n - 1.
     numbers: [u64; 64],
 }
 

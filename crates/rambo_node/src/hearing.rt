@@ -1,4 +1,4 @@
-//! What a node tells others, and what it makes of their letters.
+//! What a node sends to others, and what it makes of their letters.
 ghost use Rattle.std.specs.Prelude.{◌≡◌, ◌&&◌, None, Some, false, IsOk, IfOk, IfErr, OnOk, OnErr};
 ghost use Rattle.std.specs.FinMap as map;
 ghost use Rattle.rambo_names.specs.Refusals.{IsRefusal};
@@ -27,8 +27,8 @@ use rambo_tag::{Pack, Replica};
 impl<Q: Quorums, S: Replica> Node<Q, S> {
     /// The letter for a name: what the node knows where it is active, else that it wants to join.
     ///
-    /// Refused are 3 where the node is idle, 4 where it has stopped, 5 where the name is its own or one that
-    /// it doesn't know, 22 where there is no room for the list of its copies.
+    /// Refused with 3 where the node is idle, 4 where it has stopped. Else with 5 where the name is its own or one that
+    /// it doesn't know. Else with 22 where there is no room for the list of its copies.
     #[tactic(auto, unfolding(crate::specs::Changes::made_by))]
     pub fn letter_for(&self, to: Name) -> Result<Letter<Q>, Refusal>
         ensures judged { OnOk result (refusal_of Q.system self.now.state (change.Send to) ≡ None) }
@@ -43,8 +43,8 @@ impl<Q: Quorums, S: Replica> Node<Q, S> {
     /// The letter for a name with those copies alone that may be new to it, as `pack_for` finds them: what it leaves out, the
     /// name holds. The rest of it is as in `letter_for`.
     ///
-    /// Refused are 3 where the node is idle, 4 where it has stopped, 5 where the name is its own or one that
-    /// it doesn't know, 22 where there is no room for the list of its copies.
+    /// Refused with 3 where the node is idle, 4 where it has stopped. Else with 5 where the name is its own or one that
+    /// it doesn't know. Else with 22 where there is no room for the list of its copies.
     #[tactic(auto, unfolding(crate::specs::Changes::made_by))]
     pub fn delta_for(&self, to: Name) -> Result<Letter<Q>, Refusal>
         ensures judged { OnOk result (refusal_of Q.system self.now.state (change.Send to) ≡ None) }
@@ -57,9 +57,9 @@ impl<Q: Quorums, S: Replica> Node<Q, S> {
         Ok(outline.with_copies(copies))
     }
 
-    /// The copies that may be new to a name: those whose stamp is at least the node's base for it, which is the greatest
-    /// phase number of the node that letters of the name carried as heard. All that changed before, the name holds. No key
-    /// and no value is copied, and it takes the time of what it gives.
+    /// The copies that may be new to a name: those whose stamp is at least the node's base for it. The base is the
+    /// greatest phase number of the node that letters of the name carried as heard. All that changed before, the name
+    /// holds. Keys and values are shared, not copied, and the time is in proportion to what it returns.
     ///
     /// `OutOfMemory` where there is no room for the list of them.
     pub fn pack_for(&self, to: Name) -> Result<Pack, Refusal>
@@ -69,7 +69,7 @@ impl<Q: Quorums, S: Replica> Node<Q, S> {
         self.registers.pack_since(self.bases.of(to))
     }
 
-    /// The letter for a name, without its copies. It takes no memory.
+    /// The letter for a name, without its copies. It allocates nothing.
     pub fn outline_for(&self, to: Name) -> LetterOutline<'_, Q>
         ensures { result ≡ letter_with (letter_for self.now.state to) map.empty }
     {
@@ -80,15 +80,17 @@ impl<Q: Quorums, S: Replica> Node<Q, S> {
         }
     }
 
-    /// Hears a letter. One of a joining node makes its sender known. One of an active node wakes a joining
-    /// node, all that it knows is merged, and each open call whose phase it replies to counts the sender; a
-    /// reply that leaves a gap in the configurations of a phase begins it anew, under one new number for all. A
-    /// collection counts it too. The vote is emptied where its place has come to be known; it takes the letter's
-    /// offer, and an attempt hears the letter's vote, where these are for the same place.
+    /// Hears a letter. One of a joining node makes its sender known. One of an active node wakes a joining node, and
+    /// all that its sender knows is merged. Each open call whose phase it replies to counts the sender. A reply that
+    /// leaves a gap in the configurations of a phase restarts it, under one new number for all. A collection counts the
+    /// reply too.
     ///
-    /// Refused are 3 where the node is idle, 4 where it has stopped, 21 where a phase would begin anew and the
-    /// phase number is the greatest one, 22 where there is no room for what is new. The wish of a node to join needs
-    /// none.
+    /// The vote is emptied where its place has become known. It takes the letter's offer, and an attempt hears the
+    /// letter's vote, where these are for the same place.
+    ///
+    /// Refused with 3 where the node is idle, 4 where it has stopped. Else with 21 where a phase would restart and the
+    /// phase number is the greatest one. Else with 22 where there is no room for what is new. The wish of a node to
+    /// join needs none.
     #[tactic(auto, unfolding(crate::specs::Changes::made_by))]
     pub fn hear(&mut self, letter: &Letter<Q>) -> Result<(), Refusal>
         ensures judged { OnOk result (refusal_of Q.system self.old.state (change.Deliver letter.now) ≡ None) }
@@ -113,7 +115,7 @@ impl<Q: Quorums, S: Replica> Node<Q, S> {
 }
 
 impl<Q: Quorums, S: Replica> Node<Q, S> {
-    // What the node tells a name besides copies, if it is active.
+    // What the node sends to a name apart from copies, if it is active.
     fn gossip_outline(&self, to: Name) -> Option<GossipOutline<'_, Q>>
         ensures { outlined result ≡ kind_with (letter_for self.now.state to).kind map.empty }
     {
@@ -183,7 +185,7 @@ impl<Q: Quorums, S: Replica> Node<Q, S> {
 
 // The first half of hearing a letter that isn't refused.
 impl<Q: Quorums, S: Replica> Node<Q, S> {
-    // Of a letter that is told whole.
+    // Of a letter that is given whole.
     pub(crate) fn ready_letter(&mut self, letter: &Letter<Q>) -> Result<HearTurn<Q>, Refusal>
         requires { refusal_of Q.system self.old.state (change.Deliver letter.now) ≡ None }
         ensures same { self.new.state ≡ self.old.state }
@@ -222,8 +224,8 @@ impl<Q: Quorums, S: Replica> Node<Q, S> {
         Ok(Box::new(alloc, outline.with_copies(Pack::empty(alloc)))?)
     }
 
-    /// The first half of hearing a letter that isn't refused, which is told by its outline and its copies: room is made for
-    /// it. The node stays, whatever the answer.
+    /// The first half of hearing a letter that isn't refused, given by its outline and its copies: room is made for it.
+    /// In either case the node itself is unchanged.
     ///
     /// `OutOfMemory` where there is no room for what is new. The wish of a node to join needs none.
     pub fn ready_outlined(
@@ -294,9 +296,9 @@ impl<Q: Quorums, S: Replica> Node<Q, S> {
         }
     }
 
-    /// The second half of hearing a letter that is ready, which is told by its outline: the node has then heard the letter.
+    /// The second half of hearing a letter that is ready, given by its outline: the node has then heard the letter.
     ///
-    /// It takes no memory and can't fail.
+    /// It allocates nothing and can't fail.
     pub fn finish_outlined(&mut self, outline: &LetterOutline<'_, Q>, hearing: Hearing)
         requires { IsReadyKind self.old outline.now.kind hearing.copies hearing.number }
         ensures state { self.new.state ≡ heard_letter self.old.state (letter_with outline.now hearing.copies) }

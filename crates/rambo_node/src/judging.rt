@@ -22,17 +22,17 @@ use rambo_history::{CallId, Op};
 use rambo_names::{Members, Name, Quorums, Refusal};
 use rambo_tag::{Replica, Version};
 
-// Keys have at most so many bytes.
+// The greatest number of bytes of a key.
 const KEY_LIMIT: usize = 256;
 
-// Values have at most so many bytes.
+// The greatest number of bytes of a value.
 const VALUE_LIMIT: usize = 4096;
 
-// A node has at most so many open calls.
+// The greatest number of open calls of a node.
 const CALL_LIMIT: usize = 64;
 
 impl<Q: Quorums, S: Replica> Node<Q, S> {
-    /// Why a change that needs no memory is refused, if it is: what `ready` says of it.
+    /// Why a change that allocates nothing is refused, if it is: what `ready` says of it.
     // (who knows the kind asks for that one alone then, as of each letter that is sent)
     #[inline(always)]
     pub fn judge_quick(&self, quick: &Quick<Q>) -> Result<(), Refusal>
@@ -52,8 +52,8 @@ impl<Q: Quorums, S: Replica> Node<Q, S> {
         }
     }
 
-    // Why a letter is refused, if it is: 3 where the node is idle, 4 where it has stopped, 21 where a phase
-    // would begin anew and the phase number is the greatest one.
+    // Why a letter is refused, if it is: 3 where the node is idle, 4 where it has stopped, 21 where a phase would
+    // restart and the phase number is the greatest one.
     pub(crate) fn may_hear(&self, letter: &Letter<Q>) -> Result<(), Refusal>
         ensures ok { OnOk result (refusal_of Q.system self.now.state (change.Deliver letter.now) ≡ None) }
         ensures refused { IfErr result (λ r. refusal_of Q.system self.now.state (change.Deliver letter.now) ≡ Some r) }
@@ -205,9 +205,9 @@ impl<Q: Quorums, S: Replica> Node<Q, S> {
         }
     }
 
-    /// At `Ok` where the open call of an id stands, which may go on. Else why it may not: 3 where the node is idle or joining,
-    /// 4 where it has stopped, 7 where there is no such open call, 8 where its phase isn't met, 21 where it is in its query
-    /// and the phase number, or for a set the sequence number of the key's tag, is the greatest one.
+    /// Where the open call of an id is, if it may advance. Else why it may not: 3 where the node is idle or joining, 4
+    /// where it has stopped. Else 7 where there is no such open call, 8 where its phase isn't met. Else 21 where it is
+    /// in its query and the phase number, or for a set the sequence number of the key's tag, is the greatest one.
     pub fn may_advance(&self, id: &CallId) -> Result<Found, Refusal>
         ensures ok { IfOk result (IsFound Q.system self.now.state id.now) }
         ensures refused { IfErr result (λ r. least (advance_causes Q.system self.now.state id.now) ≡ Some r) }
@@ -234,7 +234,7 @@ impl<Q: Quorums, S: Replica> Node<Q, S> {
         Ok(Found { place, sequence })
     }
 
-    // Whether the phase of the open call of an id may begin anew.
+    // Whether the phase of the open call of an id may restart.
     pub(crate) fn may_restart(&self, id: &CallId) -> Result<(), Refusal>
         ensures ok { OnOk result (least (again_causes self.now.state id.now) ≡ None) }
         ensures refused { IfErr result (λ r. least (again_causes self.now.state id.now) ≡ Some r) }
@@ -314,7 +314,7 @@ fn is_nobody(names: Members) -> bool
     names.count() == 0
 }
 
-// Whether a name is the own one or none that is known.
+// Whether a name is the node's own, or isn't known.
 fn is_out_of_reach(me: Name, known: Members, to: Name) -> bool
     ensures { result ≡ (nat_eq to me || not (set.contains known to)) }
 {

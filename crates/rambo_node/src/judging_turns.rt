@@ -47,14 +47,14 @@ impl<Q: Quorums, S: Replica> Node<Q, S> {
         Ok(())
     }
 
-    // Whether a collection is open whose quorum isn't there.
+    // Whether a collection is open whose quorum hasn't replied.
     fn is_collection_waiting(&self) -> bool
         ensures { result ≡ (not (is_none self.now.state.collection) && is_none (collection_turn Q.system self.now.state self.now.state.collection)) }
     {
         is_open_without(&self.collection, self.collection_turn())
     }
 
-    // Whether its collection can't go on for want of a number.
+    // Whether its collection can't advance, since no number is left.
     fn is_turn_out_of_numbers(&self) -> bool
         ensures { result ≡ (needs_number (collection_turn Q.system self.now.state self.now.state.collection) && is_last self.now.state.number) }
     {
@@ -140,7 +140,7 @@ impl<Q: Quorums, S: Replica> Node<Q, S> {
         Ok(())
     }
 
-    // Whether an attempt is open whose place isn't known yet and whose quorum isn't there.
+    // Whether an attempt is open whose place isn't known yet and whose quorum hasn't replied.
     fn is_waiting(&self) -> bool
         ensures { result ≡ attempt_waits Q.system self.now.state.map self.now.state.attempt }
     {

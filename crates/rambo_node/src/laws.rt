@@ -3,12 +3,11 @@ ghost use Rattle.rambo_node.specs.Claims.{CausesRise, FirstIsLeast, ShortLetters
 
 use rambo_names::Quorums;
 
-/// The causes of refusal of each change stand by rising numbers. So of those that hold the first has the
-/// least number, and it is the one that is told.
+/// The causes of refusal of each change are listed in ascending order of number. So the first one that holds has the
+/// least number of those that hold, and it is the one that is reported.
 ///
-/// A letter with other copies is heard alike where they come to the same in the registers of its addressee:
-/// as a whole, or key by key. It may leave out what the addressee already holds: what is short for a whole letter
-/// is heard as that one.
+/// A letter with other copies is heard alike where merging these gives the same registers, as a whole or key by key. It
+/// may leave out what its addressee already holds: a short letter is then heard as the whole one.
 pub fn changing_laws<Q: Quorums>()
     ensures rise { CausesRise Q }
     ensures least { FirstIsLeast }

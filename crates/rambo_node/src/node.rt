@@ -19,16 +19,16 @@ use rambo_tag::Replica;
 use std::alloc::Global;
 use std::marker::Model;
 
-/// One node: its status, the names that it knows, its copies, its configuration map, its phase number, the
-/// phase numbers that it heard of others, its open calls, and how far it is with the next and the oldest
-/// configuration.
+/// One node: its status, the names that it knows, its copies and its configuration map. It has its phase number, the
+/// phase numbers that it heard of others, and its open calls. It also has its attempt for the next configuration, its
+/// vote, and its collection of the oldest one.
 ///
-/// So that a letter may leave out what its addressee holds, each copy has a stamp, the phase number before the change that
-/// put it or merged it; and each name has a base, the greatest phase number of the node that letters of the name carried as
-/// heard.
+/// So that a letter may leave out what its addressee holds, each copy has a stamp and each name a base. A stamp is the
+/// phase number before the change that put or merged the copy. A base is the greatest phase number of the node that
+/// letters of the name carried as heard.
 ///
-/// All that happens to it is a `Change`. One that is refused leaves the node as it was. Of several causes of
-/// a refusal the one of the least number is told, and `OutOfMemory` only where there is no other.
+/// All that happens to it is a `Change`. One that is refused leaves the node as it was. Of several causes of a refusal
+/// the least number is reported, and `OutOfMemory` only where there is no other.
 pub struct Node<Q: Quorums, S: Replica> {
     pub(crate) name: Name,
     pub(crate) status: Status,

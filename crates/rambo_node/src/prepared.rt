@@ -1,4 +1,4 @@
-//! Changes that are ready: all that may fail is done, and nothing of the node has changed yet.
+//! Changes that are ready: all that may fail is done, and the node itself hasn't changed yet.
 ghost use Rattle.std.specs.Prelude.{◌≡◌, None};
 
 use crate::deed::Deed;
@@ -11,10 +11,10 @@ use rambo_tag::{KeyedVersion, Pack, Version};
 
 /// A change that a node may make, for which there is room, and what it will do.
 ///
-/// Who owns it takes the event, the mark and the copy to where they belong, and then finishes it.
+/// Its owner takes the event, the mark and the copy to where they belong, and then finishes it.
 #[derive(Drop)]
 pub struct Prepared<Q: Quorums> {
-    /// The call or the answer that will stand in the history.
+    /// The call or the answer that will go into the history.
     pub event: Option<Event>,
     /// A set that will take its tag, or a get that will be answered.
     pub mark: Option<Mark>,
@@ -36,24 +36,24 @@ pub(crate) enum Turn<Q: Quorums> {
     Quick(Quick<Q>),
 }
 
-/// A change that needs no memory: any but a call, its advance, and the delivery of a letter.
+/// A change that allocates nothing: any but a call, its advance, and the delivery of a letter.
 #[derive(Drop)]
 pub enum Quick<Q> {
     /// The node begins to join, with these contacts.
     Join(Members),
     /// It sends a letter to this name.
     Send(Name),
-    /// The present phase of its call begins anew.
+    /// The current phase of its call restarts.
     Again(CallId),
     /// It begins to collect the lowest place of its map.
     Collect,
-    /// Its collection, whose quorum is there, goes on.
+    /// Its collection, whose quorum has replied, advances.
     AdvanceCollect,
     /// It begins to have this configuration chosen for the first place that its map doesn't know.
     Recon(Q),
-    /// Its attempt begins again with a fresh ballot.
+    /// Its attempt is retried with a fresh ballot.
     Rebid,
-    /// Its attempt, whose quorum is there, goes on.
+    /// Its attempt, whose quorum has replied, advances.
     AdvanceRecon,
     /// It stops for ever.
     Stop,
@@ -63,11 +63,11 @@ pub enum Quick<Q> {
 #[derive(Drop)]
 pub(crate) struct AdvanceTurn<Q> {
     pub(crate) moving: Moving,
-    // What will be told: of a met propagation the answer.
+    // What will be reported: of a met propagation the answer.
     pub(crate) effect: Effect<Q>,
 }
 
-/// Where an open call stands that may go on, and what a set in its query goes on from.
+/// Where an open call that may advance is, and the sequence number that a set in its query starts from.
 #[derive(Clone, Copy)]
 pub struct Found {
     // Its place among the open ones.
@@ -76,17 +76,17 @@ pub struct Found {
     pub(crate) sequence: u64,
 }
 
-/// A call that goes on, and what the second half of its advance needs besides.
+/// A call that advances, and what else the second half of its advance needs.
 ///
-/// Its owner has it from the first half to the second one, and begins it with no copies. Both halves write to it where it lies,
-/// since it is large.
+/// Its owner keeps it from the first half to the second one, and begins it with no copies. Both halves write to it in
+/// place, since it is large.
 #[derive(Drop)]
 pub struct Moving {
     /// The open call.
     pub id: CallId,
     /// Where it was found.
     pub found: Found,
-    /// The copy that will go round, where its query is met.
+    /// The copy that will be propagated, where its query is met.
     pub kept: Option<Version>,
     /// The copy that a set will put.
     pub put: Option<KeyedVersion>,
@@ -102,7 +102,7 @@ pub(crate) struct HearTurn<Q: Quorums> {
     pub(crate) hearing: Hearing,
 }
 
-/// What the second half of hearing a letter needs besides the letter without its copies.
+/// What the second half of hearing a letter needs, apart from the letter without its copies.
 #[derive(Drop)]
 pub struct Hearing {
     // Copies that come to the same for the node as those of the letter.
@@ -112,7 +112,7 @@ pub struct Hearing {
 }
 
 impl<Q: Quorums> Prepared<Q> {
-    // A change that does nothing besides changing its node, but that an effect is told of it.
+    // A change that does nothing besides changing its node and reporting an effect.
     pub(crate) fn quiet(turn: Turn<Q>) -> Prepared<Q>
         ensures { result ≡ record { event = None; mark = None; copy = None; turn = turn } }
     {

@@ -18,41 +18,41 @@ use rambo_names::{Quorums, Refusal};
 use rambo_tag::Replica;
 
 impl<Q: Quorums, S: Replica> Node<Q, S> {
-    /// The first half of a change: it is judged, room is made for all that is new, and what it will do is found. Nothing of
-    /// what the node is changes, whatever the answer.
+    /// The first half of a change: it is judged, room is made for all that is new, and what it will do is found. In
+    /// either case the node itself is unchanged.
     ///
-    /// Refused is the least number of the causes that hold:
+    /// Refused with the least number of the causes that hold:
     ///
     /// - `Join`: 2 where the node isn't idle, 18 where there is no contact.
-    /// - `Call`: 3 where it is idle or joining, 4 where it has stopped, 9 where it has 64 open calls, 19 where
-    ///   the key has over 256 bytes, 20 where the value has over 4,096 bytes, 21 where its phase number or its
-    ///   last call number is the greatest one.
-    /// - `Send`: 3 where it is idle, 4 where it has stopped, 5 where the name is its own or one that it
-    ///   doesn't know.
-    /// - `Deliver`: 3 where it is idle, 4 where it has stopped, 21 where a phase would begin anew and the phase
+    /// - `Call`: 3 where it is idle or joining, 4 where it has stopped. Else 9 where it has 64 open calls, 19 where the
+    ///   key has over 256 bytes, 20 where the value has over 4,096 bytes. Else 21 where its phase number or its last
+    ///   call number is the greatest one.
+    /// - `Send`: 3 where it is idle, 4 where it has stopped. Else 5 where the name is its own or one that it doesn't
+    ///   know.
+    /// - `Deliver`: 3 where it is idle, 4 where it has stopped. Else 21 where a phase would restart and the phase
     ///   number is the greatest one.
-    /// - `Advance`: 3 where it is idle or joining, 4 where it has stopped, 7 where there is no such open call,
-    ///   8 where its phase isn't met, 21 where it is in its query and the phase number, or for a set the
-    ///   sequence number of the key's tag, is the greatest one.
-    /// - `Again`: 3 where it is idle or joining, 4 where it has stopped, 7 where there is no such open call, 21
+    /// - `Advance`: 3 where it is idle or joining, 4 where it has stopped. Else 7 where there is no such open call, 8
+    ///   where its phase isn't met. Else 21 where it is in its query and the phase number, or for a set the sequence
+    ///   number of the key's tag, is the greatest one.
+    /// - `Again`: 3 where it is idle or joining, 4 where it has stopped. Else 7 where there is no such open call, 21
     ///   where the phase number is the greatest one.
-    /// - `Collect`: 3 where it is idle or joining, 4 where it has stopped, 10 where only one place is active, 11
+    /// - `Collect`: 3 where it is idle or joining, 4 where it has stopped. Else 10 where only one place is active, 11
     ///   where a collection is open, 21 where the phase number is the greatest one.
-    /// - `AdvanceCollect`: 3 where it is idle or joining, 4 where it has stopped, 8 where a collection is open
-    ///   whose place isn't removed and whose quorum isn't there, 12 where no collection is open, 21 where its first
-    ///   quorum is there, its place isn't removed and the phase number is the greatest one.
-    /// - `Recon`: 3 where it is idle or joining, 4 where it has stopped, 13 where it is no member of the
-    ///   configuration at its top, 14 where an attempt is open, 16 where eight places are active, 17 where the wish
-    ///   has a member that it doesn't know, 18 where the wish has no member, 21 where the round that its vote promised,
-    ///   or the top, is the greatest one.
-    /// - `Rebid`: 3 where it is idle or joining, 4 where it has stopped, 15 where no attempt is open for the first
+    /// - `AdvanceCollect`: 3 where it is idle or joining, 4 where it has stopped. Else 8 where a collection is open
+    ///   whose place isn't removed and whose quorum hasn't replied, 12 where no collection is open. Else 21 where its
+    ///   first quorum has replied, its place isn't removed and the phase number is the greatest one.
+    /// - `Recon`: 3 where it is idle or joining, 4 where it has stopped. Else 13 where it is no member of the
+    ///   configuration at its top, 14 where an attempt is open, 16 where eight places are active. Else 17 where the
+    ///   wish has a member that it doesn't know, 18 where the wish has no member. Else 21 where the round that its vote
+    ///   promised, or the top, is the greatest one.
+    /// - `Rebid`: 3 where it is idle or joining, 4 where it has stopped. Else 15 where no attempt is open for the first
     ///   unknown place, 21 where the round that its vote promised is the greatest one.
-    /// - `AdvanceRecon`: 3 where it is idle or joining, 4 where it has stopped, 8 where an attempt is open whose place
-    ///   is unknown and whose quorum isn't there, 15 where no attempt is open.
+    /// - `AdvanceRecon`: 3 where it is idle or joining, 4 where it has stopped. Else 8 where an attempt is open whose
+    ///   place is unknown and whose quorum hasn't replied, 15 where no attempt is open.
     /// - `Stop`: 3 where it is idle, 4 where it has stopped.
     ///
-    /// else 22, where there is no room for what is new, which only a call, its advance and a letter of an active node may
-    /// need.
+    /// Else 22, where there is no room for what is new, which only a call, its advance and a letter of an active node
+    /// may need.
     pub fn ready(&mut self, change: &Change<Q>) -> Result<Prepared<Q>, Refusal>
         ensures judged { OnOk result (refusal_of Q.system self.old.state change.now ≡ None) }
         ensures same { self.new.state ≡ self.old.state }
@@ -91,9 +91,9 @@ impl<Q: Quorums, S: Replica> Node<Q, S> {
         }
     }
 
-    /// The second half of a change that is ready: the node changes. What is told of it is answered.
+    /// The second half of a change that is ready: the node changes. Returns what is reported.
     ///
-    /// It takes no memory and can't fail.
+    /// It allocates nothing and can't fail.
     pub fn finish(&mut self, prepared: Prepared<Q>) -> Effect<Q>
         requires { IsPrepared Q.system self.old prepared }
         ensures node { self.new.state ≡ (made_by self.old.state (change_of prepared)).node }
@@ -134,7 +134,7 @@ impl<Q: Quorums, S: Replica> Node<Q, S> {
 
 // The first half of a change of one kind.
 impl<Q: Quorums, S: Replica> Node<Q, S> {
-    // Of one that needs no memory: it is judged.
+    // Of one that allocates nothing: it is judged.
     fn ready_quick(&self, quick: Quick<Q>) -> Result<Prepared<Q>, Refusal>
         ensures judged { OnOk result (refusal_of Q.system self.now.state (quick_change quick) ≡ None) }
         ensures prepares { IfOk result (Prepares Q.system self.now (quick_change quick)) }
@@ -144,7 +144,7 @@ impl<Q: Quorums, S: Replica> Node<Q, S> {
         Ok(Prepared::quiet(Turn::Quick(quick)))
     }
 
-    /// The first half of a call that isn't refused: room is made for it. The node stays, whatever the answer.
+    /// The first half of a call that isn't refused: room is made for it. In either case the node itself is unchanged.
     ///
     /// `OutOfMemory` where there is no room for it.
     // (what is prepared is large, and where this is inlined the other kinds clear its room)
@@ -181,8 +181,8 @@ impl<Q: Quorums, S: Replica> Node<Q, S> {
         Ok(Prepared::quiet(Turn::Hear(turn)))
     }
 
-    /// The first half of the advance of a call that may go on, which was found here: room is made for the copy that it
-    /// puts, and what it will do is found. The node stays, whatever the answer.
+    /// The first half of the advance of a call that may advance, which was found here. Room is made for the copy that
+    /// it puts, and what it will do is found. In either case the node itself is unchanged.
     ///
     /// `OutOfMemory` where there is no room for it.
     // (as above)
@@ -231,7 +231,7 @@ impl<Q: Quorums, S: Replica> Node<Q, S> {
         }
     }
 
-    /// A change that needs no memory and isn't refused: the node changes. What is told of it is answered.
+    /// A change that allocates nothing and isn't refused: the node changes. Returns what is reported.
     #[tactic(auto, unfolding(crate::specs::Changes::made_by))]
     pub fn finish_quick(&mut self, quick: Quick<Q>) -> Effect<Q>
         requires { refusal_of Q.system self.old.state (quick_change quick) ≡ None }

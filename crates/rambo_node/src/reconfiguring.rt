@@ -1,4 +1,4 @@
-//! How a node has the next configuration chosen, and its lowest place removed. Nothing here takes memory.
+//! How a node has the next configuration chosen, and its lowest place removed. Nothing here allocates.
 ghost use Rattle.std.specs.Prelude.{◌≡◌, ◌≤◌, Some, None, true, false};
 ghost use Rattle.rambo_config_map.specs.Maps.{active_at, end_of, top_of};
 ghost use Rattle.rambo_gc.specs.Collections.{has_quorum, move_of};
@@ -148,7 +148,7 @@ impl<Q: Quorums, S: Replica> Node<Q, S> {
         self.bid(attempt)
     }
 
-    // Its attempt for a place that has come to be known ends: what stands there is told.
+    // Its attempt for a place that has become known ends: what is there is reported.
     #[tactic(auto, unfolding(crate::specs::Reconfigurations::attempt_ended))]
     fn end_attempt(&mut self, place: u64) -> Effect<Q>
         ensures node { self.new.state ≡ attempt_ended self.old.state }
@@ -160,7 +160,7 @@ impl<Q: Quorums, S: Replica> Node<Q, S> {
         Effect::Decided(self.name, Decided { place, config })
     }
 
-    // Its attempt, whose quorum is there, proposes, or its configuration is chosen and learnt.
+    // Its attempt, whose quorum has replied, proposes, or its configuration is chosen and learnt.
     fn bid(&mut self, attempt: Attempt<Q>) -> Effect<Q>
         requires held { self.old.state.attempt ≡ Some attempt }
         requires unknown { end_of self.old.state.map ≤ attempt.place }

@@ -18,9 +18,9 @@ use rambo_names::{Members, Quorums, Refusal};
 use rambo_tag::Replica;
 
 impl<Q: Quorums, S: Replica> Node<Q, S> {
-    /// Takes a change, and tells what it did.
+    /// Takes a change, and says what it did.
     ///
-    /// Refused is what `ready` says.
+    /// Refused with what `ready` says.
     #[tactic(auto, unfolding(crate::specs::Changes::made_by))]
     pub fn take(&mut self, change: Change<Q>) -> Result<Deed<Q>, Refusal>
         ensures judged { OnOk result (refusal_of Q.system self.old.state change ≡ None) }
@@ -39,9 +39,9 @@ impl<Q: Quorums, S: Replica> Node<Q, S> {
         }
     }
 
-    /// An idle node begins to join, with these contacts: it knows them and itself. It takes no memory.
+    /// An idle node begins to join, with these contacts: it knows them and itself. It allocates nothing.
     ///
-    /// Refused are 2 where it isn't idle, 18 where there is no contact.
+    /// Refused with 2 where it isn't idle, 18 where there is no contact.
     #[tactic(auto, unfolding(crate::specs::Changes::made_by))]
     pub fn join(&mut self, contacts: Members) -> Result<(), Refusal>
         ensures judged { OnOk result (refusal_of Q.system self.old.state (change.Join contacts) ≡ None) }
@@ -56,11 +56,11 @@ impl<Q: Quorums, S: Replica> Node<Q, S> {
         Ok(())
     }
 
-    /// A client asks for an operation: a query phase begins. The answer is the id of the call.
+    /// A client asks for an operation: a query phase begins. Returns the id of the call.
     ///
-    /// Refused are 3 where the node is idle or joining, 4 where it has stopped, 9 where it has 64 open calls,
-    /// 19 where the key has over 256 bytes, 20 where the value has over 4,096 bytes, 21 where its phase number
-    /// or its last call number is the greatest one, 22 where there is no room for the call.
+    /// Refused with 3 where the node is idle or joining, 4 where it has stopped. Else with 9 where it has 64 open
+    /// calls, 19 where the key has over 256 bytes, 20 where the value has over 4,096 bytes. Else with 21 where its
+    /// phase number or its last call number is the greatest one. Else with 22 where there is no room for the call.
     pub fn call(&mut self, op: Op) -> Result<CallId, Refusal>
         ensures judged { OnOk result (refusal_of Q.system self.old.state (change.Call op) ≡ None) }
         ensures node { OnOk result (self.new.state ≡ (made_by self.old.state (change.Call op)).node) }
@@ -75,13 +75,13 @@ impl<Q: Quorums, S: Replica> Node<Q, S> {
         Ok(self.finish_call(op))
     }
 
-    /// The open call of this id goes on, whose phase is met. In its query a get finds the copy that it will
-    /// answer, a set makes a new copy under the next tag of its key, and the propagation begins: there is no
-    /// answer yet. In its propagation the call is answered.
+    /// Advances the open call of this id, whose phase is met. In its query a get finds the copy that it will answer,
+    /// and a set makes a new copy under the next tag of its key. Then the propagation begins, and there is no answer
+    /// yet. In its propagation the call is answered.
     ///
-    /// Refused are 3 where the node is idle or joining, 4 where it has stopped, 7 where there is no such open
-    /// call, 8 where its phase isn't met, 21 where it is in its query and the phase number, or for a set the
-    /// sequence number of the key's tag, is the greatest one, 22 where there is no room for the copy.
+    /// Refused with 3 where the node is idle or joining, 4 where it has stopped. Else with 7 where there is no such
+    /// open call, 8 where its phase isn't met. Else with 21 where it is in its query and the phase number, or for a set
+    /// the sequence number of the key's tag, is the greatest one. Else with 22 where there is no room for the copy.
     pub fn advance(&mut self, id: CallId) -> Result<Option<Answer>, Refusal>
         ensures judged { OnOk result (refusal_of Q.system self.old.state (change.Advance id) ≡ None) }
         ensures node { OnOk result (self.new.state ≡ (made_by self.old.state (change.Advance id)).node) }
@@ -104,11 +104,11 @@ impl<Q: Quorums, S: Replica> Node<Q, S> {
         Ok(deed.effect.into_answer())
     }
 
-    /// The present phase of the open call of this id begins anew, under a new number, with the node's present
-    /// map, and with the node alone as a replier. It takes no memory.
+    /// The current phase of the open call of this id restarts, under a new number, with the node's current map, and
+    /// with the node alone as a replier. It allocates nothing.
     ///
-    /// Refused are 3 where the node is idle or joining, 4 where it has stopped, 7 where there is no such open
-    /// call, 21 where the phase number is the greatest one.
+    /// Refused with 3 where the node is idle or joining, 4 where it has stopped. Else with 7 where there is no such
+    /// open call, 21 where the phase number is the greatest one.
     pub fn again(&mut self, id: CallId) -> Result<(), Refusal>
         ensures judged { OnOk result (refusal_of Q.system self.old.state (change.Again id) ≡ None) }
         ensures node { OnOk result (self.new.state ≡ (made_by self.old.state (change.Again id)).node) }
@@ -123,10 +123,10 @@ impl<Q: Quorums, S: Replica> Node<Q, S> {
     }
 
     /// The collection of the lowest place begins: under a new phase number the node asks for a quorum of the
-    /// configuration there, and replies itself. It takes no memory.
+    /// configuration there, and replies itself. It allocates nothing.
     ///
-    /// Refused are 3 where the node is idle or joining, 4 where it has stopped, 10 where only one place is active,
-    /// 11 where a collection is open, 21 where the phase number is the greatest one.
+    /// Refused with 3 where the node is idle or joining, 4 where it has stopped. Else with 10 where only one place is
+    /// active, 11 where a collection is open, 21 where the phase number is the greatest one.
     #[tactic(auto, unfolding(crate::specs::Changes::made_by))]
     pub fn collect(&mut self) -> Result<(), Refusal>
         ensures judged { OnOk result (refusal_of Q.system self.old.state change.Collect ≡ None) }
@@ -141,14 +141,14 @@ impl<Q: Quorums, S: Replica> Node<Q, S> {
         Ok(())
     }
 
-    /// The open collection goes on. Where the first quorum is there, it asks for one of the next place's
-    /// configuration, under a new phase number: the answer is none. Where the second one is there, the place is
-    /// removed, and where it is removed already, the collection ends at once: the answer is the place. It takes no
-    /// memory.
+    /// Advances the open collection. Where the first quorum has replied, it asks for one of the next place's
+    /// configuration, under a new phase number, and returns none. Where the second one has replied, the place is
+    /// removed, and where it is removed already, the collection ends at once, and the place is returned. It allocates
+    /// nothing.
     ///
-    /// Refused are 3 where the node is idle or joining, 4 where it has stopped, 8 where the place isn't removed and
-    /// the quorum isn't there, 12 where no collection is open, 21 where the first quorum is there, the place isn't
-    /// removed and the phase number is the greatest one.
+    /// Refused with 3 where the node is idle or joining, 4 where it has stopped. Else with 8 where the place isn't
+    /// removed and the quorum hasn't replied, 12 where no collection is open. Else with 21 where the first quorum has
+    /// replied, the place isn't removed and the phase number is the greatest one.
     #[tactic(auto, unfolding(crate::specs::Changes::made_by))]
     pub fn advance_collect(&mut self) -> Result<Option<u64>, Refusal>
         ensures judged { OnOk result (refusal_of Q.system self.old.state change.AdvanceCollect ≡ None) }
@@ -165,12 +165,12 @@ impl<Q: Quorums, S: Replica> Node<Q, S> {
     }
 
     /// An attempt begins to have this configuration chosen for the first unknown place, with a ballot of the round
-    /// above the one that the node's vote promised. The vote takes the offer of it. It takes no memory.
+    /// above the one that the node's vote promised. The vote takes the offer of it. It allocates nothing.
     ///
-    /// Refused are 3 where the node is idle or joining, 4 where it has stopped, 13 where it is no member of the
-    /// configuration at its top, 14 where an attempt is open, 16 where eight places are active, 17 where the wish has
-    /// a member that the node doesn't know, 18 where the wish has no member, 21 where the promised round or the top
-    /// is the greatest number.
+    /// Refused with 3 where the node is idle or joining, 4 where it has stopped. Else with 13 where it is no member of
+    /// the configuration at its top, 14 where an attempt is open, 16 where eight places are active. Else with 17 where
+    /// the wish has a member that the node doesn't know, 18 where the wish has no member. Else with 21 where the
+    /// promised round or the top is the greatest number.
     #[tactic(auto, unfolding(crate::specs::Changes::made_by))]
     pub fn recon(&mut self, wish: Q) -> Result<(), Refusal>
         ensures judged { OnOk result (refusal_of Q.system self.old.state (change.Recon wish) ≡ None) }
@@ -185,11 +185,11 @@ impl<Q: Quorums, S: Replica> Node<Q, S> {
         Ok(())
     }
 
-    /// The open attempt keeps its wish and begins again, with a ballot of the round above the one that the node's
-    /// vote promised. The vote takes the offer of it. It takes no memory.
+    /// The open attempt keeps its wish and is retried, with a ballot of the round above the one that the node's vote
+    /// promised. The vote takes the offer of it. It allocates nothing.
     ///
-    /// Refused are 3 where the node is idle or joining, 4 where it has stopped, 15 where no attempt is open for the
-    /// first unknown place, 21 where the promised round is the greatest number.
+    /// Refused with 3 where the node is idle or joining, 4 where it has stopped. Else with 15 where no attempt is open
+    /// for the first unknown place, 21 where the promised round is the greatest number.
     #[tactic(auto, unfolding(crate::specs::Changes::made_by))]
     pub fn rebid(&mut self) -> Result<(), Refusal>
         ensures judged { OnOk result (refusal_of Q.system self.old.state change.Rebid ≡ None) }
@@ -204,13 +204,13 @@ impl<Q: Quorums, S: Replica> Node<Q, S> {
         Ok(())
     }
 
-    /// The open attempt goes on. Where a quorum of the configuration at the top promised its ballot, it proposes what
-    /// it was told of, or else its wish: the answer is none. Where a quorum accepted the proposal, its configuration
-    /// is learnt at the first unknown place, and where the attempt's place is known already, the attempt ends at once:
-    /// the answer is what stands at its place then. It takes no memory.
+    /// Advances the open attempt. Where a quorum of the configuration at the top promised its ballot, it proposes what
+    /// it was told of, or else its wish, and returns none. Where a quorum accepted the proposal, its configuration is
+    /// learnt at the first unknown place. Where the attempt's place is known already, the attempt ends at once. In both
+    /// cases it returns what is at its place then. It allocates nothing.
     ///
-    /// Refused are 3 where the node is idle or joining, 4 where it has stopped, 8 where the attempt's place is unknown
-    /// and its quorum isn't there, 15 where no attempt is open.
+    /// Refused with 3 where the node is idle or joining, 4 where it has stopped. Else with 8 where the attempt's place
+    /// is unknown and its quorum hasn't replied, 15 where no attempt is open.
     #[tactic(auto, unfolding(crate::specs::Changes::made_by))]
     pub fn advance_recon(&mut self) -> Result<Option<Decided<Q>>, Refusal>
         ensures judged { OnOk result (refusal_of Q.system self.old.state change.AdvanceRecon ≡ None) }
@@ -226,9 +226,9 @@ impl<Q: Quorums, S: Replica> Node<Q, S> {
         Ok(effect.decided())
     }
 
-    /// The node stops for ever. It takes no memory.
+    /// The node stops for ever. It allocates nothing.
     ///
-    /// Refused are 3 where it is idle, 4 where it has stopped.
+    /// Refused with 3 where it is idle, 4 where it has stopped.
     #[tactic(auto, unfolding(crate::specs::Changes::made_by))]
     pub fn stop(&mut self) -> Result<(), Refusal>
         ensures judged { OnOk result (refusal_of Q.system self.old.state change.Stop ≡ None) }

@@ -1,6 +1,6 @@
-//! What is done with a map, a collection and an attempt where the node's judge has let a turn pass.
+//! What a turn does with a map, a collection and an attempt, once the node has judged that it isn't refused.
 //!
-//! Nothing here takes memory. What a part could refuse, a `requires` rules out.
+//! Nothing here allocates. What a part could refuse, its `requires` rule out.
 ghost use Rattle.std.specs.Prelude.{◌≡◌, ◌≤◌, ◌<◌, ◌^◌, Some, true, false, nat_le, nat_lt, if◌then◌else◌, length};
 ghost use Rattle.rambo_config_map.specs.Maps.{active_at, end_of, top_of, learnt, without_lowest};
 ghost use Rattle.rambo_gc.specs.Collections.{has_quorum, move_of, opened as collection_of, moved};
@@ -83,7 +83,7 @@ pub(crate) fn rebid<Q: Quorums>(attempt: Attempt<Q>, vote: &mut Vote<Q>) -> Atte
     again
 }
 
-// An attempt goes on whose repliers hold a quorum of the configuration at the top.
+// Advances an attempt whose repliers contain a quorum of the configuration at the top.
 pub(crate) fn go_on<Q: Quorums>(
     attempt: &mut Attempt<Q>,
     vote: &mut Vote<Q>,

@@ -46,7 +46,7 @@ offered (Some a) = Some (offer_of a)
 unfoldable pub opened : {Q : Type 0} → ℕ → Q → VoteState Q → ℕ → AttemptState Q
 opened place wish v me = record { place = place; ballot = next_ballot v me; wish = wish; stage = stage.Prepare v.accepted; repliers = only me }
 
--- it keeps its place and wish, and begins again with a fresh ballot
+-- it keeps its place and wish, and retries with a fresh ballot
 abbrev pub rebid : {Q : Type 0} → AttemptState Q → VoteState Q → AttemptState Q
 rebid a v = opened a.place a.wish v a.ballot.name
 
@@ -65,12 +65,12 @@ abbrev pub replies_to : {Q : Type 0} → Stage Q → Ballot → VoteState Q → 
 replies_to (stage.Prepare told) b v = has_promised v b
 replies_to (stage.Propose c) b v = has_accepted v b
 
--- the stage after a reply: a promise tells what was accepted before it
+-- the stage after a reply: a promise reports what was accepted before it
 abbrev pub told_by : {Q : Type 0} → Stage Q → VoteState Q → Stage Q
 told_by (stage.Prepare told) v = stage.Prepare (later told v.accepted)
 told_by (stage.Propose c) v = stage.Propose c
 
--- the attempt after the vote of node j: only a reply to its present offer counts
+-- the attempt after the vote of node j: only a reply to its current offer counts
 unfoldable pub heard_vote : {Q : Type 0} → AttemptState Q → ℕ → VoteState Q → AttemptState Q
 heard_vote a j v =
     if replies_to a.stage a.ballot v then record a { stage = told_by a.stage v; repliers = set.insert a.repliers j } else a
@@ -96,7 +96,7 @@ proposing a told v = record a {
   repliers = if has_accepted (vote_proposed a told v) a.ballot then only a.ballot.name else set.empty;
 }
 
--- an advance by its stage: what it comes to, and the attempt and the own vote after it
+-- an advance by its stage: what it leads to, and the attempt and the node's own vote after it
 abbrev pub bid_in : {Q : Type 0} → Stage Q → Bid Q
 bid_in (stage.Prepare told) = bid.Propose
 bid_in (stage.Propose c) = bid.Chosen c

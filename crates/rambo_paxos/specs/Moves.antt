@@ -10,13 +10,13 @@ use Rattle.rambo_paxos.specs.Attempts.{AttemptState, offered, opened, rebid, vot
 pub data Move (Q : Type 0) : Type 0 where
   -- node n opens an attempt with this wish
   Open : (n : ℕ) (wish : Q) → Move Q
-  -- node n begins its attempt again
+  -- node n retries its attempt
   Rebid : (n : ℕ) → Move Q
   -- the vote of node n takes an offer
   Take : (n : ℕ) (o : Offer Q) → Move Q
   -- the attempt of node n hears the vote of node j
   Hear : (n j : ℕ) (v : VoteState Q) → Move Q
-  -- the attempt of node n advances, if its repliers hold a quorum
+  -- the attempt of node n advances, if its repliers contain a quorum
   Advance : (n : ℕ) → Move Q
 
 abbrev pub mover : {Q : Type 0} → Move Q → ℕ

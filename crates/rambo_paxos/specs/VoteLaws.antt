@@ -108,7 +108,7 @@ taken_if-kept v o f q h = elim (taken_if-accepted v o q h) [
   | inr p ↦ subst (λ b. BallotLe q.ballot (promised_in b)) (sym p.1) (le_refl q.ballot)
 ]
 
--- a fresh ballot is above all that was promised, and the own vote promises it
+-- a fresh ballot is above all that was promised, and the node's own vote promises it
 pub next_ballot-lt : {Q : Type 0} (v : VoteState Q) (n : ℕ) → BallotLt (promised_in v.promised) (next_ballot v n)
 next_ballot-lt v n = go v.promised
   where

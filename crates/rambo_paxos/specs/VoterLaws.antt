@@ -35,7 +35,7 @@ record Fits {Q : Type 0} (n : ℕ) (x : Voter Q) : Type 0 where
   name : (a : AttemptState Q) → x.attempt ≡ Some a → a.ballot.name ≡ n
   promised : (a : AttemptState Q) → x.attempt ≡ Some a → BallotLe a.ballot (promised_in x.vote.promised)
 
--- who takes part took part before
+-- a node that takes part took part before
 went_on : {Q : Type 0} (is_quorum : Q → NameSet → Bool) (old : Q) (at : Voters Q) (m n : ℕ) (x y : Voter Q) → VoterTurn is_quorum old at m n x y → y.votes ≡ true → x.votes ≡ true
 went_on is_quorum old at m n x y (hears o t g h v e) w = v
 went_on is_quorum old at m n x y (opens p c v e) w = v
@@ -109,7 +109,7 @@ from_prepare : {Q : Type 0} (k s : Stage Q) (t : Option (Proposal Q)) → StageL
 from_prepare (stage.Prepare u) s t h = tt
 from_prepare (stage.Propose c) s t h = absurd (prepare-propose t c h)
 
--- a node at a later moment, beside an attempt that it had
+-- a node at a later moment, and an attempt that it had
 record Forward {Q : Type 0} (k : AttemptState Q) (x : Voter Q) : Type 0 where
   promised : BallotLe k.ballot (promised_in x.vote.promised)
   attempt : (b : AttemptState Q) → x.attempt ≡ Some b → AttemptLe k b
@@ -245,7 +245,7 @@ attempt_lasts is_quorum old at m a f = record {
 }
 
 module _ {Q : Type 0} (is_quorum : Q → NameSet → Bool) (old : Q) (at : Voters Q) (run : IsRun is_quorum old at) where
-  -- who takes part at a moment took part before
+  -- a node that takes part at a moment took part before
   took_part : (m k n : ℕ) → m ≤ k → (at k n).votes ≡ true → (at m n).votes ≡ true
   took_part m k n h = from_then (λ k. (at k n).votes ≡ true → (at m n).votes ≡ true) m (λ v. v)
       (λ k l f v. f (went_on is_quorum old at k n (at k n) (at (suc k) n) (run.turn k n) v)) k h

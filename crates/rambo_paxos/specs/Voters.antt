@@ -44,7 +44,7 @@ pub record WasHeld {Q : Type 0} (at : Voters Q) (m : ℕ) (t : Told Q) : Type 0 
   pub vote : (at moment t.from).vote ≡ t.vote
 
 -- what node n may do after moment m: x before, y after. It takes an offer and hears a vote, if there are any, opens an
--- attempt or begins it again, proposes where its repliers hold a quorum, or takes part no more
+-- attempt or retries it, proposes where its repliers contain a quorum, or takes part no more
 pub data VoterTurn {Q : Type 0} (is_quorum : Q → NameSet → Bool) (old : Q) (at : Voters Q) (m n : ℕ) (x y : Voter Q) : Type 0 where
   hears : (o : Option (Offer Q)) (t : Option (Told Q)) → ((p : Offer Q) → o ≡ Some p → WasOffered at m p) → ((u : Told Q) → t ≡ Some u → WasHeld at m u)
       → x.votes ≡ true → y ≡ record { votes = true; vote = taken_if x.vote o; attempt = heard_if x.attempt t } → VoterTurn is_quorum old at m n x y

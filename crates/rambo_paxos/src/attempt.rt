@@ -53,7 +53,7 @@ impl<Q: Quorums> Attempt<Q> {
     /// Node `me` begins an attempt for a place, with a ballot of the round above the one that its own vote promised. The
     /// vote takes the offer of it, and is its first reply.
     ///
-    /// `NumbersSpent` exactly where that vote promised the greatest round; it then stays as it was.
+    /// `NumbersSpent` exactly where that vote promised the greatest round; it is then unchanged.
     #[tactic(auto, unfolding(crate::specs::Attempts::opened))]
     pub fn open(place: u64, wish: Q, vote: &mut Vote<Q>, me: Name) -> Result<Attempt<Q>, Refusal>
         ensures judged { OnOk result (is_spent vote.old ≡ false) }
@@ -91,8 +91,8 @@ impl<Q: Quorums> Attempt<Q> {
         self.place
     }
 
-    /// Hears the vote of a node. Only a reply to its present offer counts: a promise of its ballot, which tells what was
-    /// accepted before, and later an acceptance in its ballot.
+    /// Hears the vote of a node. Only a reply to its current offer counts: a promise of its ballot, which reports what
+    /// was accepted before, and later an acceptance in its ballot.
     #[tactic(auto, unfolding(crate::specs::Attempts::heard_vote))]
     pub fn hear_vote(&mut self, from: Name, vote: &Vote<Q>)
         ensures { self.new ≡ heard_vote self.old from vote.now }
@@ -112,9 +112,9 @@ impl<Q: Quorums> Attempt<Q> {
         }
     }
 
-    /// Begins again with a fresh ballot, for the same place and with the same wish.
+    /// Retries with a fresh ballot, for the same place and with the same wish.
     ///
-    /// `NumbersSpent` exactly where the node's own vote promised the greatest round; all then stays as it was.
+    /// `NumbersSpent` exactly where the node's own vote promised the greatest round; nothing changes then.
     pub fn rebid(&mut self, vote: &mut Vote<Q>) -> Result<(), Refusal>
         ensures judged { OnOk result (is_spent vote.old ≡ false) }
         ensures ok { OnOk result (self.new ≡ rebid self.old vote.old) }
@@ -126,11 +126,11 @@ impl<Q: Quorums> Attempt<Q> {
         Ok(())
     }
 
-    /// Goes on, where the repliers hold a quorum of `old`, the configuration in use: from promises to a proposal, which is
-    /// what the attempt was told of or else its wish, and which the own vote takes; from acceptances to a chosen
-    /// configuration, and then the own vote is emptied and the attempt is over.
+    /// Advances, where the repliers contain a quorum of `old`, the configuration in use. After promises it proposes a
+    /// configuration: the accepted one that it was told of, or else its wish. The node's own vote takes the proposal.
+    /// After acceptances the configuration is chosen; the node's own vote is then emptied, and the attempt is over.
     ///
-    /// `NotYet` exactly where they hold no quorum; all then stays as it was.
+    /// `NotYet` exactly where they contain no quorum; nothing changes then.
     #[tactic(auto, unfolding(crate::specs::Attempts::proposing))]
     pub fn advance(&mut self, vote: &mut Vote<Q>, old: &Q) -> Result<Bid<Q>, Refusal>
         ensures judged { OnOk result (Q.system.is_quorum old.now self.old.repliers ≡ true) }

@@ -15,7 +15,7 @@ pub struct Ballot {
 impl Ballot {
     ghost use Rattle.rambo_paxos.specs.Ballots.{ballot_lt, exceeds, is_below};
 
-    /// Whether this ballot is the less.
+    /// Whether this ballot is the lesser one.
     pub fn is_before(&self, other: &Ballot) -> bool
         ensures { result ≡ ballot_lt self.now other.now }
     {

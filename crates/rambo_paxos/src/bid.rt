@@ -1,6 +1,6 @@
-//! What comes of an advance.
+//! What an advance leads to.
 
-/// What an attempt has come to.
+/// What an advance of an attempt led to.
 #[derive(Clone, Copy, PartialEq, Eq, Debug)]
 pub enum Bid<Q> {
     /// It was prepared, and now proposes a configuration.

@@ -60,7 +60,7 @@ impl<Q: Quorums> Vote<Q> {
         self.promised
     }
 
-    /// The round of that ballot, 0 if there is none.
+    /// The round of the promised ballot, 0 if there is none.
     pub fn round(&self) -> u64
         ensures { result ≡ round_of self.now.promised }
     {

@@ -10,7 +10,7 @@ abbrev pub held_at : {Q : Type 0} → PhaseState Q → ℕ → Option Q
 held_at p place = if nat_lt place p.lo then None else row_at p.lo p.configs place
 
 -- the phase keeps each configuration it had, has the map's active ones above its old end and no others, and has the
--- sender as a replier more
+-- sender as one more replier
 pub record CountsReply {Q : Type 0} (p : PhaseState Q) (m : MapState Q) (sender : ℕ) (after : PhaseState Q) : Type 0 where
   pub number : after.number ≡ p.number
   pub lo : after.lo ≡ p.lo

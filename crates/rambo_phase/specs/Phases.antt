@@ -1,5 +1,6 @@
 -- Phases: the round trips of a read or a write to quorums (Attiya, Bar-Noy and Dolev, "Sharing Memory Robustly in
--- Message-Passing Systems", JACM 1995), over the configurations of several places (Lynch and Shvartsman, "RAMBO")
+-- Message-Passing Systems", JACM 1995). They go over the configurations of several places (Lynch and Shvartsman,
+-- "RAMBO")
 use Rattle.std.specs.Prelude.{ℕ, ◌+◌, ◌-◌, Bool, nat_le, if◌then◌else◌, List, [], ◌++◌, length, drop}
 use Rattle.std.specs.List.{list_all}
 use Rattle.std.specs.FinSet as set
@@ -16,7 +17,7 @@ pub record PhaseState (Q : Type 0) : Type 0 where
   pub configs : List Q
   pub repliers : NameSet
 
--- a phase as it is kept, with room for so many configurations
+-- a phase as it is stored, and for how many configurations it has room
 pub record KeptPhase (Q : Type 0) : Type 0 where
   pub state : PhaseState Q
   pub capacity : ℕ
@@ -29,7 +30,7 @@ only n = set.insert set.empty n
 abbrev pub unbegun : {Q : Type 0} → PhaseState Q
 unbegun = record { number = 0; lo = 0; configs = []; repliers = set.empty }
 
--- a phase of node me begins: it takes the present map, and the node replies to itself
+-- a phase of node me begins: it takes the current map, and the node replies to itself
 abbrev pub started : {Q : Type 0} → ℕ → MapState Q → ℕ → PhaseState Q
 started number m me = record { number = number; lo = m.floor; configs = m.configs; repliers = only me }
 
@@ -57,6 +58,6 @@ heard_as p number m = if nat_le p.number number then (if fits p m then heard.Cou
 abbrev pub after_letter : {Q : Type 0} → PhaseState Q → ℕ → MapState Q → ℕ → PhaseState Q
 after_letter p number m j = if nat_le p.number number then (if fits p m then counted p m j else p) else p
 
--- the repliers hold a quorum of every configuration in the phase
+-- the repliers contain a quorum of every configuration in the phase
 abbrev pub is_met : {Q : Type 0} → QuorumSystem Q → PhaseState Q → Bool
 is_met s p = list_all (λ q. s.is_quorum q p.repliers) p.configs

@@ -7,10 +7,10 @@ ghost use Rattle.rambo_phase.specs.Counting.{CountsReply};
 use crate::heard::Heard;
 use rambo_names::Quorums;
 
-/// The laws of hearing a letter, for readers and proofs: it does nothing when it runs.
+/// The laws of hearing a letter, for readers and proofs; at run time it does nothing.
 ///
 /// A phase that counts a letter keeps each configuration it had, has the letter's active configurations above its old
-/// end and no others, and has exactly one replier more. Any other letter changes nothing.
+/// end and no others, and has exactly one more replier. Any other letter changes nothing.
 pub fn counting_laws<Q: Quorums>()
     ensures counted { (p : PhaseState Q) (number : ℕ) (m : MapState Q) (sender : ℕ) → heard_as p number m ≡ Heard.Counted
         → CountsReply p m sender (after_letter p number m sender) }

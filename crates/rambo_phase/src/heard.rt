@@ -7,6 +7,6 @@ pub enum Heard {
     Counted,
     /// No reply: its sender hadn't heard of the phase yet.
     Old,
-    /// A reply whose map has removed the place just above the phase, so the phase has to begin again.
+    /// A reply whose map has removed the place just above the phase, so the phase has to restart.
     Restart,
 }

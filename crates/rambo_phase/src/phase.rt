@@ -8,11 +8,11 @@ use rambo_names::{Members, Name, Quorums, Refusal};
 use std::alloc::Global;
 use std::marker::Model;
 
-/// A phase of a read or a write: its number, the configurations of the places from `lo` on, and who replied
-/// (Attiya, Bar-Noy and Dolev, "Sharing Memory Robustly in Message-Passing Systems", JACM 1995; Lynch and
-/// Shvartsman, "RAMBO", DISC 2002).
+/// A phase of a read or a write (Attiya, Bar-Noy and Dolev, "Sharing Memory Robustly in Message-Passing Systems", JACM
+/// 1995; Lynch and Shvartsman, "RAMBO", DISC 2002). It has its number, the configurations of the places from `lo` on,
+/// and who replied.
 ///
-/// A phase of up to eight configurations lies in the value itself, and takes no memory.
+/// A phase of up to eight configurations is stored inline, and allocates nothing.
 #[derive(Drop)]
 pub struct Phase<Q: Quorums> {
     number: u64,
@@ -36,7 +36,7 @@ impl<Q: Quorums> Model for Phase<Q> {
     ghost invariant = { λ p. (p.lo + length p.places.configs ≤ 2 ^ 64) × (8 ≤ p.places.capacity) };
 }
 
-// So many configurations lie in the value itself.
+// The greatest number of configurations that are stored inline.
 const INSIDE: usize = 8;
 
 impl<Q: Quorums> Phase<Q> {
@@ -63,8 +63,7 @@ impl<Q: Quorums> Phase<Q> {
         }
     }
 
-    /// What `start` does, where a phase lies already, which needn't be moved then: it begins, or begins anew. It takes no
-    /// memory.
+    /// What `start` does, in the place of an earlier phase, so that no phase is moved. It allocates nothing.
     pub fn begin(&mut self, number: u64, map: &ConfigMap<Q>, me: Name)
         ensures state { self.new.state ≡ started number map.now me }
         ensures capacity { self.new.capacity ≡ self.old.capacity }
@@ -82,7 +81,7 @@ impl<Q: Quorums> Phase<Q> {
         self.number
     }
 
-    /// What a letter is to the phase, whose sender had heard of the number `heard` and had this map.
+    /// What a letter is to the phase, if its sender had heard of the number `heard` and had this map.
     pub fn would_hear(&self, heard: u64, map: &ConfigMap<Q>) -> Heard
         ensures { result ≡ heard_as self.now.state heard map.now }
     {
@@ -98,7 +97,7 @@ impl<Q: Quorums> Phase<Q> {
 
     /// Makes room for the configurations that a map has above the phase, so that hearing that map can't fail.
     ///
-    /// Refused with `OutOfMemory` where there is no memory for them. The phase then stays as it was.
+    /// Refused with `OutOfMemory` where there is no memory for them. The phase is then unchanged.
     pub fn reserve(&mut self, map: &ConfigMap<Q>) -> Result<(), Refusal>
         ensures state { self.new.state ≡ self.old.state }
         ensures ok { OnOk result (needed self.old.state map.now ≤ self.new.capacity) }
@@ -119,20 +118,20 @@ impl<Q: Quorums> Phase<Q> {
     /// Hears a letter from a node: a reply adds what the map has above the phase, and the node to those that replied.
     /// Otherwise nothing changes.
     ///
-    /// Refused with `OutOfMemory` where there is no memory for the configurations of a reply. The phase then stays as
-    /// it was.
+    /// Refused with `OutOfMemory` where there is no memory for the configurations of a reply. The phase is then
+    /// unchanged.
     pub fn hear(&mut self, from: Name, heard: u64, map: &ConfigMap<Q>) -> Result<Heard, Refusal>
         ensures ok { OnOk result (self.new.state ≡ after_letter self.old.state heard map.now from) }
         ensures answer { IfOk result (λ answer. answer ≡ heard_as self.old.state heard map.now) }
         ensures no_reply { (heard_as self.old.state heard map.now ≡ Heard.Counted → ⊥)
             → IsOk result × (self.new ≡ self.old) }
 
-        // It fails only for want of memory, and then nothing changes.
+        // It fails only when memory runs out, and then nothing changes.
         ensures err { OnErr result (self.new ≡ self.old) }
         ensures refused { IfErr result (λ r. r ≡ Refusal.OutOfMemory) }
         ensures succeeds { needed self.old.state map.now ≤ self.old.capacity → IsOk result }
 
-        // It takes no memory where there is room, and for eight configurations there always is.
+        // It allocates nothing where there is room, and for eight configurations there always is.
         ensures had_room { needed self.old.state map.now ≤ self.old.capacity
             → self.new.capacity ≡ self.old.capacity }
         ensures eight { 8 ≤ self.old.capacity }
@@ -147,7 +146,7 @@ impl<Q: Quorums> Phase<Q> {
         Ok(answer)
     }
 
-    /// Whether the nodes that replied hold a quorum of every configuration in the phase.
+    /// Whether the nodes that replied contain a quorum of every configuration in the phase.
     pub fn met(&self) -> bool
         ensures { result ≡ is_met Q.system self.now.state }
     {
@@ -164,9 +163,9 @@ impl<Q: Quorums> Phase<Q> {
             && self.places.same(&other.places)
     }
 
-    /// A copy, which takes memory only for more than eight configurations.
+    /// A copy, which allocates only for more than eight configurations.
     ///
-    /// Refused with `OutOfMemory` where there is none.
+    /// Refused with `OutOfMemory` where there is no memory for that.
     pub fn copy(&self) -> Result<Self, Refusal>
         ensures ok { IfOk result (λ copy. copy.state ≡ self.now.state) }
         ensures refused { IfErr result (λ r. r ≡ Refusal.OutOfMemory) }
@@ -182,7 +181,7 @@ impl<Q: Quorums> Phase<Q> {
         })
     }
 
-    // How many configurations of a map, from its floor on, lie at places below the end of the phase. It stops at the
+    // How many configurations of a map, from its floor on, are at places below the end of the phase. It stops at the
     // greatest number, which is past the end of every map.
     fn known(&self, map: &ConfigMap<Q>) -> usize
         ensures { result ≡ min (above self.now.state - map.now.floor) (2 ^ 64 - 1) }

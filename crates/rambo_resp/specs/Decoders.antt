@@ -4,12 +4,12 @@ use Rattle.rambo_resp.specs.Streams.{Ending, open_at, faulty, Reads}
 use Rattle.rambo_resp.specs.declared.fault.Fault.{Fault}
 use Rattle.rambo_resp.specs.declared.fault.Fault.TheVariants.{OutOfMemory}
 
--- the commands that are whole and weren't given yet, in order, and what stands behind them
+-- the commands that are whole and weren't given yet, in order, and what follows them
 pub record DecoderState : Type 0 where
   pub waiting : List (List (List ℕ))
   pub ending : Ending
 
--- a decoder that was fed this stream, and has given so many of its commands
+-- a decoder that was fed this stream, and has given this many of its commands
 pub record HasTaken (d : DecoderState) (stream : List ℕ) (given : ℕ) : Type 0 where
   pub commands : List (List (List ℕ))
   pub reads : Reads stream commands d.ending
@@ -20,8 +20,8 @@ pub record HasTaken (d : DecoderState) (stream : List ℕ) (given : ℕ) : Type 
 abbrev pub failed : DecoderState → Fault → DecoderState
 failed d fault = record d { ending = faulty fault }
 
--- what a decoder answers to a piece that follows the stream: nothing is wrong with what it has now, or it has the fault
--- that it answers, or memory ran out and nothing of the piece was taken
+-- what a decoder answers to a piece that follows the stream. Nothing is wrong with what it has now; or it has the fault
+-- that it answers; or memory ran out, and nothing of the piece was taken
 abbrev pub Takes : DecoderState → List ℕ → ℕ → Result (Unit {0}) Fault → Type 0
 Takes d stream given (Ok _) = HasTaken d stream given × ((fault : Fault) → d.ending ≢ faulty fault)
 Takes d stream given (Err fault) = fault ≢ OutOfMemory → HasTaken d stream given × (d.ending ≡ faulty fault)

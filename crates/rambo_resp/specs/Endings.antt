@@ -1,4 +1,4 @@
--- How a decoder stands behind its whole commands
+-- Where a decoder is after its whole commands
 use Rattle.std.specs.Prelude.{ℕ, Bool, false, true, if◌then◌else◌, List, [], ◌∷◌, Option, Some, None}
 use Rattle.rambo_resp.specs.Rests.{Rest, spelled}
 use Rattle.rambo_resp.specs.Streams.{Ending, open_at, faulty}

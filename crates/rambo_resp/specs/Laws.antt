@@ -5,7 +5,7 @@ use Rattle.rambo_resp.specs.Spellings.{IsCommand}
 use Rattle.rambo_resp.specs.Streams.{Ending, Reads}
 use Rattle.rambo_resp.specs.Decoders.{DecoderState, HasTaken}
 
--- a stream tells something
+-- a stream reads as something
 abbrev pub EachIsRead : Type 0
 EachIsRead = (stream : List ℕ) → (commands : List (List (List ℕ))) × (ending : Ending) × Reads stream commands ending
 
@@ -17,7 +17,7 @@ OneReading = (stream : List ℕ) (cs ds : List (List (List ℕ))) (e f : Ending)
 abbrev pub AnyCutting : Type 0
 AnyCutting = (stream : List ℕ) (given : ℕ) (d e : DecoderState) → HasTaken d stream given → HasTaken e stream given → d ≡ e
 
--- its commands stay when more bytes come
+-- its commands stay the same when more bytes come
 abbrev pub CommandsStay : Type 0
 CommandsStay = (stream more : List ℕ) (cs ds : List (List (List ℕ))) (e f : Ending) → Reads stream cs e → Reads (stream ++ more) ds f
     → (new : List (List (List ℕ))) × (ds ≡ cs ++ new)

@@ -8,7 +8,7 @@ use Rattle.rambo_resp.specs.declared.awaited.Awaited.TheVariants.{Star, Count, C
 use Rattle.rambo_resp.specs.declared.fault.Fault.{Fault}
 use Rattle.rambo_resp.specs.declared.fault.Fault.TheVariants.{OutOfMemory}
 
--- a number with a digit more
+-- a number with one more digit
 abbrev pub longer : ℕ → ℕ → ℕ
 longer n byte = 10 * n + (byte - 48)
 
@@ -28,7 +28,7 @@ as_length left (Some n) = Some (LengthDigits left n)
 abbrev pub is_last : ℕ → Bool
 is_last left = nat_le left 1
 
--- what the byte after this one belongs to, where this one may stand; Star where a spelling is whole with it
+-- what the byte after this one belongs to, where this one is allowed; Star where a spelling is whole with it
 abbrev pub after : Awaited → ℕ → Option Awaited
 after Star b = if b == 42 then Some Count else None
 after Count b = if b == 45 then Some CountMinus else (if is_ascii_digit b then Some (CountDigits (b - 48)) else None)
@@ -69,12 +69,12 @@ pub record ProgressState : Type 0 where
   pub place : ℕ
   pub rest : Rest
 
--- how far a stream was read: it goes on, or it broke behind these commands
+-- how far a stream was read: it goes on, or it broke after these commands
 pub data Run : Type 0 where
   running : ProgressState → Run
   broken : List (List (List ℕ)) → Fault → Run
 
--- one byte, after which the next belongs to this, if it may stand
+-- one byte, after which the next belongs to this, if it is allowed
 abbrev pub stepped : Option Awaited → ProgressState → ℕ → Run
 stepped None p b = broken p.waiting (fault_of p.rest.awaited b p.place)
 stepped (Some a) p b = running (record { waiting = p.waiting ++ whole p.rest; place = place_of (p.place + 1); rest = rest_after p.rest b a })
@@ -94,7 +94,7 @@ run r (b ∷ bs) = run (onward r b) bs
 abbrev pub with_item : ProgressState → ℕ → List ℕ → ProgressState
 with_item p left item = record p { waiting = p.waiting ++ whole_as (ItemFeed left) p.rest.items item; rest = rest_as (ItemFeed left) p.rest.items item 0 p.rest.awaited }
 
--- a progress when this item was read at once, by a spelling of so many bytes
+-- a progress when this item was read at once, by a spelling of this many bytes
 abbrev pub item_read : ProgressState → ℕ → List ℕ → ℕ → ProgressState
 item_read p left item n = record {
   waiting = p.waiting ++ whole_as (ItemFeed left) p.rest.items item;
@@ -102,7 +102,7 @@ item_read p left item n = record {
   rest = rest_as (ItemFeed left) p.rest.items item 10 (if is_last left then Star else Dollar (left - 1));
 }
 
--- a progress when the line of an array of some items was read at once, a line of so many bytes
+-- a progress when the line of an array of some items was read at once, a line of this many bytes
 abbrev pub line_read : ProgressState → ℕ → ℕ → ProgressState
 line_read p items n = record { waiting = p.waiting; place = place_of (p.place + n); rest = record { awaited = Dollar items; items = []; item = p.rest.item } }
 
@@ -115,10 +115,10 @@ are_bytes _ = false
 abbrev pub fresh : Rest
 fresh = record { awaited = Star; items = []; item = [] }
 
--- the same commands, and maybe more behind them
+-- the same commands, and maybe more after them
 abbrev pub Extends : List (List (List ℕ)) → List (List (List ℕ)) → Type 0
 Extends old new = (more : List (List (List ℕ))) × (new ≡ old ++ more)
 
--- bytes were read until they broke behind the whole commands, or memory ran out
+-- bytes were read until they broke after the whole commands, or memory ran out
 abbrev pub Stops : ProgressState → List ℕ → ProgressState → Fault → Type 0
 Stops old bytes new fault = fault ≢ OutOfMemory → run (running old) bytes ≡ broken new.waiting fault

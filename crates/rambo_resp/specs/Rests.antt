@@ -1,4 +1,4 @@
--- What stands behind the last whole command: the beginning of another one, and which byte may not follow it
+-- What follows the last whole command: the beginning of another one, and which byte may not follow it
 use Rattle.std.specs.Prelude.{◌≡◌, ℕ, ◌+◌, ◌≤◌, Bool, not, ◌&&◌, ◌==◌, if◌then◌else◌, List, [], ◌∷◌, ◌++◌, length, Option, decimal}
 use Rattle.std.specs.Char.{is_ascii_digit}
 use Rattle.std.specs.List.{flat_map, AllByRecursion}
@@ -14,7 +14,7 @@ pub record Rest : Type 0 where
   pub items : List (List ℕ)
   pub item : List ℕ
 
--- the items that have come, of an array of which so many are still to come
+-- the items that have come, of an array of which this many are still to come
 abbrev pub array_front : List (List ℕ) → ℕ → List ℕ
 array_front items left = number_line 42 (length items + left) ++ flat_map item_spelling items
 
@@ -84,7 +84,7 @@ fault_of (LengthFeed left n) byte place = MissingCrlf place
 fault_of (Bytes left more) byte place = MissingCrlf place
 fault_of (ItemFeed left) byte place = MissingCrlf place
 
--- a proper beginning of a spelling
+-- a proper prefix of a spelling
 pub record IsOpen (bytes : List ℕ) : Type 0 where
   pub text : List ℕ
   pub tells : Option (List (List ℕ))
@@ -93,8 +93,8 @@ pub record IsOpen (bytes : List ℕ) : Type 0 where
   pub begins : text ≡ bytes ++ more
   pub proper : 1 ≤ length more
 
--- how these bytes go wrong: their front is open, with one byte more it isn't, and the fault is by what that byte should
--- belong to
+-- how these bytes go wrong: a prefix of them is open, with one more byte it isn't, and the fault is by what that byte
+-- should belong to
 pub record GoesWrong (bytes : List ℕ) (place : ℕ → ℕ) (fault : Fault) : Type 0 where
   pub front : Rest
   pub byte : ℕ

@@ -6,7 +6,7 @@ use Rattle.std.specs.List.{flat_map, AllByRecursion}
 abbrev pub line_end : List ℕ
 line_end = 13 ∷ 10 ∷ []
 
--- a line that tells a number: a sign, and the number in plain decimal
+-- a line with a number: a sign, and the number in plain decimal
 abbrev pub number_line : ℕ → ℕ → List ℕ
 number_line sign n = (sign ∷ decimal n) ++ line_end
 

@@ -1,4 +1,4 @@
--- What a stream of bytes tells: its commands, and how it ends
+-- What a stream of bytes reads as: its commands, and how it ends
 use Rattle.std.specs.Prelude.{◌≡◌, ℕ, ◌+◌, ◌-◌, ◌^◌, min, List, ◌++◌, length, Option}
 use Rattle.std.specs.List.{flat_map, filter_map, AllByRecursion}
 use Rattle.rambo_resp.specs.Spellings.{Spells}
@@ -26,21 +26,20 @@ texts parts = flat_map text_of parts
 abbrev pub commands_of : List Part → List (List (List ℕ))
 commands_of parts = filter_map command_of parts
 
--- a place in a stream, as it is told: places from 2^64 - 1 on are told as this
+-- a place in a stream, as it is given: places from 2^64 - 1 on are given as this
 abbrev pub place_of : ℕ → ℕ
 place_of n = min n (2 ^ 64 - 1)
 
--- how a stream ends behind its whole spellings: with a beginning of one, told with the place of the next byte, or
--- with a fault
+-- how a stream ends after its whole spellings: with a prefix of one, and the place of the next byte, or with a fault
 pub data Ending : Type 0 where
   open_at : List ℕ → ℕ → Ending
   faulty : Fault → Ending
 
--- no spelling stands at the front of these bytes
+-- these bytes begin with no spelling
 abbrev pub BeginsWithNone : List ℕ → Type 0
 BeginsWithNone bytes = (p : Part) (more : List ℕ) → IsPart p → bytes ≡ p.text ++ more → ⊥
 
--- the rest behind so many bytes ends so
+-- the rest after this many bytes ends so
 abbrev pub EndsAs : ℕ → List ℕ → Ending → Type 0
 EndsAs before rest (open_at bytes place) = IsOpen rest × (bytes ≡ rest) × (place ≡ place_of (before + length rest))
 EndsAs before rest (faulty fault) = GoesWrong rest (λ n. place_of (before + n)) fault

@@ -25,9 +25,9 @@ pub enum Awaited {
     CountMinusOne,
     /// The number of items, of which this has come, or the end of its line.
     CountDigits(u16),
-    /// The line feed behind the number of items.
+    /// The line feed after the number of items.
     CountFeed(u16),
-    /// The line feed behind `*-1`.
+    /// The line feed after `*-1`.
     NoCountFeed,
     /// The sign of an item.
     Dollar(u16),
@@ -35,15 +35,15 @@ pub enum Awaited {
     Length(u16),
     /// The length of an item, of which this has come, or the end of its line.
     LengthDigits(u16, u16),
-    /// The line feed behind the length of an item.
+    /// The line feed after the length of an item.
     LengthFeed(u16, u16),
-    /// The bytes of an item, of which so many are still to come, or the carriage return behind them.
+    /// The bytes of an item, of which this many are still to come, or the carriage return after them.
     Bytes(u16, u16),
-    /// The line feed behind an item.
+    /// The line feed after an item.
     ItemFeed(u16),
 }
 
-// What follows the one byte that may stand here.
+// What follows the one byte that is allowed here.
 fn only(byte: u8, wanted: u8, next: Awaited) -> Option<Awaited>
     ensures { result ≡ (if byte == wanted then Some next else None) }
 {
@@ -67,7 +67,7 @@ fn grown(number: u16, byte: u8, most: u16) -> Option<u16>
 
 /// What the byte after this one belongs to, and `Star` where a command, or an array of nothing, is whole with it.
 ///
-/// None where the byte may not stand there.
+/// None where the byte isn't allowed there.
 pub fn after(awaited: Awaited, byte: u8) -> Option<Awaited>
     ensures { result ≡ after awaited byte }
 {
@@ -103,7 +103,7 @@ pub fn after(awaited: Awaited, byte: u8) -> Option<Awaited>
     }
 }
 
-/// The fault of a byte that may not stand there.
+/// The fault of a byte that isn't allowed there.
 pub fn fault_of(awaited: Awaited, byte: u8, place: u64) -> Fault
     ensures { result ≡ fault_of awaited byte place }
 {

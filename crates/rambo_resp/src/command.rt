@@ -32,7 +32,7 @@ impl Command {
         }
     }
 
-    /// The command of no items, with room for so many.
+    /// The command of no items, with room for this many.
     ///
     /// `OutOfMemory` where there is none.
     pub(crate) fn with_capacity(alloc: Global, count: u16) -> Result<Self, Fault>
@@ -77,7 +77,7 @@ impl Command {
         self.items.as_slice()
     }
 
-    /// The items, taken out.
+    /// The items, moved out.
     pub fn into_items(self) -> Vec<Bytes>
         ensures { result.items ≡ self }
     {

@@ -47,8 +47,9 @@ impl Decoder {
 
     /// Takes the next piece of the stream, of any length.
     ///
-    /// A fault is answered where the stream with this piece has one, and `OutOfMemory` where memory ran out: then this
-    /// piece counts for nothing. Either is answered again from then on, behind the commands that were whole before it.
+    /// A fault is answered where the stream with this piece has one, and `OutOfMemory` where memory ran out: then
+    /// nothing of this piece is taken. Either is answered again from then on, after the commands that were whole before
+    /// it.
     pub fn feed(&mut self, piece: &[u8]) -> Result<(), Fault>
         ensures taken { (stream : List ℕ) (given : ℕ) → HasTaken self.old stream given → Takes self.new (stream ++ piece.now) given result }
         ensures memory { IfErr result (λ f. f ≡ Fault.OutOfMemory → self.new ≡ failed self.old Fault.OutOfMemory) }
@@ -70,9 +71,9 @@ impl Decoder {
         read
     }
 
-    /// Gives the oldest command that wasn't given yet, which it moves out. It takes no memory.
+    /// Gives the oldest command that wasn't given yet, which is moved out. It allocates nothing.
     ///
-    /// None where more of the stream is to come first, and the fault of the stream behind its commands.
+    /// None where more of the stream is to come first, and the fault of the stream after its commands.
     pub fn next(&mut self) -> Result<Option<Command>, Fault>
         ensures given { result ≡ oldest self.old }
         ensures left { self.new ≡ without_oldest self.old }

@@ -4,8 +4,8 @@ ghost use Rattle.rambo_resp.specs.Faults.{number_of};
 
 use std::alloc::{AllocError, AllocFailed};
 
-/// Why no command can be read any more. Each but the last tells the place of the first byte that may not stand where it
-/// does, in bytes from the stream's first, which is 0; a place from 2^64 - 1 on is told as 2^64 - 1.
+/// Why no command can be read any more. Each but the last has the place of the first byte that isn't allowed where it
+/// is. Places count bytes from the stream's first, which is 0; one from 2^64 - 1 on is given as 2^64 - 1.
 #[derive(Clone, Copy, PartialEq, Eq, Debug)]
 pub enum Fault {
     /// A command doesn't begin with `*`, or an item with `$`.

@@ -1,10 +1,10 @@
-//! What stands whole at the front of some bytes.
+//! What is whole at the beginning of some bytes.
 ghost use Rattle.std.specs.Prelude.{◌≡◌, ◌≢◌, ℕ, ◌≤◌, ◌<◌, List, ◌++◌, IfNone, IfSome, length};
 ghost use Rattle.rambo_resp.specs.Spellings.{number_line, item_spelling};
 
-/// An item of at most 99 bytes, and what is behind its spelling.
+/// The item of at most 99 bytes at the beginning, and what follows its spelling.
 ///
-/// None exactly where no such item stands there: also where one does that is longer.
+/// None exactly where there is no such item: also where there is a longer one.
 pub fn whole_item(bytes: &[u8]) -> Option<(&[u8], &[u8])>
     ensures spelled { IfSome result (λ r. bytes.now ≡ item_spelling r.0.now ++ r.1.now) }
     ensures few { IfSome result (λ r. length r.0.now ≤ 99) }
@@ -19,9 +19,9 @@ pub fn whole_item(bytes: &[u8]) -> Option<(&[u8], &[u8])>
     }
 }
 
-/// The number of items that the line of an array tells with one digit, and what is behind the line.
+/// The number of items that the line of an array at the beginning has, as one digit, and what follows the line.
 ///
-/// None exactly where no such line stands there: also where one tells 0, or a number of more digits.
+/// None exactly where there is no such line: also where its number is 0, or has more digits.
 pub fn count_line(bytes: &[u8]) -> Option<(u16, &[u8])>
     ensures spelled { IfSome result (λ r. bytes.now ≡ number_line 42 r.0 ++ r.1.now) }
     ensures few { IfSome result (λ r. (1 ≤ r.0) × (r.0 ≤ 9)) }
@@ -36,7 +36,7 @@ pub fn count_line(bytes: &[u8]) -> Option<(u16, &[u8])>
     }
 }
 
-// The length that a line tells with one digit or two, and what is behind the line.
+// The length that a line has as one digit or two, and what follows the line.
 fn length_line(bytes: &[u8]) -> Option<(usize, &[u8])>
     ensures spelled { IfSome result (λ r. bytes.now ≡ number_line 36 r.0 ++ r.1.now) }
     ensures few { IfSome result (λ r. r.0 ≤ 99) }
@@ -51,7 +51,7 @@ fn length_line(bytes: &[u8]) -> Option<(usize, &[u8])>
     }
 }
 
-// The length that a line tells with two digits, and what is behind the line.
+// The length that a line has as two digits, and what follows the line.
 fn two_digit_line(bytes: &[u8]) -> Option<(usize, &[u8])>
     ensures spelled { IfSome result (λ r. bytes.now ≡ number_line 36 r.0 ++ r.1.now) }
     ensures few { IfSome result (λ r. r.0 ≤ 99) }

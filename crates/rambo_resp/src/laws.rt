@@ -1,12 +1,12 @@
 //! What is true of every stream.
 ghost use Rattle.rambo_resp.specs.Laws.{EachIsRead, OneReading, AnyCutting, CommandsStay, WithinLimits};
 
-/// Each stream of bytes tells its commands and how it ends: with an open rest, or with a fault and its place.
+/// Each stream of bytes reads as some commands and an end: an open rest, or a fault and its place.
 pub fn each_stream_is_read()
     ensures { EachIsRead }
 {}
 
-/// A stream tells nothing else.
+/// A stream reads as nothing else.
 pub fn one_reading()
     ensures { OneReading }
 {}
@@ -16,7 +16,7 @@ pub fn any_cutting()
     ensures { AnyCutting }
 {}
 
-/// The commands of a stream stay when more bytes come.
+/// The commands of a stream stay the same when more bytes come.
 pub fn commands_stay()
     ensures { CommandsStay }
 {}

@@ -3,10 +3,10 @@
 //! - `Decoder`: takes a stream piece by piece, and gives its commands.
 //! - `Command`: the items of a command.
 //! - `Fault`: what is wrong with a stream.
-//! - `Reply`, `write_reply`: what a command is answered.
+//! - `Reply`, `write_reply`: how a command is answered.
 //!
-//! RESP is told at <https://redis.io/docs/latest/develop/reference/protocol-spec/>. Commands are arrays of bulk strings;
-//! inline commands aren't taken.
+//! RESP is defined at <https://redis.io/docs/latest/develop/reference/protocol-spec/>. Commands are arrays of bulk
+//! strings; inline commands aren't taken.
 #![tactic(auto)]
 
 mod awaited;

@@ -88,8 +88,8 @@ impl Progress {
         Ok(())
     }
 
-    // Reads the first of some bytes, or as many as belong to one item, or what stands whole at their front, and tells how
-    // many these were.
+    // Reads the first of some bytes, or as many as belong to one item, or what is whole at their beginning, and returns
+    // how many these were.
     fn read_some(&mut self, bytes: &[u8]) -> Result<usize, Fault>
         requires { 1 ≤ length bytes.now }
         ensures some { IfOk result (λ n. (1 ≤ n) × (n ≤ length bytes.now)) }
@@ -119,7 +119,7 @@ impl Progress {
         }
     }
 
-    // Reads as many of some bytes as belong to an item, of which so many are still to come.
+    // Reads as many of some bytes as belong to an item, of which this many are still to come.
     fn read_bytes(&mut self, left: u16, more: u16, bytes: &[u8]) -> Result<usize, Fault>
         requires awaited { self.old.rest.awaited ≡ Awaited.Bytes left more }
         requires more { 1 ≤ more }
@@ -136,7 +136,7 @@ impl Progress {
         Ok(count)
     }
 
-    // Reads an item that has come whole, by a spelling of so many bytes.
+    // Reads an item that has come whole, by a spelling of this many bytes.
     fn read_item(&mut self, left: u16, item: &[u8], size: usize) -> Result<(), Fault>
         ensures ok { OnOk result (self.new ≡ item_read self.old left item.now size) }
         ensures kept { Extends self.old.waiting self.new.waiting }
@@ -153,7 +153,7 @@ impl Progress {
         Ok(())
     }
 
-    // Reads the line of an array of some items, a line of so many bytes.
+    // Reads the line of an array of some items, a line of this many bytes.
     fn read_line(&mut self, items: u16, size: usize) -> Result<(), Fault>
         ensures ok { OnOk result (self.new ≡ line_read self.old items size) }
         ensures kept { self.new.waiting ≡ self.old.waiting }

@@ -8,7 +8,7 @@ use bytes::BytesMut;
 use itoa::Buffer;
 use rambo_names::Bytes;
 
-/// What a command is answered.
+/// How a command is answered.
 #[derive(Drop, Debug)]
 pub enum Reply {
     /// The answer to a `PING` with no word.
@@ -19,13 +19,13 @@ pub enum Reply {
     Nil,
     /// These bytes, of any number.
     Bulk(Bytes),
-    /// An error, told in these words, in which no CR or LF should stand.
+    /// An error, in these words, which should contain no CR or LF.
     Error(Bytes),
 }
 
 /// Appends the one spelling of a reply.
 ///
-/// `OutOfMemory` where the buffer can't grow; it is then as before.
+/// `OutOfMemory` where the buffer can't grow; it is then unchanged.
 pub fn write_reply(reply: &Reply, out: &mut BytesMut) -> Result<(), Fault>
     ensures ok { OnOk result (out.new.items ≡ out.old.items ++ reply_spelling reply.now) }
     ensures err { OnErr result (out.new.items ≡ out.old.items) }
@@ -39,7 +39,7 @@ pub fn write_reply(reply: &Reply, out: &mut BytesMut) -> Result<(), Fault>
     written
 }
 
-// Appends a reply, or after a fault some front of it.
+// Appends a reply, or after a fault a prefix of it.
 fn append_reply(reply: &Reply, out: &mut BytesMut) -> Result<(), Fault>
     ensures ok { OnOk result (out.new.items ≡ out.old.items ++ reply_spelling reply.now) }
     ensures err { OnErr result ((more : List ℕ) × (out.new.items ≡ out.old.items ++ more)) }
@@ -55,7 +55,7 @@ fn append_reply(reply: &Reply, out: &mut BytesMut) -> Result<(), Fault>
     Ok(())
 }
 
-// Appends bytes behind their length, or after a fault some front of this.
+// Appends bytes after their length, or after a fault a prefix of this.
 fn append_bulk(bytes: &[u8], out: &mut BytesMut) -> Result<(), Fault>
     ensures ok { OnOk result (out.new.items ≡ out.old.items ++ item_spelling bytes.now) }
     ensures err { OnErr result ((more : List ℕ) × (out.new.items ≡ out.old.items ++ more)) }
@@ -70,7 +70,7 @@ fn append_bulk(bytes: &[u8], out: &mut BytesMut) -> Result<(), Fault>
     Ok(())
 }
 
-// Appends the line of an error, or after a fault some front of it.
+// Appends the line of an error, or after a fault a prefix of it.
 fn append_error(words: &[u8], out: &mut BytesMut) -> Result<(), Fault>
     ensures ok { OnOk result (out.new.items ≡ out.old.items ++ ((45 ∷ words.now) ++ line_end)) }
     ensures err { OnErr result ((more : List ℕ) × (out.new.items ≡ out.old.items ++ more)) }

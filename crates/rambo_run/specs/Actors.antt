@@ -3,7 +3,7 @@ use Rattle.std.specs.Prelude.{ℕ, zero, suc, List, [], ◌∷◌, ◌++◌, Opt
 use Rattle.rambo_run.specs.declared.step.Step.{Step}
 use Rattle.rambo_run.specs.declared.step.Step.TheVariants as step
 
--- whom the letter is for that a step sends, if it sends one
+-- the addressee of the letter that a step sends, if it sends one
 abbrev pub sent_by : {Q : Type 0} → Step Q → List ℕ
 sent_by (step.Send n to) = to ∷ []
 sent_by (step.Join n contacts) = []
@@ -18,7 +18,7 @@ sent_by (step.Rebid n) = []
 sent_by (step.AdvanceRecon n) = []
 sent_by (step.Stop n) = []
 
--- whom all letters are for that these steps sent
+-- the addressees of all letters that these steps sent
 abbrev pub sent : {Q : Type 0} → List (Step Q) → List ℕ
 sent [] = []
 sent (st ∷ sts) = sent_by st ++ sent sts
@@ -27,7 +27,7 @@ abbrev pub or_nobody : Option ℕ → ℕ
 or_nobody None = 0
 or_nobody (Some n) = n
 
--- whom the letter of a number is for, 0 if there is none
+-- the addressee of the letter of a number, 0 if there is none
 abbrev pub addressee_at : List ℕ → ℕ → ℕ
 addressee_at ns zero = 0
 addressee_at ns (suc i) = or_nobody (slice_get ns i)

@@ -41,15 +41,15 @@ Agrees {Q} s founders steps =
     (early late rest : List (Step Q)) (n k p : ℕ) (c d : Q) → steps ≡ early ++ late ++ rest
     → Holds s founders early n p c → Holds s founders (early ++ late) k p d → c ≡ d
 
--- y holds at least what x holds: to merge the copies of x into those of y changes none of them, so of each key the tag is
--- no less, and the map is no less at either end
+-- y holds at least what x holds. To merge the copies of x into those of y changes none of them, so of each key the tag
+-- is no less. The map is no less at either end
 pub record AtLeast {Q : Type 0} (x y : NodeState Q) : Type 0 where
   pub copies : joined y.registers x.registers ≡ y.registers
   pub tags : (key : List ℕ) → tag_lt (tag_of (map.get y.registers key)) (tag_of (map.get x.registers key)) ≡ false
   pub floor : x.map.floor ≤ y.map.floor
   pub top : end_of x.map ≤ end_of y.map
 
--- the step after these many steps is this one, and isn't refused
+-- the step after this many steps is this one, and isn't refused
 abbrev pub IsDone : {Q : Type 0} → QuorumSystem Q → Q → List (Step Q) → ℕ → Step Q → Type 0
 IsDone s founders steps m st = (slice_get steps m ≡ Some st) × (refusal s (run s founders (take m steps)) st ≡ None)
 
@@ -64,7 +64,8 @@ pub record IsHeard {Q : Type 0} (s : QuorumSystem Q) (founders : Q) (steps : Lis
   pub came : IsDone s founders steps heard_at (step.Deliver letter)
   pub content : letter_at (run s founders (take heard_at steps)).letters letter ≡ Some (letter_for replier n)
 
--- n asked j: after `began` steps or later, with no lesser number than `asked`, it sent j a letter, which came before j told
+-- n asked j: after `began` steps or later, with no lesser number than `asked`, it sent j a letter, which came before j
+-- replied
 pub record IsAsked {Q : Type 0} (s : QuorumSystem Q) (founders : Q) (steps : List (Step Q)) (n asked began j told : ℕ) : Type 0 where
   pub sent_at : ℕ
   pub since : began ≤ sent_at
@@ -74,9 +75,9 @@ pub record IsAsked {Q : Type 0} (s : QuorumSystem Q) (founders : Q) (steps : Lis
   pub letter : IsHeard s founders steps j n sent_at asker
   pub before : letter.heard_at < told
 
--- j replied to what n, which is x now, asks under this number: n took the number after `began` steps, and j told after
--- `told` steps, when it had heard that number of n, in a letter that n sent it since it took it, and held all that n held
--- when it took it. What j told came to n, which holds it. n itself replies as it begins to ask
+-- j replied to what n, which is x now, asks under this number. n took the number after `began` steps. j replied after
+-- `told` steps: it had heard that number, in a letter that n sent it since, and held all that n held when it took it.
+-- What j reported came to n, which holds it. n itself replies as it begins to ask
 pub record IsFresh {Q : Type 0} (s : QuorumSystem Q) (founders : Q) (steps : List (Step Q)) (n : ℕ) (x : NodeState Q) (asked j : ℕ) : Type 0 where
   pub began : ℕ
   pub told : ℕ
@@ -92,15 +93,15 @@ pub record IsFresh {Q : Type 0} (s : QuorumSystem Q) (founders : Q) (steps : Lis
   pub holds : AtLeast opener replier
   pub kept : AtLeast replier x
 
--- a reply to a phase of a call, which began there: the call had it anew, with the map of its node. So its lowest place is
--- the floor of that map; and the map of who replied told of no place above the phase
+-- a reply to a phase of a call, which began there: the call had it newly, with the map of its node. So its lowest place
+-- is the floor of that map; and the map of the node that replied had no place above the phase
 pub record IsFreshReply {Q : Type 0} (s : QuorumSystem Q) (founders : Q) (steps : List (Step Q)) (n : ℕ) (x : NodeState Q) (c : CallState Q) (j : ℕ) : Type 0 where
   pub fresh : IsFresh s founders steps n x c.phase.number j
   pub asks : Stands fresh.opener.calls (restarted c.phase.number fresh.opener.map n c)
   pub lo : c.phase.lo ≡ fresh.opener.map.floor
   pub within : end_of fresh.replier.map ≤ above c.phase
 
--- each counted reply was told after its sender had heard a letter that was sent since the phase began, and came in one
+-- each counted reply was given after its sender had heard a letter that was sent since the phase began, and came in one
 -- that was sent then
 abbrev pub RepliesAreFresh : {Q : Type 0} → QuorumSystem Q → Type 0
 RepliesAreFresh {Q} s =
@@ -111,13 +112,13 @@ RepliesAreFresh {Q} s =
 abbrev pub EveryRunIsAtomic : {Q : Type 0} → QuorumSystem Q → Type 0
 EveryRunIsAtomic {Q} s = (founders : Q) (steps : List (Step Q)) → IsAtomic (run s founders steps)
 
--- no call stands twice in the given sequences, the given order is one order of them, and it is proper for all keys
+-- no call occurs twice in the given sequences, the given order is one order of them, and it is proper for all keys
 pub record HasOneOrder {Q : Type 0} (w : WorldState Q) : Type 0 where
   pub once : NoTwice (all_calls (given_sequences w))
   pub is_order : IsOrder w.history (given_sequences w) (given_order w)
   pub proper : IsProperForAll w.history (given_order w)
 
--- so it is of every run
+-- that holds of every run
 abbrev pub EveryRunHasOneOrder : {Q : Type 0} → QuorumSystem Q → Type 0
 EveryRunHasOneOrder {Q} s = (founders : Q) (steps : List (Step Q)) → HasOneOrder (run s founders steps)
 
@@ -126,7 +127,7 @@ pub record MarksDiffer {Q : Type 0} (w : WorldState Q) : Type 0 where
   pub calls : AllPairs (λ a b. a.id ≢ b.id) w.marks
   pub ties : (key : List ℕ) → AllPairs (Differ w.history) (marks_of key w.marks)
 
--- so it is of every run
+-- that holds of every run
 abbrev pub EveryRunsMarksDiffer : {Q : Type 0} → QuorumSystem Q → Type 0
 EveryRunsMarksDiffer {Q} s = (founders : Q) (steps : List (Step Q)) → MarksDiffer (run s founders steps)
 
@@ -135,7 +136,7 @@ pub record GivesNoOther {Q : Type 0} (w : WorldState Q) : Type 0 where
   pub sequence : (key : List ℕ) (calls : List CallId) → IsSequence w.history w.marks key calls → calls ≡ sequence_of w.history w.marks key
   pub order : (order : List CallId) → IsOrder w.history (given_sequences w) order → order ≡ given_order w
 
--- so it is of every run
+-- that holds of every run
 abbrev pub EveryRunGivesNoOther : {Q : Type 0} → QuorumSystem Q → Type 0
 EveryRunGivesNoOther {Q} s = (founders : Q) (steps : List (Step Q)) → GivesNoOther (run s founders steps)
 
@@ -149,8 +150,8 @@ OneTagOneCopy {Q} s =
     (founders : Q) (steps : List (Step Q)) (m n u k : ℕ) (x y : NodeState Q) → node_at (run s founders (take m steps)) n ≡ Some x → node_at (run s founders (take u steps)) k ≡ Some y
     → (key : List ℕ) → tag_of (map.get x.registers key) ≡ tag_of (map.get y.registers key) → map.get x.registers key ≡ map.get y.registers key
 
--- of two calls of a key, of which the first was answered before the second was made, the second has no lesser tag, and a
--- greater one where it is a set
+-- of two calls of a key, of which the first was answered before the second was made, the second has no lesser tag.
+-- Where it is a set it has a greater one
 abbrev pub TagsFollowAnswers : {Q : Type 0} → QuorumSystem Q → Type 0
 TagsFollowAnswers {Q} s =
     (founders : Q) (steps : List (Step Q)) (a b : Mark) → Stands (run s founders steps).marks a → Stands (run s founders steps).marks b

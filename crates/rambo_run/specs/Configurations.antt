@@ -31,15 +31,15 @@ pub record IsFreshAnswer {Q : Type 0} (s : QuorumSystem Q) (founders : Q) (steps
   pub fresh : IsFresh s founders steps n x g.number j
   pub asks : fresh.opener.collection ≡ Some (begun g)
 
--- each reply that an open collection counts was told after its sender had heard a letter that was sent since the
--- present question began
+-- each reply that an open collection counts was given after its sender had heard a letter that was sent since the
+-- current question began
 abbrev pub CollectionRepliesAreFresh : {Q : Type 0} → QuorumSystem Q → Type 0
 CollectionRepliesAreFresh {Q} s =
     (founders : Q) (steps : List (Step Q)) (n : ℕ) (x : NodeState Q) → node_at (run s founders steps) n ≡ Some x
     → (g : CollectionState) → x.collection ≡ Some g → (j : ℕ) → set.contains g.repliers j ≡ true → IsFreshAnswer s founders steps n x g j
 
--- node j told something: after some steps, at least `since` and at most `until`, it was this, and held at least what
--- `asker` holds
+-- node j reported something: after some steps, at least `since` and at most `until`, it was this, and held at least
+-- what `asker` holds
 pub record HasTold {Q : Type 0} (s : QuorumSystem Q) (founders : Q) (steps : List (Step Q)) (since until j : ℕ) (asker : NodeState Q) : Type 0 where
   pub told : ℕ
   pub later : since ≤ told
@@ -48,10 +48,11 @@ pub record HasTold {Q : Type 0} (s : QuorumSystem Q) (founders : Q) (steps : Lis
   pub replier_is : node_at (run s founders (take told steps)) j ≡ Some replier
   pub holds : AtLeast asker replier
 
--- a node collected place p, by the step after `until` steps at the latest. It opened the collection by a step when p was its lowest place
--- and it knew the next one. When a quorum of p's configuration had told it of the next place, it turned by a step to the
--- next place's configuration, and at last a quorum of that one had told that it holds all that the node held as it turned.
--- Then a step of the node ended the collection: p was still its lowest place, and so was removed
+-- a node collected place p, by the step after `until` steps at the latest. It opened the collection by a step when p
+-- was its lowest place and it knew the next one. When a quorum of p's configuration had reported the next place to it,
+-- it turned by a step to the next place's configuration. At last a quorum of that one had reported that it holds all
+-- that the node held as it turned. Then a step of the node ended the collection: p was still its lowest place, and so
+-- was removed
 pub record IsCollected {Q : Type 0} (s : QuorumSystem Q) (founders : Q) (steps : List (Step Q)) (until p : ℕ) : Type 0 where
   pub node : ℕ
   pub began : ℕ
@@ -96,8 +97,8 @@ RemovedPlacesAreCollected {Q} s =
     (founders : Q) (steps : List (Step Q)) (m n : ℕ) (x : NodeState Q) → node_at (run s founders (take m steps)) n ≡ Some x
     → (p : ℕ) → p < x.map.floor → (g : IsCollected s founders steps m p) × (g.ended < m)
 
--- each collection of a next place was opened after one of this place was over, and its node held at least as much when it
--- turned to its second quorum as the node of that one did
+-- each collection of a next place was opened after one of this place was over. When its node turned to its second
+-- quorum, it held at least as much as the node of that one when it turned
 abbrev pub CollectionsNeverFall : {Q : Type 0} → QuorumSystem Q → Type 0
 CollectionsNeverFall {Q} s =
     (founders : Q) (steps : List (Step Q)) (until p : ℕ) (g : IsCollected s founders steps until (p + 1))
@@ -113,15 +114,15 @@ FirstCollectionsAre {Q} s =
     (founders : Q) (steps : List (Step Q)) (m n : ℕ) (x : NodeState Q) → node_at (run s founders (take m steps)) n ≡ Some x
     → (p : ℕ) → p < x.map.floor → (g : IsCollected s founders steps m p) × (g.ended < m) × EndedFirst s founders steps m p g
 
--- the one of a place that ended first was over before any collection of the next place was opened, and the node of that one
--- held at least as much when it turned to its second quorum as the node of the first one did
+-- the one of a place that ended first was over before any collection of the next place was opened. When the node of
+-- that one turned to its second quorum, it held at least as much as the node of the first one when it turned
 abbrev pub FirstCollectionsNeverFall : {Q : Type 0} → QuorumSystem Q → Type 0
 FirstCollectionsNeverFall {Q} s =
     (founders : Q) (steps : List (Step Q)) (until p : ℕ) (g : IsCollected s founders steps until p) → EndedFirst s founders steps until p g
     → (u : ℕ) (h : IsCollected s founders steps u (p + 1)) → (g.ended < h.began) × AtLeast g.turner h.turner
 
--- the propagation of call c is met at node n after m steps, and the phase of call d, which is met at node k after u
--- steps, began later than that: under a number that k hadn't reached then
+-- the propagation of call c is met at node n after m steps. The phase of call d, which is met at node k after u steps,
+-- began later than that: under a number that k hadn't reached then
 pub record IsLater {Q : Type 0} (s : QuorumSystem Q) (founders : Q) (steps : List (Step Q)) (m n : ℕ) (c : CallState Q) (u k : ℕ) (d : CallState Q) : Type 0 where
   pub teller : NodeState Q
   pub teller_is : node_at (run s founders (take m steps)) n ≡ Some teller
@@ -170,20 +171,20 @@ LaterPhasesMeet {Q} s =
     (founders : Q) (steps : List (Step Q)) (m n : ℕ) (c : CallState Q) (u k : ℕ) (d : CallState Q) → IsLater s founders steps m n c u k d
     → MeetsOrLiesAbove c.phase d.phase
 
--- a place that a step tells to be collected was collected, by that step or one before it
+-- a place that a step reports as collected was collected, by that step or one before it
 abbrev pub ToldCollectionsAreWhole : {Q : Type 0} → QuorumSystem Q → Type 0
 ToldCollectionsAreWhole {Q} s =
     (founders : Q) (steps : List (Step Q)) (m n k p : ℕ) → IsDone s founders steps m (step.AdvanceCollect k)
     → (turn (run s founders (take m steps)) (step.AdvanceCollect k)).effect ≡ effect.Collected n p → IsCollected s founders steps m p
 
--- a place that a node's map has removed was told to be collected, by an earlier step
+-- a place that a node's map has removed was reported as collected, by an earlier step
 abbrev pub RemovedPlacesAreTold : {Q : Type 0} → QuorumSystem Q → Type 0
 RemovedPlacesAreTold {Q} s =
     (founders : Q) (steps : List (Step Q)) (m n : ℕ) (x : NodeState Q) → node_at (run s founders (take m steps)) n ≡ Some x
     → (p : ℕ) → p < x.map.floor → (u : ℕ) × (k : ℕ) × (u < m) × IsDone s founders steps u (step.AdvanceCollect k)
     × ((turn (run s founders (take u steps)) (step.AdvanceCollect k)).effect ≡ effect.Collected k p)
 
--- the configuration that a step tells to be decided for a place stands there
+-- the configuration that a step reports as decided for a place is the one there
 abbrev pub DecisionsStand : {Q : Type 0} → QuorumSystem Q → Type 0
 DecisionsStand {Q} s =
     (founders : Q) (steps : List (Step Q)) (m n k p : ℕ) (c : Q) → IsDone s founders steps m (step.AdvanceRecon k)

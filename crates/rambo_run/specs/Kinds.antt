@@ -5,7 +5,7 @@ use Rattle.rambo_node.specs.declared.prepared.Quick.TheVariants as quick
 use Rattle.rambo_run.specs.declared.step.Step.{Step}
 use Rattle.rambo_run.specs.declared.step.Step.TheVariants as step
 
--- the change that a step means where that needs no memory and sends no letter, and the name of its node
+-- the change that a step means where that allocates nothing and sends no letter, and the name of its node
 abbrev pub quick_of : {Q : Type 0} → Step Q → Option (ℕ × Quick Q)
 quick_of (step.Join n contacts) = Some (n, quick.Join contacts)
 quick_of (step.Call n o) = None
@@ -20,7 +20,7 @@ quick_of (step.Rebid n) = Some (n, quick.Rebid)
 quick_of (step.AdvanceRecon n) = Some (n, quick.AdvanceRecon)
 quick_of (step.Stop n) = Some (n, quick.Stop)
 
--- the number of the letter that a step lets come, if it lets one come
+-- the number of the letter that a step delivers, if it delivers one
 abbrev pub delivered_by : {Q : Type 0} → Step Q → Option ℕ
 delivered_by (step.Deliver l) = Some l
 delivered_by (step.Join n contacts) = None

@@ -14,28 +14,28 @@ use Rattle.rambo_run.specs.Runs.{run}
 abbrev pub IsLegal : {Q : Type 0} → QuorumSystem Q → Q → List (Step Q) → Type 0
 IsLegal {Q} s founders steps = (place : ℕ) (st : Step Q) → slice_get steps place ≡ Some st → refusal s (run s founders (take place steps)) st ≡ None
 
--- what a step that isn't refused puts at the end of the history can stand there
+-- what a step that isn't refused appends to the history has no fault there
 abbrev pub EventsFit : {Q : Type 0} → QuorumSystem Q → WorldState Q → Type 0
 EventsFit {Q} s w = (st : Step Q) (e : Event) → refusal s w st ≡ None → (turn w st).world.history ≡ w.history ++ e ∷ [] → fault_of w.history e ≡ None
 
--- one step more that isn't refused: the world after it is what it makes of the one before, and a legal list stays legal
+-- one more step that isn't refused: the world after it is what it makes of the one before, and a legal list stays legal
 abbrev pub RunsGoOn : {Q : Type 0} → QuorumSystem Q → Type 0
 RunsGoOn {Q} s =
     (founders : Q) (steps : List (Step Q)) (st : Step Q) → refusal s (run s founders steps) st ≡ None
     → (run s founders (steps ++ st ∷ []) ≡ (turn (run s founders steps) st).world) × (IsLegal s founders steps → IsLegal s founders (steps ++ st ∷ []))
 
--- a step leaves the nodes as they are that it doesn't mean
+-- a step leaves unchanged the nodes that it doesn't mean
 abbrev pub OthersStay : Type 0 → Type 0
 OthersStay Q = (w : WorldState Q) (st : Step Q) (n : ℕ) → ((m : Meant Q) → meant w st ≡ Some m → m.name ≡ n → ⊥) → node_at (turn w st).world n ≡ node_at w n
 
--- of a longer list of steps: letters and history of a beginning begin its own, and where it is legal the beginning is
+-- of a longer list of steps: letters and history of a prefix begin its own, and where it is legal the prefix is
 abbrev pub BeginningsHold : {Q : Type 0} → QuorumSystem Q → Type 0
 BeginningsHold {Q} s =
     (founders : Q) (xs ys : List (Step Q)) → IsPrefix xs ys
     → IsPrefix (run s founders xs).letters (run s founders ys).letters × IsPrefix (run s founders xs).history (run s founders ys).history
     × (IsLegal s founders ys → IsLegal s founders xs)
 
--- and each node holds at least each copy that it held at a beginning
+-- and each node holds at least each copy that it held after a prefix
 abbrev pub CopiesAreKept : {Q : Type 0} → QuorumSystem Q → Type 0
 CopiesAreKept {Q} s =
     (founders : Q) (xs ys : List (Step Q)) → IsPrefix xs ys → (n : ℕ)

@@ -38,7 +38,7 @@ unfoldable pub results_from : {Q : Type 0} → QuorumSystem Q → WorldState Q �
 results_from s w [] = []
 results_from s w (st ∷ sts) = result_of (refusal s w st) w st ∷ results_from s (after s w st) sts
 
--- what is told of the map of a node: its lowest place that isn't removed, and the configurations from there on
+-- what an outcome says of the map of a node: its lowest place that isn't removed, and the configurations from there on
 pub record MapOf (Q : Type 0) : Type 0 where
   pub name : ℕ
   pub floor : ℕ
@@ -57,8 +57,8 @@ given_sequences w = sequences_of w.history w.marks
 abbrev pub given_order : {Q : Type 0} → WorldState Q → List CallId
 given_order w = order_of w.history (given_sequences w)
 
--- what a run gives: the effect or refusal of each step, the history, the sequence of each key that has one, the one order
--- of the calls of all keys, and the map of each node that isn't idle
+-- what a run gives. It has the effect or refusal of each step, the history, and the sequence of each key that has one.
+-- It also has the one order of the calls of all keys, and the map of each node that isn't idle
 pub record OutcomeState (Q : Type 0) : Type 0 where
   pub effects : List (Result (Effect Q) Refusal)
   pub history : List Event

@@ -42,7 +42,7 @@ meant w (step.Rebid n) = Some (record { name = n; change = change.Rebid })
 meant w (step.AdvanceRecon n) = Some (record { name = n; change = change.AdvanceRecon })
 meant w (step.Stop n) = Some (record { name = n; change = change.Stop })
 
--- the same where these letters were sent: nothing else of a world says what a step means
+-- the same where these letters were sent: nothing else of a world decides what a step means
 abbrev pub meant_in : {Q : Type 0} → List (Letter Q) → Step Q → Option (Meant Q)
 meant_in ls st = meant (record { nodes = []; letters = ls; history = []; marks = [] }) st
 
@@ -70,7 +70,7 @@ abbrev pub causes_of : {Q : Type 0} → QuorumSystem Q → WorldState Q → Opti
 causes_of s w None = cause NoSuchLetter true ∷ []
 causes_of s w (Some m) = causes_at s (node_at w m.name) m.change
 
--- the causes of refusal of a step, by rising numbers
+-- the causes of refusal of a step, in ascending order of number
 unfoldable pub causes : {Q : Type 0} → QuorumSystem Q → WorldState Q → Step Q → List Cause
 causes s w st = causes_of s w (meant w st)
 
@@ -105,7 +105,7 @@ abbrev pub effect_in : {Q : Type 0} → List (Letter Q) → Effect Q → Option 
 effect_in ls e None = e
 effect_in ls e (Some l) = effect.Sent (length ls + 1)
 
--- the node stands in its place, and what the change did goes to the letters, the history and the marks
+-- the node is put in its place, and what the change did goes to the letters, the history and the marks
 abbrev pub turn_by : {Q : Type 0} → WorldState Q → ℕ → Made Q → Turn Q
 turn_by w n m = record {
   world = record {

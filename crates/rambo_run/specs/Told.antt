@@ -21,7 +21,7 @@ abbrev pub delivered : {Q A : Type 0} → Result A Refusal → Result (Effect Q)
 delivered (Ok x) = Ok effect.Done
 delivered (Err r) = Err r
 
--- a call went on to its propagation phase, or was answered
+-- a call advanced to its propagation phase, or was answered
 abbrev pub went_on : {Q : Type 0} → CallId → Option Answer → Effect Q
 went_on id None = effect.Moved
 went_on id (Some a) = effect.Answered id a

@@ -11,8 +11,8 @@ use Rattle.rambo_gossip.specs.declared.letter.Letter.{Letter}
 use Rattle.rambo_node.specs.Nodes.{NodeState, first_node}
 use Rattle.rambo_sequence.specs.declared.mark.Mark.{Mark}
 
--- nodes: of the names 1, 2, ..; letters: all that were ever sent, the first one sent is letter 1; history: calls and
--- answers in their order; marks: the sets that took a tag and the gets that were answered, in that order
+-- `nodes`: of the names 1, 2 and so on. `letters`: all that were ever sent, the first one sent is letter 1. `history`:
+-- calls and answers in their order. `marks`: the sets that took a tag and the gets that were answered, in that order
 pub record WorldState (Q : Type 0) : Type 0 where
   pub nodes : List (NodeState Q)
   pub letters : List (Letter Q)

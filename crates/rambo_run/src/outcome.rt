@@ -7,7 +7,7 @@ use rambo_node::Effect;
 use rambo_sequence::KeySequence;
 use std::marker::Model;
 
-/// What is told of the configuration map of a node.
+/// What an outcome says of a node's configuration map.
 #[derive(Drop)]
 pub struct NodeMap<Q: Quorums> {
     pub name: Name,
@@ -28,8 +28,9 @@ impl<Q: Quorums> Model for NodeMap<Q> {
     ghost view = { λ m. record { name = m.name; floor = m.floor; active = m.active.items } };
 }
 
-/// What a run gives: the effect or refusal of each step, the history, the sequence of each key that has one, keys in
-/// byte order, the one order of the calls of all keys, and the map of each node that isn't idle, names rising.
+/// What a run gives. It has the effect or refusal of each step, and the history. It has the sequence of each key that
+/// has one, keys in byte order, and the one order of the calls of all keys. And it has the map of each node that isn't
+/// idle, in ascending order of name.
 #[derive(Drop)]
 pub struct Outcome<Q: Quorums> {
     pub effects: Vec<Result<Effect<Q>, Refusal>>,

@@ -1,4 +1,4 @@
-//! Steps that need no memory.
+//! Steps that allocate nothing.
 ghost use Rattle.std.specs.Prelude.{◌≡◌};
 ghost use Rattle.rambo_run.specs.Kinds.{quick_of};
 
@@ -6,7 +6,7 @@ use crate::step::Step;
 use rambo_names::{Name, Quorums};
 use rambo_node::Quick;
 
-/// The change that a step means where that needs no memory and sends no letter, and the name of its node.
+/// The change that a step means where that allocates nothing and sends no letter, and the name of its node.
 pub fn quick_of<Q: Quorums>(step: &Step<Q>) -> Option<(Name, Quick<Q>)>
     ensures { result ≡ quick_of step.now }
 {

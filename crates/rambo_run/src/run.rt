@@ -16,15 +16,15 @@ use rambo_node::Effect;
 use rambo_sequence::KeySequence;
 use std::alloc::Global;
 
-/// A run that goes on step by step, whatever it is kept in.
+/// A run that goes on step by step, however it is stored.
 ///
-/// `Running` of `rambo_world` is one, over any replica. Who reads steps and tells what they did (`rambo_steps`) needs to
-/// know no more of it.
+/// `Running` of `rambo_world` is one, over any replica. Code that reads steps and reports what they did (`rambo_steps`)
+/// needs to know no more of it.
 pub trait Run<Q: Quorums> {
     // Its founders, and the world that its steps made of theirs.
     ghost running: { Self → RunningOf Q };
 
-    /// Takes a step: what it did, or why it was refused, after which the run goes on.
+    /// Takes a step. Returns what it did, or why it was refused; the run then goes on.
     ///
     /// `OutOfMemory` where there is no room for what it does; then nothing changes. A refusal needs no room.
     fn take(&mut self, step: &Step<Q>) -> Result<Result<Effect<Q>, Refusal>, Refusal>
@@ -34,7 +34,8 @@ pub trait Run<Q: Quorums> {
         ensures err { OnErr result (running self.new ≡ running self.old) }
         ensures refused { IfErr result (λ r. r ≡ Refusal.OutOfMemory) };
 
-    /// A node sends a letter to another: the number of the letter, or why that was refused, after which the run goes on.
+    /// A node sends a letter to another. Returns the number of the letter, or why that was refused; the run then goes
+    /// on.
     ///
     /// `OutOfMemory` where there is no room for the letter; then nothing changes. A refusal needs no room.
     fn send(&mut self, from: Name, to: Name) -> Result<Result<u64, Refusal>, Refusal>
@@ -44,9 +45,9 @@ pub trait Run<Q: Quorums> {
         ensures err { OnErr result (running self.new ≡ running self.old) }
         ensures refused { IfErr result (λ r. r ≡ Refusal.OutOfMemory) };
 
-    /// The letter of a number comes to its addressee, or why that was refused, after which the run goes on.
+    /// The letter of a number comes to its addressee. Returns why not, if that was refused; the run then goes on.
     ///
-    /// `OutOfMemory` where there is no room for what the letter tells; then nothing changes. A refusal needs no room.
+    /// `OutOfMemory` where there is no room for what the letter carries; then nothing changes. A refusal needs no room.
     fn deliver(&mut self, number: u64) -> Result<Result<(), Refusal>, Refusal>
         ensures told { IfOk result (λ r. delivered r ≡ result_of (refusal Q.system (running self.old).state (step.Deliver number)) (running self.old).state (step.Deliver number)) }
         ensures after { OnOk result (running self.new ≡ record (running self.old) { state = after Q.system (running self.old).state (step.Deliver number) }) }
@@ -54,7 +55,7 @@ pub trait Run<Q: Quorums> {
         ensures err { OnErr result (running self.new ≡ running self.old) }
         ensures refused { IfErr result (λ r. r ≡ Refusal.OutOfMemory) };
 
-    /// A client asks a node for an operation: the call, or why that was refused, after which the run goes on.
+    /// A client asks a node for an operation. Returns the call, or why that was refused; the run then goes on.
     ///
     /// `OutOfMemory` where there is no room for the call; then nothing changes. A refusal needs no room.
     fn call(&mut self, name: Name, op: Op) -> Result<Result<CallId, Refusal>, Refusal>
@@ -64,7 +65,7 @@ pub trait Run<Q: Quorums> {
         ensures err { OnErr result (running self.new ≡ running self.old) }
         ensures refused { IfErr result (λ r. r ≡ Refusal.OutOfMemory) };
 
-    /// A call goes on: its answer, if it got one, or why that was refused, after which the run goes on.
+    /// Advances a call. Returns its answer, if it got one, or why that was refused; the run then goes on.
     ///
     /// `OutOfMemory` where there is no room for what it does; then nothing changes. A refusal needs no room.
     fn advance(&mut self, id: CallId) -> Result<Result<Option<Answer>, Refusal>, Refusal>
@@ -79,8 +80,8 @@ pub trait Run<Q: Quorums> {
         ensures { result.now.events ≡ (running self.now).state.history };
 
     /// The given sequences of all keys that have one. The answered operations of each key, with some sets that weren't
-    /// answered, stand in its sequence: each get answers the latest set before it, or nil, and what was answered before
-    /// another operation was called stands before it.
+    /// answered, are in its sequence. Each get answers the latest set before it, or nil. What was answered before
+    /// another operation was called comes before it.
     ///
     /// `OutOfMemory` where there is no room for them.
     fn sequences(&self, alloc: Global) -> Result<Vec<KeySequence>, Refusal>

@@ -16,19 +16,19 @@ pub enum Step<Q: Quorums> {
     /// The letter of this number, from 1, comes to its addressee: letters come late, again, in any order, or
     /// never.
     Deliver(u64),
-    /// A call whose phase is met goes on.
+    /// A call whose phase is met advances.
     Advance(CallId),
-    /// The present phase of a call begins anew.
+    /// The current phase of a call restarts.
     Again(CallId),
     /// A node begins to collect the lowest place of its map.
     Collect(Name),
-    /// A node's collection, whose quorum is there, goes on.
+    /// A node's collection, whose quorum has replied, advances.
     AdvanceCollect(Name),
     /// A node begins to have this configuration chosen for the first place that its map doesn't know.
     Recon(Name, Q),
-    /// A node's attempt begins again with a fresh ballot.
+    /// A node's attempt is retried with a fresh ballot.
     Rebid(Name),
-    /// A node's attempt, whose quorum is there, goes on.
+    /// A node's attempt, whose quorum has replied, advances.
     AdvanceRecon(Name),
     /// A node stops for ever.
     Stop(Name),
@@ -37,7 +37,7 @@ pub enum Step<Q: Quorums> {
 impl<Q: Quorums> Step<Q> {
     /// The same step, which shares its bytes.
     ///
-    /// `OutOfMemory` where a count of owners is full, at a call alone: the other steps have no bytes.
+    /// `OutOfMemory` where a reference count is at its limit, at a call alone: the other steps have no bytes.
     pub fn clone(&self) -> Result<Step<Q>, Refusal>
         ensures same { IfOk result (λ step. step ≡ self.now) }
         ensures other { ((name : ℕ) (op : Op) → self.now ≢ Step.Call name op) → IsOk result }

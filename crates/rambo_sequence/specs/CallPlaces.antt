@@ -1,4 +1,4 @@
--- Where the calls of all sequences stand
+-- The places of the calls of all sequences
 use Rattle.std.specs.Borrow.{Bor}
 use Rattle.std.specs.Prelude.{ℕ, ◌+◌, List, [], ◌∷◌, ◌++◌, length, map, Option, Some, if◌then◌else◌}
 use Rattle.rambo_history.specs.declared.event.CallId.{CallId}

@@ -15,11 +15,11 @@ use Rattle.rambo_sequence.specs.Sequences.{SequenceOf}
 abbrev pub Group : Type 0
 Group = List ℕ × Vec RankedCall Global
 
--- the calls that stand at a key, if it has a group
+-- the calls of a key, if it has a group
 abbrev pub calls_at : List Group → List ℕ → Option (List RankedCall)
 calls_at groups key = option_map (λ calls. calls.items) (lookup (bytes_eq key) groups)
 
--- these calls with one more behind them
+-- these calls with one more after them
 abbrev pub with_call : Option (List RankedCall) → RankedCall → Option (List RankedCall)
 with_call None c = Some (c ∷ [])
 with_call (Some calls) c = Some (calls ++ c ∷ [])

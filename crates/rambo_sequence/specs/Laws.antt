@@ -12,21 +12,21 @@ use Rattle.rambo_sequence.specs.Sequences.{SequenceOf, call_place, sequence_of, 
 abbrev pub marks_of : List ℕ → List Mark → List Mark
 marks_of key marks = filter (λ m. bytes_eq (key_of m.op) key) marks
 
--- a mark may stand before another: its tag isn't the greater; of one tag, sets stand before gets, and gets go by
--- the places of their calls
+-- a mark may come before another: its tag isn't the greater; under one tag, sets come before gets, and gets are ordered
+-- by the places of their calls
 pub record MayPrecede (h : List Event) (a b : Mark) : Type 0 where
   pub by_tag : tag_lt (tag_of b.kept) (tag_of a.kept) ≡ false
   pub sets_first : tag_of a.kept ≡ tag_of b.kept → is_get a.op ≡ true → is_get b.op ≡ true
   pub by_place : tag_of a.kept ≡ tag_of b.kept → is_get a.op ≡ true → is_get b.op ≡ true → call_place a.id h ≤ call_place b.id h
 
--- these are the calls of the key's marks, of all and of each once, and each mark may stand before those behind it
+-- these are the calls of the key's marks, of all and of each once, and each mark may come before those after it
 pub record IsSequence (h : List Event) (marks : List Mark) (key : List ℕ) (calls : List CallId) : Type 0 where
   pub ordered : List Mark
   pub exact : IsPermutation (marks_of key marks) ordered
   pub in_order : AllPairs (MayPrecede h) ordered
   pub named : calls ≡ map (λ m. m.id) ordered
 
--- two marks of one tag aren't both sets, and no gets whose calls stand at one place
+-- two marks of one tag aren't both sets, nor gets whose calls are at one place
 pub record Differ (h : List Event) (a b : Mark) : Type 0 where
   pub one_set : tag_of a.kept ≡ tag_of b.kept → is_get a.op ≡ false → is_get b.op ≡ false → ⊥
   pub places : tag_of a.kept ≡ tag_of b.kept → is_get a.op ≡ true → is_get b.op ≡ true → call_place a.id h ≢ call_place b.id h

@@ -19,7 +19,7 @@ call_place c [] = zero
 call_place c (event.Call d op ∷ es) = if same_call d c then zero else suc (call_place c es)
 call_place c (event.Answer d a ∷ es) = suc (call_place c es)
 
--- of one tag a set comes before gets, and gets go by the places of their calls
+-- under one tag a set comes before gets, and gets are ordered by the places of their calls
 abbrev pub rank : List Event → Mark → ℕ
 rank h m = if is_get m.op then suc (call_place m.id h) else zero
 

@@ -25,12 +25,12 @@ pub record IsRest (h : List Event) (ss front : List SequenceOf) : Type 0 where
   pub unanswered : (d : CallId) → IsLeft ss d → answered_at h d ≡ None
   pub over : (t : SequenceOf) → Stands front t → t.calls ≡ []
 
--- the front of this sequence is next: it holds the call, of all that are left, that was answered first; where none was
--- answered, it is the first that isn't over
+-- the front of this sequence is next: it holds the call, of all that are left, that was answered first. Where none was
+-- answered, it is the first sequence that isn't over
 abbrev pub GoesNext : List Event → List SequenceOf → List SequenceOf → SequenceOf → Type 0
 GoesNext h ss front s = ((m : CallId) × Stands s.calls m × IsFirstAnswered h ss m) ⊎ IsRest h ss front
 
--- one order of the calls of all sequences, which go by the byte order of their keys
+-- one order of the calls of all sequences, which come in the byte order of their keys
 abbrev pub IsOrder : List Event → List SequenceOf → List CallId → Type 0
 IsOrder h ss [] = (t : SequenceOf) → Stands ss t → t.calls ≡ []
 IsOrder h ss (c ∷ cs) =
@@ -43,12 +43,12 @@ abbrev pub AreApart : List SequenceOf → Type 0
 AreApart [] = Unit {0}
 AreApart (s ∷ ss) = ((t : SequenceOf) → Stands ss t → bytes_eq s.key t.key ≡ false) × AreApart ss
 
--- whether a call stands in a list
+-- whether a call is in a list
 abbrev pub has : CallId → List CallId → Bool
 has d [] = false
 has d (c ∷ cs) = if same_call c d then true else has d cs
 
--- a list up to a call, and what stands behind it
+-- a list up to a call, and what comes after it
 abbrev pub through : CallId → List CallId → List CallId
 through d [] = []
 through d (c ∷ cs) = c ∷ (if same_call c d then [] else through d cs)
@@ -71,7 +71,7 @@ abbrev pub all_calls : List SequenceOf → List CallId
 all_calls [] = []
 all_calls (s ∷ ss) = s.calls ++ all_calls ss
 
--- the answers are gone through: each gives its key's sequence up to its call, unless that was given; then the rest
+-- goes through the answers: each gives its key's sequence up to its call, unless that was given; then the rest
 unfoldable pub order_from : List SequenceOf → List Event → List CallId
 order_from ss [] = all_calls ss
 order_from ss (event.Call d op ∷ es) = order_from ss es
@@ -80,7 +80,7 @@ order_from ss (event.Answer d a ∷ es) = given_through d ss ++ order_from (left
 unfoldable pub order_of : List Event → List SequenceOf → List CallId
 order_of h ss = order_from ss h
 
--- no call stands twice, in one sequence or in two
+-- no call occurs twice, in one sequence or in two
 abbrev pub NoTwice : List CallId → Type 0
 NoTwice [] = Unit {0}
 NoTwice (c ∷ cs) = (Stands cs c → ⊥) × NoTwice cs

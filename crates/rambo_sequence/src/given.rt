@@ -16,8 +16,8 @@ use std::alloc::{AllocError, Global};
 
 /// The given sequences of all keys that are marked, in the byte order of the keys.
 ///
-/// The marks of a key go by tag; of one tag the set comes before the gets, and gets go by the places of
-/// their calls in the history. It takes `n log n` steps for `n` marks, and fewer where a key's marks come
+/// The marks of a key are ordered by tag. Under one tag the set comes before the gets, and gets are ordered by the
+/// places of their calls in the history. It takes `n log n` steps for `n` marks, and fewer where a key's marks come
 /// nearly in order.
 ///
 /// `OutOfMemory` where there is no room for them.

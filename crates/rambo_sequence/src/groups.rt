@@ -31,7 +31,7 @@ pub(crate) fn groups(
     Ok(groups)
 }
 
-// Puts a call behind the others of its key.
+// Puts a call after the others of its key.
 fn add(
     alloc: Global,
     groups: &mut IndexMap<Bytes, Vec<RankedCall>>,

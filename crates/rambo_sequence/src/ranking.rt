@@ -33,7 +33,7 @@ impl RankedCall {
     }
 }
 
-// What a mark is ordered by. No copy stands for the tag (0, 0).
+// What a mark is ordered by. No copy counts as the tag (0, 0).
 fn sort_key(history: &History, mark: &Mark) -> SortKey
     ensures { result ≡ sort_key_of history.now.events mark.now }
 {

@@ -12,18 +12,18 @@ use rambo_names::Refusal;
 use std::alloc::Global;
 use std::collections::HashMap;
 
-/// Where a call stands.
+/// The place of a call.
 #[derive(Clone, Copy)]
 struct Place {
     // The number of its sequence, from 0 on.
     sequence: usize,
-    // How many calls stand behind it there.
+    // How many calls come after it there.
     behind: usize,
 }
 
-/// One order of the calls of all sequences, in which no call stands twice, and which go by the byte order of their keys.
-/// Next is the first call that is left of some sequence: of the one whose calls that are left include the earliest answered
-/// of all. Once nothing that is left has an answer, the sequences are emptied one after another.
+/// One order of the calls of all sequences. No call may occur twice in these, and they come in the byte order of their
+/// keys. Next is always the first call left of some sequence: of the one whose calls left include the one that was
+/// answered first. Once no call left has an answer, the sequences follow one after another.
 ///
 /// The time is linear in the number of events and of calls. `OutOfMemory` where there is no room for it.
 pub fn one_order(
@@ -88,7 +88,7 @@ fn give_all(order: &mut Vec<CallId>, left: &[&[CallId]]) -> Result<(), Refusal>
     Ok(())
 }
 
-// Where the calls of all sequences stand.
+// The places of the calls of all sequences.
 fn places_of(alloc: Global, sequences: &[KeySequence]) -> Result<HashMap<CallId, Place>, Refusal>
     ensures places { IfOk result (λ places. (c : CallId) → lookup (same_call c) places.entries ≡ all_noted 0 sequences.now c None) }
     ensures refused { IfErr result (λ r. r ≡ Refusal.OutOfMemory) }
@@ -104,7 +104,7 @@ fn places_of(alloc: Global, sequences: &[KeySequence]) -> Result<HashMap<CallId,
     Ok(places)
 }
 
-// Notes where the calls of a sequence stand.
+// Notes the places of the calls of a sequence.
 fn note(
     places: &mut HashMap<CallId, Place>,
     sequence: usize,

@@ -11,10 +11,10 @@ use rambo_text::ReplayFault;
 use rambo_trace::write_trace;
 use std::alloc::Global;
 
-/// Writes the trace of these founders and steps, and answers how that ended.
+/// Writes the trace of these founders and steps, and returns how that ended.
 ///
-/// The status is 0 where the trace was written whole. It is 1 behind the line of the fault where the writer failed, or where
-/// memory ran out; then a beginning of the trace was written.
+/// The status is 0 where the trace was written whole. Where the writer failed or memory ran out it is 1, the fault is
+/// reported in a line, and a prefix of the trace was written.
 pub fn write_steps<W: Sink, E: Sink>(
     alloc: Global,
     founders: Weighted,

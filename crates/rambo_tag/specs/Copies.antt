@@ -12,7 +12,7 @@ use Rattle.rambo_tag.specs.Tags.{is_newer}
 abbrev pub Copies : Type 0
 Copies = FinMap (slice_cmp nat_cmp) Version
 
--- how a proof tells two such maps apart
+-- how proofs compare two such maps
 abbrev pub copies_code : Coded Copies
 copies_code = code (coded_list coded_ℕ) the_row.coded
 

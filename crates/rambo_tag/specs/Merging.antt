@@ -16,11 +16,11 @@ IsCommutative merge = (a b : Copies) → merge a b ≡ merge b a
 abbrev pub IsAssociative : (Copies → Copies → Copies) → Type 0
 IsAssociative merge = (a b c : Copies) → merge (merge a b) c ≡ merge a (merge b c)
 
--- no copy is newer than what came to stand in its place
+-- no copy is newer than what replaced it
 abbrev pub NeverLowers : (Copies → Copies → Copies) → Type 0
 NeverLowers merge = (a b : Copies) (key : List ℕ) (v : Version) → get a key ≡ Some v → is_newer (get (merge a b) key) v ≡ false
 
--- of each key the greater copy stands
+-- of each key the greater copy remains
 abbrev pub TakesGreater : (Copies → Copies → Copies) → Type 0
 TakesGreater merge = (a b : Copies) (key : List ℕ) → get (merge a b) key ≡ greater (get a key) (get b key)
 

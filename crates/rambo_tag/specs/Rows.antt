@@ -36,7 +36,7 @@ unfoldable pub stamps_of : Slots → Stamps
 stamps_of [] = empty
 stamps_of (e ∷ t) = insert (stamps_of t) e.0 e.1.number
 
--- each row tells of a change of a key, each key's last change has a row, numbers don't fall, and no row stands twice
+-- each row records a change of a key, each key's last change has a row, numbers don't fall, and no row occurs twice
 pub record IsLogOf (t : Slots) (log : List Row) : Type 0 where
   pub each : (i : ℕ) (r : Row) → slice_get log i ≡ Some r → (e : List ℕ × Slot) × (slice_get t r.place ≡ Some e) × (r.number ≤ e.1.number)
   pub all : (p : ℕ) (e : List ℕ × Slot) → slice_get t p ≡ Some e → (i : ℕ) × (slice_get log i ≡ Some (record { place = p; number = e.1.number }))
@@ -47,7 +47,7 @@ pub record IsLogOf (t : Slots) (log : List Row) : Type 0 where
 abbrev pub IsShortFor : Slots → List Row → Type 0
 IsShortFor t log = length log ≤ 2 * length t
 
--- a key stands once, and its changes in a short log
+-- each key occurs once, and its changes are in a short log
 pub record IsIndexed (t : Slots) (log : List Row) : Type 0 where
   pub distinct : IsDistinct bytes_eq (keys_of t)
   pub logged : IsLogOf t log
@@ -62,7 +62,7 @@ abbrev pub has_number : ℕ → Option (List ℕ × Slot) → Bool
 has_number n None = false
 has_number n (Some e) = nat_eq e.1.number n
 
--- the row tells of a key's last change
+-- the row records a key's last change
 abbrev pub is_current : Slots → Row → Bool
 is_current t r = has_number r.number (slice_get t r.place)
 

@@ -12,7 +12,7 @@ use Rattle.rambo_tag.specs.Copies.{Copies, joined}
 abbrev pub Stamps : Type 0
 Stamps = FinMap (slice_cmp nat_cmp) ℕ
 
--- how a proof tells two such maps apart
+-- how proofs compare two such maps
 abbrev pub stamps_code : Coded Stamps
 stamps_code = code (coded_list coded_ℕ) coded_ℕ
 
@@ -51,13 +51,13 @@ AreStampedAlike held a b = (now : ℕ) (s : Stamps) → stamps_merged now held s
 abbrev pub IsSince : Copies → Stamps → ℕ → Copies → Type 0
 IsSince held s base p = (key : List ℕ) → get p key ≡ (if nat_le base (stamp_at s key) then get held key else None)
 
--- whoever holds at least each copy with a lesser stamp makes of these what it makes of all
+-- a node that holds at least each copy with a lesser stamp makes of these what it makes of all
 abbrev pub SinceIsEnough : Type 0
 SinceIsEnough =
     (held p r : Copies) (s : Stamps) (base : ℕ) → IsSince held s base p
     → ((key : List ℕ) (v : Version) → get held key ≡ Some v → stamp_at s key < base → is_newer (get r key) v ≡ false) → joined r p ≡ joined r held
 
--- since 0 are all
+-- the copies since 0 are all copies
 abbrev pub AllSinceZero : Type 0
 AllSinceZero = (held p : Copies) (s : Stamps) → IsSince held s 0 p → p ≡ held
 

@@ -21,8 +21,8 @@ abbrev pub value_of : Option Version → Option (List ℕ)
 value_of None = None
 value_of (Some v) = v.value
 
--- values of one tag go by their bytes, nil being the least: in no run has one tag two values, and with this
--- order merging is commutative for all copies
+-- values of one tag are ordered by their bytes, nil being the least. In no run has one tag two values; with this order
+-- merging is commutative for all copies
 abbrev pub bytes_lt : List ℕ → List ℕ → Bool
 bytes_lt [] [] = false
 bytes_lt [] (y ∷ ys) = true

@@ -8,7 +8,7 @@ use rambo_names::Refusal;
 use std::alloc::Global;
 use std::marker::Model;
 
-/// The copies that a letter carries, seen as the greatest copy of each key.
+/// The copies that a letter carries. In contracts it is the greatest copy of each key.
 #[derive(Drop, Debug)]
 pub struct Pack {
     copies: Vec<KeyedVersion>,
@@ -33,28 +33,28 @@ impl Pack {
         Pack { copies }
     }
 
-    /// No copies. Memory for them would come from this allocator.
+    /// No copies. Later allocations come from this allocator.
     pub fn empty(alloc: Global) -> Pack
         ensures { result ≡ empty }
     {
         Pack::new(Vec::new(alloc))
     }
 
-    /// Copies of which each key's greatest is in the pack. A key may stand more than once.
+    /// Copies, of which the pack has the greatest of each key. A key may occur more than once.
     pub fn copies(&self) -> &[KeyedVersion]
         ensures { greatest_of result.now ≡ self.now }
     {
         self.copies.as_slice()
     }
 
-    /// The copies themselves, as `copies` lends them.
+    /// The copies themselves, which `copies` borrows.
     pub fn into_copies(self) -> Vec<KeyedVersion>
         ensures { greatest_of result.items ≡ self }
     {
         self.copies
     }
 
-    /// The same copies once more. No key and no value is copied.
+    /// The same copies again. Keys and values are shared, not copied.
     ///
     /// `OutOfMemory` where there is no room for the list of them.
     pub fn clone(&self) -> Result<Pack, Refusal>

@@ -23,7 +23,7 @@ use std::marker::Model;
 
 /// The copies of a node in a hash table, with a log of their changes.
 ///
-/// Each call takes time in the size of what it is given or makes, on the average of many calls.
+/// Each call takes amortized time in proportion to what it is given and what it returns.
 #[derive(Drop)]
 pub struct Registers<H: BuildHasher> {
     // Packs share the keys and the values. A key keeps its place.
@@ -48,7 +48,7 @@ impl<H: BuildHasher> Model for Registers<H> {
 }
 
 impl<H: BuildHasher> Registers<H> {
-    /// The replica that holds nothing, under a hasher.
+    /// An empty replica that uses this hasher.
     pub fn new(alloc: Global, hasher: H) -> Self
         ensures copies { result.copies ≡ empty }
         ensures stamps { result.stamps ≡ empty }
@@ -59,8 +59,8 @@ impl<H: BuildHasher> Registers<H> {
         }
     }
 
-    /// The copies with a stamp of at least a base: each key once, and what changed last comes first. No key and no value
-    /// is copied.
+    /// The copies with a stamp of at least a base: each key once, the latest change first. Keys and values are shared,
+    /// not copied.
     ///
     /// `OutOfMemory` where there is no room for the list of them.
     pub fn changes_since(&self, base: u64) -> Result<Vec<KeyedVersion>, Refusal>
@@ -86,7 +86,7 @@ impl<H: BuildHasher> Registers<H> {
         Ok(changes)
     }
 
-    // Takes one copy, where it is newer than what its key holds here. A key that stands here is looked up once.
+    // Takes one copy, where it is newer than what its key holds here. A key that is held here is looked up once.
     fn merge_one(&mut self, copy: &KeyedVersion, now: u64) -> Result<(), Refusal>
         requires { AreAtMost now self.old.stamps }
         ensures ok { OnOk result (self.new.copies ≡ greatest_after self.old.copies (copy.now ∷ [])) }
@@ -238,7 +238,7 @@ fn find<H: BuildHasher>(
     }
 }
 
-// Makes room for so many more changes.
+// Makes room for that many more changes.
 fn make_room<H: BuildHasher>(
     table: &mut IndexMap<Bytes, Slot, H>,
     log: &mut Vec<Row>,
@@ -259,8 +259,8 @@ fn make_room<H: BuildHasher>(
     Ok(())
 }
 
-// Writes a row behind the log, which has room for it. Where the log is then twice as long as the table its stale rows are
-// swept. It needs no memory.
+// Appends a row to the log, which has room for it. Where the log is then twice as long as the table its stale rows are
+// swept. It allocates nothing.
 fn write_row<H: BuildHasher>(table: &IndexMap<Bytes, Slot, H>, log: &mut Vec<Row>, row: Row)
     requires room { 0 < room_behind log.old }
     requires logged { IsLogOf table.now.entries (log.old.items ++ row ∷ []) }
@@ -274,7 +274,7 @@ fn write_row<H: BuildHasher>(table: &IndexMap<Bytes, Slot, H>, log: &mut Vec<Row
     }
 }
 
-// Drops the stale rows. It needs no memory.
+// Drops the stale rows. It allocates nothing.
 fn sweep<H: BuildHasher>(table: &IndexMap<Bytes, Slot, H>, log: &mut Vec<Row>)
     ensures rows { log.new.items ≡ filter (is_current table.now.entries) log.old.items }
     ensures room { room_behind log.old ≤ room_behind log.new }
@@ -282,7 +282,7 @@ fn sweep<H: BuildHasher>(table: &IndexMap<Bytes, Slot, H>, log: &mut Vec<Row>)
     log.retain(|row| is_current(table, *row));
 }
 
-// Whether a row tells of a key's last change.
+// Whether a row records a key's last change.
 fn is_current<H: BuildHasher>(table: &IndexMap<Bytes, Slot, H>, row: Row) -> bool
     ensures { result ≡ is_current table.now.entries row }
 {
@@ -292,7 +292,7 @@ fn is_current<H: BuildHasher>(table: &IndexMap<Bytes, Slot, H>, row: Row) -> boo
     }
 }
 
-// Puts a copy in the place of a key's, which was looked up, under a number. It needs no memory, and no room where the
+// Puts a copy in the place of a key's, which was looked up, under a number. It allocates nothing, and no room where the
 // key's last change was under that number.
 fn write<H: BuildHasher>(
     table: &mut IndexMap<Bytes, Slot, H>,
@@ -333,7 +333,7 @@ fn write<H: BuildHasher>(
     }
 }
 
-// Puts copies into a table that has room for them, each where it is newer, under a number. It needs no memory.
+// Puts copies into a table that has room for them, each where it is newer, under a number. It allocates nothing.
 fn write_newer<H: BuildHasher>(
     table: &mut IndexMap<Bytes, Slot, H>,
     log: &mut Vec<Row>,

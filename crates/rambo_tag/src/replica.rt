@@ -12,8 +12,8 @@ use rambo_names::{Bytes, Refusal};
 /// The copies of one node, seen as a finite map from keys to copies, and of each key a stamp: the number under
 /// which its copy last changed.
 ///
-/// An absent key stands for the tag (0, 0) with nil. Each call that answers `OutOfMemory` leaves the
-/// copies and the stamps as they were.
+/// An absent key counts as nil under the tag (0, 0). Each call that returns `OutOfMemory` leaves the copies and the
+/// stamps as they were.
 pub trait Replica: Drop {
     ghost copies: { Self → Copies };
 
@@ -34,7 +34,7 @@ pub trait Replica: Drop {
     fn copy(&self, key: &[u8]) -> Option<&Version>
         ensures { option_copied result ≡ map.get (copies self.now) key.now };
 
-    /// Puts a copy in the place of a key's, under a number that no stamp is above.
+    /// Replaces the copy of a key, and stamps it with a number that no stamp exceeds.
     ///
     /// `OutOfMemory` where there is no room for it.
     fn put(&mut self, key: Bytes, version: Version, now: u64) -> Result<(), Refusal>
@@ -45,9 +45,10 @@ pub trait Replica: Drop {
         ensures unstamped { OnErr result (stamps self.new ≡ stamps self.old) }
         ensures refused { IfErr result (λ r. r ≡ Refusal.OutOfMemory) };
 
-    /// Takes the greater copy of each key (all of them, or none), under a number that no stamp is above.
+    /// Takes the greater copy of each key, of all keys or of none. What is newer is stamped with a number that no stamp
+    /// exceeds.
     ///
-    /// `OutOfMemory` where there is no room for what is newer. Where nothing is newer no memory is taken.
+    /// `OutOfMemory` where there is no room for what is newer. Where nothing is newer it can't fail.
     fn merge(&mut self, pack: &Pack, now: u64) -> Result<(), Refusal>
         requires late { AreAtMost now (stamps self.old) }
         ensures ok { OnOk result (copies self.new ≡ joined (copies self.old) pack.now) }
@@ -57,10 +58,10 @@ pub trait Replica: Drop {
         ensures unstamped { OnErr result (stamps self.new ≡ stamps self.old) }
         ensures refused { IfErr result (λ r. r ≡ Refusal.OutOfMemory) };
 
-    /// Makes room for a pack, so that `merge_room` can take it. The copies and the stamps stay, whatever the answer,
-    /// and so does the room that there is.
+    /// Makes room for a pack, so that `merge_room` can take it. In either case the copies and the stamps are unchanged,
+    /// and no room is lost.
     ///
-    /// `OutOfMemory` where there is no room for it. Where it is empty no memory is taken.
+    /// `OutOfMemory` where there is no room for it. With an empty pack it can't fail.
     fn room(&mut self, pack: &Pack) -> Result<(), Refusal>
         ensures same { copies self.new ≡ copies self.old }
         ensures stamped { stamps self.new ≡ stamps self.old }
@@ -69,16 +70,16 @@ pub trait Replica: Drop {
         ensures idle { pack.now ≡ map.empty → IsOk result }
         ensures refused { IfErr result (λ r. r ≡ Refusal.OutOfMemory) };
 
-    /// Takes the greater copy of each key of a pack for which there is room, under a number that no stamp is above.
-    /// It takes no memory and can't fail.
+    /// Takes the greater copy of each key of a pack for which there is room. What is newer is stamped with a number
+    /// that no stamp exceeds. It allocates nothing and can't fail.
     fn merge_room(&mut self, pack: Pack, now: u64)
         requires room { HasRoom (spare self.old) pack }
         requires late { AreAtMost now (stamps self.old) }
         ensures copies { copies self.new ≡ joined (copies self.old) pack }
         ensures stamped { stamps self.new ≡ stamps_merged now (copies self.old) (stamps self.old) pack };
 
-    /// Makes room for a change of one key more. The copies and the stamps stay, whatever the answer, and so does the
-    /// room that there is.
+    /// Makes room for a change of one more key, so that `put_room` can make it. In either case the copies and the
+    /// stamps are unchanged, and no room is lost.
     ///
     /// `OutOfMemory` where there is no room for it.
     fn room_for_key(&mut self) -> Result<(), Refusal>
@@ -88,22 +89,22 @@ pub trait Replica: Drop {
         ensures ok { OnOk result (0 < spare self.new) }
         ensures refused { IfErr result (λ r. r ≡ Refusal.OutOfMemory) };
 
-    /// Puts a copy in the place of a key's, where there is room for one change more, under a number that no stamp is
-    /// above. It takes no memory and can't fail.
+    /// Replaces the copy of a key, where there is room for one more change, and stamps it with a number that no stamp
+    /// exceeds. It allocates nothing and can't fail.
     fn put_room(&mut self, key: Bytes, version: Version, now: u64)
         requires room { 0 < spare self.old }
         requires late { AreAtMost now (stamps self.old) }
         ensures copies { copies self.new ≡ map.insert (copies self.old) key version }
         ensures stamped { stamps self.new ≡ map.insert (stamps self.old) key now };
 
-    /// The copies with a stamp of at least a base, to be sent. No key and no value is copied.
+    /// The copies with a stamp of at least a base, to be sent. Keys and values are shared, not copied.
     ///
     /// `OutOfMemory` where there is no room for the list of them.
     fn pack_since(&self, base: u64) -> Result<Pack, Refusal>
         ensures since { IfOk result (λ p. IsSince (copies self.now) (stamps self.now) base p) }
         ensures refused { IfErr result (λ r. r ≡ Refusal.OutOfMemory) };
 
-    /// All copies, to be sent. No key and no value is copied.
+    /// All copies, to be sent. Keys and values are shared, not copied.
     ///
     /// `OutOfMemory` where there is no room for the list of them.
     fn pack(&self) -> Result<Pack, Refusal>

@@ -15,7 +15,7 @@ pub struct Tag {
 }
 
 impl Tag {
-    /// The next tag of a writer: one sequence number further, under the writer's own name.
+    /// The next tag of a writer: the next sequence number, with the writer's own name.
     ///
     /// `NumbersSpent` where the sequence number is the greatest one.
     pub fn next(&self, name: Name) -> Result<Tag, Refusal>
@@ -31,7 +31,7 @@ impl Tag {
         })
     }
 
-    /// Whether this tag is the less.
+    /// Whether this tag is the lesser one.
     pub fn is_before(&self, other: &Tag) -> bool
         ensures { result ≡ tag_lt self.now other.now }
     {

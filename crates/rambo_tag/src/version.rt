@@ -6,7 +6,7 @@ use crate::tag::Tag;
 use rambo_names::Bytes;
 use std::alloc::AllocError;
 
-/// A copy of a key's value, with the tag that it was written under. No value is nil.
+/// A copy of a key's value, with the tag that it was written under. Without a value it is nil.
 #[derive(PartialEq, Eq, Drop, Debug)]
 pub struct Version {
     pub tag: Tag,
@@ -14,7 +14,7 @@ pub struct Version {
 }
 
 impl Version {
-    /// Whether this copy is the less, by tag and then by value.
+    /// Whether this copy is the lesser one, by tag and then by value.
     pub fn is_before(&self, other: &Version) -> bool
         ensures { result ≡ version_lt self.now other.now }
     {

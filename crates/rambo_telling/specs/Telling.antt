@@ -1,4 +1,4 @@
--- What is told to the user, and the exit status
+-- What is reported to the user, and the exit status
 use Rattle.std.specs.Prelude.{◌≡◌, ◌⊎◌, ℕ, List, [], ◌∷◌, ◌++◌, Option, codes, decimal}
 use Rattle.std.specs.Io.KnownBytes.{Appends}
 use Rattle.clap.specs.declared.error.kind.ErrorKind.{ErrorKind}
@@ -29,24 +29,24 @@ pub record Takes (text : List ℕ) (s : Stream) : Type 0 where
   pub fine : IsFine s
   pub taken : Appends s.old s.new text
 
--- a call failed, and a beginning of the text was taken before
+-- a call failed, and a prefix of the text was taken before
 pub record Breaks (text : List ℕ) (s : Stream) : Type 0 where
   pub failed : s.failures_now ≡ counted s.failures
   pub taken : Begins s.old s.new text
 
--- a text was told on standard error, as far as that took it
+-- a text was written to standard error, as far as that took it
 abbrev pub Tells : List ℕ → Stream → Type 0
 Tells text told = Takes text told ⊎ Breaks text told
 
--- the line that tells a fault
+-- the line that reports a fault
 abbrev pub fault_line : ReplayFault → List ℕ
 fault_line f = told_of_replay f ++ 10 ∷ []
 
--- the line that tells that a socket failed
+-- the line that reports that a socket failed
 abbrev pub socket_line : List ℕ
 socket_line = codes "fault socket" ++ 10 ∷ []
 
--- the line that tells on which port a server listens
+-- the line that reports on which port a server listens
 abbrev pub listening_line : ℕ → List ℕ
 listening_line port = codes "listening " ++ decimal port ++ 10 ∷ []
 
@@ -61,20 +61,20 @@ status_of Memory = 1
 abbrev pub IsShown : ErrorKind → Type 0
 IsShown k = (k ≡ DisplayHelp) ⊎ (k ≡ DisplayVersion)
 
--- some text was written; or the writer failed, and that was told
+-- some text was written; or the writer failed, and that was reported
 abbrev pub Shows : ℕ → Stream → Stream → Type 0
 Shows status write told =
     (text : List ℕ) × (((status ≡ 0) × Takes text write)
     ⊎ ((status ≡ status_of Write) × Breaks text write × Tells (fault_line Write) told))
 
--- nothing was written, and a mistake in the words was told
+-- nothing was written, and a mistake in the words was reported
 pub record Mistaken (status : ℕ) (write told : Stream) : Type 0 where
   pub status_is : status ≡ 2
   pub unwritten : Takes [] write
   pub text : List ℕ
   pub line : Tells text told
 
--- nothing was written, since there was no room for what clap answers, and that was told
+-- nothing was written, since there was no room for what clap gives, and that was reported
 pub record GivesUp (status : ℕ) (write told : Stream) : Type 0 where
   pub status_is : status ≡ status_of Memory
   pub unwritten : Takes [] write

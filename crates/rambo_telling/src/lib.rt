@@ -1,8 +1,8 @@
-//! What the program tells its user, and its exit status then.
+//! What the program reports to its user, and its exit status then.
 //!
 //! - `tell`: the line of a fault.
-//! - `answer`: what clap answers in place of a task.
-//! - `tell_no_text`, `tell_bad_founders`: words that are no text, and founders that are none.
+//! - `answer`: what clap gives in place of a task.
+//! - `tell_no_text`, `tell_bad_founders`: words that aren't text, and founders that aren't valid.
 //! - `tell_listening`, `tell_socket`: on which port a server listens, or that its socket failed.
 #![tactic(auto)]
 

@@ -1,4 +1,4 @@
-//! What is told to the user.
+//! What is reported to the user.
 ghost use Rattle.std.specs.Prelude.{◌≡◌, ◌⊎◌, ◌++◌, [], ◌∷◌, codes, OnOk, OnErr};
 ghost use Rattle.clap.specs.Words.{kind_of};
 ghost use Rattle.rambo_atomic.specs.StreamFaults.{words_of};
@@ -32,7 +32,7 @@ const FAILED: u8 = 1;
 /// The exit status where the command line or the input is faulty.
 const FAULTY: u8 = 2;
 
-/// What is told of a word that is no text.
+/// What is reported of a word that isn't text.
 const NO_TEXT: &[u8] = b"error: invalid UTF-8 was detected in one or more arguments
 
 Usage: rambo <COMMAND>
@@ -40,9 +40,9 @@ Usage: rambo <COMMAND>
 For more information, try '--help'.
 ";
 
-/// Tells a fault in one line, and answers the exit status for it.
+/// Reports a fault in one line, and returns the exit status for it.
 ///
-/// Where `errors` fails the rest of the line is lost. That is hidden on purpose: there is nowhere left to tell it,
+/// Where `errors` fails the rest of the line is lost. That is hidden on purpose: there is nowhere left to report it,
 /// and the status is that of the fault all the same.
 pub fn tell<E: Sink>(fault: ReplayFault, errors: &mut E) -> u8
     ensures status { result ≡ status_of fault }
@@ -59,7 +59,7 @@ pub fn tell<E: Sink>(fault: ReplayFault, errors: &mut E) -> u8
     }
 }
 
-// Tells the fault of a stream, or that memory ran out.
+// Reports the fault of a stream, or that memory ran out.
 fn tell_stream<E: Sink>(fault: StreamFault, errors: &mut E) -> u8
     ensures status { result ≡ 1 }
     ensures line { Tells (words_of fault ++ 10 ∷ []) (stream E.taken E.failures errors.old errors.new) }
@@ -68,7 +68,7 @@ fn tell_stream<E: Sink>(fault: StreamFault, errors: &mut E) -> u8
     FAILED
 }
 
-// Writes the line of such a fault. It takes no memory.
+// Writes the line of such a fault. It allocates nothing.
 fn write_words<E: Sink>(fault: StreamFault, errors: &mut E) -> Result<(), StreamFault>
     ensures ok { OnOk result (Takes (words_of fault ++ 10 ∷ []) (stream E.taken E.failures errors.old errors.new)) }
     ensures err { OnErr result (Breaks (words_of fault ++ 10 ∷ []) (stream E.taken E.failures errors.old errors.new)) }
@@ -78,7 +78,7 @@ fn write_words<E: Sink>(fault: StreamFault, errors: &mut E) -> Result<(), Stream
     Ok(())
 }
 
-// Writes the line of a fault of a text. It takes no memory.
+// Writes the line of a fault of a text. It allocates nothing.
 fn write_line<E: Sink>(fault: ScriptFault, errors: &mut E) -> Result<(), StreamFault>
     ensures ok { OnOk result (Takes (told fault ++ 10 ∷ []) (stream E.taken E.failures errors.old errors.new)) }
     ensures err { OnErr result (Breaks (told fault ++ 10 ∷ []) (stream E.taken E.failures errors.old errors.new)) }
@@ -92,7 +92,7 @@ fn write_line<E: Sink>(fault: ScriptFault, errors: &mut E) -> Result<(), StreamF
     Ok(())
 }
 
-/// Tells what clap answers in place of a task, and answers the exit status for it.
+/// Reports what clap gives in place of a task, and returns the exit status for it.
 ///
 /// - Help or the version goes to the writer: 0, and 1 where the writer failed.
 /// - A mistake in the words goes to `errors`: 2.
@@ -123,7 +123,7 @@ pub fn answer<W: Sink, E: Sink>(alloc: Global, error: &Error, writer: &mut W, er
     }
 }
 
-/// Tells that a word of the command line is no text, and answers the exit status for it.
+/// Reports that a word of the command line isn't text, and returns the exit status for it.
 pub fn tell_no_text<E: Sink>(errors: &mut E) -> u8
     ensures status { result ≡ 2 }
     ensures line { Tells NO_TEXT.now (stream E.taken E.failures errors.old errors.new) }
@@ -132,7 +132,7 @@ pub fn tell_no_text<E: Sink>(errors: &mut E) -> u8
     FAULTY
 }
 
-/// Tells that the founders on the command line are none, and answers the exit status for it.
+/// Reports that the founders on the command line aren't valid, and returns the exit status for it.
 pub fn tell_bad_founders<E: Sink>(errors: &mut E) -> u8
     ensures status { result ≡ 2 }
     ensures line { Tells (codes "bad founders" ++ 10 ∷ []) (stream E.taken E.failures errors.old errors.new) }
@@ -141,7 +141,7 @@ pub fn tell_bad_founders<E: Sink>(errors: &mut E) -> u8
     FAULTY
 }
 
-/// Tells that a socket failed, and answers the exit status for it.
+/// Reports that a socket failed, and returns the exit status for it.
 pub fn tell_socket<E: Sink>(errors: &mut E) -> u8
     ensures status { result ≡ 1 }
     ensures line { Tells socket_line (stream E.taken E.failures errors.old errors.new) }
@@ -150,14 +150,14 @@ pub fn tell_socket<E: Sink>(errors: &mut E) -> u8
     FAILED
 }
 
-/// Tells on which port a server listens, as far as `errors` takes it.
+/// Reports on which port a server listens, as far as `errors` takes it.
 pub fn tell_listening<E: Sink>(port: u16, errors: &mut E)
     ensures line { Tells (listening_line port) (stream E.taken E.failures errors.old errors.new) }
 {
     let _ = write_listening(port, errors);
 }
 
-// Writes on which port a server listens. It takes no memory.
+// Writes on which port a server listens. It allocates nothing.
 fn write_listening<E: Sink>(port: u16, errors: &mut E) -> Result<(), StreamFault>
     ensures ok { OnOk result (Takes (listening_line port) (stream E.taken E.failures errors.old errors.new)) }
     ensures err { OnErr result (Breaks (listening_line port) (stream E.taken E.failures errors.old errors.new)) }

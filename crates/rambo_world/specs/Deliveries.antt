@@ -1,4 +1,4 @@
--- A world as it is kept
+-- A world as it is stored
 use Rattle.std.specs.Prelude.{List}
 use Rattle.rambo_history.specs.declared.event.Event.{Event}
 use Rattle.rambo_run.specs.Worlds.{WorldState}

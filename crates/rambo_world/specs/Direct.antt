@@ -33,7 +33,7 @@ first_of (Some r) o = Some r
 abbrev pub pass_refusal : {Q : Type 0} → QuorumSystem Q → WorldState Q → ℕ → ℕ → Option Refusal
 pass_refusal s w from to = first_of (refusal s w (step.Send from to)) (refusal s (after s w (step.Send from to)) (step.Deliver 1))
 
--- the refusal that was told, if one was
+-- the refusal that was answered, if one was
 abbrev pub told_refusal : {A : Type 0} → Result A Refusal → Option Refusal
 told_refusal (Ok x) = None
 told_refusal (Err r) = Some r

@@ -1,4 +1,4 @@
--- What a letter that comes makes of its addressee, as it is kept
+-- What a letter that comes makes of its addressee, as it is stored
 use Rattle.std.specs.Prelude.{◌≡◌, ℕ, max, length, List, Option, None, Result, IfOk, OnOk, OnErr}
 use Rattle.rambo_names.specs.declared.refusal.Refusal.{Refusal}
 use Rattle.rambo_names.specs.Quorums.{QuorumSystem}
@@ -26,12 +26,12 @@ hear_refusal s ks l = least (causes_at s (state_at ks l.addressee) (change.Deliv
 abbrev pub lacked_of : {Q : Type 0} → List (List KeyedVersion) → Letter Q → ℕ → ℕ → List KeyedVersion
 lacked_of ls l start end = lacked (greatest_of (node_logs.log_at ls l.addressee)) (part (node_logs.log_at ls l.sender) start end)
 
--- the letter of a node to another, as it is kept beside these logs
+-- the letter of a node to another, as it is stored with these logs
 abbrev pub told_by : {Q : Type 0} → NodeState Q → ℕ → List (List KeyedVersion) → SentState Q
 told_by x to ls = outline_by x to (length (node_logs.log_at ls x.name))
 
--- a node heard a letter, with those copies of a part of its sender's log that its own lacked, which come to the same as all of
--- the part, and stand in its log then
+-- a node heard a letter, with those copies of a part of its sender's log that its own lacked. These come to the same as
+-- all of the part, and are in its log then
 pub record HasHeard {Q : Type 0} (old new : RoomyNode Q) (before after : List (List KeyedVersion)) (l : Letter Q) (start end : ℕ) : Type 0 where
   pub node : new.state ≡ (made_by old.state (change.Deliver (letter_with l (greatest_of (lacked_of before l start end))))).node
   pub logs : after ≡ extended before l.addressee (lacked_of before l start end)
@@ -42,8 +42,8 @@ pub record IsUnheard {Q : Type 0} (old new : RoomyNode Q) (before after : List (
   pub node : new.state ≡ old.state
   pub logs : after ≡ before
 
--- what became of a letter to a node that has such a letter kept for it: it was heard, and how many copies it tells of is told,
--- or why it isn't heard is, or there was no room
+-- what became of a letter to a node that has such a letter kept for it. It was heard, and how many copies it has is
+-- answered; or why it isn't heard is; or there was no room
 pub record HasMet {Q : Type 0} (s : QuorumSystem Q) (old new : RoomyNode Q) (before after : List (List KeyedVersion)) (m : SentState Q) (start : ℕ) (r : Result (Result ℕ Refusal) Refusal) : Type 0 where
   pub refusal : IfOk r (λ t. told_refusal t ≡ refusal_of s old.state (change.Deliver m.letter))
   pub told : IfOk r (λ t. IfOk t (λ told. told ≡ m.told))

@@ -1,4 +1,4 @@
--- How the nodes and the letters of a world are kept: a letter goes without its copies, which are those of a beginning of
+-- How the nodes and the letters of a world are stored. A letter goes without its copies, which are those of a prefix of
 -- its sender's log, and its addressee hears of them only what it lacks
 use Rattle.std.specs.Prelude.{◌≡◌, ℕ, ◌+◌, ◌-◌, ◌≤◌, if◌then◌else◌, List, [], ◌∷◌, ◌++◌, map, take, length, Option, None, Some, slice_get, slice_set}
 use Rattle.std.specs.FinMap as copies
@@ -18,7 +18,7 @@ use Rattle.rambo_node.specs.Letters.{letter_for}
 use Rattle.rambo_node.specs.Nodes.{NodeState, RoomyNode}
 use Rattle.rambo_run.specs.Worlds.{node_at}
 
--- a node as it is kept, with the log of the copies that its registers took on, the oldest first
+-- a node as it is stored, with the log of the copies that its registers took, the oldest first
 pub record KeptNode (Q : Type 0) : Type 0 where
   pub node : RoomyNode Q
   pub log : List KeyedVersion
@@ -79,18 +79,18 @@ whole_letter ks s = letter_with s.letter (greatest_of (take s.told (log_at ks s.
 abbrev pub whole_letters : {Q : Type 0} → List (KeptNode Q) → List (SentState Q) → List (Letter Q)
 whole_letters ks ss = map (whole_letter ks) ss
 
--- the nodes with that of a name put as this, whose log stays
+-- the nodes, with this one for a name and its log unchanged
 abbrev pub with_node : {Q : Type 0} → List (KeptNode Q) → ℕ → RoomyNode Q → List (KeptNode Q)
 with_node ks name x = slice_set ks (name - 1) (record { node = x; log = log_at ks name })
 
--- the letter of a node as it is kept, where the node's log has so many copies
+-- the letter of a node as it is stored, where the node's log has this many copies
 abbrev pub outline_by : {Q : Type 0} → NodeState Q → ℕ → ℕ → SentState Q
 outline_by x to logged = record { letter = letter_with (letter_for x to) copies.empty; told = if is_active x.status then logged else 0 }
 
 abbrev pub outline : {Q : Type 0} → KeptNode Q → ℕ → SentState Q
 outline k to = outline_by k.node.state to (length k.log)
 
--- the states with that of one name put in another way
+-- the states, with the one of a name changed
 abbrev pub moved_in : {Q : Type 0} → ℕ → Option (NodeState Q) → (NodeState Q → NodeState Q) → List (NodeState Q) → List (NodeState Q)
 moved_in name None f xs = xs
 moved_in name (Some x) f xs = slice_set xs (name - 1) (f x)
@@ -116,18 +116,18 @@ pub record AllGrow {Q : Type 0} (old new : List (KeptNode Q)) : Type 0 where
   pub count : length new ≡ length old
   pub grow : (place : ℕ) (x : KeptNode Q) → slice_get old place ≡ Some x → IsSomeAnd (slice_get new place) (Grows x)
 
--- a letter that is kept: it tells of no more than its sender's log, and of nothing where it doesn't gossip
+-- a letter that is stored: it has no more copies than its sender's log, and none where it doesn't gossip
 pub record IsSent {Q : Type 0} (ks : List (KeptNode Q)) (s : SentState Q) : Type 0 where
   pub within : s.told ≤ length (log_at ks s.letter.sender)
   pub join : s.letter.kind ≡ kind.Join → s.told ≡ 0
 
--- a node has merged what it is told to have merged
+-- a node has merged what its counts say
 pub record HasMerged {Q : Type 0} (ks : List (KeptNode Q)) (counts : List ℕ) (to from : ℕ) (k : KeptNode Q) : Type 0 where
   pub within : merged_at counts to from ≤ length (log_at ks from)
   pub holds : joined k.node.state.registers (greatest_of (take (merged_at counts to from) (log_at ks from))) ≡ k.node.state.registers
 
--- what holds of the nodes, the letters and the counts of every world: the nodes are those of the names 1 to 64, their
--- copies are recorded, letters tell of what was logged, and what counts as merged was merged
+-- what holds of the nodes, the letters and the counts of every world. The nodes are those of the names 1 to 64, and
+-- their copies are recorded. Letters have only copies that were logged, and what counts as merged was merged
 pub record IsKept {Q : Type 0} (ks : List (KeptNode Q)) (ss : List (SentState Q)) (ms : List ℕ) : Type 0 where
   pub nodes : length ks ≡ 64
   pub counts : length ms ≡ 4096

@@ -1,4 +1,4 @@
--- What the nodes end as, where one of them is lent
+-- What the nodes end as, where one of them is borrowed
 use Rattle.std.specs.Prelude.{ℕ, List}
 use Rattle.std.specs.Borrow.{Lends, Fml, RattleType, MutBor}
 use Rattle.std.specs.declared.cmp.PartialEq

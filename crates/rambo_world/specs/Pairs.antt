@@ -1,4 +1,4 @@
--- Two items of a list, which are lent
+-- Two items of a list, which are borrowed
 use Rattle.std.specs.Prelude.{◌≡◌, ℕ, List, Some, slice_get, slice_set}
 use Rattle.std.specs.Borrow.{LendsBoth, Fml, RattleType, MutBor, Array}
 
@@ -6,7 +6,7 @@ use Rattle.std.specs.Borrow.{LendsBoth, Fml, RattleType, MutBor, Array}
 abbrev pub with_both : {A : Type 0} → List A → ℕ → ℕ → A → A → List A
 with_both xs first second x y = slice_set (slice_set xs first x) second y
 
--- which items stand there
+-- which items are there
 pub record AreBoth {A : Type 0} (xs : List A) (first second : ℕ) (x y : A) : Type 0 where
   pub at_first : slice_get xs first ≡ Some x
   pub at_second : slice_get xs second ≡ Some y

@@ -18,8 +18,8 @@ use rambo_tag::Replica;
 use std::alloc::Global;
 use std::marker::Model;
 
-/// A run that goes on step by step, and in which a letter comes as it is sent. No step is kept, and no letter: what the
-/// steps made of the world of its founders is, but for its letters.
+/// A run that goes on step by step, in which each letter is delivered as it is sent. Neither steps nor letters are
+/// stored, but the rest of what the steps made of the world of its founders.
 #[derive(Drop)]
 pub struct Direct<Q: Quorums, S: Replica> {
     founders: Q,
@@ -46,7 +46,7 @@ impl<Q: Quorums, S: Replica> Model for Direct<Q, S> {
 impl<Q: Quorums, S: Replica> Direct<Q, S> {
     /// The run of these founders, before any step. The copies of each node are made by `fresh` of a replica.
     ///
-    /// Refused are 18 where there is no founder, 22 where there is no room for it.
+    /// Refused with 18 where there is no founder, 22 where there is no room for it.
     pub fn new(alloc: Global, founders: Q, replica: &S) -> Result<Direct<Q, S>, Refusal>
         ensures founded { OnOk result (least (founding_causes Q.system founders) ≡ None) }
         ensures made { IfOk result (λ d. d ≡ record { founders = founders; state = first_world Q.system founders }) }
@@ -59,7 +59,7 @@ impl<Q: Quorums, S: Replica> Direct<Q, S> {
         })
     }
 
-    /// A client asks a node for an operation: the call, or why that was refused, after which the run goes on.
+    /// A client asks a node for an operation. Returns the call, or why that was refused; the run then goes on.
     ///
     /// `OutOfMemory` where there is no room for the call; then nothing changes. A refusal needs no room.
     pub fn call(&mut self, name: Name, op: Op) -> Result<Result<CallId, Refusal>, Refusal>
@@ -73,10 +73,10 @@ impl<Q: Quorums, S: Replica> Direct<Q, S> {
         self.state.call(name, op)
     }
 
-    /// A node sends a letter to another, to which it comes at once; or why it isn't sent, or isn't heard. The run then
-    /// goes on without the letter.
+    /// A node sends a letter to another, to which it comes at once. Returns why not, if it isn't sent or isn't heard;
+    /// the run then goes on without the letter.
     ///
-    /// `OutOfMemory` where there is no room for what the letter tells; then nothing changes. A refusal needs no room.
+    /// `OutOfMemory` where there is no room for what the letter carries; then nothing changes. A refusal needs no room.
     pub fn pass(&mut self, from: Name, to: Name) -> Result<Result<(), Refusal>, Refusal>
         ensures told { IfOk result (λ r. told_refusal r ≡ pass_refusal Q.system self.old.state from to) }
         ensures after { OnOk result (self.new ≡ record self.old { state = passed Q.system self.old.state from to }) }
@@ -87,7 +87,7 @@ impl<Q: Quorums, S: Replica> Direct<Q, S> {
         self.state.pass(from, to)
     }
 
-    /// A call goes on: its answer, if it got one, or why that was refused, after which the run goes on.
+    /// Advances a call. Returns its answer, if it got one, or why that was refused; the run then goes on.
     ///
     /// `OutOfMemory` where there is no room for what it does; then nothing changes. A refusal needs no room.
     pub fn advance(&mut self, id: CallId) -> Result<Result<Option<Answer>, Refusal>, Refusal>

@@ -19,7 +19,7 @@ use rambo_sequence::Mark;
 use rambo_tag::Replica;
 
 impl<Q: Quorums, S: Replica> State<Q, S> {
-    // A node takes a change that needs no memory, and sends no letter: what it did, or why it is refused.
+    // A node takes a change that allocates nothing, and sends no letter: what it did, or why it is refused.
     pub(crate) fn quick(&mut self, name: Name, quick: Quick<Q>) -> Result<Effect<Q>, Refusal>
         requires { sends (quick_change quick) ≡ false }
         ensures ok { IfOk result (λ e. turn_at self.old name (node_at self.old name) (quick_change quick) ≡ record { world = self.new; effect = e }) }
@@ -54,7 +54,7 @@ impl<Q: Quorums, S: Replica> State<Q, S> {
         Ok(Ok(id))
     }
 
-    // The same where the operation is lent.
+    // The same where the operation is borrowed.
     pub(crate) fn call_lent(
         &mut self,
         name: Name,

@@ -35,12 +35,12 @@ use rambo_tag::{KeyedVersion, Pack, Replica};
 use std::alloc::Global;
 use std::marker::Model;
 
-/// The nodes of the names 1 to 64, and of each the log of the copies that its registers took on.
+/// The nodes of the names 1 to 64, and of each the log of the copies that its registers took.
 pub(crate) struct Nodes<Q: Quorums, S: Replica> {
     list: Vec<Node<Q, S>>,
     logs: Logs,
     alloc: Global,
-    // Never used: it tells the prover that a node has a size, which it doesn't see behind a `Vec`.
+    // Never used: it tells the prover that a node has a size, which it doesn't see through a `Vec`.
     spare: Node<Q, S>,
 }
 
@@ -117,9 +117,9 @@ impl<Q: Quorums, S: Replica> Nodes<Q, S> {
         maps_of(alloc, self.list.as_slice())
     }
 
-    // A call goes on that may, and was found here; the copy that it puts goes into the log of its node. The rest of what
-    // it did is told in this deed, which told of nothing before: where the call doesn't go on, nothing is to be read there.
-    // For the event and the mark that it told of there is room then in this history and these marks.
+    // Advances a call that may advance, and was found here; the copy that it puts goes into the log of its node. The
+    // rest of what it did is written to `deed`, which has nothing yet. Where the call doesn't advance, nothing is to be
+    // read there. For the event and the mark in `deed` there is then room in this history and these marks.
     pub(crate) fn advance(
         &mut self,
         id: CallId,
@@ -176,8 +176,8 @@ impl<Q: Quorums, S: Replica> Nodes<Q, S> {
         hear(node, &mut self.logs, self.alloc, letter, start, end)
     }
 
-    // A node hears the letter that another has for it, unless it refuses it: of the copies that it tells of, those from a
-    // place on that the node lacks. Tells how many the letter tells of.
+    // A node hears the letter that another has for it, unless it refuses it: of its copies, those from a place on that
+    // the node lacks. Returns how many copies the letter has.
     pub(crate) fn pass(
         &mut self,
         from: Name,
@@ -199,7 +199,7 @@ impl<Q: Quorums, S: Replica> Nodes<Q, S> {
         meet(nodes, &mut self.logs, self.alloc, from, to, start)
     }
 
-    // The letter of a node to another, as it is kept.
+    // The letter of a node to another, as it is stored.
     pub(crate) fn outline(&self, from: Name, to: Name) -> Outline<'_, Q>
         ensures sent { (k : KeptNode Q) → kept_at self.now from ≡ Some k → result ≡ outline k to }
         ensures named { IsName from }
@@ -208,8 +208,8 @@ impl<Q: Quorums, S: Replica> Nodes<Q, S> {
     }
 }
 
-// The node of a name hears the letter that another has for it, unless it refuses it: of the copies that it tells of, those from
-// a place on that its log lacks. Tells how many the letter tells of.
+// The node of a name hears the letter that another has for it, unless it refuses it: of its copies, those from a place
+// on that its log lacks. Returns how many copies the letter has.
 fn meet<Q: Quorums, S: Replica>(
     nodes: &mut [Node<Q, S>],
     logs: &mut Logs,
@@ -311,7 +311,8 @@ fn hear_with<Q: Quorums, S: Replica>(
     Ok(())
 }
 
-// The letter of a node to another, as it is kept, where the node's log has so many copies: a joining node tells of none.
+// The letter of a node to another, as it is stored, where the node's log has this many copies: a joining node sends
+// none.
 fn outline_of<Q: Quorums, S: Replica>(node: &Node<Q, S>, to: Name, logged: usize) -> Outline<'_, Q>
     ensures { result ≡ outline_by node.now.state to logged }
 {
@@ -370,7 +371,8 @@ fn first_nodes<Q: Quorums, S: Replica>(
     Ok(list)
 }
 
-// Makes room for what a deed tells of: for its copy in the log of a name, for its event in a history, and for its mark in marks.
+// Makes room for what a deed has: for its copy in the log of a name, for its event in a history, and for its mark in
+// marks.
 #[inline(always)]
 fn make_room<Q: Quorums>(
     logs: &mut Logs,
@@ -466,7 +468,7 @@ fn configs_of<Q: Quorums>(alloc: Global, places: &Places<Q>) -> Result<Vec<Q>, R
     Ok(configs)
 }
 
-// Where the node of a name stands.
+// Where the node of a name is.
 pub(crate) fn place_of(name: Name) -> usize
     ensures place { result ≡ name - 1 }
     ensures within { result < 64 }

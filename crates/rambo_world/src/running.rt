@@ -21,7 +21,7 @@ use rambo_tag::Replica;
 use std::alloc::Global;
 use std::marker::Model;
 
-/// A run that goes on step by step. The steps that it took aren't kept: what they made of the world of its founders is.
+/// A run that goes on step by step. The steps aren't stored, but what they made of the world of its founders.
 #[derive(Drop)]
 pub struct Running<Q: Quorums, S: Replica> {
     founders: Q,
@@ -46,7 +46,7 @@ impl<Q: Quorums, S: Replica> Model for Running<Q, S> {
 impl<Q: Quorums, S: Replica> Running<Q, S> {
     /// The run of these founders, before any step. The copies of each node are made by `fresh` of a replica.
     ///
-    /// Refused are 18 where there is no founder, 22 where there is no room for it.
+    /// Refused with 18 where there is no founder, 22 where there is no room for it.
     pub fn new(alloc: Global, founders: Q, replica: &S) -> Result<Running<Q, S>, Refusal>
         ensures founded { OnOk result (least (founding_causes Q.system founders) ≡ None) }
         ensures made { IfOk result (λ r. r ≡ record { founders = founders; state = first_world Q.system founders }) }

@@ -17,19 +17,19 @@ use rambo_tag::{Registers, Replica};
 use std::alloc::Global;
 use std::hash::{BuildHasherDefault, FoldHasher};
 
-/// What steps make of the world of these founders. A step that is refused is noted with its
-/// refusal, and the run goes on.
+/// What steps make of the world of these founders. For a step that is refused its refusal is noted, and the run goes
+/// on.
 ///
-/// The answered operations of each key, with some sets that weren't answered, stand in one sequence that the outcome
-/// gives: each get answers the latest set before it, or nil, and what was answered before another operation was called
-/// stands before it (Attiya, Bar-Noy and Dolev, "Sharing Memory Robustly in Message-Passing Systems", JACM 1995; Lynch
+/// The answered operations of each key, with some sets that weren't answered, are in one sequence that the outcome
+/// gives. Each get answers the latest set before it, or nil. What was answered before another operation was called
+/// comes before it (Attiya, Bar-Noy and Dolev, "Sharing Memory Robustly in Message-Passing Systems", JACM 1995; Lynch
 /// and Shvartsman, "RAMBO", DISC 2002). No two nodes hold different configurations at one place.
 ///
-/// The outcome also gives one order of the calls of all keys, which explains them together. Next is the first call that is
-/// left of some key: of the one whose calls that are left include the earliest answered of all. Once nothing that is left
-/// has an answer, the keys are emptied one after another, lesser keys first.
+/// The outcome also gives one order of the calls of all keys, which explains them together. Next is always the first
+/// call left of some key: of the key whose calls left include the one that was answered first. Once no call left has an
+/// answer, the keys follow one after another in byte order.
 ///
-/// Refused are 18 where there is no founder, 22 where memory runs out.
+/// Refused with 18 where there is no founder, 22 where memory runs out.
 pub fn run<Q: Quorums>(alloc: Global, founders: Q, steps: &[Step<Q>]) -> Result<Outcome<Q>, Refusal>
     ensures founded { OnOk result (least (founding_causes Q.system founders) ≡ None) }
     ensures outcome { IfOk result (λ o. o ≡ outcome_of Q.system founders steps.now) }

@@ -152,7 +152,7 @@ impl<Q: Quorums, S: Replica> State<Q, S> {
         Ok(results)
     }
 
-    // Makes room for what steps may send, call and answer, at once: lists that grow bit by bit leave holes behind.
+    // Makes room for what steps may send, call and answer, at once: lists that grow bit by bit leave unused memory.
     fn reserve(&mut self, steps: &[Step<Q>]) -> Result<(), Refusal>
         ensures same { self.new ≡ self.old }
         ensures refused { IfErr result (λ r. r ≡ Refusal.OutOfMemory) }

@@ -24,8 +24,8 @@ use std::marker::Model;
 /// of the calls and answers.
 ///
 /// A letter may be delivered late, again and again, in any order, or never. Each step that is refused leaves the world
-/// as it was. Of several causes of a refusal the one of the least number is told, and `OutOfMemory` only where there is
-/// no other.
+/// as it was. Of several causes of a refusal the least number is reported, and `OutOfMemory` only where there is no
+/// other.
 #[derive(Drop)]
 pub struct World<Q: Quorums, S: Replica> {
     founders: Q,
@@ -53,7 +53,7 @@ impl<Q: Quorums, S: Replica> Model for World<Q, S> {
 impl<Q: Quorums, S: Replica> World<Q, S> {
     /// The world of these founders, before any step. The copies of each node are made by `fresh` of a replica.
     ///
-    /// Refused are 18 where there is no founder, 22 where there is no room for it.
+    /// Refused with 18 where there is no founder, 22 where there is no room for it.
     pub fn new(alloc: Global, founders: Q, replica: &S) -> Result<World<Q, S>, Refusal>
         ensures founded { OnOk result (least (founding_causes Q.system founders) ≡ None) }
         ensures made { IfOk result (λ w. w ≡ record { founders = founders; steps = [] }) }
@@ -69,7 +69,7 @@ impl<Q: Quorums, S: Replica> World<Q, S> {
 
     /// Takes a step, and says what it did.
     ///
-    /// Refused is what the rules of its kind say, and 22 where there is no room for it.
+    /// Refused with what the rules of its kind say, and 22 where there is no room for it.
     pub fn step(&mut self, step: Step<Q>) -> Result<Effect<Q>, Refusal>
         ensures judged { OnOk result (refusal Q.system (state Q.system self.old) step ≡ None) }
         ensures ok { OnOk result (self.new ≡ record self.old { steps = self.old.steps ++ step ∷ [] }) }
@@ -87,7 +87,7 @@ impl<Q: Quorums, S: Replica> World<Q, S> {
         Ok(effect)
     }
 
-    /// The accepted steps, the first of them first: none of them is refused where it stands.
+    /// The accepted steps, in order: none of them is refused in its place.
     pub fn steps(&self) -> &[Step<Q>]
         ensures steps { result.now ≡ self.now.steps }
         ensures accepted { IsLegal Q.system self.now.founders self.now.steps }
@@ -102,10 +102,10 @@ impl<Q: Quorums, S: Replica> World<Q, S> {
         &self.state.history
     }
 
-    /// The given sequence of a key: its answered calls and its sets that took a tag, by tag, a set before gets of its
-    /// tag, and gets of one tag by the places of their calls in the history. An ordinary map, asked in this order, gives
-    /// each answer that was given, and what was answered before another call was made stands before it (Herlihy and
-    /// Wing, "Linearizability", TOPLAS 1990).
+    /// The given sequence of a key: its answered calls and its sets that took a tag. They are ordered by tag, a set
+    /// before the gets of its tag, and gets of one tag by the places of their calls in the history. An ordinary map,
+    /// asked in this order, gives each answer that was given. What was answered before another call was made comes
+    /// before it (Herlihy and Wing, "Linearizability", TOPLAS 1990).
     ///
     /// `OutOfMemory` where there is no room for it.
     pub fn sequence(&self, alloc: Global, key: &[u8]) -> Result<Vec<CallId>, Refusal>

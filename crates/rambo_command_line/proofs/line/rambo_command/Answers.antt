@@ -1,6 +1,5 @@
 use Rattle.std.proofs.Common.{◌∙◌, ap, ap₂}
 use Rattle.std.proofs.lemmas.Result.{IfOk-weaker}
-use Rattle.clap.specs.Simple.{App}
 use Rattle.clap.specs.Words.{app_of, with_subcommand}
 use Rattle.rambo_command_line.specs.Lines.{with_options}
 use Rattle.rambo_command_line.proofs.line.rambo_command.Goals as goal

@@ -1,8 +1,8 @@
-use Rattle.std.proofs.Common.{◌≡◌, ◌∙◌, ℕ, List, Bor, codes, refl, sym, ap, subst, true, true≢false}
-use Rattle.std.specs.Prelude.{Option, Some, None, is_some, option_map}
+use Rattle.std.proofs.Common.{◌≡◌, ◌∙◌, ℕ, List, Bor, codes, refl, sym, ap, subst, true≢false}
+use Rattle.std.specs.Prelude.{Option}
 use Rattle.std.specs.Option.{unwrap_or}
 use Rattle.rambo_command_line.specs.Lines.{IsFounders, founders_or}
-use Rattle.rambo_command_line.proofs.Asked.{met_check, met_named, met_replay, rows_met, word_is}
+use Rattle.rambo_command_line.proofs.Asked.{flag_is, met_named, met_replay, word_is}
 use Rattle.rambo_command_line.proofs.Texts.{unwrap_now}
 use Rattle.rambo_command_line.proofs.line.task_in.Goals as goal
 
@@ -15,14 +15,20 @@ returns-in-Some c words faultless matches =
       subst (λ w. IsFounders w c.founders_of.result) word c.founders_of.ensures,
     )
 
-pub returns-then-is_some : goal.returns-then-is_some
-returns-then-is_some c words faultless matches =
-    let is : is_some c.subcommand_matches-3.result ≡ true = sym c.is_some.ensures ∙ c.if-is_some.true in
-    met_replay words _ faultless matches (c.subcommand_matches-3.ensures.found.0 is)
+pub returns-in-Some-subcommand_matches-2 : goal.returns-in-Some-subcommand_matches-2
+returns-in-Some-subcommand_matches-2 c words faultless matches =
+    let told = flag_is words _ faultless matches (codes "why") c.in-Some-subcommand_matches-2.check.now c.in-Some-subcommand_matches-2.ensures.rows in (
+      met_named words _ faultless matches (codes "check") (c.in-Some-subcommand_matches-2.ensures.found.0 refl),
+      record {
+        there = λ e. c.get_flag.ensures.value (sym told ∙ e);
+        absent = λ e. c.get_flag.ensures.other (sym told ∙ e);
+        untold = λ e. c.get_flag.ensures.none (sym told ∙ e);
+      },
+    )
 
-pub returns-else-is_some : goal.returns-else-is_some
-returns-else-is_some c words faultless matches =
-    met_check words _ faultless matches
-    (λ met. true≢false (sym (c.subcommand_matches-3.ensures.found.1 met) ∙ sym c.is_some.ensures ∙ c.if-is_some.false))
+pub returns : goal.returns
+returns c words faultless matches =
+    met_replay words _ faultless matches
+    (λ met. true≢false (sym (c.in_default-subcommand_matches-2.ensures.found.1 met)))
     (λ met. true≢false (sym (c.in_default.ensures.found.1 met)))
     (λ met. true≢false (sym (c.in_default-subcommand_matches.ensures.found.1 met)))

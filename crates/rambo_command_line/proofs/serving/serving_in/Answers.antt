@@ -1,7 +1,6 @@
-use Rattle.std.proofs.Common.{◌≡◌, ◌∙◌, ℕ, List, Bor, Some, None, Option, codes, refl, sym, ap, subst, arith}
-use Rattle.std.specs.Prelude.{slice_get, option_map}
+use Rattle.std.proofs.Common.{◌≡◌, ◌∙◌, ℕ, List, Bor, Option, codes, refl, sym, ap, subst, arith}
 use Rattle.std.specs.Option.{unwrap_or}
-use Rattle.clap.specs.Matches.{found_of, first_value}
+use Rattle.clap.specs.Matches.{found_of}
 use Rattle.clap.proofs.WalkLemmas.{first_value-rows}
 use Rattle.rambo_command_line.proofs.Served.{behind, number_option, option_at, told}
 use Rattle.rambo_command_line.proofs.Texts.{unwrap_now}
@@ -17,8 +16,9 @@ returns c words asks is =
     record {
       port = told words sub asks.0 is (codes "port") 0 0 65535 65536 _ (option_at 0) (number_option (codes "port") 0 65535 0 refl refl refl refl) (omega arith) (omega arith) (omega arith) c.port_in.ensures.none c.port_in.ensures.some;
       founders = subst (λ w. IsFounders w c.founders_of.result) word c.founders_of.ensures;
-      clients = told words sub asks.0 is (codes "clients") 8 1 32 18446744073709551616 _ (option_at 2) (number_option (codes "clients") 1 32 2 refl refl refl refl) (omega arith) (omega arith) (omega arith) c.number_in.ensures.none c.number_in.ensures.some;
-      steps = told words sub asks.0 is (codes "steps") 100000 1 1000000 18446744073709551616 _ (option_at 3) (number_option (codes "steps") 1 1000000 3 refl refl refl refl) (omega arith) (omega arith) (omega arith) c.number_in-2.ensures.none c.number_in-2.ensures.some;
-      lose = told words sub asks.0 is (codes "lose") 0 0 18446744073709551615 18446744073709551616 _ (option_at 4) (number_option (codes "lose") 0 18446744073709551615 4 refl refl refl refl) (omega arith) (omega arith) (omega arith) c.number_in-3.ensures.none c.number_in-3.ensures.some;
-      twice = told words sub asks.0 is (codes "twice") 0 0 18446744073709551615 18446744073709551616 _ (option_at 5) (number_option (codes "twice") 0 18446744073709551615 5 refl refl refl refl) (omega arith) (omega arith) (omega arith) c.number_in-4.ensures.none c.number_in-4.ensures.some;
+      clients = told words sub asks.0 is (codes "clients") 2 1 32 18446744073709551616 _ (option_at 2) (number_option (codes "clients") 1 32 2 refl refl refl refl) (omega arith) (omega arith) (omega arith) c.number_in.ensures.none c.number_in.ensures.some;
+      connections = told words sub asks.0 is (codes "connections") 10000 1 1000000 18446744073709551616 _ (option_at 3) (number_option (codes "connections") 1 1000000 3 refl refl refl refl) (omega arith) (omega arith) (omega arith) c.number_in-2.ensures.none c.number_in-2.ensures.some;
+      steps = told words sub asks.0 is (codes "steps") 100000 1 1000000 18446744073709551616 _ (option_at 4) (number_option (codes "steps") 1 1000000 4 refl refl refl refl) (omega arith) (omega arith) (omega arith) c.number_in-3.ensures.none c.number_in-3.ensures.some;
+      lose = told words sub asks.0 is (codes "lose") 0 0 18446744073709551615 18446744073709551616 _ (option_at 5) (number_option (codes "lose") 0 18446744073709551615 5 refl refl refl refl) (omega arith) (omega arith) (omega arith) c.number_in-4.ensures.none c.number_in-4.ensures.some;
+      twice = told words sub asks.0 is (codes "twice") 0 0 18446744073709551615 18446744073709551616 _ (option_at 6) (number_option (codes "twice") 0 18446744073709551615 6 refl refl refl refl) (omega arith) (omega arith) (omega arith) c.number_in-5.ensures.none c.number_in-5.ensures.some;
     }

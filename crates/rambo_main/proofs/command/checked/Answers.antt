@@ -7,7 +7,7 @@ pub returns-in-Err-clause-ends : goal.returns-in-Err-clause-ends
 returns-in-Err-clause-ends g c =
     search (
       rules,
-      fault_ends c.in-Err.fault c.of-in-Err.result.status
+      fault_ends c.args.why c.in-Err.fault c.of-in-Err.result.status
           (stream g.R.Source.left g.R.Source.failures c.args.reader.now c.check_text.new.reader)
           (stream g.W.Sink.taken g.W.Sink.failures c.args.writer.now c.check_text.new.writer)
           (stream g.E.Sink.taken g.E.Sink.failures c.args.errors.now c.tell.new.errors)
