@@ -1,5 +1,5 @@
 //! The locks.
-ghost use Rattle.std.specs.Prelude.{◌≡◌, ◌<◌, ◌≤◌, ◌⊎◌, [], None, Some, true, false, length, vec_len, IsOk, MatchOption, OnOk, OnErr, IfOk, IfErr, IfSome, All};
+ghost use Rattle.std.specs.Prelude.{◌≡◌, ◌<◌, ◌≤◌, ◌⊎◌, [], Option, None, Some, true, false, length, vec_len, IsOk, MatchOption, OnOk, OnErr, IfOk, IfErr, IfSome, All};
 ghost use Rattle.std.specs.FinMap as map;
 ghost use Rattle.std.specs.FinSet as set;
 ghost use Rattle.rambo_names.specs.Refusals.{least, IsRefusal};
@@ -8,15 +8,16 @@ ghost use Rattle.std.specs.Sync.Mutex.{mutex_guard_value};
 ghost use mathlib.Core.List.{IsPrefix};
 ghost use Rattle.rambo_run.specs.Runs.{run, given_order};
 ghost use Rattle.rambo_run.specs.Steps.{refusal};
-ghost use Rattle.rambo_book.specs.Kept.{IsServedBy, Told, state};
+ghost use Rattle.rambo_book.specs.Kept.{IsServedBy, KeeperView, Told, state};
+ghost use Rattle.rambo_book.specs.Readying.{IsReadyFor};
 ghost use Rattle.rambo_run.specs.Legal.{IsLegal};
 ghost use Rattle.rambo_history.specs.Histories.{answer_in};
 ghost use Rattle.rambo_history.specs.Proper.{IsProperForAll};
-ghost use Rattle.rambo_pass.specs.Passes.{Acted, IsAnsweredLater, IsGoing, IsNone, IsNoted, IsOne, WhyNot, WhyUndone};
+ghost use Rattle.rambo_pass.specs.Passes.{Acted, IsAnsweredLater, IsGoing, IsHalf, IsNone, IsNoted, IsOne, WhyNot, WhyUndone};
 ghost use Rattle.rambo_visit.specs.Happened.{Happened, HasMap, HasNoRoom, HasTurned, IsHeldUp, IsLast};
 
 use crate::gate::Gate;
-use rambo_book::{Actor, Book, Keeper, Terms, ready};
+use rambo_book::{Actor, Book, Keeper, Ready, Terms, ready};
 use rambo_config_map::ConfigMap;
 use rambo_history::{Answer, CallId, Op};
 use rambo_mail::Mails;
@@ -274,6 +275,7 @@ impl<J: Terms<Q>, Q: Quorums, S: Replica> Post<J, Q, S> {
         };
         let mut keeper = self.keeper_of(rt, name);
         let half = ready(*self.keepers.allocator(), &mut keeper, step);
+        let half = asking_if(half, keeper.is_open());
         let mut book = self.book.lock(rt);
         act_ready_in(&mut book, &mut keeper, pass, half)
     }
@@ -584,4 +586,15 @@ fn outboxes_of(alloc: Global) -> Result<Vec<Mutex<Outbox>>, Refusal>
         outboxes.push(Mutex::new(Outbox::new(alloc)))?;
     }
     Ok(outboxes)
+}
+
+// A first half whose letter, if it sends one, asks for one in return, where `asks` is true; else the same.
+fn asking_if<Q: Quorums>(half: Result<Ready<Q>, Refusal>, asks: bool) -> Result<Ready<Q>, Refusal>
+    ensures half { (agreed : Option Q) (k : KeeperView Q) (st : Step Q) → IsHalf Q.system agreed k st half → IsHalf Q.system agreed k st result }
+    ensures ready { (agreed : Option Q) (k : KeeperView Q) → IfOk half (IsReadyFor Q.system agreed k) → IfOk result (IsReadyFor Q.system agreed k) }
+{
+    match half {
+        Ok(ready) => { if asks { Ok(ready.asking()) } else { Ok(ready) } }
+        Err(refusal) => Err(refusal),
+    }
 }

@@ -48,7 +48,7 @@ ready-half-requires g c =
 pub act_ready_in-requires : goal.act_ready_in-requires
 act_ready_in-requires g c =
     let post = c.requires-raw.1.1.1.1 in
-    (back_fits _ _ _ (up_fits _ _ _ (back_fits _ _ _ (up_fits _ _ _ (variant_fits _ _ _ _ (back_fits _ _ _ (up_fits _ _ _ post)))))), subst (λ k. IfOk c.ready-half.result (IsReadyFor g.Q.Quorums.system g.J.Terms.founders k)) (sym c.deref_mut-4.ensures.value) c.ready-half.ensures.ready)
+    (back_fits _ _ _ (up_fits _ _ _ (back_fits _ _ _ (up_fits _ _ _ (variant_fits _ _ _ _ (back_fits _ _ _ (up_fits _ _ _ post)))))), c.asking_if-half.ensures.ready g.J.Terms.founders c.deref_mut-4.result.now (subst (λ k. IfOk c.ready-half.result (IsReadyFor g.Q.Quorums.system g.J.Terms.founders k)) (sym c.deref_mut-4.ensures.value) c.ready-half.ensures.ready))
 
 pub returns-clause-acted : goal.returns-clause-acted
 returns-clause-acted g c =
@@ -56,7 +56,7 @@ returns-clause-acted g c =
     let named = sym c.in-Some.ensures in
     let name = ap (λ (k : KeeperView _). k.name) c.deref_mut-2.ensures.value ∙ c.keeper_of-keeper.ensures in
     let half = half_of g.Q.Quorums.system g.J.Terms.founders c.deref_mut-2.result.now c.ready-half.new.keeper c.args.step c.ready-half.result c.ready-half.ensures.same (named ∙ ap Some (sym name)) c.ready-half.ensures.step c.ready-half.ensures.refused in
-    let here = subst (λ k. IsHalf g.Q.Quorums.system g.J.Terms.founders k c.args.step c.ready-half.result) (sym c.deref_mut-4.ensures.value) half in
+    let here = c.asking_if-half.ensures.half g.J.Terms.founders c.deref_mut-4.result.now c.args.step (subst (λ k. IsHalf g.Q.Quorums.system g.J.Terms.founders k c.args.step c.ready-half.result) (sym c.deref_mut-4.ensures.value) half) in
     acted g.Q.Quorums.system g.J.Terms.founders c.deref_mut-3.result.now c.act_ready_in.result c.args.pass.now c.act_ready_in.new.pass c.args.step h.terms.0 h.between (h.last c.args.step here) h.legal (h.accepted c.args.step here) (h.effect c.args.step here) h.mine
 
 pub returns-clause-cause : goal.returns-clause-cause
@@ -65,5 +65,8 @@ returns-clause-cause g c =
     let named = sym c.in-Some.ensures in
     let name = ap (λ (k : KeeperView _). k.name) c.deref_mut-2.ensures.value ∙ c.keeper_of-keeper.ensures in
     let half = half_of g.Q.Quorums.system g.J.Terms.founders c.deref_mut-2.result.now c.ready-half.new.keeper c.args.step c.ready-half.result c.ready-half.ensures.same (named ∙ ap Some (sym name)) c.ready-half.ensures.step c.ready-half.ensures.refused in
-    let here = subst (λ k. IsHalf g.Q.Quorums.system g.J.Terms.founders k c.args.step c.ready-half.result) (sym c.deref_mut-4.ensures.value) half in
+    let here = c.asking_if-half.ensures.half g.J.Terms.founders c.deref_mut-4.result.now c.args.step (subst (λ k. IsHalf g.Q.Quorums.system g.J.Terms.founders k c.args.step c.ready-half.result) (sym c.deref_mut-4.ensures.value) half) in
     caused g.Q.Quorums.system g.J.Terms.founders g.J.Terms.capacity c.deref_mut-3.result.now c.args.pass.now c.act_ready_in.new.pass c.args.step h.terms.0 h.terms.1 h.between h.before c.act_ready_in.result (h.cause c.args.step here) h.shown
+
+pub is_open-requires : goal.is_open-requires
+is_open-requires g c = back_fits _ _ _ (up_fits _ _ _ (back_fits _ _ _ (up_fits _ _ _ (variant_fits _ _ _ _ (back_fits _ _ _ (up_fits _ _ _ c.requires-raw.1.1.1.1))))))
