@@ -1,7 +1,7 @@
 //! A store that serves many clients at once over sockets, while its members change.
 //!
 //! - `serve`: serves clients until one asks for the end, and gives the list of all steps.
-//! - `Options`: of which founders, by how many threads, for how many connections and steps, and which letters are lost or come twice.
+//! - `Options`: which founders, how many threads, connections and steps, and which letters are lost or come twice.
 //! - `ServeFault`: why nothing was served.
 #![tactic(auto)]
 

@@ -9,7 +9,7 @@ pub struct Options<Q: Quorums> {
     pub founders: Q,
     /// How many threads serve clients, 1 to 32.
     pub clients: usize,
-    /// How many connections are served at once, at least 1. One more is refused.
+    /// How many connections are served at once, at least 1. Further ones are refused.
     pub connections: usize,
     /// How many steps the book takes, 1 to 1,000,000.
     pub steps: usize,

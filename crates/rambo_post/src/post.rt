@@ -50,12 +50,12 @@ pub struct Post<J: Terms<Q>, Q: Quorums, S: Replica> {
     ghost boxes: { vec_len outboxes ≡ 64 },
 }
 
-/// A call that was made, for whose answer somebody waits.
+/// A call that was made, and whether its waiter was recorded.
 #[derive(Clone, Copy)]
 pub struct Asked {
     /// Its id.
     pub id: CallId,
-    /// Whether who waits will be given once it is answered. Else there was no room to note that.
+    /// Whether a visit will give the waiter once the call is answered. Otherwise memory ran out for that.
     pub is_awaited: bool,
 }
 
@@ -183,9 +183,9 @@ impl<J: Terms<Q>, Q: Quorums, S: Replica> Post<J, Q, S> {
         self.call_noted(rt, pass, name, op, |_| {})
     }
 
-    /// The same, for somebody who waits for the answer: a visit of the node gives them once the call is answered.
+    /// Makes a call as `call` does, for a waiter: a visit of the node gives the waiter once the call is answered.
     ///
-    /// It is refused as a call is, and nobody waits then.
+    /// It is refused as `call` is; then nobody waits.
     pub fn ask<R: Wait>(
         &self,
         rt: &R,
@@ -214,16 +214,15 @@ impl<J: Terms<Q>, Q: Quorums, S: Replica> Post<J, Q, S> {
         }
     }
 
-    /// Whoever waits by this name of a connection at a node doesn't wait any more. The call stays open, and nobody is asked for it.
+    /// A connection waits at a node no more. Its call stays open there, but no reminder is sent for it.
     pub fn give_up<R: Wait>(&self, rt: &R, name: Name, client: u32, connection: u32) {
         self.outboxes[place_of(name)]
             .lock(rt)
             .leave(client, connection);
     }
 
-    /// The same as `call`, and tells `noted` of the call before its node takes another step: whoever is to know of all that the node
-    /// does for the call misses nothing of it. `noted` is told with the keeper's lock held, so it may not wait for that.
-    /// It is refused as a call is, and `noted` is told nothing then.
+    /// Makes a call as `call` does, and passes its id to `noted` before its node takes another step. `noted` runs with the keeper's
+    /// lock held, so it may not wait for that lock. If the call is refused, `noted` isn't called.
     pub fn call_noted<R: Wait, F: FnOnce(CallId)>(
         &self,
         rt: &R,
@@ -471,12 +470,13 @@ impl<J: Terms<Q>, Q: Quorums, S: Replica> Post<J, Q, S> {
         begin_in(&mut self.book.lock(rt), keeper)
     }
 
-    /// Does all that there is to do at the node of this name, by one thread at one go: the node takes its mail, and all steps that
-    /// it may take by itself, and writes the letters that are wanted. Who waited for a call that was answered meanwhile is given.
+    /// Does all that is to be done at the node of this name, with its keeper's lock held. The node takes its mail and all steps that
+    /// it may take by itself, and writes the letters that its outbox wants. The waiter of each call that is answered meanwhile is
+    /// appended to `given`.
     ///
-    /// The time is in milliseconds since one moment, and it is told whether somebody waits for room for a call. The gate is told when
-    /// the mail was taken, all of it or as much as there was room for, and when the keeper's lock is free again. Left is 23 where
-    /// the book is full and there is something to do, 22 where memory is out; what was left is done by a later visit.
+    /// `now` is in milliseconds since a fixed moment. `wants_room` says whether somebody waits for room for a call. The gate hears
+    /// when the mail was taken, as far as there was room for it, and when the keeper's lock is free again. In `left`, 23 means that
+    /// the book is full and something is to be done, 22 that memory ran out; a later visit does what was left.
     pub fn visit<R: Wait, G: Gate>(
         &self,
         rt: &R,

@@ -1,10 +1,10 @@
-//! A visit of a node: all that there is to do there is done at one go, by one thread.
+//! A visit of a node: one thread does all that is to be done there.
 //!
-//! - `visit_in`: lent a keeper and its node's outbox, it takes all steps that the node may take by itself, and writes the letters
-//!   that the outbox then asks for. The book is locked for each step alone.
-//! - `Visited`: what came of it.
+//! - `visit_in`: borrows a keeper and its node's outbox, takes all steps that the node may take by itself, and writes the
+//!   letters that the outbox then wants. The book is locked for each step separately.
+//! - `Visited`: the result of a visit.
 //! - `opened`: what an outbox reads of a node.
-//! - `came_by`, `note`: what an outbox is told of a step that was taken otherwise.
+//! - `came_by`, `note`: record a step that was taken outside a visit in the outbox.
 #![tactic(auto)]
 
 mod advancing;

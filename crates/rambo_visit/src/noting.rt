@@ -1,4 +1,4 @@
-//! What an outbox is told of a step.
+//! How an outbox learns of a step.
 ghost use Rattle.std.specs.Prelude.{◌≡◌};
 
 use crate::opening::calls_of;
@@ -8,7 +8,8 @@ use rambo_outbox::Outbox;
 use rambo_run::Step;
 use rambo_tag::Replica;
 
-/// Who wrote the letter of a keeper's tray that a step would deliver, and whether that letter asks; if it delivers one.
+/// The sender of the letter in a keeper's tray that a step would deliver, and whether the letter asks for one in return. None
+/// if the step delivers none.
 pub fn came_by<J: Terms<Q>, Q: Quorums, S: Replica>(
     keeper: &Keeper<J, Q, S>,
     step: &Step<Q>,
@@ -24,8 +25,7 @@ pub fn came_by<J: Terms<Q>, Q: Quorums, S: Replica>(
     None
 }
 
-/// Tells the outbox of a step that its node took: of a call that is answered, of what went on, and of the letter that came, if
-/// one came.
+/// Records a step that its node took in the outbox: an answered call, progress, and the letter that was delivered, if any.
 pub fn note<J: Terms<Q>, Q: Quorums, S: Replica>(
     outbox: &mut Outbox,
     keeper: &Keeper<J, Q, S>,

@@ -17,10 +17,10 @@ use std::sync::{Mutex, Wait};
 // After so many milliseconds what failed is tried again.
 const PAUSE: u64 = 20;
 
-/// What came of a visit.
+/// The result of a visit.
 #[derive(Clone, Copy)]
 pub struct Visited {
-    /// To whom letters were written: there is something to do at their nodes.
+    /// The addressees of the letters that were written: their nodes have something to do.
     pub written: Members,
     /// When the node is to be visited again at the latest, if nothing happens before. None where nothing is open.
     pub wake: Option<u64>,
@@ -31,7 +31,7 @@ pub struct Visited {
 }
 
 impl Visited {
-    /// Something was left to be done, at this time, after letters were written to these.
+    /// Something was left undone at this time (milliseconds), after letters were written to these.
     pub fn left(written: Members, refusal: Refusal, now: u64) -> Visited
         ensures { result.left ≡ Some refusal }
     {
@@ -44,12 +44,12 @@ impl Visited {
     }
 }
 
-/// Does all that there is to do at a node, whose mail was taken: it hears its letters, each call, its collection and its attempt
-/// go on, its bid is made anew where it is time, and it writes the letters that its outbox then tells of. Who waited for a call
-/// that was answered meanwhile is given; where the node has stopped, whoever waits there.
+/// Does all that is to be done at a node whose mail was taken. It hears its letters. Its calls, its collection and its attempt
+/// advance. A bid that is due is made again. Then it writes the letters that its outbox wants. The waiter of each call that is
+/// answered is appended to `given`; if the node has stopped, so is every waiter.
 ///
-/// Times are in milliseconds since one moment. Whether somebody waits for room for a call is told. `HistoryFull` is left where the
-/// book is full and there is something to do, `OutOfMemory` where memory is out.
+/// `now` is in milliseconds since a fixed moment. `wants_room` says whether somebody waits for room for a call. In `left`,
+/// `HistoryFull` means that the book is full and something is to be done, `OutOfMemory` that memory ran out.
 pub fn visit_in<J: Terms<Q>, Q: Quorums, S: Replica, R: Wait>(
     rt: &R,
     alloc: Global,
