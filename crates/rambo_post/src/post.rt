@@ -35,8 +35,8 @@ use rambo_visit::{Visited, came_by, note, visit_in};
 use std::alloc::Global;
 use std::sync::{Mutex, MutexGuard, Wait};
 
-/// A lock for each keeper and for each node's outbox, and one for the book. A keeper's is taken before its outbox's, and the book's
-/// last; no thread holds two keepers'.
+/// A lock for each keeper and for each node's outbox, and one for the book. A keeper's is taken before its outbox's,
+/// and the book's last; no thread holds two keepers'.
 ///
 /// What holds of one list of steps holds of all that clients see, since each pass is a prefix of the book's steps.
 #[derive(Drop)]
@@ -82,8 +82,8 @@ impl<J: Terms<Q>, Q: Quorums, S: Replica> Post<J, Q, S> {
         Post::with_mail(alloc, opened, founders, capacity, replica, 0, 0)
     }
 
-    /// The same, but each letter whose number `lose` divides goes to no tray, and each other whose number `twice` divides
-    /// goes there twice. 0 divides none.
+    /// The same, but each letter whose number `lose` divides goes to no tray, and each other whose number `twice`
+    /// divides goes there twice. 0 divides none.
     pub fn with_mail(
         alloc: Global,
         opened: Opened<Step<Q>, Actor>,
@@ -221,8 +221,8 @@ impl<J: Terms<Q>, Q: Quorums, S: Replica> Post<J, Q, S> {
             .leave(client, connection);
     }
 
-    /// Makes a call as `call` does, and passes its id to `noted` before its node takes another step. `noted` runs with the keeper's
-    /// lock held, so it may not wait for that lock. If the call is refused, `noted` isn't called.
+    /// Makes a call as `call` does, and passes its id to `noted` before its node takes another step. `noted` runs with
+    /// the keeper's lock held, so it may not wait for that lock. If the call is refused, `noted` isn't called.
     pub fn call_noted<R: Wait, F: FnOnce(CallId)>(
         &self,
         rt: &R,
@@ -345,8 +345,8 @@ impl<J: Terms<Q>, Q: Quorums, S: Replica> Post<J, Q, S> {
         unreachable!()
     }
 
-    /// The answer of a call of this client, who has then seen all steps. None where they have no answer of it yet, and its node
-    /// hasn't stopped.
+    /// The answer of a call of this client, who has then seen all steps. None where they have no answer of it yet, and
+    /// its node hasn't stopped.
     ///
     /// `NoSuchCall` where the call isn't this client's; `Stopped` where it has no answer and its node has stopped;
     /// `OutOfMemory` where the answer can't be shared. After 22 and 7 the pass is as before, after 4 its calls are.
@@ -406,8 +406,8 @@ impl<J: Terms<Q>, Q: Quorums, S: Replica> Post<J, Q, S> {
         take_given(&mut self.book.lock(rt), pass, id)
     }
 
-    /// The node of this name takes its mail, and does what it then picks. The book is free while the node picks, and makes the
-    /// first half of that.
+    /// The node of this name takes its mail, and does what it then picks. The book is free while the node picks, and
+    /// makes the first half of that.
     ///
     /// The gate is called when the mail was taken, all of it or as much as there was room for; when the first half is
     /// made, if there is something to do; and when both locks are free again. The first and the last come whatever the
@@ -470,13 +470,14 @@ impl<J: Terms<Q>, Q: Quorums, S: Replica> Post<J, Q, S> {
         begin_in(&mut self.book.lock(rt), keeper)
     }
 
-    /// Does all that is to be done at the node of this name, with its keeper's lock held. The node takes its mail and all steps that
-    /// it may take by itself, and writes the letters that its outbox wants. The waiter of each call that is answered meanwhile is
-    /// appended to `given`.
+    /// Does all that is to be done at the node of this name, with its keeper's lock held. The node takes its mail and
+    /// all steps that it may take by itself, and writes the letters that its outbox wants. The waiter of each call that
+    /// is answered meanwhile is appended to `given`.
     ///
-    /// `now` is in milliseconds since a fixed moment. `wants_room` says whether somebody waits for room for a call. The gate hears
-    /// when the mail was taken, as far as there was room for it, and when the keeper's lock is free again. In `left`, 23 means that
-    /// the book is full and something is to be done, 22 that memory ran out; a later visit does what was left.
+    /// `now` is in milliseconds since a fixed moment. `wants_room` says whether somebody waits for room for a call. The
+    /// gate hears when the mail was taken, as far as there was room for it, and when the keeper's lock is free again.
+    /// In `left`, 23 means that the book is full and something is to be done, 22 that memory ran out; a later visit
+    /// does what was left.
     pub fn visit<R: Wait, G: Gate>(
         &self,
         rt: &R,

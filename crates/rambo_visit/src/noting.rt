@@ -8,8 +8,8 @@ use rambo_outbox::Outbox;
 use rambo_run::Step;
 use rambo_tag::Replica;
 
-/// The sender of the letter in a keeper's tray that a step would deliver, and whether the letter asks for one in return. None
-/// if the step delivers none.
+/// The sender of the letter in a keeper's tray that a step would deliver, and whether the letter asks for one in
+/// return. None if the step delivers none.
 pub fn came_by<J: Terms<Q>, Q: Quorums, S: Replica>(
     keeper: &Keeper<J, Q, S>,
     step: &Step<Q>,
@@ -25,7 +25,8 @@ pub fn came_by<J: Terms<Q>, Q: Quorums, S: Replica>(
     None
 }
 
-/// Records a step that its node took in the outbox: an answered call, progress, and the letter that was delivered, if any.
+/// Records a step that its node took in the outbox: an answered call, progress, and the letter that was delivered, if
+/// any.
 pub fn note<J: Terms<Q>, Q: Quorums, S: Replica>(
     outbox: &mut Outbox,
     keeper: &Keeper<J, Q, S>,

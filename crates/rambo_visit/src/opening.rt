@@ -13,7 +13,8 @@ use rambo_outbox::{BidStage, Opened};
 use rambo_paxos::{Attempt, Offer};
 use rambo_tag::Replica;
 
-/// What is open at the node of a keeper, as its outbox reads it. `wants_room` says whether somebody waits for room for a call.
+/// What is open at the node of a keeper, as its outbox reads it. `wants_room` says whether somebody waits for room for
+/// a call.
 pub fn opened<'a, J: Terms<Q>, Q: Quorums, S: Replica>(
     keeper: &'a Keeper<J, Q, S>,
     wants_room: bool,

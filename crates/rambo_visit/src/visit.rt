@@ -44,12 +44,12 @@ impl Visited {
     }
 }
 
-/// Does all that is to be done at a node whose mail was taken. It hears its letters. Its calls, its collection and its attempt
-/// advance. A bid that is due is made again. Then it writes the letters that its outbox wants. The waiter of each call that is
-/// answered is appended to `given`; if the node has stopped, so is every waiter.
+/// Does all that is to be done at a node whose mail was taken. It hears its letters. Its calls, its collection and its
+/// attempt advance. A bid that is due is made again. Then it writes the letters that its outbox wants. The waiter of
+/// each call that is answered is appended to `given`; if the node has stopped, so is every waiter.
 ///
-/// `now` is in milliseconds since a fixed moment. `wants_room` says whether somebody waits for room for a call. In `left`,
-/// `HistoryFull` means that the book is full and something is to be done, `OutOfMemory` that memory ran out.
+/// `now` is in milliseconds since a fixed moment. `wants_room` says whether somebody waits for room for a call. In
+/// `left`, `HistoryFull` means that the book is full and something is to be done, `OutOfMemory` that memory ran out.
 pub fn visit_in<J: Terms<Q>, Q: Quorums, S: Replica, R: Wait>(
     rt: &R,
     alloc: Global,
