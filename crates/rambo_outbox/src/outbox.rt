@@ -89,16 +89,6 @@ impl Outbox {
         }
     }
 
-    /// Makes room for one more who waits.
-    ///
-    /// `OutOfMemory` where there is none.
-    pub fn make_room(&mut self) -> Result<(), Refusal>
-        ensures same { self.new ≡ self.old }
-        ensures refused { IfErr result (λ r. r ≡ Refusal.OutOfMemory) }
-    {
-        Ok(self.waiting.reserve(1)?)
-    }
-
     /// Somebody waits for a call that was just made, of this number.
     ///
     /// `OutOfMemory` where there is no room for it; the outbox is then unchanged.

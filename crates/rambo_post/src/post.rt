@@ -221,9 +221,9 @@ impl<J: Terms<Q>, Q: Quorums, S: Replica> Post<J, Q, S> {
             .leave(client, connection);
     }
 
-    /// Makes a call as `call` does, and passes its id to `noted` before its node takes another step. `noted` runs with
-    /// the keeper's lock held, so it may not wait for that lock. If the call is refused, `noted` isn't called.
-    pub fn call_noted<R: Wait, F: FnOnce(CallId)>(
+    // Makes a call as `call` does, and passes its id to `noted` before its node takes another step. `noted` runs with
+    // the keeper's lock held, so it may not wait for that lock. If the call is refused, `noted` isn't called.
+    fn call_noted<R: Wait, F: FnOnce(CallId)>(
         &self,
         rt: &R,
         pass: &mut Pass<J, Q>,
