@@ -4,3 +4,5 @@ pub mod Sizes
 pub mod LooksAgain
 pub mod HeldBack
 pub mod Reached
+pub mod Few
+pub mod InTurn

@@ -1,5 +1,5 @@
 -- While somebody wishes for something somebody looks again
-use Rattle.std.proofs.Common.{◌≡◌, ℕ, ◌+◌, ◌*◌, ◌-◌, ◌^◌, ◌≤◌, min, Bool, true, false, ◌||◌, if◌then◌else◌, Option, None, Some, is_some, refl, arith}
+use Rattle.std.proofs.Common.{◌≡◌, ℕ, ◌+◌, ◌*◌, ◌-◌, ◌^◌, ◌≤◌, min, Bool, true, false, ◌||◌, if◌then◌else◌, None, Some, is_some, refl, arith}
 use Rattle.rambo_names.specs.Quorums.{QuorumSystem}
 use Rattle.rambo_outbox.specs.declared.asks.Asks.{Asks}
 use Rattle.rambo_outbox.specs.declared.asks.Asks.TheVariants.{Nothing, More, First, Again}

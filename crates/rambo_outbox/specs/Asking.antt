@@ -1,5 +1,5 @@
 -- Whom a node asks first
-use Rattle.std.specs.Prelude.{ℕ, ◌%◌, max, Bool, true, false, if◌then◌else◌, List, ◌++◌, filter, fold, take, drop}
+use Rattle.std.specs.Prelude.{ℕ, ◌+◌, ◌%◌, ◌^◌, max, Bool, true, false, if◌then◌else◌, List, ◌++◌, filter, fold, take, drop}
 use Rattle.std.specs.FinSet as set
 use Rattle.rambo_names.specs.Names.{NameSet, names, count_of}
 use Rattle.rambo_names.specs.Quorums.{QuorumSystem}
@@ -22,6 +22,10 @@ others s reach q = set.intersection (s.members q) reach
 abbrev pub turned : ℕ → List ℕ → List ℕ
 turned place ns = drop place ns ++ take place ns
 
+-- the turn after one
+abbrev pub next_turn : ℕ → ℕ
+next_turn turn = (turn + 1) % 2 ^ 64
+
 -- the members in the order of this turn
 abbrev pub in_turn : {Q : Type 0} → QuorumSystem Q → Choice → Q → List ℕ
 in_turn s c q = let all = others s c.reach q in turned (c.turn % max 1 (count_of all)) (names all)
@@ -34,6 +38,10 @@ those silent is_silent ns = filter (λ n. agree (set.contains silent n) is_silen
 abbrev pub with_quorum : {Q : Type 0} → QuorumSystem Q → Choice → NameSet → Q → NameSet
 with_quorum s c who q = enough s q (enough s q who (those c.silent false (in_turn s c q))) (those c.silent true (in_turn s c q))
 
--- enough for a quorum of each configuration, together with the node itself
+-- the node itself and enough for a quorum of each configuration
+abbrev pub with_me : {Q : Type 0} → QuorumSystem Q → Choice → List Q → NameSet
+with_me s c qs = fold (with_quorum s c) (set.insert set.empty c.me) qs
+
+-- those without the node
 abbrev pub first_asked : {Q : Type 0} → QuorumSystem Q → Choice → List Q → NameSet
-first_asked s c qs = set.remove (fold (with_quorum s c) (set.insert set.empty c.me) qs) c.me
+first_asked s c qs = set.remove (with_me s c qs) c.me

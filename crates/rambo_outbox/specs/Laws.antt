@@ -1,13 +1,17 @@
 -- What holds of every outbox
-use Rattle.std.specs.Prelude.{◌≡◌, ◌≢◌, ℕ, ◌+◌, ◌-◌, ◌*◌, ◌%◌, ◌^◌, ◌≤◌, ◌<◌, Bool, true, if◌then◌else◌, nat_eq, ◌&&◌, List, [], ◌∷◌, filter, Option, Some, slice_get}
+use Rattle.std.specs.Prelude.{◌≡◌, ◌≢◌, ℕ, ◌+◌, ◌-◌, ◌/◌, ◌^◌, ◌≤◌, ◌<◌, Bool, true, false, nat_eq, List, ◌∷◌, ◌++◌, filter, Some}
 use Rattle.std.specs.List.{list_any}
 use Rattle.std.specs.FinSet as set
-use Rattle.rambo_names.specs.Names.{NameSet, names, count_of}
+use Rattle.rambo_names.specs.Names.{NameSet, IsName, count_of}
 use Rattle.rambo_names.specs.Quorums.{QuorumSystem}
+use Rattle.rambo_outbox.specs.declared.asking.Choice.{Choice}
 use Rattle.rambo_outbox.specs.declared.entry.Entry.{Entry}
 use Rattle.rambo_outbox.specs.declared.opened.Opened.{Opened}
+use Rattle.rambo_outbox.specs.Asking.{others, with_me, first_asked}
 use Rattle.rambo_outbox.specs.Outboxes.{OutboxState, OpenedState, CallNumbers, seen}
-use Rattle.rambo_outbox.specs.Rounds.{round_of, after_round}
+use Rattle.rambo_outbox.specs.Reminders.{Event, Rise, reminders}
+use Rattle.rambo_outbox.specs.Rounds.{round_of}
+use Rattle.rambo_outbox.specs.Turns.{first_in_turn, choice_on, AreHeard}
 use Rattle.rambo_outbox.specs.Wishes.{has_wish}
 
 -- the call of an entry is among the open ones
@@ -26,6 +30,28 @@ HoldsNobodyBack {Q} s = (b : OutboxState) (o : OpenedState Q) (now : ℕ) → ro
 abbrev pub SomebodyLooksAgain : {Q : Type 0} → QuorumSystem Q → Type 0
 SomebodyLooksAgain {Q} s = (b : OutboxState) (o : OpenedState Q) (now : ℕ) → has_wish b o ≡ true
     → (t : ℕ) × ((round_of s b o now).wake ≡ Some t) × (t ≤ now + 1000)
+
+-- while nothing goes on, all is asked for again at most once in 20 milliseconds, and but for 53 times at most once a second,
+-- whoever comes and goes
+abbrev pub FewReminders : {Q : Type 0} → QuorumSystem Q → Type 0
+FewReminders {Q} s =
+    (b : OutboxState) (es : List (Event Q)) (first last : ℕ) → last + 1000 < 2 ^ 64 → Rise first es last
+    → (reminders s b es ≤ 1 + (last - first) / 20) × (reminders s b es ≤ 53 + (last - first) / 1000)
+
+-- in as many successive turns as a configuration has members that may be written to, each of them has one: it is asked first
+-- then, unless it is silent, and at none of the others at which none of them is silent
+abbrev pub EachHasItsTurn : {Q : Type 0} → QuorumSystem Q → Type 0
+EachHasItsTurn {Q} s =
+    (c : Choice) (silent : ℕ → NameSet) (q : Q) (n : ℕ) → set.contains (others s c.reach q) n ≡ true → IsName n
+    → c.turn + count_of (others s c.reach q) ≤ 2 ^ 64
+    → (i : ℕ) × (i < count_of (others s c.reach q)) × (set.contains (silent i) n ≡ false → first_in_turn s (choice_on silent c i) q ≡ Some n)
+    × ((j : ℕ) → j < count_of (others s c.reach q) → AreHeard (silent j) (others s c.reach q) → first_in_turn s (choice_on silent c j) q ≡ Some n → j ≡ i)
+
+-- who is first in turn is asked, unless the node and those asked for the configurations before are a quorum already
+abbrev pub FirstIsAsked : {Q : Type 0} → QuorumSystem Q → Type 0
+FirstIsAsked {Q} s =
+    (c : Choice) (before : List Q) (q : Q) (behind : List Q) (n : ℕ) → s.is_quorum q (with_me s c before) ≡ false → first_in_turn s c q ≡ Some n → n ≢ c.me
+    → set.contains (first_asked s c (before ++ q ∷ behind)) n ≡ true
 
 -- each of these may be written to, and none is the node itself
 abbrev pub AreReached : {Q : Type 0} → Opened Q → NameSet → Type 0

@@ -5,5 +5,7 @@ pub mod Found
 pub mod Outboxes
 pub mod Wishes
 pub mod Asking
+pub mod Turns
 pub mod Rounds
+pub mod Reminders
 pub mod Laws

@@ -1,14 +1,13 @@
 -- Whom a node writes to, and when it looks again
-use Rattle.std.specs.Prelude.{ℕ, ◌+◌, ◌%◌, ◌^◌, min, max, Bool, true, false, not, ◌&&◌, ◌||◌, if◌then◌else◌, nat_le, List, Option, None, Some, is_some}
+use Rattle.std.specs.Prelude.{ℕ, min, max, Bool, not, ◌&&◌, ◌||◌, if◌then◌else◌, nat_le, Option, None, Some, is_some}
 use Rattle.std.specs.FinSet as set
 use Rattle.rambo_names.specs.Names.{NameSet}
 use Rattle.rambo_names.specs.Quorums.{QuorumSystem}
 use Rattle.rambo_outbox.specs.declared.asking.Choice.{Choice}
 use Rattle.rambo_outbox.specs.declared.asks.Asks.{Asks}
 use Rattle.rambo_outbox.specs.declared.asks.Asks.TheVariants.{Nothing, More, First, Again}
-use Rattle.rambo_outbox.specs.declared.opened.BidStage.{BidStage}
 use Rattle.rambo_outbox.specs.declared.round.Round.{Round}
-use Rattle.rambo_outbox.specs.Asking.{first_asked}
+use Rattle.rambo_outbox.specs.Asking.{next_turn, first_asked}
 use Rattle.rambo_outbox.specs.Bids.{is_asked_bid}
 use Rattle.rambo_outbox.specs.Outboxes.{OutboxState, OpenedState}
 use Rattle.rambo_outbox.specs.Pauses.{pause, more, later, patience}
@@ -55,7 +54,7 @@ abbrev pub noted : OutboxState → Asks → NameSet → ℕ → OutboxState
 noted b Nothing asked last = b
 noted b More asked last = record b { asked = max b.asked last; first = asked }
 noted b First asked last = record b { asked = max b.asked last; first = asked }
-noted b Again asked last = record b { asked = max b.asked last; first = set.empty; silent = set.union b.silent b.first; turn = (b.turn + 1) % 2 ^ 64; stood = more b.stood }
+noted b Again asked last = record b { asked = max b.asked last; first = set.empty; silent = set.union b.silent b.first; turn = next_turn b.turn; stood = more b.stood }
 
 -- when to look again at the latest: never where nobody wishes for anything
 abbrev pub wake_of : {Q : Type 0} → Bool → OpenedState Q → ℕ → ℕ → Option ℕ

@@ -1,5 +1,5 @@
 //! What holds of every outbox.
-ghost use Rattle.rambo_outbox.specs.Laws.{HoldsNobodyBack, SomebodyLooksAgain, OnlyReached};
+ghost use Rattle.rambo_outbox.specs.Laws.{HoldsNobodyBack, SomebodyLooksAgain, FewReminders, EachHasItsTurn, FirstIsAsked, OnlyReached};
 
 use rambo_names::Quorums;
 
@@ -11,6 +11,19 @@ pub fn holds_nobody_back<Q: Quorums>()
 /// While somebody wishes for something there is a time at which the node looks again, a second from now at the latest.
 pub fn somebody_looks_again<Q: Quorums>()
     ensures { SomebodyLooksAgain Q.system }
+{}
+
+/// While nothing goes on, a node asks for all again at most once in 20 milliseconds. But for 53 times it does so at most once
+/// a second, whoever comes and goes.
+pub fn few_reminders<Q: Quorums>()
+    ensures { FewReminders Q.system }
+{}
+
+/// In as many successive turns as a configuration has members that may be written to, each of them has one. Then it is the
+/// first that is asked, unless it was silent lately.
+pub fn each_has_its_turn<Q: Quorums>()
+    ensures turn { EachHasItsTurn Q.system }
+    ensures asked { FirstIsAsked Q.system }
 {}
 
 /// Only who may be written to is asked or owed a letter, and never the node itself.

@@ -4,7 +4,7 @@
 //!   the time, in milliseconds since any moment.
 //! - `Round`: whom a node writes to now, and when to look again at the latest.
 //! - `Waiter`: who waits for a call.
-//! - `holds_nobody_back`, `somebody_looks_again`, `only_reached`: what holds of every outbox.
+//! - `holds_nobody_back`, `somebody_looks_again`, `few_reminders`, `each_has_its_turn`, `only_reached`: what holds of every outbox.
 #![tactic(auto)]
 
 mod asking;
@@ -19,7 +19,9 @@ mod round;
 mod waiting;
 
 pub use entry::Waiter;
-pub use laws::{holds_nobody_back, only_reached, somebody_looks_again};
+pub use laws::{
+    each_has_its_turn, few_reminders, holds_nobody_back, only_reached, somebody_looks_again,
+};
 pub use opened::{BidStage, Opened};
 pub use outbox::Outbox;
 pub use round::Round;
