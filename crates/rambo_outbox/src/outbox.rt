@@ -1,5 +1,5 @@
 //! Who writes to whom, and when.
-ghost use Rattle.std.specs.Prelude.{◌≡◌, ◌||◌, ℕ, [], not, nat_le, map, Some, MatchOption, OnOk, OnErr, IfErr};
+ghost use Rattle.std.specs.Prelude.{◌≡◌, ◌||◌, ℕ, [], not, nat_le, map, Some, MatchOption, IfNone, OnOk, OnErr, IfErr};
 ghost use Rattle.std.specs.FinSet as set;
 ghost use Rattle.rambo_outbox.specs.Bids.{is_asked_bid, is_new_bid};
 ghost use Rattle.rambo_outbox.specs.Outboxes.{first_outbox, numbers_of, seen, progressed, answered, is_idle, heard_by};
@@ -128,6 +128,7 @@ impl Outbox {
     /// One of those who wait, who waits no more. None where nobody waits.
     pub fn take_waiter(&mut self) -> Option<Waiter>
         ensures taken { MatchOption result (self.old.waiting ≡ []) (λ w. (n : ℕ) × (self.old.waiting ≡ awaited n w self.new.waiting)) }
+        ensures nobody { IfNone result (self.new ≡ self.old) }
         ensures rest { self.new ≡ record self.old { waiting = self.new.waiting } }
     {
         match self.waiting.pop() {
