@@ -70,8 +70,11 @@ later_saved (suc (suc (suc (suc (suc (suc x)))))) = omega arith
 saved_in_all : (g n : ℕ) → g ≤ 3760 → 980 * (50 - more n) + g ≤ 51780
 saved_in_all g n h = omega (arith, h)
 
-pause_least : (x : ℕ) → 20 ≤ min (20 * 2 ^ x) 1000
-pause_least x = omega (arith, pow_pos x)
+doubled : (x : ℕ) → 20 ≤ min (20 * 2 ^ x) 1000
+doubled x = omega (arith, pow_pos x)
+
+pause-least : (stood : ℕ) → 20 ≤ pause stood
+pause-least stood = doubled _
 
 -- no reminder comes, or so many take at least so long: each takes u milliseconds, but for the first and for what is saved
 abbrev Few : ℕ → (ℕ → ℕ) → ℕ → ℕ → ℕ → ℕ → Type 0
@@ -164,6 +167,6 @@ few_reminders s b es first last fits rise =
     let rises = to_the_last es first last rise in
     let low : first ≤ first + pause b.stood = omega arith in
     let before : first ≤ max first b.due = omega arith in (
-      each_20 first last b.stood (reminders s b es) rises (few_from 20 (λ n. 0) s last (λ n. omega (arith, pause_least (min (n - 49) 6))) fits b es first first rise low before),
+      each_20 first last b.stood (reminders s b es) rises (few_from 20 (λ n. 0) s last (λ n. omega (arith, pause-least n)) fits b es first first rise low before),
       each_second first last b.stood (reminders s b es) rises (few_from 1000 saved s last saves fits b es first first rise low before),
     )

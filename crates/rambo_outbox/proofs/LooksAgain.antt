@@ -15,7 +15,7 @@ at_most_itself : (x : ℕ) → x ≤ x
 at_most_itself x = omega arith
 
 pub pause-most : (stood : ℕ) → pause stood ≤ 1000
-pause-most stood = least_right (20 * 2 ^ min (stood - 49) 6) 1000 1000 (at_most_itself 1000)
+pause-most stood = least_right _ 1000 1000 (at_most_itself 1000)
 
 later-most : (now p : ℕ) → p ≤ 1000 → later now p ≤ now + 1000
 later-most now p h = omega (arith, h)

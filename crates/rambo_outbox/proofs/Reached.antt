@@ -91,8 +91,7 @@ in_turn_reach s c q =
 quorum_reach : {Q : Type 0} (s : QuorumSystem Q) (c : Choice) (who : NameSet) (q : Q) → ReachBut c.reach c.me who → ReachBut c.reach c.me (with_quorum s c who q)
 quorum_reach s c who q but =
     let all = in_turn_reach s c q in
-    enough_reach s q c.reach c.me (those c.silent true (in_turn s c q)) (enough s q who (those c.silent false (in_turn s c q))) (fewer c.reach _ (in_turn s c q) all)
-    (enough_reach s q c.reach c.me (those c.silent false (in_turn s c q)) who (fewer c.reach _ (in_turn s c q) all) but)
+    enough_reach s q c.reach c.me _ _ (fewer c.reach _ (in_turn s c q) all) (enough_reach s q c.reach c.me _ who (fewer c.reach _ (in_turn s c q) all) but)
 
 quorums_reach : {Q : Type 0} (s : QuorumSystem Q) (c : Choice) (qs : List Q) (who : NameSet) → ReachBut c.reach c.me who → ReachBut c.reach c.me (fold (with_quorum s c) who qs)
 quorums_reach s c [] who but = but
