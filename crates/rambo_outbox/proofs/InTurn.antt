@@ -261,10 +261,10 @@ left who me n has other =
     ∙ ap (λ t. not t && set.contains who n) (unsigned_tied n me ∙ differ n me other)
     ∙ has
 
-pub first_is_asked : {Q : Type 0} (s : QuorumSystem Q) (c : Choice) (before : List Q) (q : Q) (behind : List Q) (n : ℕ) → s.is_quorum q (with_me s c before) ≡ false → first_in_turn s c q ≡ Some n → n ≢ c.me
-    → set.contains (first_asked s c (before ++ q ∷ behind)) n ≡ true
-first_is_asked s c before q behind n lacks first other =
+pub first_is_asked : {Q : Type 0} (s : QuorumSystem Q) (c : Choice) (before : List Q) (q : Q) (after : List Q) (n : ℕ) → s.is_quorum q (with_me s c before) ≡ false → first_in_turn s c q ≡ Some n → n ≢ c.me
+    → set.contains (first_asked s c (before ++ q ∷ after)) n ≡ true
+first_is_asked s c before q after n lacks first other =
     let who = with_me s c before in
     let silent_too = all_kept s q n (those c.silent true (in_turn s c q)) (enough s q who (those c.silent false (in_turn s c q))) (first_added s q n (those c.silent false (in_turn s c q)) who lacks first) in
-    left (with_me s c (before ++ q ∷ behind)) c.me n
-    (ap (λ w. set.contains w n) (fold-append (with_quorum s c) (set.insert set.empty c.me) before (q ∷ behind)) ∙ quorums_kept s c n behind (with_quorum s c who q) silent_too) other
+    left (with_me s c (before ++ q ∷ after)) c.me n
+    (ap (λ w. set.contains w n) (fold-append (with_quorum s c) (set.insert set.empty c.me) before (q ∷ after)) ∙ quorums_kept s c n after (with_quorum s c who q) silent_too) other
