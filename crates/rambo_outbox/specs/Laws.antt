@@ -1,5 +1,5 @@
 -- What holds of every outbox
-use Rattle.std.specs.Prelude.{◌≡◌, ◌≢◌, ℕ, ◌+◌, ◌-◌, ◌/◌, ◌^◌, ◌≤◌, ◌<◌, Bool, true, false, nat_eq, List, ◌∷◌, ◌++◌, filter, Some}
+use Rattle.std.specs.Prelude.{◌≡◌, ◌≢◌, ℕ, ◌+◌, ◌-◌, ◌*◌, ◌/◌, ◌^◌, ◌≤◌, ◌<◌, Bool, true, false, nat_eq, List, ◌∷◌, ◌++◌, filter, Some}
 use Rattle.std.specs.List.{list_any}
 use Rattle.std.specs.FinSet as set
 use Rattle.rambo_names.specs.Names.{NameSet, IsName, count_of}
@@ -9,7 +9,7 @@ use Rattle.rambo_outbox.specs.declared.entry.Entry.{Entry}
 use Rattle.rambo_outbox.specs.declared.opened.Opened.{Opened}
 use Rattle.rambo_outbox.specs.Asking.{others, with_me, first_asked}
 use Rattle.rambo_outbox.specs.Outboxes.{OutboxState, OpenedState, CallNumbers, seen}
-use Rattle.rambo_outbox.specs.Reminders.{Event, Rise, reminders}
+use Rattle.rambo_outbox.specs.Reminders.{Event, Rise, progresses, reminders}
 use Rattle.rambo_outbox.specs.Rounds.{round_of}
 use Rattle.rambo_outbox.specs.Turns.{first_in_turn, choice_on, AreHeard}
 use Rattle.rambo_outbox.specs.Wishes.{has_wish}
@@ -31,12 +31,12 @@ abbrev pub SomebodyLooksAgain : {Q : Type 0} → QuorumSystem Q → Type 0
 SomebodyLooksAgain {Q} s = (b : OutboxState) (o : OpenedState Q) (now : ℕ) → has_wish b o ≡ true
     → (t : ℕ) × ((round_of s b o now).wake ≡ Some t) × (t ≤ now + 1000)
 
--- while nothing goes on, all is asked for again at most once in 20 milliseconds, and but for 53 times at most once a second,
--- whoever comes and goes
+-- whoever comes and goes, all is asked for again at most once in 20 milliseconds; and at most once a second but for 53 times, and
+-- 53 more for each time that something goes on
 abbrev pub FewReminders : {Q : Type 0} → QuorumSystem Q → Type 0
 FewReminders {Q} s =
     (b : OutboxState) (es : List (Event Q)) (first last : ℕ) → last + 1000 < 2 ^ 64 → Rise first es last
-    → (reminders s b es ≤ 1 + (last - first) / 20) × (reminders s b es ≤ 53 + (last - first) / 1000)
+    → (reminders s b es ≤ 1 + (last - first) / 20) × (reminders s b es ≤ 53 * (1 + progresses es) + (last - first) / 1000)
 
 -- in as many successive turns as a configuration has members that may be written to, each of them has one: it is asked first
 -- then, unless it is silent, and at none of the others at which none of them is silent

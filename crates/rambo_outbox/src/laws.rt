@@ -13,8 +13,8 @@ pub fn somebody_looks_again<Q: Quorums>()
     ensures { SomebodyLooksAgain Q.system }
 {}
 
-/// While nothing goes on, a node asks for all again at most once in 20 milliseconds. But for 53 times it does so at most once
-/// a second, whoever comes and goes.
+/// Whoever comes and goes, a node asks for all again at most once in 20 milliseconds. But for 53 times it does so at most once a
+/// second, and 53 more for each time that something went on.
 pub fn few_reminders<Q: Quorums>()
     ensures { FewReminders Q.system }
 {}
