@@ -43,8 +43,11 @@ impl<J: Terms<Weighted>> Hub<J> {
 
     // Sleeps until the next node is due, or it is rung. Who sets an earlier time meanwhile rings, or is seen here.
     fn sleep<R: Wait + Clock>(&self, rt: &R) {
-        self.sleeps_until.store(self.next_due(), Ordering::SeqCst);
         let due = self.next_due();
+        self.sleeps_until.store(due, Ordering::SeqCst);
+        if self.next_due() < due {
+            return;
+        }
         if due == NEVER {
             self.timer.wait(rt);
         } else {
