@@ -24,7 +24,8 @@ use Rattle.rambo_run.specs.Legal.{IsLegal}
 use Rattle.rambo_run.specs.Actors.{actor}
 use Rattle.rambo_run.specs.Steps.{meant_in}
 use Rattle.rambo_deeds.specs.Deeds.{Done, IsReadyStep, done, event_of, judged, letter_in, letter_of, mark_of, meant_by, outline_of}
-use Rattle.rambo_book.specs.Kept.{BookView, KeeperView, AreSent, IsKeeper, IsBook, IsServedBy, Told, lightened, state}
+use Rattle.rambo_book.specs.Kept.{BookView, KeeperView, AreSent, IsKeeper, IsServedBy, Told, lightened, state}
+use Rattle.rambo_book.proofs.Whole.{IsWhole}
 use Rattle.rambo_book.specs.declared.readied.Ready.{Ready}
 use Rattle.rambo_book.specs.Readying.{IsReadyIn}
 use Rattle.rambo_run.proofs.GoingOn.{prefix_trans}
@@ -58,8 +59,8 @@ with_room k u e = e ∙ (λ i. record k { room = sym (ap (λ (k : KeeperView _).
 
 -- the lists of a book are the same ones
 pub book_same : {Q : Type 0} {s : QuorumSystem Q} {agreed : Option Q} {most : ℕ} {rolled : List (Step Q)} {f : Q} {steps : List (Step Q)} {letters : List (Letter Q)} {history : List Event} {marks : List Mark} {capacity : ℕ}
-    (rolled' steps' : List (Step Q)) (letters' : List (Letter Q)) (history' : List Event) (marks' : List Mark) → IsBook s agreed most rolled f steps letters history marks capacity
-    → rolled' ≡ rolled → steps' ≡ steps → letters' ≡ letters → history' ≡ history → marks' ≡ marks → IsBook s agreed most rolled' f steps' letters' history' marks' capacity
+    (rolled' steps' : List (Step Q)) (letters' : List (Letter Q)) (history' : List Event) (marks' : List Mark) → IsWhole s agreed most rolled f steps letters history marks capacity
+    → rolled' ≡ rolled → steps' ≡ steps → letters' ≡ letters → history' ≡ history → marks' ≡ marks → IsWhole s agreed most rolled' f steps' letters' history' marks' capacity
 book_same {s = s} {f = f} {steps = steps} {capacity = capacity} rolled' steps' letters' history' marks' b r e l h m = record {
   founded = b.founded;
   terms = b.terms;
@@ -73,7 +74,7 @@ book_same {s = s} {f = f} {steps = steps} {capacity = capacity} rolled' steps' l
 
 module _ {Q : Type 0} {s : QuorumSystem Q} {agreed : Option Q} {most : ℕ} {rolled : List (Step Q)} {f : Q} {steps : List (Step Q)} {letters : List (Letter Q)} {history : List Event} {marks : List Mark} {capacity : ℕ}
     {holds name : ℕ} {node : FullNode Q} {tray : List (Mail Q)} {seen : List (Step Q)}
-    (b : IsBook s agreed most rolled f steps letters history marks capacity) (k : IsKeeper s agreed most holds name node tray seen) (idle : Idle actor holds seen rolled)
+    (b : IsWhole s agreed most rolled f steps letters history marks capacity) (k : IsKeeper s agreed most holds name node tray seen) (idle : Idle actor holds seen rolled)
     (st : Step Q) (served : IsServedBy (run s f steps) st name) where
   judged_here : Judged s f steps st name node.state letters
   judged_here = judged_by s agreed most rolled f steps letters history marks capacity holds name node tray seen b k idle st served
@@ -102,7 +103,7 @@ module _ {Q : Type 0} {s : QuorumSystem Q} {agreed : Option Q} {most : ℕ} {rol
 
 module _ {Q : Type 0} {s : QuorumSystem Q} {agreed : Option Q} {most : ℕ} {rolled : List (Step Q)} {f : Q} {steps : List (Step Q)} {letters : List (Letter Q)} {history : List Event} {marks : List Mark} {capacity : ℕ}
     {holds name : ℕ} {node : FullNode Q} {tray : List (Mail Q)} {seen : List (Step Q)}
-    (b : IsBook s agreed most rolled f steps letters history marks capacity) (k : IsKeeper s agreed most holds name node tray seen) (idle : Idle actor holds seen rolled)
+    (b : IsWhole s agreed most rolled f steps letters history marks capacity) (k : IsKeeper s agreed most holds name node tray seen) (idle : Idle actor holds seen rolled)
     (st : Step Q) where
   module _ (room : Room Q) (held : List (Mail Q)) (looked : List (Step Q)) (half : Half Q) where
     -- the keeper's node, with this room in it
@@ -140,9 +141,9 @@ module _ {Q : Type 0} {s : QuorumSystem Q} {agreed : Option Q} {most : ℕ} {rol
     pub book_after : (rolled' steps' : List (Step Q)) (letters' : List (Letter Q)) (history' : List Event) (marks' : List Mark) → length steps < capacity
         → (came : Option ℕ) → ((n : ℕ) → came ≡ Some n → st ≡ step.Deliver n)
         → rolled' ≡ rolled ++ st ∷ [] → steps' ≡ steps ++ st ∷ [] → letters' ≡ lightened (with_letter letters d.letter) came → history' ≡ with_event history d.event → marks' ≡ with_mark marks d.mark
-        → IsBook s agreed most rolled' f steps' letters' history' marks' capacity
+        → IsWhole s agreed most rolled' f steps' letters' history' marks' capacity
     book_after rolled' steps' letters' history' marks' less came comes r e l v m =
-        let more : IsBook s agreed most (rolled ++ st ∷ []) f (steps ++ st ∷ []) (lightened (with_letter letters d.letter) came) (with_event history d.event) (with_mark marks d.mark) capacity = record {
+        let more : IsWhole s agreed most (rolled ++ st ∷ []) f (steps ++ st ∷ []) (lightened (with_letter letters d.letter) came) (with_event history d.event) (with_mark marks d.mark) capacity = record {
           founded = b.founded;
           terms = b.terms;
           all = ap (λ l. l ++ st ∷ []) b.all;

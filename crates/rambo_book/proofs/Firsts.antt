@@ -18,7 +18,8 @@ use Rattle.rambo_deltas.specs.Deltas.{full_at}
 use Rattle.rambo_deeds.specs.declared.mail.Mail.{Mail}
 use Rattle.rambo_run.specs.Legal.{IsLegal}
 use Rattle.rambo_deeds.specs.Deeds.{name_in}
-use Rattle.rambo_book.specs.Kept.{AreSent, IsMailOf, IsKeeper, IsBook, IsServedBy}
+use Rattle.rambo_book.specs.Kept.{AreSent, IsMailOf, IsKeeper, IsServedBy}
+use Rattle.rambo_book.proofs.Whole.{IsWhole}
 use Rattle.rambo_run.proofs.GoingOn.{run_none}
 use Rattle.rambo_run.proofs.Legal.{legal_none}
 use Rattle.rambo_book.proofs.Standing.{same_name}
@@ -39,7 +40,7 @@ none_sent : {Q : Type 0} (w : WorldState Q) (letters : List (Letter Q)) → lett
 none_sent w letters l n = (ap length l ∙ sym (ap length n), λ place a b e h. absurd (none-some a (sym (ap (λ ls. slice_get ls place) l) ∙ e)))
 
 pub first_book : {Q : Type 0} (s : QuorumSystem Q) (agreed : Option Q) (most : ℕ) (rolled : List (Step Q)) (f : Q) (steps : List (Step Q)) (letters : List (Letter Q)) (history : List Event) (marks : List Mark) (capacity : ℕ)
-    → agreed ≡ Some f → capacity ≡ most → rolled ≡ [] → steps ≡ [] → letters ≡ [] → history ≡ [] → marks ≡ [] → IsBook s agreed most rolled f steps letters history marks capacity
+    → agreed ≡ Some f → capacity ≡ most → rolled ≡ [] → steps ≡ [] → letters ≡ [] → history ≡ [] → marks ≡ [] → IsWhole s agreed most rolled f steps letters history marks capacity
 first_book s agreed most rolled f steps letters history marks capacity founded terms r e l h m = record {
   founded = founded;
   terms = terms;

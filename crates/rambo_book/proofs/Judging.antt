@@ -35,7 +35,8 @@ use Rattle.rambo_roll.specs.Rolls.{Idle}
 use Rattle.rambo_sequence.specs.declared.mark.Mark.{Mark}
 use Rattle.rambo_deeds.specs.declared.mail.Mail.{Mail}
 use Rattle.rambo_deeds.specs.Deeds.{Done, judged, done}
-use Rattle.rambo_book.specs.Kept.{AreSent, IsKeeper, IsBook, IsServedBy}
+use Rattle.rambo_book.specs.Kept.{AreSent, IsKeeper, IsServedBy}
+use Rattle.rambo_book.proofs.Whole.{IsWhole}
 use Rattle.rambo_book.proofs.Idle.{idle_node, idle_full, full-more}
 use Rattle.rambo_book.proofs.Standing.{Alike, GoesFor, alike, sent_more, done_counts, mail_longer, letter-left, IsHeard}
 
@@ -57,7 +58,7 @@ pub record Judged {Q : Type 0} (s : QuorumSystem Q) (f : Q) (steps : List (Step 
 
 module _ {Q : Type 0} (s : QuorumSystem Q) (agreed : Option Q) (most : ℕ) (rolled : List (Step Q)) (f : Q) (steps : List (Step Q)) (letters : List (Letter Q)) (history : List Event) (marks : List Mark) (capacity : ℕ)
     (holds name : ℕ) (node : FullNode Q) (tray : List (Mail Q)) (seen : List (Step Q))
-    (b : IsBook s agreed most rolled f steps letters history marks capacity) (k : IsKeeper s agreed most holds name node tray seen) (idle : Idle actor holds seen rolled) where
+    (b : IsWhole s agreed most rolled f steps letters history marks capacity) (k : IsKeeper s agreed most holds name node tray seen) (idle : Idle actor holds seen rolled) where
   legal_rolled : IsLegal s f rolled
   legal_rolled = subst (IsLegal s f) (sym b.all) b.legal
 

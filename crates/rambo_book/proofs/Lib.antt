@@ -1,5 +1,6 @@
 pub mod Idle
 pub mod Standing
+pub mod Whole
 pub mod Judging
 pub mod Readying
 pub mod Commits
@@ -11,3 +12,7 @@ pub mod Taking
 pub mod Clearing
 pub mod OneOrder
 pub mod Posting
+pub mod Steps
+pub mod Opening
+pub mod Recording
+pub mod Books

@@ -74,9 +74,9 @@ pub posted_twice : (m : MailState) (p : Posting) (n : ℕ) → (posted m p n).tw
 posted_twice m p n = sent_twice m p.to (record { number = n; asks = p.asks })
 
 -- with the mail of a book so, its letters wait so
-module _ {Q : Type 0} (f : Q) (steps : List (Step Q)) (capacity : ℕ) where
+module _ {Q : Type 0} (f : Q) (steps : List (Step Q)) (drawn capacity ahead : ℕ) where
   abbrev pub kept_with : MailState → BookView Q
-  kept_with m = record { founders = f; steps = steps; capacity = capacity; waiting = numbers_of m.waiting; lose = m.lose; twice = m.twice }
+  kept_with m = record { founders = f; steps = steps; drawn = drawn; capacity = capacity; ahead = ahead; waiting = numbers_of m.waiting; lose = m.lose; twice = m.twice }
 
   sent_waiting : (m : MailState) (o : Option ℕ) (e : Entry) → numbers_of (sent_if m o e).waiting ≡ waiting_after (kept_with m) (option_to_list o) e.number
   sent_waiting m None e = refl

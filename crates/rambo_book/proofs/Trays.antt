@@ -11,13 +11,14 @@ use Rattle.rambo_run.specs.Runs.{run}
 use Rattle.rambo_run.proofs.Lists.{none-some, some_inj}
 use Rattle.rambo_sequence.specs.declared.mark.Mark.{Mark}
 use Rattle.rambo_deeds.specs.declared.mail.Mail.{Mail}
-use Rattle.rambo_book.specs.Kept.{StandsFor, AreSent, IsMailOf, IsKeeper, IsBook}
+use Rattle.rambo_book.specs.Kept.{StandsFor, AreSent, IsMailOf, IsKeeper}
+use Rattle.rambo_book.proofs.Whole.{IsWhole}
 use Rattle.rambo_book.specs.Mailing.{goes_to, sent_to}
 use Rattle.rambo_book.proofs.Standing.{letters_paired, goes_alike}
 
 pub tray_more : {Q : Type 0} {s : QuorumSystem Q} {agreed : Option Q} {most : ℕ} {rolled : List (Step Q)} {f : Q} {steps : List (Step Q)} {letters : List (Letter Q)} {history : List Event} {marks : List Mark} {capacity : ℕ}
     {holds name : ℕ} {node : FullNode Q} {tray : List (Mail Q)} {seen : List (Step Q)}
-    → IsBook s agreed most rolled f steps letters history marks capacity → IsKeeper s agreed most holds name node tray seen → seen ≡ steps
+    → IsWhole s agreed most rolled f steps letters history marks capacity → IsKeeper s agreed most holds name node tray seen → seen ≡ steps
     → (number : ℕ) (asks : Bool) (l : Letter Q) (longer : List (Mail Q)) → letter_at letters number ≡ Some l → l.addressee ≡ name → longer ≡ tray ++ record { number = number; asks = asks; letter = l } ∷ []
     → IsKeeper s agreed most holds name node longer seen
 tray_more {s = s} {f = f} {steps = steps} {letters = letters} {name = name} {tray = tray} {seen = seen} b k same number asks l longer there own e = record {

@@ -1,10 +1,9 @@
 -- What holds of a keeper and of the book whenever their lock is free
-use Rattle.std.specs.Prelude.{◌≡◌, ℕ, ◌-◌, ◌≤◌, ◌<◌, ◌⊎◌, List, length, slice_get, slice_set, All, Option, Some, None}
+use Rattle.std.specs.Prelude.{◌≡◌, ℕ, ◌+◌, ◌-◌, ◌≤◌, ◌<◌, ◌⊎◌, Bool, true, false, List, length, slice_get, slice_set, All, Option, Some, None, is_some}
 use Rattle.std.specs.FinMap as copies
 use Rattle.rambo_names.specs.declared.refusal.Refusal.{Refusal}
 use Rattle.rambo_names.specs.declared.refusal.Refusal.TheVariants.{HistoryFull, OutOfMemory}
 use Rattle.rambo_names.specs.Quorums.{QuorumSystem}
-use Rattle.rambo_history.specs.declared.event.Event.{Event}
 use Rattle.rambo_gossip.specs.declared.letter.Letter.{Letter}
 use Rattle.rambo_gossip.specs.Letters.{letter_with}
 use Rattle.rambo_gossip.specs.Short.{IsShort}
@@ -21,7 +20,7 @@ use Rattle.rambo_deltas.specs.Bases.{IsLastChange, base_in}
 use Rattle.rambo_deltas.specs.Deltas.{full_at}
 use Rattle.rambo_deeds.specs.declared.mail.Mail.{Mail}
 use Rattle.rambo_run.specs.Legal.{IsLegal}
-use Rattle.rambo_sequence.specs.declared.mark.Mark.{Mark}
+use Rattle.rambo_book.specs.Records.{RecordView, IsRecord}
 
 -- room: what there is in the node; beside: what it keeps for letters that carry only what is new
 pub record KeeperView (Q : Type 0) : Type 0 where
@@ -32,12 +31,15 @@ pub record KeeperView (Q : Type 0) : Type 0 where
   pub tray : List (Mail Q)
   pub seen : List (Step Q)
 
+-- drawn: how many steps were drawn, which are the first; ahead: how many others there may be
 -- waiting: of the names 1, 2, .. the numbers of the letters that wait for each, the oldest first; each letter of which lose
 -- divides the number waits nowhere, and each other that twice divides waits twice
 pub record BookView (Q : Type 0) : Type 0 where
   pub founders : Q
   pub steps : List (Step Q)
+  pub drawn : ℕ
   pub capacity : ℕ
+  pub ahead : ℕ
   pub waiting : List (List ℕ)
   pub lose : ℕ
   pub twice : ℕ
@@ -89,17 +91,19 @@ AreStampsOf {Q} s f k =
 abbrev pub AreBasesOf : {Q : Type 0} → QuorumSystem Q → Q → KeeperView Q → Type 0
 AreBasesOf {Q} s f k = (j : ℕ) → IsName j → heard_from k.beside.bases j ≡ base_in j (journal s f k.name k.seen)
 
--- a book is of the founders and the capacity that it was opened with; its steps, which all tokens speak of, are legal and at
--- most as many; and its letters, its history and its marks are those of their run
-pub record IsBook {Q : Type 0} (s : QuorumSystem Q) (agreed : Option Q) (most : ℕ) (rolled : List (Step Q)) (founders : Q) (steps : List (Step Q)) (letters : List (Letter Q)) (history : List Event) (marks : List Mark) (capacity : ℕ) : Type 0 where
+-- a book is of the founders and the capacity that it was opened with. Its steps are legal and at most as many, and of them
+-- at most so many are at hand: all of them where it isn't endless. Its letters, and what it keeps of calls and answers, are
+-- those of their run; where it isn't endless it keeps all of these
+pub record IsBook {Q : Type 0} (s : QuorumSystem Q) (agreed : Option Q) (most : ℕ) (endless : Bool) (founders : Q) (steps : List (Step Q)) (letters : List (Letter Q)) (kept : RecordView) (capacity drawn ahead : ℕ) : Type 0 where
   pub founded : agreed ≡ Some founders
   pub terms : capacity ≡ most
-  pub all : rolled ≡ steps
   pub fits : length steps ≤ capacity
+  pub few : length steps ≤ drawn + ahead
+  pub undrawn : endless ≡ false → drawn ≡ 0
+  pub whole : endless ≡ false → is_some kept.all ≡ true
   pub legal : IsLegal s founders steps
   pub sent : AreSent (run s founders steps) letters
-  pub told : history ≡ (run s founders steps).history
-  pub marked : marks ≡ (run s founders steps).marks
+  pub recorded : IsRecord (run s founders steps).history (run s founders steps).marks kept
 
 -- the node that the step means, if it means one, is that of the name
 abbrev pub IsServedBy : {Q : Type 0} → WorldState Q → Step Q → ℕ → Type 0

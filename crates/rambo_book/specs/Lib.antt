@@ -1,3 +1,5 @@
 pub mod Kept
 pub mod Mailing
+pub mod OpenCalls
 pub mod Readying
+pub mod Records

@@ -1,5 +1,5 @@
-//! The list of all steps, with the letters, the history and the marks that they gave.
-ghost use Rattle.std.specs.Prelude.{◌≡◌, ◌-◌, ◌<◌, ◌≤◌, [], length, None, Some, true};
+//! The list of all steps, with the letters that they gave, and what is kept of the calls and answers.
+ghost use Rattle.std.specs.Prelude.{◌≡◌, ◌+◌, ◌-◌, ◌++◌, ◌<◌, ◌≤◌, [], length, None, Some, is_some, true, false, IfSome};
 ghost use Rattle.std.specs.Option.{option_copied};
 ghost use Rattle.rambo_history.specs.Histories.{answer_in};
 ghost use Rattle.rambo_mail.specs.Waiting.{numbers_of};
@@ -13,30 +13,30 @@ ghost use Rattle.rambo_run.specs.Legal.{IsLegal};
 
 use crate::keeper::{Actor, Keeper};
 use crate::passes::Passes;
+use crate::record::Record;
 use crate::terms::Terms;
 use rambo_deeds::{SharedLetter, named_by};
-use rambo_history::{Answer, CallId, Event, History};
+use rambo_history::{Answer, CallId};
 use rambo_mail::Mails;
 use rambo_names::{Name, Quorums, Refusal};
-use rambo_roll::Roll;
+use rambo_roll::{Drawn, Roll, Stock};
 use rambo_run::Step;
-use rambo_sequence::Mark;
 use rambo_tag::Replica;
 use std::alloc::Global;
 use std::marker::Model;
 
-/// All steps, as many as its capacity at most.
+/// All steps, as many as its capacity at most. Those that were drawn take no memory here.
 #[derive(Drop)]
 pub struct Book<J: Terms<Q>, Q: Quorums> {
-    pub(crate) roll: Roll<J, Step<Q>, Actor>,
+    pub(crate) steps: Stock<J, Step<Q>, Actor>,
     pub(crate) founders: Q,
-    pub(crate) steps: Vec<Step<Q>>,
     pub(crate) letters: Vec<SharedLetter<Q>>,
-    pub(crate) history: History,
-    pub(crate) marks: Vec<Mark>,
+    pub(crate) kept: Record,
     pub(crate) mails: Mails,
     pub(crate) passes: Passes,
     pub(crate) capacity: usize,
+    // How many steps are at hand at most.
+    pub(crate) ahead: usize,
 }
 
 impl<J: Terms<Q>, Q: Quorums> Model for Book<J, Q> {
@@ -50,37 +50,39 @@ impl<J: Terms<Q>, Q: Quorums> Model for Book<J, Q> {
 
     ghost coded = { Prim.hlevel (codes, names_code, Q.code) };
 
-    ghost view = { λ b. record { founders = b.founders; steps = b.steps.items; capacity = b.capacity; waiting = numbers_of b.mails.waiting; lose = b.mails.lose; twice = b.mails.twice } };
+    ghost view = { λ b. record { founders = b.founders; steps = b.steps.all; drawn = b.steps.drawn; capacity = b.capacity; ahead = b.ahead; waiting = numbers_of b.mails.waiting; lose = b.mails.lose; twice = b.mails.twice } };
 
-    ghost invariant = { λ b. IsBook Q.system J.founders J.capacity b.roll.1 b.founders b.steps.items b.letters.items b.history.events b.marks.items b.capacity × (b.mails.lose ≡ J.lose) × (b.mails.twice ≡ J.twice) };
+    ghost invariant = { λ b. IsBook Q.system J.founders J.capacity J.endless b.founders b.steps.all b.letters.items b.kept b.capacity b.steps.drawn b.ahead × (b.mails.lose ≡ J.lose) × (b.mails.twice ≡ J.twice) };
 }
 
 impl<J: Terms<Q>, Q: Quorums> Book<J, Q> {
-    /// The book of no step.
+    /// The book of no step. At most `ahead` steps are at hand at once; where it isn't endless it keeps all calls and answers.
     pub fn new(
         alloc: Global,
         founders: Q,
         capacity: usize,
+        ahead: usize,
+        keeps_all: bool,
         roll: Roll<J, Step<Q>, Actor>,
         mails: Mails,
     ) -> Book<J, Q>
         requires roll { roll.1 ≡ [] }
         requires founders { J.founders ≡ Some founders }
         requires capacity { capacity ≡ J.capacity }
+        requires keeps_all { J.endless ≡ false → keeps_all ≡ true }
         requires lose { mails.lose ≡ J.lose }
         requires twice { mails.twice ≡ J.twice }
-        ensures { result ≡ record { founders = founders; steps = []; capacity = capacity; waiting = numbers_of mails.waiting; lose = mails.lose; twice = mails.twice } }
+        ensures { result ≡ record { founders = founders; steps = []; drawn = 0; capacity = capacity; ahead = ahead; waiting = numbers_of mails.waiting; lose = mails.lose; twice = mails.twice } }
     {
         Book {
-            roll,
+            steps: Stock::new(alloc, roll),
             founders,
-            steps: Vec::new(alloc),
             letters: Vec::new(alloc),
-            history: History::new(alloc),
-            marks: Vec::new(alloc),
+            kept: Record::new(alloc, keeps_all),
             mails,
             passes: Passes::none(),
             capacity,
+            ahead,
         }
     }
 
@@ -114,6 +116,8 @@ impl<J: Terms<Q>, Q: Quorums> Book<J, Q> {
         ensures lose { self.now.lose ≡ J.lose }
         ensures twice { self.now.twice ≡ J.twice }
         ensures fits { length self.now.steps ≤ self.now.capacity }
+        ensures few { length self.now.steps ≤ self.now.drawn + self.now.ahead }
+        ensures undrawn { J.endless ≡ false → self.now.drawn ≡ 0 }
         ensures legal { IsLegal Q.system self.now.founders self.now.steps }
     {
         let _ = &self.steps;
@@ -126,7 +130,12 @@ impl<J: Terms<Q>, Q: Quorums> Book<J, Q> {
         ensures idle { Idle actor keeper.old.name keeper.old.seen self.old.steps }
         ensures node { node_at (state Q.system self.old) keeper.old.name ≡ Some keeper.old.node }
     {
-        self.roll.agree(&mut keeper.holder);
+        self.steps.agree(&mut keeper.holder);
+    }
+
+    /// The allocator of what belongs to the book.
+    pub fn allocator(&self) -> Global {
+        *self.letters.allocator()
     }
 
     /// The letters that were sent, as they are stored. Each represents that of its number in the run of the steps, and
@@ -137,18 +146,20 @@ impl<J: Terms<Q>, Q: Quorums> Book<J, Q> {
         self.letters.as_slice()
     }
 
-    /// The calls and answers, in order.
-    pub fn history(&self) -> &[Event]
-        ensures { result.now ≡ (run Q.system self.now.founders self.now.steps).history }
+    /// The answer of a call, if it has one. None where nothing is kept of the call any more, as its answer was taken or it
+    /// was given up.
+    pub fn answer(&self, id: &CallId) -> Option<Option<&Answer>>
+        ensures answer { IfSome result (λ a. option_copied a ≡ answer_in (state Q.system self.now).history id.now) }
+        ensures kept { J.endless ≡ false → is_some result ≡ true }
     {
-        self.history.events()
+        self.kept.answer(id)
     }
 
-    /// The answer of a call, if it has one.
-    pub fn answer(&self, id: &CallId) -> Option<&Answer>
-        ensures { option_copied result ≡ answer_in (state Q.system self.now).history id.now }
+    /// Nothing needs be kept of a call any more.
+    pub fn forget(&mut self, id: &CallId)
+        ensures { self.new ≡ self.old }
     {
-        self.history.answer(id)
+        self.kept.forget(id);
     }
 
     /// The refusal where there is no room for a step: that the book is full where it is, else out of memory.

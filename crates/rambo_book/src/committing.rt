@@ -10,19 +10,20 @@ ghost use Rattle.rambo_run.specs.Worlds.{node_at};
 ghost use Rattle.rambo_book.specs.Kept.{IsServedBy, Told, lightened, state};
 ghost use Rattle.rambo_book.specs.Readying.{IsReadyIn, IsReadyFor};
 ghost use Rattle.rambo_book.specs.Mailing.{waiting_after};
+ghost use Rattle.rambo_book.specs.Records.{KeepsRecord};
 
 use crate::book::Book;
 use crate::finishing::finish;
-use crate::keeper::Keeper;
+use crate::keeper::{Actor, Keeper};
 use crate::readied::Ready;
+use crate::record::Record;
 use crate::terms::Terms;
 use rambo_deeds::{SharedLetter, letter_named};
-use rambo_history::History;
 use rambo_mail::{Mails, Posting};
 use rambo_names::{Quorums, Refusal};
 use rambo_node::Effect;
+use rambo_roll::Stock;
 use rambo_run::Step;
-use rambo_sequence::Mark;
 use rambo_tag::Replica;
 
 /// Why a step of the keeper's node is refused, if it is: what the rules of its kind say, by the least number; else 23 where
@@ -39,7 +40,7 @@ pub fn may_commit<J: Terms<Q>, Q: Quorums, S: Replica>(
     ensures told { IfErr result (λ r. Told (refusal Q.system (state Q.system book.old) step.now) (length book.old.steps) book.old.capacity r) }
     ensures memory { IfErr result (λ r. r ≢ Refusal.OutOfMemory) }
 {
-    book.roll.agree(&mut keeper.holder);
+    book.steps.agree(&mut keeper.holder);
     let letter = letter_named(book.letters.as_slice(), step);
     if let Err(refusal) = keeper.worker.judge(letter, step) {
         return Err(refusal);
@@ -132,8 +133,8 @@ fn ready_by_book<J: Terms<Q>, Q: Quorums, S: Replica>(
     ensures refused { IfErr result (IsRefusal (refusal Q.system (state Q.system book.old) step)) }
     ensures memory { IfErr result (λ r. r ≡ Refusal.OutOfMemory → refusal Q.system (state Q.system book.old) step ≡ None) }
 {
-    book.roll.agree(&mut keeper.holder);
-    let alloc = *book.steps.allocator();
+    book.steps.agree(&mut keeper.holder);
+    let alloc = book.allocator();
     let letter = letter_named(book.letters.as_slice(), &step);
     let half = keeper.worker.ready(alloc, letter, &step)?;
     Ok(Ready {
@@ -160,56 +161,51 @@ fn enter<J: Terms<Q>, Q: Quorums, S: Replica>(
     ensures told { IfErr result (λ r. Told None (length book.old.steps) book.old.capacity r) }
 {
     let Book {
-        roll,
-        founders: _,
         steps,
+        founders: _,
         letters,
-        history,
-        marks,
+        kept,
         mails,
         passes: _,
         capacity,
+        ahead,
     } = book;
     let Ready { step, half, asks } = ready;
-    roll.agree(&mut keeper.holder);
+    steps.agree(&mut keeper.holder);
     if steps.len() >= *capacity {
         return Err(Refusal::HistoryFull);
     }
-    let Ok(()) = make_room(steps, letters, history, marks, mails, &step) else {
+    if steps.at_hand() >= *ahead {
+        return Err(Refusal::OutOfMemory);
+    }
+    let Ok(()) = make_room(steps, letters, kept, mails, &step) else {
         return Err(Refusal::OutOfMemory);
     };
     let posting = Posting::new(&step, asks);
     let came = delivered(&step);
-    let effect = finish(letters, history, marks, &mut keeper.worker, &step, half);
-    roll.add(&mut keeper.holder, &step);
-    steps.push_reserved(step);
+    let effect = finish(letters, kept, &mut keeper.worker, &step, half);
     leave_out_copies(letters, came);
     mails.post(&posting, letters.len());
+    steps.add(&mut keeper.holder, step);
     Ok(effect)
 }
 
 // Takes room for one more of each.
-fn make_room<Q: Quorums>(
-    steps: &mut Vec<Step<Q>>,
+fn make_room<J: Terms<Q>, Q: Quorums>(
+    steps: &mut Stock<J, Step<Q>, Actor>,
     letters: &mut Vec<SharedLetter<Q>>,
-    history: &mut History,
-    marks: &mut Vec<Mark>,
+    kept: &mut Record,
     mails: &mut Mails,
     step: &Step<Q>,
 ) -> Result<(), Refusal>
-    ensures same { (steps.new.items ≡ steps.old.items) × (letters.new.items ≡ letters.old.items) × (history.new.events ≡ history.old.events) × (marks.new.items ≡ marks.old.items) × (mails.new ≡ record mails.old { ready = mails.new.ready }) }
+    ensures same { (steps.new ≡ record steps.old { room = steps.new.room }) × (letters.new.items ≡ letters.old.items) × KeepsRecord kept.old kept.new × (mails.new ≡ record mails.old { ready = mails.new.ready }) }
     ensures ready { OnOk result (option_to_list mails.new.ready ≡ sent_by step.now) }
-    ensures room { OnOk result ((vec_len steps.new < vec_capacity steps.new) × (vec_len letters.new < vec_capacity letters.new) × (0 < history.new.room) × (vec_len marks.new < vec_capacity marks.new)) }
+    ensures room { OnOk result ((0 < steps.new.room) × (vec_len letters.new < vec_capacity letters.new) × (0 < kept.new.room)) }
 {
     mails.make_room(step)?;
-    steps.reserve(1)?;
+    steps.reserve()?;
     letters.reserve(1)?;
-    marks.reserve(1)?;
-    if let Step::Call(name, _) = step {
-        history.prepare(*name)?;
-    }
-    history.reserve(1)?;
-    Ok(())
+    kept.make_room(step)
 }
 
 // The number of the letter that a step lets come, if it lets one come.

@@ -23,7 +23,7 @@ impl<J: Terms<Q>, Q: Quorums> Book<J, Q> {
         ensures book { self.new ≡ self.old }
         ensures front { result ≡ [] }
     {
-        self.roll.nothing()
+        self.steps.nothing()
     }
 
     /// A front that has seen what this one has.
@@ -31,7 +31,7 @@ impl<J: Terms<Q>, Q: Quorums> Book<J, Q> {
         ensures seen { seen.new ≡ seen.old }
         ensures front { result ≡ seen.old }
     {
-        self.roll.again(seen)
+        self.steps.again(seen)
     }
 
     /// What was seen begins the steps. Returns how many these are.
@@ -44,7 +44,7 @@ impl<J: Terms<Q>, Q: Quorums> Book<J, Q> {
         ensures founders { J.founders ≡ Some self.old.founders }
         ensures capacity { self.old.capacity ≡ J.capacity }
     {
-        self.roll.begins(seen);
+        self.steps.begins(seen);
         self.steps.len()
     }
 
@@ -58,8 +58,8 @@ impl<J: Terms<Q>, Q: Quorums> Book<J, Q> {
         ensures founders { J.founders ≡ Some self.old.founders }
         ensures capacity { self.old.capacity ≡ J.capacity }
     {
-        self.roll.begins(seen);
-        *seen = self.roll.front();
+        self.steps.begins(seen);
+        *seen = self.steps.front();
         self.steps.len()
     }
 }

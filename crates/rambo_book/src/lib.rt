@@ -1,24 +1,30 @@
 //! Keepers of nodes, and the book of all steps.
 //!
-//! - `Book`: all steps, with the letters, the history and the marks that they gave; `Keeper`: a node and what it has seen.
+//! - `Book`: all steps, with the letters that they gave, and what is kept of the calls and answers; `Keeper`: a node and what
+//!   it has seen.
 //! - `commit`: a step goes into the book, and its node takes it; `may_commit`: why not.
 //! - `ready` and `commit_ready`: the same in two halves, of which the first needs no book; `Ready::asking`: its letter asks for
 //!   one in return.
 //! - `see_all`, `take_mail`, `take_letter`: what a keeper takes from the book.
-//! - `Terms`: which founders a post has, how many steps it takes, and which letters are lost or come twice.
+//! - `Terms`: which founders a post has, how many steps it takes, whether these may be drawn, and which letters are lost or
+//!   come twice.
 #![tactic(auto)]
 
 mod book;
+mod chronicle;
 mod closing;
 mod committing;
+mod drawing;
 mod finishing;
 mod first_half;
 mod forgetting;
 mod fronts;
 mod keeper;
 mod mail;
+mod open_calls;
 mod passes;
 mod readied;
+mod record;
 mod terms;
 
 pub use book::Book;

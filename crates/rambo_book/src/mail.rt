@@ -20,8 +20,8 @@ pub fn see_all<J: Terms<Q>, Q: Quorums, S: Replica>(
     ensures book { book.new ≡ book.old }
     ensures keeper { keeper.new ≡ record keeper.old { seen = book.old.steps } }
 {
-    book.roll.agree(&mut keeper.holder);
-    book.roll.catch_up(&mut keeper.holder);
+    book.steps.agree(&mut keeper.holder);
+    book.steps.catch_up(&mut keeper.holder);
 }
 
 /// A letter that waits goes into the tray of the keeper whose node it is for. It is shared with the book.

@@ -1,98 +1,115 @@
 use Rattle.std.proofs.lemmas.Grind.{common_steps}
-use Rattle.std.proofs.Common.{◌∙◌, ◌<◌, ◌≤◌, ◌++◌, ◌∷◌, [], None, length, refl, sym, ap, subst, inl, arith}
-use Rattle.rambo_history.specs.Faults.{fault_of}
+use Rattle.std.proofs.Common.{◌∙◌, ◌+◌, ◌<◌, ◌≤◌, ◌++◌, ◌∷◌, [], None, length, refl, sym, ap, subst, inl, inr, arith}
 use Rattle.rambo_node.specs.Changes.{made_by}
 use Rattle.rambo_node.specs.FullNodes.{beside_after}
 use Rattle.rambo_run.specs.Worlds.{node_at}
-use Rattle.rambo_run.specs.Steps.{turn, with_letter, with_event, with_mark}
+use Rattle.rambo_run.specs.Steps.{turn, with_letter}
 use Rattle.rambo_names.proofs.Sizes.{up_fits, back_fits}
 use Rattle.rambo_run.specs.Actors.{actor}
-use Rattle.rambo_names.specs.declared.refusal.Refusal.TheVariants.{HistoryFull}
+use Rattle.rambo_names.specs.declared.refusal.Refusal.TheVariants.{HistoryFull, OutOfMemory}
 use Rattle.rambo_deeds.specs.Deeds.{event_of, letter_of, mark_of}
 use Rattle.rambo_book.specs.Kept.{BookView, Told, lightened, state}
 use Rattle.rambo_run.specs.Runs.{run}
 use Rattle.rambo_run.specs.Actors.{sent_by}
 use Rattle.rambo_mail.specs.Waiting.{MailState, numbers_of}
+use Rattle.rambo_roll.specs.Stocks.{StockView}
 use Rattle.rambo_book.specs.Mailing.{waiting_after}
 use Rattle.rambo_book.proofs.Posting.{same_to, posted_lose, posted_twice, posted_waiting, kept_with}
-use Rattle.rambo_book.proofs.Commits.{book_same, counted_light, ready_inside, half_here, finished_here, book_after, keeper_after}
+use Rattle.rambo_book.proofs.Steps.{viewed, grown, still_all}
+use Rattle.rambo_book.proofs.Commits.{counted_light, ready_inside, half_here, finished_here, keeper_after}
+use Rattle.rambo_book.proofs.Books.{whole_book, after_step, same_book, still_book}
+use Rattle.rambo_book.proofs.Recording.{fits_all}
 use Rattle.rambo_book.proofs.committing.enter.Goals as goal
 
 pub returns-then-len-capacity-clause-same : goal.returns-then-len-capacity-clause-same
 returns-then-len-capacity-clause-same g c =
-    (c.book.view_is, (λ i. record { name = c.keeper.inside.name; node = c.keeper.inside.worker.state; room = c.keeper.inside.worker.room; beside = c.keeper.inside.worker.beside; tray = c.keeper.inside.tray.items; seen = (c.agree.ensures.keeper i).1 }) ∙ c.keeper.view_is)
+    (ap (λ v. viewed c.book.inside.founders v c.book.inside.capacity c.book.inside.ahead c.book.inside.mails) c.agree.ensures.stock ∙ c.book.view_is, (λ i. record { name = c.keeper.inside.name; node = c.keeper.inside.worker.state; room = c.keeper.inside.worker.room; beside = c.keeper.inside.worker.beside; tray = c.keeper.inside.tray.items; seen = (c.agree.ensures.keeper i).1 }) ∙ c.keeper.view_is)
 
 pub returns-then-len-capacity-clause-told : goal.returns-then-len-capacity-clause-told
 returns-then-len-capacity-clause-told g c =
-    let full : c.book.inside.capacity ≤ length c.book.inside.steps.items = omega (arith, c.if-len-capacity.true, c.len.ensures, c.book.inside.steps.ok.0) in
+    let full : c.book.inside.capacity ≤ length c.book.inside.steps.all = omega (arith, c.if-len-capacity.true, c.len.ensures, ap (λ (v : StockView _). length v.all) c.agree.ensures.stock) in
     subst (λ (b : BookView _). Told None (length b.steps) b.capacity HistoryFull) c.book.view_is (inl (refl, omega (arith, full, c.book.invariant.0.fits)))
 
-pub add-requires : goal.add-requires
-add-requires g c =
+pub returns-then-at_hand-ahead-clause-same : goal.returns-then-at_hand-ahead-clause-same
+returns-then-at_hand-ahead-clause-same g c =
+    (ap (λ v. viewed c.book.inside.founders v c.book.inside.capacity c.book.inside.ahead c.book.inside.mails) c.agree.ensures.stock ∙ c.book.view_is, (λ i. record { name = c.keeper.inside.name; node = c.keeper.inside.worker.state; room = c.keeper.inside.worker.room; beside = c.keeper.inside.worker.beside; tray = c.keeper.inside.tray.items; seen = (c.agree.ensures.keeper i).1 }) ∙ c.keeper.view_is)
+
+pub returns-then-at_hand-ahead-clause-told : goal.returns-then-at_hand-ahead-clause-told
+returns-then-at_hand-ahead-clause-told g c =
+    let less : length c.book.inside.steps.all < c.book.inside.capacity = omega (arith, c.if-len-capacity.false, c.len.ensures, ap (λ (v : StockView _). length v.all) c.agree.ensures.stock) in
+    subst (λ (b : BookView _). Told None (length b.steps) b.capacity OutOfMemory) c.book.view_is (inr (refl, less))
+
+pub add-requires-clause-acts : goal.add-requires-clause-acts
+add-requires-clause-acts g c =
     let s = g.Q.Quorums.system in
     let ready = ready_inside s _ _ _ _ c.args.ready c.book.view_is c.keeper.view_is c.requires in
-    let step = half_here c.book.invariant.0 c.keeper.invariant c.agree.ensures.idle c.args.ready.step c.keeper.inside.worker.room c.keeper.inside.tray.items c.keeper.inside.holder.1 c.args.ready.half ready c.make_room.new.letters.items c.make_room.ensures.same.1 in
-    let done = finished_here c.book.invariant.0 c.keeper.invariant c.agree.ensures.idle c.args.ready.step c.keeper.inside.worker.room c.keeper.inside.tray.items c.keeper.inside.holder.1 c.args.ready.half ready c.make_room.new.letters.items c.make_room.ensures.same.1 c.finish-effect.new.worker c.finish-effect.result (c.finish-effect.ensures.node ready.change step) (c.finish-effect.ensures.beside ready.change step) (c.finish-effect.ensures.effect ready.change step) in
-    ap (λ l. actor l c.args.ready.step) (ap (λ r. r.1) c.agree.ensures.roll ∙ c.book.invariant.0.all) ∙ done.acts ∙ sym c.keeper.invariant.named ∙ sym (ap (λ h. h.0) c.agree.ensures.keeper)
+    let step = half_here (whole_book c.book.invariant.0) c.keeper.invariant c.agree.ensures.idle c.args.ready.step c.keeper.inside.worker.room c.keeper.inside.tray.items c.keeper.inside.holder.1 c.args.ready.half ready c.make_room.new.letters.items c.make_room.ensures.same.1 in
+    let done = finished_here (whole_book c.book.invariant.0) c.keeper.invariant c.agree.ensures.idle c.args.ready.step c.keeper.inside.worker.room c.keeper.inside.tray.items c.keeper.inside.holder.1 c.args.ready.half ready c.make_room.new.letters.items c.make_room.ensures.same.1 c.finish-effect.new.worker c.finish-effect.result (c.finish-effect.ensures.node ready.change step) (c.finish-effect.ensures.beside ready.change step) (c.finish-effect.ensures.effect ready.change step) in
+    ap (λ l. actor l c.args.ready.step) (still_all _ _ _ c.agree.ensures.stock c.make_room.ensures.same.0) ∙ done.acts ∙ sym c.keeper.invariant.named ∙ sym (ap (λ h. h.0) c.agree.ensures.keeper)
 
-pub push_reserved-requires : goal.push_reserved-requires
-push_reserved-requires g c = c.in-Ok.ensures.room.0
+pub add-requires-clause-room : goal.add-requires-clause-room
+add-requires-clause-room g c = c.in-Ok.ensures.room.0
+
+pub add-requires-clause-few : goal.add-requires-clause-few
+add-requires-clause-few g c =
+    let same = ap length (still_all _ _ _ c.agree.ensures.stock c.make_room.ensures.same.0) in
+    let old = ap (λ (v : StockView _). length v.all) c.agree.ensures.stock in
+    omega (arith, c.if-len-capacity.false, c.len.ensures, same, old)
 
 pub finish-effect-requires : goal.finish-effect-requires
 finish-effect-requires g c =
     let s = g.Q.Quorums.system in
     let ready = ready_inside s _ _ _ _ c.args.ready c.book.view_is c.keeper.view_is c.requires in
-    let step = half_here c.book.invariant.0 c.keeper.invariant c.agree.ensures.idle c.args.ready.step c.keeper.inside.worker.room c.keeper.inside.tray.items c.keeper.inside.holder.1 c.args.ready.half ready c.make_room.new.letters.items c.make_room.ensures.same.1 in
-    let done = finished_here c.book.invariant.0 c.keeper.invariant c.agree.ensures.idle c.args.ready.step c.keeper.inside.worker.room c.keeper.inside.tray.items c.keeper.inside.holder.1 c.args.ready.half ready c.make_room.new.letters.items c.make_room.ensures.same.1 (record { state = (made_by c.keeper.inside.worker.state ready.change).node; room = c.keeper.inside.worker.room; beside = beside_after c.keeper.inside.worker.state c.keeper.inside.worker.beside ready.change }) _ refl refl refl in
+    let step = half_here (whole_book c.book.invariant.0) c.keeper.invariant c.agree.ensures.idle c.args.ready.step c.keeper.inside.worker.room c.keeper.inside.tray.items c.keeper.inside.holder.1 c.args.ready.half ready c.make_room.new.letters.items c.make_room.ensures.same.1 in
+    let done = finished_here (whole_book c.book.invariant.0) c.keeper.invariant c.agree.ensures.idle c.args.ready.step c.keeper.inside.worker.room c.keeper.inside.tray.items c.keeper.inside.holder.1 c.args.ready.half ready c.make_room.new.letters.items c.make_room.ensures.same.1 (record { state = (made_by c.keeper.inside.worker.state ready.change).node; room = c.keeper.inside.worker.room; beside = beside_after c.keeper.inside.worker.state c.keeper.inside.worker.beside ready.change }) _ refl refl refl in
     let room = c.in-Ok.ensures.room in
-    (back_fits _ _ _ (up_fits _ _ _ c.requires-raw.1.1.1.0), ((ready.change, step), (omega (arith, c.make_room.new.letters.ok.0, c.make_room.new.letters.small), ((room.1, room.2, room.3), λ e is. ap (λ h. fault_of h e) c.make_room.ensures.same.2 ∙ done.fits e is))))
+    (back_fits _ _ _ (up_fits _ _ _ c.requires-raw.1.1.1.0), ((ready.change, step), (omega (arith, c.make_room.new.letters.ok.0, c.make_room.new.letters.small), ((room.1, room.2), λ l e there is. fits_all c.book.inside.kept.all c.make_room.new.kept.all _ _ c.make_room.ensures.same.2.0 c.book.invariant.0.recorded l e there (done.fits e is)))))
 
 pub invariant_of-book-2 : goal.invariant_of-book-2
 invariant_of-book-2 g c =
     let s = g.Q.Quorums.system in
     let room = c.make_room.ensures.same in
+    let grew = grown _ _ _ _ c.args.ready.step c.agree.ensures.stock c.make_room.ensures.same.0 c.add.ensures.stock in
     let half = c.args.ready.half in
     let ready = ready_inside s _ _ _ _ c.args.ready c.book.view_is c.keeper.view_is c.requires in
-    let step = half_here c.book.invariant.0 c.keeper.invariant c.agree.ensures.idle c.args.ready.step c.keeper.inside.worker.room c.keeper.inside.tray.items c.keeper.inside.holder.1 c.args.ready.half ready c.make_room.new.letters.items c.make_room.ensures.same.1 in
-    let done = finished_here c.book.invariant.0 c.keeper.invariant c.agree.ensures.idle c.args.ready.step c.keeper.inside.worker.room c.keeper.inside.tray.items c.keeper.inside.holder.1 c.args.ready.half ready c.make_room.new.letters.items c.make_room.ensures.same.1 c.finish-effect.new.worker c.finish-effect.result (c.finish-effect.ensures.node ready.change step) (c.finish-effect.ensures.beside ready.change step) (c.finish-effect.ensures.effect ready.change step) in
-    let less : length c.book.inside.steps.items < c.book.inside.capacity = omega (arith, c.if-len-capacity.false, c.len.ensures, c.book.inside.steps.ok.0) in
+    let step = half_here (whole_book c.book.invariant.0) c.keeper.invariant c.agree.ensures.idle c.args.ready.step c.keeper.inside.worker.room c.keeper.inside.tray.items c.keeper.inside.holder.1 c.args.ready.half ready c.make_room.new.letters.items c.make_room.ensures.same.1 in
+    let done = finished_here (whole_book c.book.invariant.0) c.keeper.invariant c.agree.ensures.idle c.args.ready.step c.keeper.inside.worker.room c.keeper.inside.tray.items c.keeper.inside.holder.1 c.args.ready.half ready c.make_room.new.letters.items c.make_room.ensures.same.1 c.finish-effect.new.worker c.finish-effect.result (c.finish-effect.ensures.node ready.change step) (c.finish-effect.ensures.beside ready.change step) (c.finish-effect.ensures.effect ready.change step) in
+    let less : length c.book.inside.steps.all < c.book.inside.capacity = omega (arith, c.if-len-capacity.false, c.len.ensures, ap (λ (v : StockView _). length v.all) c.agree.ensures.stock) in
+    let old = ap (λ (v : StockView _). v.drawn) c.agree.ensures.stock in
+    let all = ap (λ (v : StockView _). length v.all) c.agree.ensures.stock in
+    let near : length c.book.inside.steps.all < c.add.new.self.drawn + c.book.inside.ahead = omega (arith, c.if-at_hand-ahead.false, c.at_hand.ensures, all, old, grew.drawn) in
     let m = c.make_room.new.mails in
     let p = c.new-posting.result in
     let n = c.len-2.result in
     let posted = c.post.ensures (same_to p.to m.ready (sent_by c.args.ready.step) c.new-posting.ensures.to c.in-Ok.ensures.ready) in
-    let lose = ap (λ (m : MailState). m.lose) posted ∙ posted_lose m p n ∙ ap (λ (m : MailState). m.lose) room.4 in
-    let twice = ap (λ (m : MailState). m.twice) posted ∙ posted_twice m p n ∙ ap (λ (m : MailState). m.twice) room.4 in
-    let book = book_after c.book.invariant.0 c.keeper.invariant c.agree.ensures.idle c.args.ready.step done c.add.new.self.1 c.push_reserved.new.self.items c.leave_out_copies.new.letters.items c.finish-effect.new.history.events c.finish-effect.new.marks.items less
-    c.delivered-came.result c.delivered-came.ensures
-    (ap (λ r. r.1) c.add.ensures.roll ∙ ap (λ r. r.1 ++ c.args.ready.step ∷ []) c.agree.ensures.roll)
-    (c.push_reserved.ensures.items ∙ ap (λ l. l ++ c.args.ready.step ∷ []) room.0)
-    (c.leave_out_copies.ensures ∙ ap (λ ls. lightened ls c.delivered-came.result) (c.finish-effect.ensures.letters ∙ ap (λ ls. with_letter ls (letter_of half)) room.1))
-    (c.finish-effect.ensures.history ∙ ap (λ es. with_event es (event_of half)) room.2)
-    (c.finish-effect.ensures.marks ∙ ap (λ ms. with_mark ms (mark_of half)) room.3) in
+    let lose = ap (λ (m : MailState). m.lose) posted ∙ posted_lose m p n ∙ ap (λ (m : MailState). m.lose) room.3 in
+    let twice = ap (λ (m : MailState). m.twice) posted ∙ posted_twice m p n ∙ ap (λ (m : MailState). m.twice) room.3 in
+    let book = after_step c.book.invariant.0 c.keeper.invariant c.agree.ensures.idle c.args.ready.step done c.add.new.self.all c.leave_out_copies.new.letters.items c.make_room.new.kept c.finish-effect.new.kept c.add.new.self.drawn less near
+        (λ is. grew.drawn ∙ c.book.invariant.0.undrawn is)
+        c.delivered-came.result c.delivered-came.ensures
+        grew.all
+        (c.leave_out_copies.ensures ∙ ap (λ ls. lightened ls c.delivered-came.result) (c.finish-effect.ensures.letters ∙ ap (λ ls. with_letter ls (letter_of half)) room.1))
+        room.2
+        c.finish-effect.ensures.kept in
     (book, lose ∙ c.book.invariant.1, twice ∙ c.book.invariant.2)
 
 pub invariant_of-keeper-2 : goal.invariant_of-keeper-2
 invariant_of-keeper-2 g c =
     let s = g.Q.Quorums.system in
     let ready = ready_inside s _ _ _ _ c.args.ready c.book.view_is c.keeper.view_is c.requires in
-    let step = half_here c.book.invariant.0 c.keeper.invariant c.agree.ensures.idle c.args.ready.step c.keeper.inside.worker.room c.keeper.inside.tray.items c.keeper.inside.holder.1 c.args.ready.half ready c.make_room.new.letters.items c.make_room.ensures.same.1 in
-    let done = finished_here c.book.invariant.0 c.keeper.invariant c.agree.ensures.idle c.args.ready.step c.keeper.inside.worker.room c.keeper.inside.tray.items c.keeper.inside.holder.1 c.args.ready.half ready c.make_room.new.letters.items c.make_room.ensures.same.1 c.finish-effect.new.worker c.finish-effect.result (c.finish-effect.ensures.node ready.change step) (c.finish-effect.ensures.beside ready.change step) (c.finish-effect.ensures.effect ready.change step) in
-    let less : length c.book.inside.steps.items < c.book.inside.capacity = omega (arith, c.if-len-capacity.false, c.len.ensures, c.book.inside.steps.ok.0) in
-    keeper_after c.book.invariant.0 c.keeper.invariant c.agree.ensures.idle c.args.ready.step done c.add.new.keeper.0 c.add.new.keeper.1 less
+    let step = half_here (whole_book c.book.invariant.0) c.keeper.invariant c.agree.ensures.idle c.args.ready.step c.keeper.inside.worker.room c.keeper.inside.tray.items c.keeper.inside.holder.1 c.args.ready.half ready c.make_room.new.letters.items c.make_room.ensures.same.1 in
+    let done = finished_here (whole_book c.book.invariant.0) c.keeper.invariant c.agree.ensures.idle c.args.ready.step c.keeper.inside.worker.room c.keeper.inside.tray.items c.keeper.inside.holder.1 c.args.ready.half ready c.make_room.new.letters.items c.make_room.ensures.same.1 c.finish-effect.new.worker c.finish-effect.result (c.finish-effect.ensures.node ready.change step) (c.finish-effect.ensures.beside ready.change step) (c.finish-effect.ensures.effect ready.change step) in
+    let less : length c.book.inside.steps.all < c.book.inside.capacity = omega (arith, c.if-len-capacity.false, c.len.ensures, ap (λ (v : StockView _). length v.all) c.agree.ensures.stock) in
+    keeper_after (whole_book c.book.invariant.0) c.keeper.invariant c.agree.ensures.idle c.args.ready.step done c.add.new.keeper.0 c.add.new.keeper.1 less
     (ap (λ h. h.0) c.add.ensures.keeper ∙ ap (λ h. h.0) c.agree.ensures.keeper)
-    (ap (λ h. h.1) c.add.ensures.keeper ∙ ap (λ r. r.1 ++ c.args.ready.step ∷ []) c.agree.ensures.roll ∙ ap (λ l. l ++ c.args.ready.step ∷ []) c.book.invariant.0.all)
-
-pub returns-clause-room : goal.returns-clause-room
-returns-clause-room g c =
-    let less : length c.book.inside.steps.items < c.book.inside.capacity = omega (arith, c.if-len-capacity.false, c.len.ensures, c.book.inside.steps.ok.0) in
-    subst (λ (b : BookView _). length b.steps < b.capacity) c.book.view_is less
+    (ap (λ h. h.1) c.add.ensures.keeper ∙ ap (λ l. l ++ c.args.ready.step ∷ []) (still_all _ _ _ c.agree.ensures.stock c.make_room.ensures.same.0))
 
 pub returns-clause-effect : goal.returns-clause-effect
 returns-clause-effect g c =
     let s = g.Q.Quorums.system in
     let ready = ready_inside s _ _ _ _ c.args.ready c.book.view_is c.keeper.view_is c.requires in
-    let step = half_here c.book.invariant.0 c.keeper.invariant c.agree.ensures.idle c.args.ready.step c.keeper.inside.worker.room c.keeper.inside.tray.items c.keeper.inside.holder.1 c.args.ready.half ready c.make_room.new.letters.items c.make_room.ensures.same.1 in
-    let done = finished_here c.book.invariant.0 c.keeper.invariant c.agree.ensures.idle c.args.ready.step c.keeper.inside.worker.room c.keeper.inside.tray.items c.keeper.inside.holder.1 c.args.ready.half ready c.make_room.new.letters.items c.make_room.ensures.same.1 c.finish-effect.new.worker c.finish-effect.result (c.finish-effect.ensures.node ready.change step) (c.finish-effect.ensures.beside ready.change step) (c.finish-effect.ensures.effect ready.change step) in
+    let step = half_here (whole_book c.book.invariant.0) c.keeper.invariant c.agree.ensures.idle c.args.ready.step c.keeper.inside.worker.room c.keeper.inside.tray.items c.keeper.inside.holder.1 c.args.ready.half ready c.make_room.new.letters.items c.make_room.ensures.same.1 in
+    let done = finished_here (whole_book c.book.invariant.0) c.keeper.invariant c.agree.ensures.idle c.args.ready.step c.keeper.inside.worker.room c.keeper.inside.tray.items c.keeper.inside.holder.1 c.args.ready.half ready c.make_room.new.letters.items c.make_room.ensures.same.1 c.finish-effect.new.worker c.finish-effect.result (c.finish-effect.ensures.node ready.change step) (c.finish-effect.ensures.beside ready.change step) (c.finish-effect.ensures.effect ready.change step) in
     done.effect ∙ ap (λ b. (turn (state s b) c.args.ready.step).effect) c.book.view_is
 
 pub returns-clause-book : goal.returns-clause-book
@@ -101,12 +118,15 @@ returns-clause-book g c =
     let p = c.new-posting.result in
     let n = c.len-2.result in
     let posted = c.post.ensures (same_to p.to m.ready (sent_by c.args.ready.step) c.new-posting.ensures.to c.in-Ok.ensures.ready) in
-    let lose = ap (λ (m : MailState). m.lose) posted ∙ posted_lose m p n ∙ ap (λ (m : MailState). m.lose) c.make_room.ensures.same.4 in
-    let twice = ap (λ (m : MailState). m.twice) posted ∙ posted_twice m p n ∙ ap (λ (m : MailState). m.twice) c.make_room.ensures.same.4 in
+    let grew = grown _ _ _ _ c.args.ready.step c.agree.ensures.stock c.make_room.ensures.same.0 c.add.ensures.stock in
+    let lose = ap (λ (m : MailState). m.lose) posted ∙ posted_lose m p n ∙ ap (λ (m : MailState). m.lose) c.make_room.ensures.same.3 in
+    let twice = ap (λ (m : MailState). m.twice) posted ∙ posted_twice m p n ∙ ap (λ (m : MailState). m.twice) c.make_room.ensures.same.3 in
     (λ i. record {
       founders = c.book.inside.founders;
-      steps = (c.push_reserved.ensures.items ∙ ap (λ l. l ++ c.args.ready.step ∷ []) c.make_room.ensures.same.0) i;
+      steps = grew.all i;
+      drawn = grew.drawn i;
       capacity = c.book.inside.capacity;
+      ahead = c.book.inside.ahead;
       waiting = numbers_of c.post.new.self.waiting;
       lose = lose i;
       twice = twice i;
@@ -121,31 +141,37 @@ returns-clause-waiting g c =
     let n = c.len-2.result in
     let posted = c.post.ensures (same_to p.to m.ready (sent_by c.args.ready.step) c.new-posting.ensures.to c.in-Ok.ensures.ready) in
     let ready = ready_inside s _ _ _ _ c.args.ready c.book.view_is c.keeper.view_is c.requires in
-    let step = half_here c.book.invariant.0 c.keeper.invariant c.agree.ensures.idle c.args.ready.step c.keeper.inside.worker.room c.keeper.inside.tray.items c.keeper.inside.holder.1 c.args.ready.half ready c.make_room.new.letters.items c.make_room.ensures.same.1 in
-    let done = finished_here c.book.invariant.0 c.keeper.invariant c.agree.ensures.idle c.args.ready.step c.keeper.inside.worker.room c.keeper.inside.tray.items c.keeper.inside.holder.1 c.args.ready.half ready c.make_room.new.letters.items c.make_room.ensures.same.1 c.finish-effect.new.worker c.finish-effect.result (c.finish-effect.ensures.node ready.change step) (c.finish-effect.ensures.beside ready.change step) (c.finish-effect.ensures.effect ready.change step) in
+    let step = half_here (whole_book c.book.invariant.0) c.keeper.invariant c.agree.ensures.idle c.args.ready.step c.keeper.inside.worker.room c.keeper.inside.tray.items c.keeper.inside.holder.1 c.args.ready.half ready c.make_room.new.letters.items c.make_room.ensures.same.1 in
+    let done = finished_here (whole_book c.book.invariant.0) c.keeper.invariant c.agree.ensures.idle c.args.ready.step c.keeper.inside.worker.room c.keeper.inside.tray.items c.keeper.inside.holder.1 c.args.ready.half ready c.make_room.new.letters.items c.make_room.ensures.same.1 c.finish-effect.new.worker c.finish-effect.result (c.finish-effect.ensures.node ready.change step) (c.finish-effect.ensures.beside ready.change step) (c.finish-effect.ensures.effect ready.change step) in
     let letters = c.leave_out_copies.ensures ∙ ap (λ ls. lightened ls c.delivered-came.result) (c.finish-effect.ensures.letters ∙ ap (λ ls. with_letter ls (letter_of c.args.ready.half)) c.make_room.ensures.same.1) in
-    let steps = c.push_reserved.ensures.items ∙ ap (λ l. l ++ c.args.ready.step ∷ []) c.make_room.ensures.same.0 in
+    let steps = (grown _ _ _ _ c.args.ready.step c.agree.ensures.stock c.make_room.ensures.same.0 c.add.ensures.stock).all in
     let count = c.len-2.ensures ∙ c.leave_out_copies.new.letters.ok.0 ∙ ap length letters ∙ counted_light done c.delivered-came.result ∙ ap (λ l. length (run s c.book.inside.founders l).letters) (sym steps) in
     ap (λ (m : MailState). numbers_of m.waiting) posted
-    ∙ posted_waiting c.book.inside.founders c.book.inside.steps.items c.book.inside.capacity m p n
-    ∙ (λ i. waiting_after (kept_with c.book.inside.founders c.book.inside.steps.items c.book.inside.capacity (c.make_room.ensures.same.4 i)) (c.new-posting.ensures.to i) (count i))
-    ∙ ap (λ b. waiting_after b (sent_by c.args.ready.step) (length (run s c.book.inside.founders c.push_reserved.new.self.items).letters)) c.book.view_is
+    ∙ posted_waiting c.book.inside.founders c.book.inside.steps.all c.book.inside.steps.drawn c.book.inside.capacity c.book.inside.ahead m p n
+    ∙ (λ i. waiting_after (kept_with c.book.inside.founders c.book.inside.steps.all c.book.inside.steps.drawn c.book.inside.capacity c.book.inside.ahead (c.make_room.ensures.same.3 i)) (c.new-posting.ensures.to i) (count i))
+    ∙ ap (λ b. waiting_after b (sent_by c.args.ready.step) (length (run s c.book.inside.founders c.add.new.self.all).letters)) c.book.view_is
 
 pub returns-clause-keeper : goal.returns-clause-keeper
 returns-clause-keeper g c =
-    let seen = ap (λ h. h.1) c.add.ensures.keeper ∙ ap (λ r. r.1 ++ c.args.ready.step ∷ []) c.agree.ensures.roll ∙ ap (λ l. l ++ c.args.ready.step ∷ []) c.book.invariant.0.all ∙ ap (λ (b : BookView _). b.steps ++ c.args.ready.step ∷ []) c.book.view_is in
+    let seen = ap (λ h. h.1) c.add.ensures.keeper ∙ ap (λ l. l ++ c.args.ready.step ∷ []) (still_all _ _ _ c.agree.ensures.stock c.make_room.ensures.same.0) ∙ ap (λ (b : BookView _). b.steps ++ c.args.ready.step ∷ []) c.book.view_is in
     λ i. record { name = (c.keeper.view_is i).name; node = c.finish-effect.new.worker.state; room = c.finish-effect.new.worker.room; beside = c.finish-effect.new.worker.beside; tray = (c.keeper.view_is i).tray; seen = seen i }
 
 pub returns-clause-node : goal.returns-clause-node
 returns-clause-node g c =
     let s = g.Q.Quorums.system in
+    let grew = grown _ _ _ _ c.args.ready.step c.agree.ensures.stock c.make_room.ensures.same.0 c.add.ensures.stock in
     let ready = ready_inside s _ _ _ _ c.args.ready c.book.view_is c.keeper.view_is c.requires in
-    let step = half_here c.book.invariant.0 c.keeper.invariant c.agree.ensures.idle c.args.ready.step c.keeper.inside.worker.room c.keeper.inside.tray.items c.keeper.inside.holder.1 c.args.ready.half ready c.make_room.new.letters.items c.make_room.ensures.same.1 in
-    let done = finished_here c.book.invariant.0 c.keeper.invariant c.agree.ensures.idle c.args.ready.step c.keeper.inside.worker.room c.keeper.inside.tray.items c.keeper.inside.holder.1 c.args.ready.half ready c.make_room.new.letters.items c.make_room.ensures.same.1 c.finish-effect.new.worker c.finish-effect.result (c.finish-effect.ensures.node ready.change step) (c.finish-effect.ensures.beside ready.change step) (c.finish-effect.ensures.effect ready.change step) in
-    (λ i. node_at (state s (record { founders = c.book.inside.founders; steps = (c.push_reserved.ensures.items ∙ ap (λ l. l ++ c.args.ready.step ∷ []) c.make_room.ensures.same.0) i; capacity = c.book.inside.capacity; waiting = numbers_of c.post.new.self.waiting; lose = c.post.new.self.lose; twice = c.post.new.self.twice })) (sym c.keeper.view_is i).name) ∙ done.node
+    let step = half_here (whole_book c.book.invariant.0) c.keeper.invariant c.agree.ensures.idle c.args.ready.step c.keeper.inside.worker.room c.keeper.inside.tray.items c.keeper.inside.holder.1 c.args.ready.half ready c.make_room.new.letters.items c.make_room.ensures.same.1 in
+    let done = finished_here (whole_book c.book.invariant.0) c.keeper.invariant c.agree.ensures.idle c.args.ready.step c.keeper.inside.worker.room c.keeper.inside.tray.items c.keeper.inside.holder.1 c.args.ready.half ready c.make_room.new.letters.items c.make_room.ensures.same.1 c.finish-effect.new.worker c.finish-effect.result (c.finish-effect.ensures.node ready.change step) (c.finish-effect.ensures.beside ready.change step) (c.finish-effect.ensures.effect ready.change step) in
+    (λ i. node_at (state s (record { founders = c.book.inside.founders; steps = grew.all i; drawn = c.add.new.self.drawn; capacity = c.book.inside.capacity; ahead = c.book.inside.ahead; waiting = numbers_of c.post.new.self.waiting; lose = c.post.new.self.lose; twice = c.post.new.self.twice })) (sym c.keeper.view_is i).name) ∙ done.node
+
+pub returns-clause-room : goal.returns-clause-room
+returns-clause-room g c =
+    let less : length c.book.inside.steps.all < c.book.inside.capacity = omega (arith, c.if-len-capacity.false, c.len.ensures, ap (λ (v : StockView _). length v.all) c.agree.ensures.stock) in
+    subst (λ (b : BookView _). length b.steps < b.capacity) c.book.view_is less
 
 pub invariant_of-book : goal.invariant_of-book
-invariant_of-book g c = (book_same c.agree.new.self.1 c.book.inside.steps.items c.book.inside.letters.items c.book.inside.history.events c.book.inside.marks.items c.book.invariant.0 (ap (λ r. r.1) c.agree.ensures.roll) refl refl refl refl, c.book.invariant.1, c.book.invariant.2)
+invariant_of-book g c = (still_book c.agree.new.self c.book.invariant.0 c.agree.ensures.stock, c.book.invariant.1, c.book.invariant.2)
 
 pub returns-in_default-clause-told : goal.returns-in_default-clause-told
 returns-in_default-clause-told g c = grind (arith, common_steps)
@@ -158,11 +184,15 @@ invariant_of-keeper-in_default g c = grind (arith, common_steps)
 
 pub invariant_of-book-in_default : goal.invariant_of-book-in_default
 invariant_of-book-in_default g c =
+    let drawn = ap (λ (v : StockView _). v.drawn) c.make_room.ensures.same.0 ∙ ap (λ (v : StockView _). v.drawn) c.agree.ensures.stock in
     let room = c.make_room.ensures.same in (
-      book_same c.agree.new.self.1 c.make_room.new.steps.items c.make_room.new.letters.items c.make_room.new.history.events c.make_room.new.marks.items c.book.invariant.0 (ap (λ r. r.1) c.agree.ensures.roll) room.0 room.1 room.2 room.3,
-      ap (λ (m : MailState). m.lose) room.4 ∙ c.book.invariant.1,
-      ap (λ (m : MailState). m.twice) room.4 ∙ c.book.invariant.2,
+      same_book c.make_room.new.steps.all c.make_room.new.letters.items c.make_room.new.kept c.make_room.new.steps.drawn c.book.invariant.0 (still_all _ _ _ c.agree.ensures.stock room.0) room.1 room.2 (omega (arith, drawn, c.book.invariant.0.few)) (λ is. drawn ∙ c.book.invariant.0.undrawn is),
+      ap (λ (m : MailState). m.lose) room.3 ∙ c.book.invariant.1,
+      ap (λ (m : MailState). m.twice) room.3 ∙ c.book.invariant.2,
     )
 
 pub returns-in_default-clause-same : goal.returns-in_default-clause-same
 returns-in_default-clause-same g c = grind (arith, common_steps)
+
+pub invariant_of-book-then-at_hand-ahead : goal.invariant_of-book-then-at_hand-ahead
+invariant_of-book-then-at_hand-ahead g c = (still_book c.agree.new.self c.book.invariant.0 c.agree.ensures.stock, c.book.invariant.1, c.book.invariant.2)

@@ -12,6 +12,8 @@ use Rattle.rambo_book.specs.Readying.{IsReadyIn}
 use Rattle.rambo_book.proofs.Commits.{served_inside, verdict, ready_here}
 use Rattle.rambo_book.proofs.Readying.{keeper_roomy}
 use Rattle.rambo_book.proofs.Refused.{none_for_memory}
+use Rattle.rambo_book.proofs.Steps.{viewed}
+use Rattle.rambo_book.proofs.Books.{whole_book, still_book}
 use Rattle.rambo_book.proofs.committing.ready_by_book.Goals as goal
 
 pub ready-requires : goal.ready-requires
@@ -22,7 +24,7 @@ invariant_of-keeper g c = keeper_roomy c.keeper.invariant (ap (λ h. h.0) c.agre
 
 pub returns-clause-same : goal.returns-clause-same
 returns-clause-same g c = (
-  c.book.view_is,
+  ap (λ v. viewed c.book.inside.founders v c.book.inside.capacity c.book.inside.ahead c.book.inside.mails) c.agree.ensures.stock ∙ c.book.view_is,
   (λ i. record { name = c.keeper.inside.name; node = c.ready.ensures.same i; room = c.ready.new.self.room; beside = c.ready.ensures.beside i; tray = c.keeper.inside.tray.items; seen = (c.agree.ensures.keeper i).1 })
       ∙ ap (λ (k : KeeperView _). record k { room = c.ready.new.self.room }) c.keeper.view_is,
 )
@@ -32,25 +34,25 @@ returns-clause-legal g c =
     let s = g.Q.Quorums.system in
     let served = served_inside s _ _ _ _ c.args.step c.book.view_is c.keeper.view_is c.requires in
     ap (λ b. refusal s (state s b) c.args.step) (sym c.book.view_is)
-    ∙ verdict c.book.invariant.0 c.keeper.invariant c.agree.ensures.idle c.args.step served (option_copied c.letter_named-letter.result) c.as_slice.result.now c.as_slice.ensures.value c.letter_named-letter.ensures.meant
+    ∙ verdict (whole_book c.book.invariant.0) c.keeper.invariant c.agree.ensures.idle c.args.step served (option_copied c.letter_named-letter.result) c.as_slice.result.now c.as_slice.ensures.value c.letter_named-letter.ensures.meant
     ∙ c.in_ok-half.ensures.judged
 
 pub returns-clause-ready : goal.returns-clause-ready
 returns-clause-ready g c =
     let s = g.Q.Quorums.system in
     let served = served_inside s _ _ _ _ c.args.step c.book.view_is c.keeper.view_is c.requires in
-    let legal = verdict c.book.invariant.0 c.keeper.invariant c.agree.ensures.idle c.args.step served (option_copied c.letter_named-letter.result) c.as_slice.result.now c.as_slice.ensures.value c.letter_named-letter.ensures.meant ∙ c.in_ok-half.ensures.judged in
+    let legal = verdict (whole_book c.book.invariant.0) c.keeper.invariant c.agree.ensures.idle c.args.step served (option_copied c.letter_named-letter.result) c.as_slice.result.now c.as_slice.ensures.value c.letter_named-letter.ensures.meant ∙ c.in_ok-half.ensures.judged in
     let letter = c.letter_named-letter.ensures.letter ∙ ap (λ ls. letter_in ls c.args.step) c.as_slice.ensures.value in
     let named = c.letter_named-letter.ensures.meant ∙ ap (λ ls. meant_in ls c.args.step) c.as_slice.ensures.value in
     subst (λ b. IsReadyIn s (state s b) (record { name = c.keeper.inside.name; node = c.ready.new.self.state; room = c.ready.new.self.room; beside = c.ready.new.self.beside; tray = c.keeper.inside.tray.items; seen = c.agree.new.keeper.1 }) (record { step = c.args.step; half = c.in_ok-half.half; asks = false })) c.book.view_is
-    (ready_here c.book.invariant.0 c.keeper.invariant c.agree.ensures.idle c.args.step served (option_copied c.letter_named-letter.result) c.in_ok-half.half c.ready.new.self c.keeper.inside.tray.items c.agree.new.keeper.1 c.ready.ensures.same letter named legal c.in_ok-half.ensures.ready)
+    (ready_here (whole_book c.book.invariant.0) c.keeper.invariant c.agree.ensures.idle c.args.step served (option_copied c.letter_named-letter.result) c.in_ok-half.half c.ready.new.self c.keeper.inside.tray.items c.agree.new.keeper.1 c.ready.ensures.same letter named legal c.in_ok-half.ensures.ready)
 
 pub returns-in_err-half-clause-refused : goal.returns-in_err-half-clause-refused
 returns-in_err-half-clause-refused g c =
     let s = g.Q.Quorums.system in
     let served = served_inside s _ _ _ _ c.args.step c.book.view_is c.keeper.view_is c.requires in
     let same = ap (λ b. refusal s (state s b) c.args.step) (sym c.book.view_is)
-    ∙ verdict c.book.invariant.0 c.keeper.invariant c.agree.ensures.idle c.args.step served (option_copied c.letter_named-letter.result) c.as_slice.result.now c.as_slice.ensures.value c.letter_named-letter.ensures.meant in
+    ∙ verdict (whole_book c.book.invariant.0) c.keeper.invariant c.agree.ensures.idle c.args.step served (option_copied c.letter_named-letter.result) c.as_slice.result.now c.as_slice.ensures.value c.letter_named-letter.ensures.meant in
     err_kept c.from_residual.result (IsRefusal (refusal s (state s c.args.book.now) c.args.step)) _ c.from_residual.ensures.1 (refused_alike _ _ _ same c.in_err-half.ensures.refused)
 
 pub returns-in_err-half-clause-memory : goal.returns-in_err-half-clause-memory
@@ -58,6 +60,15 @@ returns-in_err-half-clause-memory g c =
     let s = g.Q.Quorums.system in
     let served = served_inside s _ _ _ _ c.args.step c.book.view_is c.keeper.view_is c.requires in
     let same = ap (λ b. refusal s (state s b) c.args.step) (sym c.book.view_is)
-    ∙ verdict c.book.invariant.0 c.keeper.invariant c.agree.ensures.idle c.args.step served (option_copied c.letter_named-letter.result) c.as_slice.result.now c.as_slice.ensures.value c.letter_named-letter.ensures.meant in
+    ∙ verdict (whole_book c.book.invariant.0) c.keeper.invariant c.agree.ensures.idle c.args.step served (option_copied c.letter_named-letter.result) c.as_slice.result.now c.as_slice.ensures.value c.letter_named-letter.ensures.meant in
     err_kept c.from_residual.result (λ r. r ≡ OutOfMemory → refusal s (state s c.args.book.now) c.args.step ≡ None) _ c.from_residual.ensures.1
     (λ short. same ∙ none_for_memory s c.keeper.inside.worker.state (meant_by (option_copied c.letter_named-letter.result) c.args.step) _ short c.in_err-half.ensures.refused)
+
+pub invariant_of-book : goal.invariant_of-book
+invariant_of-book g c = (still_book c.agree.new.self c.book.invariant.0 c.agree.ensures.stock, c.book.invariant.1, c.book.invariant.2)
+
+pub invariant_of-book-in_err-half : goal.invariant_of-book-in_err-half
+invariant_of-book-in_err-half g c = (still_book c.agree.new.self c.book.invariant.0 c.agree.ensures.stock, c.book.invariant.1, c.book.invariant.2)
+
+pub invariant_of-book-2 : goal.invariant_of-book-2
+invariant_of-book-2 g c = (still_book c.agree.new.self c.book.invariant.0 c.agree.ensures.stock, c.book.invariant.1, c.book.invariant.2)

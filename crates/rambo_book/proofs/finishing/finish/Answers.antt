@@ -3,7 +3,9 @@ use Rattle.rambo_node.specs.Changes.{made_by, refusal_of}
 use Rattle.rambo_node.specs.FullNodes.{beside_after}
 use Rattle.rambo_node.specs.Prepared.{IsPrepared}
 use Rattle.rambo_node.specs.declared.prepared.Prepared.{Prepared}
-use Rattle.rambo_deeds.specs.Deeds.{IsReadyDelivery, IsReadyStep, event_of, letter_in, outline_of}
+use Rattle.rambo_deeds.specs.Deeds.{IsReadyDelivery, IsReadyStep, event_of, letter_in, mark_of, outline_of}
+use Rattle.rambo_book.specs.Records.{Recorded}
+use Rattle.rambo_book.proofs.Recording.{recorded_none}
 use Rattle.rambo_book.proofs.Halves.{none_goes, send_stays, send_keeps, send_tells, told_alone, hear_tells, call_moves, call_keeps, call_tells}
 use Rattle.rambo_book.proofs.finishing.finish.Goals as goal
 
@@ -71,7 +73,7 @@ finish_call-requires g c =
     let ready = subst (IsReadyStep s v o c.requires.ready.0) c.in-Call.is c.requires.ready.1 in
     let value = sym c.into_inner.ensures in (
       c.requires-raw.1.1.0,
-      (subst (IsPrepared s v) value ready.half.prepared, ((c.requires.room.1, c.requires.room.2), λ e is. c.requires.fits e (ap event_of c.in-Call.is ∙ ap (λ (p : Prepared _). p.event) value ∙ is))),
+      (subst (IsPrepared s v) value ready.half.prepared, (c.requires.room.1, λ v e there is. c.requires.fits v e there (ap event_of c.in-Call.is ∙ ap (λ (p : Prepared _). p.event) value ∙ is))),
     )
 
 pub returns-in-Call-clause-node : goal.returns-in-Call-clause-node
@@ -129,3 +131,18 @@ returns-in-Quick-clause-effect g c = λ ch given.
     let o = outline_of (letter_in ls c.args.step.now) in
     let ready = subst (IsReadyStep s v o ch) c.in-Quick.is given in
     told_alone v o ch ls _ (c.finish_quick.ensures.effect ∙ ap (λ ch. (made_by v.state ch).deed.effect) (sym ready.half)) (none_goes v _ ready.letter)
+
+pub returns-in-Send-clause-kept : goal.returns-in-Send-clause-kept
+returns-in-Send-clause-kept g c = subst (λ h. Recorded (event_of h) (mark_of h) c.args.kept.now c.args.kept.now) (sym c.in-Send.is) (recorded_none c.args.kept.now)
+
+pub returns-in-Hear-clause-kept : goal.returns-in-Hear-clause-kept
+returns-in-Hear-clause-kept g c = subst (λ h. Recorded (event_of h) (mark_of h) c.args.kept.now c.args.kept.now) (sym c.in-Hear.is) (recorded_none c.args.kept.now)
+
+pub returns-in-Quick-clause-kept : goal.returns-in-Quick-clause-kept
+returns-in-Quick-clause-kept g c = subst (λ h. Recorded (event_of h) (mark_of h) c.args.kept.now c.args.kept.now) (sym c.in-Quick.is) (recorded_none c.args.kept.now)
+
+pub returns-in-Call-clause-kept : goal.returns-in-Call-clause-kept
+returns-in-Call-clause-kept g c =
+    let old = c.args.kept.now in
+    let new = c.finish_call.new.kept in
+    subst (λ h. Recorded (event_of h) (mark_of h) old new) (sym c.in-Call.is) (subst (λ (p : Prepared _). Recorded p.event p.mark old new) c.into_inner.ensures c.finish_call.ensures.kept)

@@ -8,6 +8,7 @@ use Rattle.rambo_book.specs.Kept.{BookView, KeeperView, state}
 use Rattle.rambo_book.specs.Mailing.{goes_to, sent_to, IsBehind}
 use Rattle.rambo_book.proofs.Taking.{nothing_behind}
 use Rattle.rambo_book.proofs.Trays.{tray_more, sent_one}
+use Rattle.rambo_book.proofs.Books.{whole_book}
 use Rattle.rambo_book.proofs.mail.take_letter.Goals as goal
 
 pub invariant_of-keeper-2 : goal.invariant_of-keeper-2
@@ -15,7 +16,7 @@ invariant_of-keeper-2 g c =
     let same = ap (λ (k : KeeperView _). k.seen) c.keeper.view_is ∙ c.requires ∙ sym (ap (λ (b : BookView _). b.steps) c.book.view_is) in
     let there = ap (λ ls. letter_at ls c.args.entry.number) (sym c.as_slice.ensures.value) ∙ sym c.in-Some.ensures ∙ ap Some (sym c.in_ok-letter.ensures.same) in
     let own = ap (λ (l : Letter _). l.addressee) c.in_ok-letter.ensures.same ∙ sym c.addressee.ensures ∙ eqb-true c.addressee.result c.keeper.inside.name (not-false (nat_eq c.addressee.result c.keeper.inside.name) (sym c.ne.ensures ∙ c.if-ne.false)) in
-    tray_more c.book.invariant.0 c.keeper.invariant same c.args.entry.number c.args.entry.asks c.in_ok-letter.letter c.push_reserved.new.self.items there own
+    tray_more (whole_book c.book.invariant.0) c.keeper.invariant same c.args.entry.number c.args.entry.asks c.in_ok-letter.letter c.push_reserved.new.self.items there own
     (c.push_reserved.ensures.items ∙ ap (λ tray. tray ++ record { number = c.args.entry.number; asks = c.args.entry.asks; letter = c.in_ok-letter.letter } ∷ []) c.in_ok-reserve.ensures.items)
 
 pub returns-in_default-clause-tray : goal.returns-in_default-clause-tray
@@ -26,7 +27,7 @@ returns-in_default-clause-tray g c =
     let k = c.args.keeper.now in
     let other = ap (λ ls. goes_to k.name (letter_at ls n)) (sym c.as_slice.ensures.value) ∙ ap (goes_to k.name) (sym c.in_default.ensures) in
     subst (λ b. IsBehind k.tray (sent_to (state s b) k.name (n ∷ [])) k.tray) c.book.view_is
-    (subst (λ ns. IsBehind k.tray ns k.tray) (sym (sent_one (run s b.founders b.steps.items) b.letters.items k.name n false c.book.invariant.0.sent other)) (nothing_behind k.tray))
+    (subst (λ ns. IsBehind k.tray ns k.tray) (sym (sent_one (run s b.founders b.steps.all) b.letters.items k.name n false c.book.invariant.0.sent other)) (nothing_behind k.tray))
 
 unlike : (b : Bool) → not b ≡ true → b ≡ false
 unlike true e = absurd cc
@@ -42,8 +43,8 @@ returns-then-ne-clause-tray g c =
     let there = ap (λ ls. letter_at ls n) (sym c.as_slice.ensures.value) ∙ sym c.in-Some.ensures in
     let other = ap (goes_to k.name) there ∙ ap (λ a. nat_eq a k.name) (sym c.addressee.ensures) ∙ unlike (nat_eq c.addressee.result k.name) (sym c.ne.ensures ∙ c.if-ne.true) in
     subst (λ b. IsBehind c.args.keeper.now.tray (sent_to (state s b) c.args.keeper.now.name (n ∷ [])) c.args.keeper.now.tray) c.book.view_is
-    (subst (λ (v : KeeperView _). IsBehind v.tray (sent_to (run s b.founders b.steps.items) v.name (n ∷ [])) v.tray) c.keeper.view_is
-    (subst (λ ns. IsBehind tray ns tray) (sym (sent_one (run s b.founders b.steps.items) b.letters.items k.name n false c.book.invariant.0.sent other)) (nothing_behind tray)))
+    (subst (λ (v : KeeperView _). IsBehind v.tray (sent_to (run s b.founders b.steps.all) v.name (n ∷ [])) v.tray) c.keeper.view_is
+    (subst (λ ns. IsBehind tray ns tray) (sym (sent_one (run s b.founders b.steps.all) b.letters.items k.name n false c.book.invariant.0.sent other)) (nothing_behind tray)))
 
 pub returns-clause-tray : goal.returns-clause-tray
 returns-clause-tray g c =
@@ -55,10 +56,10 @@ returns-clause-tray g c =
     let own : nat_eq c.addressee.result k.name ≡ true = not-false (nat_eq c.addressee.result k.name) (sym c.ne.ensures ∙ c.if-ne.false) in
     let here = ap (goes_to k.name) there ∙ ap (λ a. nat_eq a k.name) (sym c.addressee.ensures) ∙ own in
     let mail : Mail _ = record { number = n; asks = c.args.entry.asks; letter = c.in_ok-letter.letter } in
-    let pushed : IsBehind k.tray.items (sent_to (run s b.founders b.steps.items) k.name (n ∷ [])) c.push_reserved.new.self.items = record {
+    let pushed : IsBehind k.tray.items (sent_to (run s b.founders b.steps.all) k.name (n ∷ [])) c.push_reserved.new.self.items = record {
       more = mail ∷ [];
       tray = c.push_reserved.ensures.items ∙ ap (λ tray. tray ++ mail ∷ []) c.in_ok-reserve.ensures.items;
-      numbered = sym (sent_one (run s b.founders b.steps.items) b.letters.items k.name n true c.book.invariant.0.sent here);
+      numbered = sym (sent_one (run s b.founders b.steps.all) b.letters.items k.name n true c.book.invariant.0.sent here);
     } in
     subst (λ b. IsBehind c.args.keeper.now.tray (sent_to (state s b) c.args.keeper.now.name (n ∷ [])) c.push_reserved.new.self.items) c.book.view_is
-    (subst (λ (v : KeeperView _). IsBehind v.tray (sent_to (run s b.founders b.steps.items) v.name (n ∷ [])) c.push_reserved.new.self.items) c.keeper.view_is pushed)
+    (subst (λ (v : KeeperView _). IsBehind v.tray (sent_to (run s b.founders b.steps.all) v.name (n ∷ [])) c.push_reserved.new.self.items) c.keeper.view_is pushed)
