@@ -39,7 +39,7 @@ acted s agreed b (Err r) before after st founded p last legal accepted told mine
 -- the same of a call, whose id is told
 pub called : {Q : Type 0} (s : QuorumSystem Q) (agreed : Option Q) (b : BookView Q) (r : Result CallId Refusal) (before after : PassView Q) (st : Step Q)
     → agreed ≡ Some b.founders → IsPrefix before.seen b.steps → OnOk r (after.seen ≡ b.steps ++ st ∷ []) → OnOk r (IsLegal s b.founders after.seen) → OnOk r (refusal s (state s b) st ≡ None)
-    → IfOk r (λ id. effect.Called id ≡ (turn (state s b) st).effect) → IfOk r (λ id. after.mine ≡ before.mine ++ record { place = length b.steps; id = id; answer = None } ∷ [])
+    → IfOk r (λ id. effect.Called id ≡ (turn (state s b) st).effect) → IfOk r (λ id. after.mine ≡ before.mine ++ record { place = length b.steps; id = id } ∷ [])
     → IfOk r (λ id. (f : Q) → agreed ≡ Some f → Acted s f before after st (effect.Called id))
 called s agreed b (Ok id) before after st founded p last legal accepted told mine = acted s agreed b (Ok (effect.Called id)) before after st founded p last legal accepted told mine
 called s agreed b (Err r) before after st founded p last legal accepted told mine = tt

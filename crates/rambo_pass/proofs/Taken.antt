@@ -1,5 +1,5 @@
 -- What taking an answer says of what the client has then seen
-use Rattle.std.proofs.Common.{◌≡◌, ◌⊎◌, Option, Some, None, MatchOption, Result, Ok, Err, OnOk, IfOk, IfErr, sym, ◌∙◌, subst, inl, inr}
+use Rattle.std.proofs.Common.{◌≡◌, ◌⊎◌, Bool, false, Option, Some, None, MatchOption, Result, Ok, Err, OnOk, IfOk, IfErr, sym, ◌∙◌, subst, inl, inr}
 use mathlib.Core.List.{IsPrefix}
 use Rattle.rambo_names.specs.declared.refusal.Refusal.{Refusal}
 use Rattle.rambo_names.specs.declared.refusal.Refusal.TheVariants.{OutOfMemory, NoSuchCall, Stopped}
@@ -13,7 +13,7 @@ use Rattle.rambo_book.specs.Kept.{BookView, state}
 use Rattle.rambo_run.specs.Legal.{IsLegal}
 use Rattle.rambo_pass.specs.Passes.{PassView, IsNone, IsOne, HasStopped, IsGoing, IsAnswered, IsAnsweredLater, WhyNot}
 
-module _ {Q : Type 0} (s : QuorumSystem Q) (agreed : Option Q) (b : BookView Q) (before after : PassView Q) (id : CallId) (founded : agreed ≡ Some b.founders) where
+module _ {Q : Type 0} (s : QuorumSystem Q) (agreed : Option Q) (endless : Bool) (b : BookView Q) (before after : PassView Q) (id : CallId) (founded : agreed ≡ Some b.founders) where
   pub legal_of : {A : Type 0} (r : Result A Refusal) → OnOk r (IsLegal s b.founders after.seen) → OnOk r ((f : Q) → agreed ≡ Some f → IsLegal s f after.seen)
   legal_of (Ok a) h = λ f e. subst (λ f. IsLegal s f after.seen) (some_inj b.founders f (sym founded ∙ e)) h
   legal_of (Err r) h = h
@@ -37,14 +37,14 @@ module _ {Q : Type 0} (s : QuorumSystem Q) (agreed : Option Q) (b : BookView Q) 
   answered_later : IsLegal s b.founders b.steps → IsPrefix before.seen b.steps × IsAnswered (state s b) id → IsAnsweredLater s b.founders before.seen id
   answered_later legal h = record { later = b.steps; begins = h.0; legal = legal; answered = h.1 }
 
-  pub why_not : {A : Type 0} (r : Result A Refusal) → IsLegal s b.founders b.steps → IfErr r (λ r. r ≡ OutOfMemory → IsPrefix before.seen b.steps × IsAnswered (state s b) id)
+  pub why_not : {A : Type 0} (r : Result A Refusal) → IsLegal s b.founders b.steps → IfErr r (λ r. r ≡ OutOfMemory → endless ≡ false → IsPrefix before.seen b.steps × IsAnswered (state s b) id)
       → IfErr r (λ r. ((r ≡ OutOfMemory) × (after ≡ before) × IsOne before.mine id)
       ⊎ (((r ≡ NoSuchCall) × (after ≡ before) × IsNone before.mine id)
       ⊎ ((r ≡ Stopped) × IsOne before.mine id × (after.seen ≡ b.steps) × IsPrefix before.seen after.seen × (answer_in (state s b).history id ≡ None) × HasStopped (state s b) id.name)))
-      → IfErr r (λ r. (f : Q) → agreed ≡ Some f → WhyNot s f before after id r)
+      → IfErr r (λ r. (f : Q) → agreed ≡ Some f → WhyNot s f endless before after id r)
   why_not (Ok a) legal answered h = tt
-  why_not (Err r) legal answered h = λ f e. subst (λ f. WhyNot s f before after id r) (some_inj b.founders f (sym founded ∙ e)) (elim h [
-    | inl m ↦ inl (m.0, (m.1, (m.2, answered_later legal (answered m.0))))
+  why_not (Err r) legal answered h = λ f e. subst (λ f. WhyNot s f endless before after id r) (some_inj b.founders f (sym founded ∙ e)) (elim h [
+    | inl m ↦ inl (m.0, (m.1, (m.2, λ bounded. answered_later legal (answered m.0 bounded))))
     | inr rest ↦ elim rest [
       | inl n ↦ inr (inl (n.0, (n.1, n.2)))
       | inr t ↦ inr (inr (
@@ -55,12 +55,12 @@ module _ {Q : Type 0} (s : QuorumSystem Q) (agreed : Option Q) (b : BookView Q) 
   ])
 
   -- the same where the pass stays
-  pub why_ungiven : {A : Type 0} (r : Result A Refusal) → IsLegal s b.founders b.steps → IfErr r (λ r. r ≡ OutOfMemory → IsPrefix before.seen b.steps × IsAnswered (state s b) id)
+  pub why_ungiven : {A : Type 0} (r : Result A Refusal) → IsLegal s b.founders b.steps → IfErr r (λ r. r ≡ OutOfMemory → endless ≡ false → IsPrefix before.seen b.steps × IsAnswered (state s b) id)
       → IfErr r (λ r. ((r ≡ OutOfMemory) × IsOne before.mine id) ⊎ ((r ≡ NoSuchCall) × IsNone before.mine id))
-      → IfErr r (λ r. (f : Q) → agreed ≡ Some f → ((r ≡ OutOfMemory) × IsOne before.mine id × IsAnsweredLater s f before.seen id) ⊎ ((r ≡ NoSuchCall) × IsNone before.mine id))
+      → IfErr r (λ r. (f : Q) → agreed ≡ Some f → ((r ≡ OutOfMemory) × IsOne before.mine id × (endless ≡ false → IsAnsweredLater s f before.seen id)) ⊎ ((r ≡ NoSuchCall) × IsNone before.mine id))
   why_ungiven (Ok a) legal answered h = tt
   why_ungiven (Err r) legal answered h = λ f e. elim h [
-    | inl m ↦ inl (m.0, m.1, subst (λ f. IsAnsweredLater s f before.seen id) (some_inj b.founders f (sym founded ∙ e)) (answered_later legal (answered m.0)))
+    | inl m ↦ inl (m.0, m.1, λ bounded. subst (λ f. IsAnsweredLater s f before.seen id) (some_inj b.founders f (sym founded ∙ e)) (answered_later legal (answered m.0 bounded)))
     | inr n ↦ inr n
   ]
 
@@ -73,9 +73,9 @@ refused_so same h = elim h [
 ]
 
 -- so is told by a client who takes it from the run that the steps give
-pub why_not_given : {Q : Type 0} (s : QuorumSystem Q) (f : Q) {before after : PassView Q} {id : CallId} {r : Refusal} → after ≡ before
-    → ((r ≡ OutOfMemory) × IsOne before.mine id × IsAnsweredLater s f before.seen id) ⊎ ((r ≡ NoSuchCall) × IsNone before.mine id) → WhyNot s f before after id r
-why_not_given s f same h = elim h [
+pub why_not_given : {Q : Type 0} (s : QuorumSystem Q) (f : Q) (endless : Bool) {before after : PassView Q} {id : CallId} {r : Refusal} → after ≡ before
+    → ((r ≡ OutOfMemory) × IsOne before.mine id × (endless ≡ false → IsAnsweredLater s f before.seen id)) ⊎ ((r ≡ NoSuchCall) × IsNone before.mine id) → WhyNot s f endless before after id r
+why_not_given s f endless same h = elim h [
   | inl m ↦ inl (m.0, (same, (m.1, m.2)))
   | inr n ↦ inr (inl (n.0, (same, n.1)))
 ]

@@ -23,3 +23,13 @@ pub record IsClosed {Q : Type 0} (s : QuorumSystem Q) (agreed : Option Q) (most 
   pub all : seen ≡ l.steps
   pub fits : length l.steps ≤ most
   pub left : (f : Q) → agreed ≡ Some f → IsLeft s l f
+
+-- all steps of a post that has ended, and those that weren't drawn, where that is known
+pub record EndedView (Q : Type 0) : Type 0 where
+  pub all : List (Step Q)
+  pub rest : Option (List (Step Q))
+
+-- all steps are legal, and at most as many as the post takes
+pub record IsEnded {Q : Type 0} (s : QuorumSystem Q) (agreed : Option Q) (most : ℕ) (all : List (Step Q)) : Type 0 where
+  pub legal : (f : Q) → agreed ≡ Some f → IsLegal s f all
+  pub fits : length all ≤ most

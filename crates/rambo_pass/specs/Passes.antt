@@ -1,13 +1,12 @@
 -- What a client has seen
 use mathlib.Core.List.{IsPrefix}
-use Rattle.std.specs.Prelude.{◌≡◌, ◌⊎◌, ℕ, List, [], ◌∷◌, ◌++◌, ◌<◌, ◌≢◌, true, false, length, slice_set, slice_index_or, All, MatchOption, Option, None, Some, is_some, Result, IfOk, IfErr}
-use Rattle.std.specs.Map.{lookup}
+use Rattle.std.specs.Prelude.{◌≡◌, ◌⊎◌, ℕ, Bool, List, [], ◌∷◌, ◌++◌, ◌<◌, ◌≢◌, true, false, length, slice_index_or, All, Option, None, Some, is_some, Result, IfOk, IfErr}
+use Rattle.std.specs.List.{remove}
 use Rattle.rambo_history.specs.declared.operation.Answer.{Answer}
 use Rattle.rambo_names.specs.declared.refusal.Refusal.{Refusal}
 use Rattle.rambo_names.specs.declared.refusal.Refusal.TheVariants as refused
 use Rattle.rambo_names.specs.Refusals.{IsRefusal}
 use Rattle.rambo_names.specs.Quorums.{QuorumSystem}
-use Rattle.rambo_history.specs.Calls.{same_call}
 use Rattle.rambo_history.specs.Histories.{answer_in}
 use Rattle.rambo_joiner.specs.Statuses.{is_stopped}
 use Rattle.rambo_history.specs.declared.event.CallId.{CallId}
@@ -30,7 +29,7 @@ pub record PassView (Q : Type 0) : Type 0 where
 
 -- a call adds one entry, at the place of its step
 abbrev pub mine_with : {Q : Type 0} → List Entry → ℕ → Effect Q → List Entry
-mine_with mine place (effect.Called id) = mine ++ record { place = place; id = id; answer = None } ∷ []
+mine_with mine place (effect.Called id) = mine ++ record { place = place; id = id } ∷ []
 mine_with mine place effect.Done = mine
 mine_with mine place (effect.Sent number) = mine
 mine_with mine place effect.Moved = mine
@@ -79,27 +78,28 @@ pub record MineState : Type 0 where
   pub entries : List Entry
   pub room : ℕ
 
-abbrev pub answered : Entry → Answer → Entry
-answered e a = record e { answer = Some a }
-
 abbrev pub nobody : Entry
-nobody = record { place = 0; id = record { name = 0; number = 0 }; answer = None }
+nobody = record { place = 0; id = record { name = 0; number = 0 } }
 
 abbrev pub entry_at : List Entry → ℕ → Entry
 entry_at es at = slice_index_or es at nobody
 
--- the entry of this place has the answer, if there is one
-abbrev pub noted : List Entry → ℕ → Option Answer → List Entry
-noted es at None = es
-noted es at (Some a) = slice_set es at (answered (entry_at es at) a)
+-- the entry of this place is gone, if there is an answer
+abbrev pub settled : List Entry → ℕ → Option Answer → List Entry
+settled es at None = es
+settled es at (Some a) = remove es at
 
 -- an entry of this list, at this place, is that of the call
 abbrev pub IsEntry : List Entry → CallId → ℕ → Type 0
 IsEntry es id at = (at < length es) × ((entry_at es at).id ≡ id)
 
--- the list after the answer of the call, if there is one, was noted at an entry of it
-abbrev pub IsNoted : List Entry → CallId → Option Answer → List Entry → Type 0
-IsNoted es id a later = (at : ℕ) × (IsEntry es id at × (later ≡ noted es at a))
+-- the list after the answer of the call, if there is one, was taken: its entry is gone
+abbrev pub IsTaken : List Entry → CallId → Option Answer → List Entry → Type 0
+IsTaken es id a later = (at : ℕ) × (IsEntry es id at × (later ≡ settled es at a))
+
+-- the list without an entry of the call
+abbrev pub IsGone : List Entry → CallId → List Entry → Type 0
+IsGone es id later = (at : ℕ) × (IsEntry es id at × (later ≡ remove es at))
 
 -- none of these entries is that of the call
 abbrev pub IsNone : List Entry → CallId → Type 0
@@ -108,10 +108,6 @@ IsNone es id = All (λ e. e.id ≢ id) es
 -- one of these entries is that of the call
 abbrev pub IsOne : List Entry → CallId → Type 0
 IsOne es id = (at : ℕ) × IsEntry es id at
-
--- the places have the place of each call that is one of these
-abbrev pub AreFound : List Entry → List (CallId × ℕ) → Type 0
-AreFound es places = (id : CallId) → MatchOption (lookup (same_call id) places) (IsNone es id) (IsEntry es id)
 
 -- the node of a name has stopped
 abbrev pub HasStopped : {Q : Type 0} → WorldState Q → ℕ → Type 0
@@ -132,11 +128,11 @@ pub record IsAnsweredLater {Q : Type 0} (s : QuorumSystem Q) (founders : Q) (see
   pub legal : IsLegal s founders later
   pub answered : IsAnswered (run s founders later) id
 
--- why there is no answer. `OutOfMemory`: the call is this client's, and has an answer after some legal steps.
--- `NoSuchCall`: it isn't this client's. `Stopped`: it is this client's, and its node has stopped in what was seen,
+-- why there is no answer. `OutOfMemory`: the call is this client's, and has an answer after some legal steps, where the book
+-- isn't endless. `NoSuchCall`: it isn't this client's. `Stopped`: it is this client's, and its node has stopped in what was seen,
 -- where it has no answer
-abbrev pub WhyNot : {Q : Type 0} → QuorumSystem Q → Q → PassView Q → PassView Q → CallId → Refusal → Type 0
-WhyNot s founders before after id r =
-    ((r ≡ refused.OutOfMemory) × ((after ≡ before) × (IsOne before.mine id × IsAnsweredLater s founders before.seen id)))
+abbrev pub WhyNot : {Q : Type 0} → QuorumSystem Q → Q → Bool → PassView Q → PassView Q → CallId → Refusal → Type 0
+WhyNot s founders endless before after id r =
+    ((r ≡ refused.OutOfMemory) × ((after ≡ before) × (IsOne before.mine id × (endless ≡ false → IsAnsweredLater s founders before.seen id))))
     ⊎ (((r ≡ refused.NoSuchCall) × ((after ≡ before) × IsNone before.mine id))
     ⊎ ((r ≡ refused.Stopped) × (IsOne before.mine id × (IsPrefix before.seen after.seen × ((answer_in (run s founders after.seen).history id ≡ None) × HasStopped (run s founders after.seen) id.name)))))

@@ -1,5 +1,6 @@
 //! What was answered, as a client sees it.
-ghost use Rattle.std.specs.Prelude.{◌≡◌, ◌⊎◌, Some, None, true, is_some, option_map, MatchOption, OnOk, OnErr, IfOk, IfErr};
+ghost use Rattle.std.specs.Bool.{MatchBool};
+ghost use Rattle.std.specs.Prelude.{◌≡◌, ◌⊎◌, Some, None, true, false, is_some, MatchOption, OnOk, OnErr, IfOk, IfErr};
 ghost use Rattle.std.specs.Option.{option_copied};
 ghost use mathlib.Core.List.{IsPrefix};
 ghost use Rattle.rambo_history.specs.Histories.{answer_in};
@@ -7,7 +8,7 @@ ghost use Rattle.rambo_book.specs.Kept.{state};
 ghost use Rattle.rambo_run.specs.Worlds.{node_at};
 ghost use Rattle.rambo_joiner.specs.Statuses.{is_stopped};
 ghost use Rattle.rambo_run.specs.Legal.{IsLegal};
-ghost use Rattle.rambo_pass.specs.Passes.{IsNoted, IsNone, IsOne, HasStopped, IsGoing, IsAnswered};
+ghost use Rattle.rambo_pass.specs.Passes.{IsTaken, IsGone, IsNone, IsOne, HasStopped, IsGoing, IsAnswered};
 
 use crate::pass::Pass;
 use rambo_book::{Book, Keeper, Terms};
@@ -15,22 +16,23 @@ use rambo_history::{Answer, CallId};
 use rambo_names::{Quorums, Refusal};
 use rambo_tag::Replica;
 
-// Twice the same answer, if there is one, which shares its bytes.
-fn share_twice(answer: Option<&Answer>) -> Result<Option<(Answer, Answer)>, Refusal>
-    ensures same { IfOk result (λ b. b ≡ option_map (λ a. (a, a)) (option_copied answer.entry)) }
+// The same answer, if there is one, which shares its bytes.
+fn share(answer: Option<&Answer>) -> Result<Option<Answer>, Refusal>
+    ensures same { IfOk result (λ a. a ≡ option_copied answer.entry) }
     ensures given { OnErr result (is_some answer.entry ≡ true) }
 {
     match answer {
-        Some(answer) => Ok(Some((answer.clone()?, answer.clone()?))),
+        Some(answer) => Ok(Some(answer.clone()?)),
         None => Ok(None),
     }
 }
 
-/// The answer of a call of this client, if the steps have one: the client has then seen all of them. Else the pass is
-/// unchanged.
+/// The answer of a call of this client, if the steps have one: the client has then seen all of them, and its entry is gone.
+/// Else the pass is unchanged.
 ///
-/// `NoSuchCall` where the call isn't this client's; `OutOfMemory` where the answer can't be shared. The pass is then
-/// unchanged.
+/// `NoSuchCall` where the call isn't one of this client's that wait; `OutOfMemory` where the answer can't be shared. The pass
+/// is then unchanged. A book that is endless would tell `OutOfMemory` of a call that it doesn't keep, too; it keeps each that
+/// a client waits for.
 pub fn take_given<J: Terms<Q>, Q: Quorums>(
     book: &mut Book<J, Q>,
     pass: &mut Pass<J, Q>,
@@ -42,26 +44,30 @@ pub fn take_given<J: Terms<Q>, Q: Quorums>(
     ensures seen { IfOk result (λ a. MatchOption a (pass.new ≡ pass.old) (λ _. pass.new.seen ≡ book.old.steps)) }
     ensures begins { OnOk result (IsPrefix pass.old.seen pass.new.seen) }
     ensures answer { IfOk result (λ a. a ≡ answer_in (state Q.system book.old).history id.now) }
-    ensures mine { IfOk result (λ a. IsNoted pass.old.mine id.now a pass.new.mine) }
+    ensures mine { IfOk result (λ a. IsTaken pass.old.mine id.now a pass.new.mine) }
     ensures err { OnErr result (pass.new ≡ pass.old) }
     ensures cause { IfErr result (λ r. ((r ≡ Refusal.OutOfMemory) × IsOne pass.old.mine id.now) ⊎ ((r ≡ Refusal.NoSuchCall) × IsNone pass.old.mine id.now)) }
-    ensures answered { IfErr result (λ r. r ≡ Refusal.OutOfMemory → IsPrefix pass.old.seen book.old.steps × IsAnswered (state Q.system book.old) id.now) }
+    ensures answered { IfErr result (λ r. r ≡ Refusal.OutOfMemory → J.endless ≡ false → IsPrefix pass.old.seen book.old.steps × IsAnswered (state Q.system book.old) id.now) }
 {
     book.facts();
     let Pass { seen, count, mine } = pass;
     let Some(at) = mine.find(id) else {
         return Err(Refusal::NoSuchCall);
     };
-    let Ok(given) = share_twice(book.answer(id)) else {
+    let Some(kept) = book.answer(id) else {
+        return Err(Refusal::OutOfMemory);
+    };
+    let Ok(shared) = share(kept) else {
         book.begun(seen);
         return Err(Refusal::OutOfMemory);
     };
-    let Some(both) = given else {
+    let Some(answer) = shared else {
         return Ok(None);
     };
     *count = book.show(seen);
-    mine.note(at, Some(both.0));
-    Ok(Some(both.1))
+    book.forget(id);
+    mine.settle(at);
+    Ok(Some(answer))
 }
 
 // Whether the node of the keeper has stopped.
@@ -77,10 +83,10 @@ fn has_stopped<J: Terms<Q>, Q: Quorums, S: Replica>(
     keeper.has_stopped()
 }
 
-/// The answer of a call of this client, who has then seen all steps.
+/// The answer of a call of this client, who has then seen all steps. The entry of a call that has one is gone.
 ///
-/// `NoSuchCall` where the call isn't this client's; `Stopped` where it has no answer and its node has stopped;
-/// `OutOfMemory` where the answer can't be shared. None where the steps have no answer of it yet, and its node hasn't
+/// `NoSuchCall` where the call isn't one of this client's that wait; `Stopped` where it has no answer and its node has
+/// stopped; `OutOfMemory` where the answer can't be shared. None where the steps have no answer of it yet, and its node hasn't
 /// stopped.
 pub fn take_in<J: Terms<Q>, Q: Quorums, S: Replica>(
     book: &mut Book<J, Q>,
@@ -96,10 +102,10 @@ pub fn take_in<J: Terms<Q>, Q: Quorums, S: Replica>(
     ensures begins { OnOk result (IsPrefix pass.old.seen pass.new.seen) }
     ensures legal { OnOk result (IsLegal Q.system book.old.founders pass.new.seen) }
     ensures answer { IfOk result (λ a. a ≡ answer_in (state Q.system book.old).history id) }
-    ensures mine { IfOk result (λ a. IsNoted pass.old.mine id a pass.new.mine) }
+    ensures mine { IfOk result (λ a. IsTaken pass.old.mine id a pass.new.mine) }
     ensures err { OnErr result (pass.new.mine ≡ pass.old.mine) }
     ensures going { IfOk result (λ a. a ≡ None → IsGoing (state Q.system book.old) id.name) }
-    ensures answered { IfErr result (λ r. r ≡ Refusal.OutOfMemory → IsPrefix pass.old.seen book.old.steps × IsAnswered (state Q.system book.old) id) }
+    ensures answered { IfErr result (λ r. r ≡ Refusal.OutOfMemory → J.endless ≡ false → IsPrefix pass.old.seen book.old.steps × IsAnswered (state Q.system book.old) id) }
     ensures cause { IfErr result (λ r. ((r ≡ Refusal.OutOfMemory) × (pass.new ≡ pass.old) × IsOne pass.old.mine id)
         ⊎ ((r ≡ Refusal.NoSuchCall) × (pass.new ≡ pass.old) × IsNone pass.old.mine id)
         ⊎ ((r ≡ Refusal.Stopped) × IsOne pass.old.mine id × (pass.new.seen ≡ book.old.steps) × IsPrefix pass.old.seen pass.new.seen × (answer_in (state Q.system book.old).history id ≡ None) × HasStopped (state Q.system book.old) id.name)) }
@@ -114,4 +120,22 @@ pub fn take_in<J: Terms<Q>, Q: Quorums, S: Replica>(
         return Err(Refusal::Stopped);
     }
     Ok(None)
+}
+
+/// This client waits for the answer of a call no longer. Whether it did. What it has seen is unchanged.
+pub fn give_up_in<J: Terms<Q>, Q: Quorums>(
+    book: &mut Book<J, Q>,
+    pass: &mut Pass<J, Q>,
+    id: &CallId,
+) -> bool
+    ensures book { book.new ≡ book.old }
+    ensures seen { pass.new.seen ≡ pass.old.seen }
+    ensures mine { MatchBool result (IsGone pass.old.mine id.now pass.new.mine) ((pass.new ≡ pass.old) × IsNone pass.old.mine id.now) }
+{
+    let Some(at) = pass.mine.find(id) else {
+        return false;
+    };
+    book.forget(id);
+    pass.mine.settle(at);
+    true
 }

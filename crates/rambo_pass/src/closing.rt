@@ -1,5 +1,5 @@
 //! A post is closed.
-ghost use Rattle.std.specs.Prelude.{◌≡◌, ◌≤◌, Some, length, IfSome, All};
+ghost use Rattle.std.specs.Prelude.{◌≡◌, ◌≤◌, Some, false, length, IfSome, All};
 ghost use mathlib.Core.List.{IsPrefix};
 ghost use Rattle.rambo_history.specs.Proper.{IsProperForAll};
 ghost use Rattle.rambo_run.specs.Legal.{IsLegal};
@@ -59,11 +59,12 @@ fn all_seen<J: Terms<Q>, Q: Quorums>(book: &mut Book<J, Q>) -> Front<J, Step<Q>>
     seen
 }
 
-/// All steps, which what each client has seen begins, and the one order of the calls in them.
+/// All steps, which what each client has seen begins, and the one order of the calls in them. The book isn't endless.
 pub fn close_in<J: Terms<Q>, Q: Quorums>(
     mut book: Book<J, Q>,
     passes: Vec<Pass<J, Q>>,
 ) -> Closed<J, Q>
+    requires { J.endless ≡ false }
     ensures founders { J.founders ≡ Some book.founders }
     ensures legal { IsLegal Q.system book.founders result.steps }
     ensures fits { length result.steps ≤ J.capacity }

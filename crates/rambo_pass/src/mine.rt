@@ -1,44 +1,35 @@
 //! A client's own calls.
-ghost use Rattle.std.specs.Prelude.{◌≡◌, ◌<◌, ◌≤◌, ◌++◌, ◌∷◌, [], length, if◌then◌else◌, Some, MatchOption, OnOk};
-ghost use Rattle.std.specs.HashMap.{spare};
-ghost use Rattle.std.specs.Map.{lookup};
-ghost use Rattle.rambo_history.specs.Calls.{same_call};
-ghost use Rattle.rambo_pass.specs.Passes.{noted, IsEntry, IsNone};
+ghost use Rattle.std.specs.Prelude.{◌≡◌, ◌<◌, ◌++◌, ◌∷◌, [], length, MatchOption, OnOk};
+ghost use Rattle.std.specs.List.{remove};
+ghost use Rattle.rambo_pass.specs.Passes.{IsEntry, IsNone};
 
-use rambo_history::{Answer, CallId};
+use rambo_history::CallId;
 use std::alloc::{AllocError, Global};
-use std::collections::HashMap;
 use std::marker::Model;
 
-/// A call of a client.
-#[derive(Drop)]
+/// A call of a client that waits for its answer.
+#[derive(Clone, Copy)]
 pub struct Entry {
     /// How many steps were before it.
     pub place: usize,
     /// Its id.
     pub id: CallId,
-    /// Its answer, once the client took it.
-    pub answer: Option<Answer>,
 }
 
-/// The calls of a client in their order. One is found by its id in constant time.
+/// The calls of a client that wait for their answers, in their order. They are few: a node has 64 open calls at most.
 #[derive(Drop)]
 pub(crate) struct Mine {
     entries: Vec<Entry>,
-    places: HashMap<CallId, usize>,
 }
 
 impl Model for Mine {
-    ghost use Rattle.std.specs.Prelude.{◌-◌, min};
-    ghost use Rattle.std.specs.HashMap.{spare};
+    ghost use Rattle.std.specs.Prelude.{◌-◌};
     ghost use Rattle.std.specs.Vec.{vec_capacity, vec_len};
-    ghost use Rattle.rambo_pass.specs.Passes.{MineState, AreFound};
+    ghost use Rattle.rambo_pass.specs.Passes.{MineState};
 
     ghost Value = { MineState };
 
-    ghost view = { λ m. record { entries = m.entries.items; room = min (vec_capacity m.entries - vec_len m.entries) (spare m.places) } };
-
-    ghost invariant = { λ m. AreFound m.entries.items m.places.entries };
+    ghost view = { λ m. record { entries = m.entries.items; room = vec_capacity m.entries - vec_len m.entries } };
 }
 
 impl Mine {
@@ -48,7 +39,6 @@ impl Mine {
     {
         Mine {
             entries: Vec::new(alloc),
-            places: HashMap::new(alloc),
         }
     }
 
@@ -57,8 +47,7 @@ impl Mine {
         ensures entries { self.new.entries ≡ self.old.entries }
         ensures ok { OnOk result (0 < self.new.room) }
     {
-        self.entries.reserve(1)?;
-        self.places.reserve(1)
+        self.entries.reserve(1)
     }
 
     // Puts a call at the end, for which room was made.
@@ -66,7 +55,6 @@ impl Mine {
         requires { 0 < self.old.room }
         ensures { self.new.entries ≡ self.old.entries ++ entry ∷ [] }
     {
-        put_place(&mut self.places, &entry.id, self.entries.len());
         self.entries.push_reserved(entry);
     }
 
@@ -74,28 +62,27 @@ impl Mine {
     pub(crate) fn find(&self, id: &CallId) -> Option<usize>
         ensures { MatchOption result (IsNone self.now.entries id.now) (IsEntry self.now.entries id.now) }
     {
-        match self.places.get(id) {
-            Some(place) => Some(*place),
-            None => None,
-        }
+        place_of(self.entries.as_slice(), *id)
     }
 
-    // The answer, if there is one, goes to the call at a place.
-    pub(crate) fn note(&mut self, place: usize, answer: Option<Answer>)
+    // The call at a place waits no longer.
+    pub(crate) fn settle(&mut self, place: usize)
         requires { place < length self.old.entries }
-        ensures { self.new.entries ≡ noted self.old.entries place answer }
+        ensures { self.new.entries ≡ remove self.old.entries place }
     {
-        if let Some(answer) = answer {
-            let entry = &mut self.entries[place];
-            entry.answer = Some(answer);
-        }
+        let _entry = self.entries.remove(place);
     }
 }
 
-// Notes the place of a call.
-fn put_place(places: &mut HashMap<CallId, usize>, id: &CallId, place: usize)
-    requires { 0 < spare places.old }
-    ensures { (q : CallId) → lookup (same_call q) places.new.entries ≡ (if same_call id.now q then Some place else lookup (same_call q) places.old.entries) }
+// The place of a call among these, if it is one of them.
+fn place_of(entries: &[Entry], id: CallId) -> Option<usize>
+    ensures { MatchOption result (IsNone entries.now id) (IsEntry entries.now id) }
 {
-    let _ = places.insert(*id, place);
+    for at in 0..entries.len() {
+        let own = entries[at].id;
+        if own.name == id.name && own.number == id.number {
+            return Some(at);
+        }
+    }
+    None
 }

@@ -106,7 +106,6 @@ fn note_call<Q: Quorums>(mine: &mut Mine, place: usize, effect: &Effect<Q>)
         mine.push_reserved(Entry {
             place,
             id: *id,
-            answer: None,
         });
     }
 }
@@ -258,7 +257,7 @@ pub fn call_in<J: Terms<Q>, Q: Quorums, S: Replica>(
     ensures legal { OnOk result (IsLegal Q.system book.old.founders pass.new.seen) }
     ensures accepted { (op : Op) → IsHalf Q.system J.founders keeper.old (Step.Call name op) ready → OnOk result (refusal Q.system (state Q.system book.old) (Step.Call name op) ≡ None) }
     ensures effect { (op : Op) → IsHalf Q.system J.founders keeper.old (Step.Call name op) ready → IfOk result (λ id. Effect.Called id ≡ (turn (state Q.system book.old) (Step.Call name op)).effect) }
-    ensures mine { IfOk result (λ id. pass.new.mine ≡ pass.old.mine ++ record { place = length book.old.steps; id = id; answer = None } ∷ []) }
+    ensures mine { IfOk result (λ id. pass.new.mine ≡ pass.old.mine ++ record { place = length book.old.steps; id = id } ∷ []) }
     ensures err { OnErr result (pass.new.mine ≡ pass.old.mine) }
     ensures memory { IfErr result (λ r. r ≡ Refusal.OutOfMemory → pass.new ≡ pass.old) }
     ensures shown { IfErr result (λ r. (r ≡ Refusal.OutOfMemory) ⊎ (pass.new.seen ≡ book.old.steps)) }

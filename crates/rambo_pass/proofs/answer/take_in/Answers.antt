@@ -5,7 +5,7 @@ use Rattle.rambo_names.proofs.Errors.{err_kept}
 use Rattle.rambo_run.specs.Legal.{IsLegal}
 use Rattle.rambo_run.specs.Worlds.{node_at}
 use Rattle.rambo_book.specs.Kept.{BookView, state}
-use Rattle.rambo_pass.specs.Passes.{PassView, IsNoted}
+use Rattle.rambo_pass.specs.Passes.{PassView, IsTaken}
 use Rattle.rambo_pass.proofs.Taken.{refused_so}
 use Rattle.rambo_pass.proofs.answer.take_in.Goals as goal
 
@@ -19,7 +19,7 @@ pub returns-in-Some-clause-going : goal.returns-in-Some-clause-going
 returns-in-Some-clause-going g c = λ none. absurd cc
 
 pub returns-then-stopped-clause-answered : goal.returns-then-stopped-clause-answered
-returns-then-stopped-clause-answered g c = λ short. absurd cc
+returns-then-stopped-clause-answered g c = λ short bounded. absurd cc
 
 pub returns-in-Some-clause-legal : goal.returns-in-Some-clause-legal
 returns-in-Some-clause-legal g c =
@@ -28,7 +28,7 @@ returns-in-Some-clause-legal g c =
     subst (IsLegal g.Q.Quorums.system c.args.book.now.founders) (sym seen) c.take_given.ensures.legal
 
 pub returns-in-Some-clause-mine : goal.returns-in-Some-clause-mine
-returns-in-Some-clause-mine g c = subst (λ a. IsNoted c.args.pass.now.mine c.args.id a c.take_given.new.pass.mine) c.in-Some.is c.in_ok-answer.ensures.mine
+returns-in-Some-clause-mine g c = subst (λ a. IsTaken c.args.pass.now.mine c.args.id a c.take_given.new.pass.mine) c.in-Some.is c.in_ok-answer.ensures.mine
 
 pub returns-then-stopped-clause-cause : goal.returns-then-stopped-clause-cause
 returns-then-stopped-clause-cause g c =
@@ -68,8 +68,8 @@ returns-clause-legal g c =
 
 pub returns-clause-mine : goal.returns-clause-mine
 returns-clause-mine g c =
-    let noted = subst (λ a. IsNoted c.args.pass.now.mine c.args.id a c.take_given.new.pass.mine) c.in_default.is c.in_ok-answer.ensures.mine in
-    subst (IsNoted c.args.pass.now.mine c.args.id None) (sym (ap (λ (v : PassView _). v.mine) c.see_all.ensures.pass)) noted
+    let noted = subst (λ a. IsTaken c.args.pass.now.mine c.args.id a c.take_given.new.pass.mine) c.in_default.is c.in_ok-answer.ensures.mine in
+    subst (IsTaken c.args.pass.now.mine c.args.id None) (sym (ap (λ (v : PassView _). v.mine) c.see_all.ensures.pass)) noted
 
 pub has_stopped-stopped-requires : goal.has_stopped-stopped-requires
 has_stopped-stopped-requires g c = assumption

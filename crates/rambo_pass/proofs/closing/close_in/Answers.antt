@@ -1,4 +1,4 @@
-use Rattle.std.proofs.Common.{◌≡◌, List, [], ◌∷◌, ◌++◌, length, Some, IfOk, All, Vec, refl, sym, ap, ◌∙◌, subst, append_assoc, arith}
+use Rattle.std.proofs.Common.{◌≡◌, ◌≤◌, List, [], ◌∷◌, ◌++◌, length, Some, IfOk, All, Vec, refl, sym, ap, ◌∙◌, subst, append_assoc, arith}
 use Rattle.std.proofs.lemmas.List.{append-nil}
 use Rattle.std.proofs.lemmas.List.Elements.{All-push}
 use mathlib.Core.List.{IsPrefix}
@@ -25,18 +25,18 @@ returns-clause-begins g c =
     let same = c.all_seen-seen.ensures.book ∙ c.loop-pass.invariant.same in
     let none : c.loop-pass.pass-iterator.rest.items ≡ [] = nil_of c.loop-pass.pass-iterator.rest.items (sym c.loop-pass.pass-iterator.rest.ok.0 ∙ c.in-None.ensures.steps.0) in
     let all : c.loop-pass.yielded ≡ c.args.passes.items = sym (append-nil c.loop-pass.yielded) ∙ ap (λ l. c.loop-pass.yielded ++ l) (sym none) ∙ c.loop-pass.invariant.rest in
-    let steps : c.args.book.steps ≡ c.into_steps.result.items = ap (λ (b : BookView _). b.steps) (sym same) ∙ sym c.into_steps.ensures.steps in
+    let steps : c.args.book.steps ≡ c.into_steps.result.items = ap (λ (b : BookView _). b.steps) (sym same) ∙ sym (c.into_steps.ensures.undrawn c.requires) in
     subst (λ l. All (λ p. IsPrefix p.seen c.into_steps.result.items) l) all (subst (λ l. All (λ p. IsPrefix p.seen l) c.loop-pass.yielded) steps c.loop-pass.invariant.begins)
 
 pub returns-clause-legal : goal.returns-clause-legal
 returns-clause-legal g c =
     let same = c.all_seen-seen.ensures.book ∙ c.loop-pass.invariant.same in
-    subst (λ (b : BookView _). IsLegal g.Q.Quorums.system b.founders c.into_steps.result.items) same c.into_steps.ensures.legal
+    subst (λ (b : BookView _). IsLegal g.Q.Quorums.system b.founders c.into_steps.result.items) same (subst (IsLegal g.Q.Quorums.system c.all_seen-seen.new.book.founders) (sym (c.into_steps.ensures.undrawn c.requires)) c.into_steps.ensures.legal)
 
 pub returns-clause-all : goal.returns-clause-all
 returns-clause-all g c =
     let same = c.all_seen-seen.ensures.book ∙ c.loop-pass.invariant.same in
-    c.into_steps.ensures.steps ∙ ap (λ (b : BookView _). b.steps) same
+    c.into_steps.ensures.undrawn c.requires ∙ ap (λ (b : BookView _). b.steps) same
 
 pub loop-pass-init : goal.loop-pass-init
 loop-pass-init g c = record {
@@ -68,12 +68,18 @@ pub invariant_of-result : goal.invariant_of-result
 invariant_of-result g c =
     let s = g.Q.Quorums.system in
     let same = c.all_seen-seen.ensures.book ∙ c.loop-pass.invariant.same in
-    let steps = c.into_steps.ensures.steps ∙ ap (λ (b : BookView _). b.steps) same in
+    let steps = c.into_steps.ensures.undrawn c.requires ∙ ap (λ (b : BookView _). b.steps) same in
     let seen = c.all_seen-seen.ensures.seen ∙ ap (λ (b : BookView _). b.steps) c.loop-pass.invariant.same in
     let founded = c.into_steps.ensures.founders ∙ ap (λ (b : BookView _). Some b.founders) same in
-    let legal = subst (λ (b : BookView _). IsLegal s b.founders c.into_steps.result.items) same c.into_steps.ensures.legal in
+    let legal = subst (λ (b : BookView _). IsLegal s b.founders c.into_steps.result.items) same (subst (IsLegal s c.all_seen-seen.new.book.founders) (sym (c.into_steps.ensures.undrawn c.requires)) c.into_steps.ensures.legal) in
     let given = subst (λ b. IfOk c.order.result (λ o. o.items ≡ given_order (state s b))) same c.order.ensures.given in
     let explained = subst (λ b. IfOk c.order.result (λ o. IsProperForAll (state s b).history o.items)) same c.order.ensures.explained in
-    closes s g.J.Terms.founders g.J.Terms.capacity c.args.book _ _ founded seen steps legal c.into_steps.ensures.fits
+    closes s g.J.Terms.founders g.J.Terms.capacity c.args.book _ _ founded seen steps legal (subst (λ l. length l ≤ g.J.Terms.capacity) (sym (c.into_steps.ensures.undrawn c.requires)) c.into_steps.ensures.fits)
     (if_there (λ (v : Vec _ _). v.items) (λ o. o ≡ given_order (state s c.args.book)) c.order.result c.ok-order.result c.ok-order.ensures.value given)
     (if_there (λ (v : Vec _ _). v.items) (λ o. IsProperForAll (state s c.args.book).history o) c.order.result c.ok-order.result c.ok-order.ensures.value explained)
+
+pub order-requires : goal.order-requires
+order-requires g c = c.requires
+
+pub returns-clause-fits : goal.returns-clause-fits
+returns-clause-fits g c = subst (λ l. length l ≤ g.J.Terms.capacity) (sym (c.into_steps.ensures.undrawn c.requires)) c.into_steps.ensures.fits
