@@ -1,5 +1,6 @@
 //! The locks.
-ghost use Rattle.std.specs.Prelude.{◌≡◌, ◌<◌, ◌≤◌, ◌⊎◌, [], Option, None, Some, true, false, length, vec_len, IsOk, MatchOption, OnOk, OnErr, IfOk, IfErr, IfSome, All};
+ghost use Rattle.std.specs.Bool.{MatchBool};
+ghost use Rattle.std.specs.Prelude.{◌≡◌, ◌<◌, ◌≤◌, ◌⊎◌, ◌++◌, [], Option, None, Some, true, false, length, vec_len, IsOk, MatchOption, OnOk, OnErr, IfOk, IfErr, IfSome, All};
 ghost use Rattle.std.specs.FinMap as map;
 ghost use Rattle.std.specs.FinSet as set;
 ghost use Rattle.rambo_names.specs.Refusals.{least, IsRefusal};
@@ -13,7 +14,7 @@ ghost use Rattle.rambo_book.specs.Readying.{IsReadyFor};
 ghost use Rattle.rambo_run.specs.Legal.{IsLegal};
 ghost use Rattle.rambo_history.specs.Histories.{answer_in};
 ghost use Rattle.rambo_history.specs.Proper.{IsProperForAll};
-ghost use Rattle.rambo_pass.specs.Passes.{Acted, IsAnsweredLater, IsGoing, IsHalf, IsNone, IsNoted, IsOne, WhyNot, WhyUndone};
+ghost use Rattle.rambo_pass.specs.Passes.{Acted, IsAnsweredLater, IsGoing, IsGone, IsHalf, IsNone, IsOne, IsTaken, WhyNot, WhyUndone};
 ghost use Rattle.rambo_visit.specs.Happened.{Happened, HasMap, HasNoRoom, HasTurned, IsHeldUp, IsLast};
 
 use crate::gate::Gate;
@@ -25,9 +26,10 @@ use rambo_names::{Members, Name, Quorums, Refusal};
 use rambo_node::Effect;
 use rambo_outbox::{Outbox, Waiter};
 use rambo_pass::{
-    Closed, Pass, act_in, act_ready_in, call_in, close_in, meet_in, named, take_given, take_in,
+    Closed, Ended, Pass, act_in, act_ready_in, call_in, close_in, end_in, give_up_in, meet_in, named,
+    take_given, take_in,
 };
-use rambo_roll::Opened;
+use rambo_roll::{Drawn, Opened};
 use rambo_run::{Step, may_found};
 use rambo_tag::Replica;
 use rambo_turn::{Turn, begin_in, commit_next, ready_next, send_in};
@@ -74,6 +76,7 @@ impl<J: Terms<Q>, Q: Quorums, S: Replica> Post<J, Q, S> {
         requires name { opened ≡ J.table }
         requires founders { J.founders ≡ Some founders }
         requires capacity { capacity ≡ J.capacity }
+        requires endless { J.endless ≡ false }
         requires lose { J.lose ≡ 0 }
         requires twice { J.twice ≡ 0 }
         ensures founded { OnOk result (least (founding_causes Q.system founders) ≡ None) }
@@ -96,6 +99,7 @@ impl<J: Terms<Q>, Q: Quorums, S: Replica> Post<J, Q, S> {
         requires name { opened ≡ J.table }
         requires founders { J.founders ≡ Some founders }
         requires capacity { capacity ≡ J.capacity }
+        requires endless { J.endless ≡ false }
         requires lose { lose ≡ J.lose }
         requires twice { twice ≡ J.twice }
         ensures founded { OnOk result (least (founding_causes Q.system founders) ≡ None) }
@@ -104,16 +108,46 @@ impl<J: Terms<Q>, Q: Quorums, S: Replica> Post<J, Q, S> {
         may_found(founders)?;
         let outboxes = outboxes_of(alloc)?;
         Post::with_boxes(
-            alloc, opened, founders, capacity, replica, lose, twice, outboxes,
+            alloc, opened, founders, capacity, capacity, true, replica, lose, twice, outboxes,
         )
     }
 
-    // The same, with these outboxes, which know of nothing.
+    /// The same of a post from which steps are drawn, so that it has no end: at most `ahead` of them are at hand at once,
+    /// and of calls it keeps only those whose answers weren't taken.
+    pub fn endless(
+        alloc: Global,
+        opened: Opened<Step<Q>, Actor>,
+        founders: Q,
+        capacity: usize,
+        ahead: usize,
+        replica: &S,
+        lose: u64,
+        twice: u64,
+    ) -> Result<Post<J, Q, S>, Refusal>
+        requires name { opened ≡ J.table }
+        requires founders { J.founders ≡ Some founders }
+        requires capacity { capacity ≡ J.capacity }
+        requires endless { J.endless ≡ true }
+        requires lose { lose ≡ J.lose }
+        requires twice { twice ≡ J.twice }
+        ensures founded { OnOk result (least (founding_causes Q.system founders) ≡ None) }
+        ensures refused { IfErr result (IsRefusal (least (founding_causes Q.system founders))) }
+    {
+        may_found(founders)?;
+        let outboxes = outboxes_of(alloc)?;
+        Post::with_boxes(
+            alloc, opened, founders, capacity, ahead, false, replica, lose, twice, outboxes,
+        )
+    }
+
+    // The same, with these outboxes, which know of nothing. Whether it keeps all calls and answers; else steps are drawn.
     fn with_boxes(
         alloc: Global,
         opened: Opened<Step<Q>, Actor>,
         founders: Q,
         capacity: usize,
+        ahead: usize,
+        keeps_all: bool,
         replica: &S,
         lose: u64,
         twice: u64,
@@ -124,6 +158,7 @@ impl<J: Terms<Q>, Q: Quorums, S: Replica> Post<J, Q, S> {
         requires capacity { capacity ≡ J.capacity }
         requires lose { lose ≡ J.lose }
         requires twice { twice ≡ J.twice }
+        requires keeps_all { J.endless ≡ false → keeps_all ≡ true }
         requires boxes { vec_len outboxes ≡ 64 }
         ensures founded { OnOk result (least (founding_causes Q.system founders) ≡ None) }
         ensures refused { IfErr result (IsRefusal (least (founding_causes Q.system founders))) }
@@ -146,7 +181,9 @@ impl<J: Terms<Q>, Q: Quorums, S: Replica> Post<J, Q, S> {
         Ok(Post {
             keepers,
             outboxes,
-            book: Mutex::new(Book::new(alloc, founders, capacity, roll, mails)),
+            book: Mutex::new(Book::new(
+                alloc, founders, capacity, ahead, keeps_all, roll, mails,
+            )),
             spare: None,
         })
     }
@@ -345,10 +382,10 @@ impl<J: Terms<Q>, Q: Quorums, S: Replica> Post<J, Q, S> {
         unreachable!()
     }
 
-    /// The answer of a call of this client, who has then seen all steps. None where they have no answer of it yet, and
-    /// its node hasn't stopped.
+    /// The answer of a call of this client, who has then seen all steps, and waits for it no longer. None where they have no
+    /// answer of it yet, and its node hasn't stopped.
     ///
-    /// `NoSuchCall` where the call isn't this client's; `Stopped` where it has no answer and its node has stopped;
+    /// `NoSuchCall` where the call isn't one of this client's that wait; `Stopped` where it has no answer and its node has stopped;
     /// `OutOfMemory` where the answer can't be shared. After 22 and 7 the pass is as before, after 4 its calls are.
     pub fn take_answer<R: Wait>(
         &self,
@@ -360,9 +397,9 @@ impl<J: Terms<Q>, Q: Quorums, S: Replica> Post<J, Q, S> {
         ensures legal { OnOk result ((f : Q) → J.founders ≡ Some f → IsLegal Q.system f pass.new.seen) }
         ensures answer { IfOk result (λ a. (f : Q) → J.founders ≡ Some f → a ≡ answer_in (run Q.system f pass.new.seen).history id) }
         ensures going { IfOk result (λ a. (f : Q) → J.founders ≡ Some f → a ≡ None → IsGoing (run Q.system f pass.new.seen) id.name) }
-        ensures mine { IfOk result (λ a. IsNoted pass.old.mine id a pass.new.mine) }
+        ensures mine { IfOk result (λ a. IsTaken pass.old.mine id a pass.new.mine) }
         ensures err { OnErr result (pass.new.mine ≡ pass.old.mine) }
-        ensures cause { IfErr result (λ r. (f : Q) → J.founders ≡ Some f → WhyNot Q.system f pass.old pass.new id r) }
+        ensures cause { IfErr result (λ r. (f : Q) → J.founders ≡ Some f → WhyNot Q.system f J.endless pass.old pass.new id r) }
     {
         if let Some(answer) = self.given(rt, pass, &id)? {
             return Ok(Some(answer));
@@ -381,9 +418,9 @@ impl<J: Terms<Q>, Q: Quorums, S: Replica> Post<J, Q, S> {
         ensures legal { OnOk result ((f : Q) → J.founders ≡ Some f → IsLegal Q.system f pass.new.seen) }
         ensures answer { IfOk result (λ a. (f : Q) → J.founders ≡ Some f → a ≡ answer_in (run Q.system f pass.new.seen).history id) }
         ensures going { IfOk result (λ a. (f : Q) → J.founders ≡ Some f → a ≡ None → IsGoing (run Q.system f pass.new.seen) id.name) }
-        ensures mine { IfOk result (λ a. IsNoted pass.old.mine id a pass.new.mine) }
+        ensures mine { IfOk result (λ a. IsTaken pass.old.mine id a pass.new.mine) }
         ensures err { OnErr result (pass.new.mine ≡ pass.old.mine) }
-        ensures cause { IfErr result (λ r. (f : Q) → J.founders ≡ Some f → WhyNot Q.system f pass.old pass.new id r) }
+        ensures cause { IfErr result (λ r. (f : Q) → J.founders ≡ Some f → WhyNot Q.system f J.endless pass.old pass.new id r) }
     {
         let mut keeper = self.keeper_of(rt, id.name);
         let mut book = self.book.lock(rt);
@@ -399,9 +436,9 @@ impl<J: Terms<Q>, Q: Quorums, S: Replica> Post<J, Q, S> {
     ) -> Result<Option<Answer>, Refusal>
         ensures given { IfOk result (λ a. MatchOption a (pass.new ≡ pass.old) (λ b. (f : Q) → J.founders ≡ Some f → IsLegal Q.system f pass.new.seen × (answer_in (run Q.system f pass.new.seen).history id.now ≡ Some b))) }
         ensures begins { OnOk result (IsPrefix pass.old.seen pass.new.seen) }
-        ensures mine { IfOk result (λ a. IsNoted pass.old.mine id.now a pass.new.mine) }
+        ensures mine { IfOk result (λ a. IsTaken pass.old.mine id.now a pass.new.mine) }
         ensures err { OnErr result (pass.new ≡ pass.old) }
-        ensures cause { IfErr result (λ r. (f : Q) → J.founders ≡ Some f → ((r ≡ Refusal.OutOfMemory) × IsOne pass.old.mine id.now × IsAnsweredLater Q.system f pass.old.seen id.now) ⊎ ((r ≡ Refusal.NoSuchCall) × IsNone pass.old.mine id.now)) }
+        ensures cause { IfErr result (λ r. (f : Q) → J.founders ≡ Some f → ((r ≡ Refusal.OutOfMemory) × IsOne pass.old.mine id.now × (J.endless ≡ false → IsAnsweredLater Q.system f pass.old.seen id.now)) ⊎ ((r ≡ Refusal.NoSuchCall) × IsNone pass.old.mine id.now)) }
     {
         take_given(&mut self.book.lock(rt), pass, id)
     }
@@ -551,9 +588,70 @@ impl<J: Terms<Q>, Q: Quorums, S: Replica> Post<J, Q, S> {
         Ok(())
     }
 
-    /// All steps: none was refused in its turn, and what each client has seen begins them. Also the one order of the
-    /// calls in them, which is None where there is no room for it; nothing else here allocates.
+    /// This client waits for the answer of a call no longer. Whether it did. What it has seen is unchanged, and the call
+    /// stays open at its node.
+    pub fn withdraw<R: Wait>(&self, rt: &R, pass: &mut Pass<J, Q>, id: &CallId) -> bool
+        ensures seen { pass.new.seen ≡ pass.old.seen }
+        ensures mine { MatchBool result (IsGone pass.old.mine id.now pass.new.mine) ((pass.new ≡ pass.old) × IsNone pass.old.mine id.now) }
+    {
+        give_up_in(&mut self.book.lock(rt), pass, id)
+    }
+
+    /// How many steps are at hand, since they weren't drawn.
+    pub fn at_hand<R: Wait>(&self, rt: &R) -> usize {
+        self.book.lock(rt).at_hand()
+    }
+
+    /// A drawer's knowledge before anything was drawn. A post has one drawer.
+    pub fn drawing<R: Wait>(&self, rt: &R) -> Drawn<J, Step<Q>>
+        ensures { result ≡ [] }
+    {
+        self.book.lock(rt).drawing()
+    }
+
+    /// Draws the steps at hand: they go to `into`, which is empty, and follow all that was drawn before. None of all these
+    /// was refused in its turn. It holds the book's lock for constant time, and allocates nothing.
+    ///
+    /// False where another drawer has drawn since; then nothing is drawn.
+    pub fn draw<R: Wait>(
+        &self,
+        rt: &R,
+        drawn: &mut Drawn<J, Step<Q>>,
+        into: &mut Vec<Step<Q>>,
+    ) -> bool
+        requires endless { J.endless ≡ true }
+        requires empty { into.old.items ≡ [] }
+        ensures given { result ≡ true → drawn.new ≡ drawn.old ++ into.new.items }
+        ensures legal { result ≡ true → (f : Q) → J.founders ≡ Some f → IsLegal Q.system f drawn.new }
+        ensures same { result ≡ false → (drawn.new ≡ drawn.old) × (into.new.items ≡ []) }
+    {
+        self.book.lock(rt).draw(drawn, into)
+    }
+
+    /// All steps, once the post ends: none was refused in its turn, and what each client has seen begins them. Those that
+    /// weren't drawn follow those that were; they are None where another drawer has drawn. It allocates nothing.
+    pub fn end(self, passes: Vec<Pass<J, Q>>, drawn: Drawn<J, Step<Q>>) -> Ended<J, Q>
+        requires { J.endless ≡ true }
+        ensures legal { (f : Q) → J.founders ≡ Some f → IsLegal Q.system f result.all }
+        ensures fits { length result.all ≤ J.capacity }
+        ensures rest { IfSome result.rest (λ r. drawn ++ r ≡ result.all) }
+        ensures drawn { IsPrefix drawn result.all }
+        ensures begins { All (λ p. IsPrefix p.seen result.all) passes.items }
+    {
+        let Post {
+            keepers: _keepers,
+            outboxes: _outboxes,
+            book,
+            spare: _spare,
+        } = self;
+        end_in(book.into_inner(), passes, drawn)
+    }
+
+    /// All steps, once the post is closed: none was refused in its turn, and what each client has seen begins them. Also the
+    /// one order of the calls in them, which is None where there is no room for it; nothing else here allocates. Nothing is
+    /// drawn from such a post.
     pub fn close(self, passes: Vec<Pass<J, Q>>) -> Closed<J, Q>
+        requires { J.endless ≡ false }
         ensures legal { (f : Q) → J.founders ≡ Some f → IsLegal Q.system f result.steps }
         ensures fits { length result.steps ≤ J.capacity }
         ensures begins { All (λ p. IsPrefix p.seen result.steps) passes.items }

@@ -8,10 +8,10 @@ use Rattle.rambo_post.proofs.Closings.{left_order}
 use Rattle.rambo_post.proofs.post.Post.close.Goals as goal
 
 pub drop-spare-requires-room-T-Destruct : goal.drop-spare-requires-room-T-Destruct
-drop-spare-requires-room-T-Destruct g c κs within = back_fits _ _ _ (up_fits _ _ _ (back_fits _ _ _ (up_fits _ _ _ (variant_fits _ _ _ _ (back_fits _ _ _ (up_fits _ _ _ c.requires-raw.1.1.1))))))
+drop-spare-requires-room-T-Destruct g c κs within = back_fits _ _ _ (up_fits _ _ _ (back_fits _ _ _ (up_fits _ _ _ (variant_fits _ _ _ _ (back_fits _ _ _ (up_fits _ _ _ c.requires-raw.1.1.1.0))))))
 
 pub drop-keepers-requires-room-T-Destruct : goal.drop-keepers-requires-room-T-Destruct
-drop-keepers-requires-room-T-Destruct g c κs within = back_fits _ _ _ (up_fits _ _ _ (back_fits _ _ _ (up_fits _ _ _ (variant_fits _ _ _ _ (back_fits _ _ _ (up_fits _ _ _ c.requires-raw.1.1.1))))))
+drop-keepers-requires-room-T-Destruct g c κs within = back_fits _ _ _ (up_fits _ _ _ (back_fits _ _ _ (up_fits _ _ _ (variant_fits _ _ _ _ (back_fits _ _ _ (up_fits _ _ _ c.requires-raw.1.1.1.0))))))
 
 pub returns-clause-legal : goal.returns-clause-legal
 returns-clause-legal g c = λ f e. subst (λ f. IsLegal g.Q.Quorums.system f c.close_in.result.steps) (some_inj _ f (sym c.close_in.ensures.founders ∙ e)) c.close_in.ensures.legal

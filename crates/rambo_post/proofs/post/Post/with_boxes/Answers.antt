@@ -42,6 +42,7 @@ new-requires-2 g c = record {
   roll = ap (λ r. r.1) c.loop-place.invariant.made;
   founders = c.requires.founders;
   capacity = c.requires.capacity;
+  keeps_all = c.requires.keeps_all;
   lose = ap (λ (m : MailState). m.lose) c.in_ok-mails.ensures.none ∙ c.requires.lose;
   twice = ap (λ (m : MailState). m.twice) c.in_ok-mails.ensures.none ∙ c.requires.twice;
 }
