@@ -3,4 +3,4 @@
 
 mod writing;
 
-pub use writing::write_trace;
+pub use writing::{write_head, write_more, write_trace};
