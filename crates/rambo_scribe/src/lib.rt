@@ -1,0 +1,17 @@
+//! The steps of an endless post are written to a trace as they are done.
+//!
+//! - `Scribe`: what one thread has drawn, and the writer to which just that was written.
+//! - `Written`: the trace of a post that has ended; `TraceFault`: why it isn't whole.
+//! - `Starts`: what a writer had taken before.
+#![tactic(auto)]
+
+mod fault;
+mod scribe;
+mod starts;
+mod writing;
+mod written;
+
+pub use fault::TraceFault;
+pub use scribe::Scribe;
+pub use starts::Starts;
+pub use written::Written;

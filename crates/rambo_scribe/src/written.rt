@@ -1,0 +1,71 @@
+//! The trace of a post that has ended.
+ghost use Rattle.std.specs.Prelude.{◌≡◌, Some};
+ghost use Rattle.rambo_names.specs.Weights.{Weights, weighted_majorities};
+ghost use Rattle.rambo_run.specs.Legal.{IsLegal};
+ghost use Rattle.rambo_scribe.specs.Traced.{HasWritten, IsScribe};
+
+use crate::fault::TraceFault;
+use crate::starts::Starts;
+use rambo_atomic::Sink;
+use rambo_names::Weighted;
+use rambo_post::{Front, Terms};
+use rambo_run::Step;
+use std::marker::Model;
+
+/// The trace of a post that has ended, by its name: the token of this name that has seen all steps, and the writer to which
+/// their trace was written, or after a fault a prefix of it.
+///
+/// Contracts see all steps, and the fault.
+#[derive(Drop)]
+pub struct Written<J: Terms<Weighted> + Starts, W: Sink + Drop> {
+    seen: Front<J, Step<Weighted>>,
+    writer: W,
+    fault: Option<TraceFault>,
+}
+
+impl<J: Terms<Weighted> + Starts, W: Sink + Drop> Model for Written<J, W> {
+    ghost use Rattle.std.specs.Coded.{codes};
+    ghost use Rattle.rambo_names.specs.Names.{names_code};
+    ghost use Rattle.rambo_scribe.specs.Traced.{ScribeView, IsWritten};
+
+    ghost Value = { ScribeView };
+
+    ghost coded = { Prim.hlevel (codes, names_code) };
+
+    ghost view = { λ w. record { drawn = w.seen; fault = w.fault } };
+
+    ghost invariant = { λ w. IsWritten J.founders J.before (W.taken w.writer) (record { drawn = w.seen; fault = w.fault }) };
+}
+
+impl<J: Terms<Weighted> + Starts, W: Sink + Drop> Written<J, W> {
+    // All that was seen, and what was written of it.
+    pub(crate) fn new(
+        seen: Front<J, Step<Weighted>>,
+        writer: W,
+        fault: Option<TraceFault>,
+    ) -> Written<J, W>
+        requires legal { (f : Weights) → J.founders ≡ Some f → IsLegal weighted_majorities f seen }
+        requires written { IsScribe J.founders J.before (W.taken writer) (record { drawn = seen; fault = fault }) }
+        ensures { result ≡ record { drawn = seen; fault = fault } }
+    {
+        Written {
+            seen,
+            writer,
+            fault,
+        }
+    }
+
+    /// The writer, and why it hasn't the whole trace, if that is so.
+    pub fn into_parts(self) -> (W, Option<TraceFault>)
+        ensures fault { result.1 ≡ self.fault }
+        ensures legal { (f : Weights) → J.founders ≡ Some f → IsLegal weighted_majorities f self.drawn }
+        ensures written { (f : Weights) → J.founders ≡ Some f → HasWritten J.before (W.taken result.0) f self.drawn result.1 }
+    {
+        let Written {
+            seen: _seen,
+            writer,
+            fault,
+        } = self;
+        (writer, fault)
+    }
+}
