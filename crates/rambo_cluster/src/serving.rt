@@ -1,5 +1,5 @@
 //! Serving clients over sockets.
-ghost use Rattle.std.specs.Prelude.{◌≡◌, ◌≤◌, [], Some, length, slice_get, vec_len, IfOk, IfErr, IfSome, All};
+ghost use Rattle.std.specs.Prelude.{◌≡◌, ◌≤◌, [], Some, false, length, slice_get, vec_len, IfOk, IfErr, IfSome, All};
 ghost use mathlib.Core.List.{IsPrefix};
 ghost use Rattle.rambo_names.specs.Names.{names};
 ghost use Rattle.rambo_names.specs.Weights.{members_of, weighted_majorities};
@@ -96,6 +96,7 @@ where
     requires name { opened ≡ J.table }
     requires founders { J.founders ≡ Some founders }
     requires capacity { steps ≡ J.capacity }
+    requires endless { J.endless ≡ false }
     requires lose { options.now.lose ≡ J.lose }
     requires twice { options.now.twice ≡ J.twice }
     ensures legal { IfOk result (λ l. IsLegal weighted_majorities founders l.steps) }
@@ -141,6 +142,7 @@ where
     requires name { opened ≡ J.table }
     requires founders { J.founders ≡ Some founders }
     requires capacity { steps ≡ J.capacity }
+    requires endless { J.endless ≡ false }
     requires lose { options.now.lose ≡ J.lose }
     requires twice { options.now.twice ≡ J.twice }
 {
@@ -185,6 +187,7 @@ fn set_up<J: Terms<Weighted>, R: Wait + Clock>(
     requires name { opened ≡ J.table }
     requires founders { J.founders ≡ Some founders }
     requires capacity { steps ≡ J.capacity }
+    requires endless { J.endless ≡ false }
     requires lose { options.now.lose ≡ J.lose }
     requires twice { options.now.twice ≡ J.twice }
     ensures first { IfOk result (λ s. slice_get (names (members_of founders)) 0 ≡ Some s.0.first) }
@@ -212,6 +215,7 @@ fn post_of<J: Terms<Weighted>>(
     requires name { opened ≡ J.table }
     requires founders { J.founders ≡ Some founders }
     requires capacity { steps ≡ J.capacity }
+    requires endless { J.endless ≡ false }
     requires lose { options.now.lose ≡ J.lose }
     requires twice { options.now.twice ≡ J.twice }
     ensures fault { IfErr result (λ f. f ≡ ServeFault.Memory) }
@@ -249,6 +253,7 @@ fn passes_of<J: Terms<Weighted>, R: Wait>(
 
 // The post, closed once no thread works any more: what the pass of each client has seen begins its steps.
 fn end<J: Terms<Weighted>>(hub: Hub<J>, passes: Vec<Pass<J, Weighted>>) -> Closed<J, Weighted>
+    requires { J.endless ≡ false }
     ensures begins { All (λ p. IsPrefix p.seen result.steps) passes.items }
 {
     let Hub { post, .. } = hub;

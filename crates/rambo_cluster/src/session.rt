@@ -7,7 +7,7 @@ use crate::room::bit;
 use rambo_commands::{Request, ServerRequest, map_reply, telling};
 use rambo_config_map::ConfigMap;
 use rambo_connection::Next;
-use rambo_history::Op;
+use rambo_history::{CallId, Op};
 use rambo_names::{Name, Refusal, Weighted};
 use rambo_post::{Gate, Pass, Terms, Waiter};
 use rambo_resp::Reply;
@@ -252,7 +252,10 @@ impl<'h, J: Terms<Weighted>, G: Gate, R: Waits + Clock> Session<'h, J, G, R> {
         };
         match self.hub.post.ask(self.rt, self.pass, name, op, who) {
             Ok(asked) if asked.is_awaited => guest.wait = Wait::Answer(asked.id),
-            Ok(_) => self.refuse(guest, Refusal::OutOfMemory),
+            Ok(asked) => {
+                self.withdraw(&asked.id);
+                self.refuse(guest, Refusal::OutOfMemory);
+            }
             Err(Refusal::Busy) => return false,
             Err(refusal) => self.refuse(guest, refusal),
         }
@@ -267,21 +270,30 @@ impl<'h, J: Terms<Weighted>, G: Gate, R: Waits + Clock> Session<'h, J, G, R> {
 
     /// Takes the answer that a connection waits for, if there is one. Else its command is refused, where that is told.
     pub(crate) fn settle(&mut self, guest: &mut Guest, or: Option<Refusal>) {
-        let Wait::Answer(id) = &guest.wait else {
+        let Some(id) = awaited(&guest.wait) else {
             return;
         };
-        match self.hub.post.take_answer(self.rt, self.pass, *id) {
+        match self.hub.post.take_answer(self.rt, self.pass, id) {
             Ok(Some(answer)) => {
                 guest.wait = Wait::Nothing;
                 guest.connection.answer(&telling(answer));
             }
             Ok(None) => {
                 if let Some(refusal) = or {
+                    self.withdraw(&id);
                     self.refuse(guest, refusal);
                 }
             }
-            Err(refusal) => self.refuse(guest, refusal),
+            Err(refusal) => {
+                self.withdraw(&id);
+                self.refuse(guest, refusal);
+            }
         }
+    }
+
+    // Nobody takes the answer of a call any more.
+    fn withdraw(&mut self, id: &CallId) {
+        let _did_wait = self.hub.post.withdraw(self.rt, self.pass, id);
     }
 
     /// The same, and nobody waits any more for the call of the connection.
@@ -305,10 +317,11 @@ impl<'h, J: Terms<Weighted>, G: Gate, R: Waits + Clock> Session<'h, J, G, R> {
     /// The connection at a place has gone: its command that waits for its node is never called for, and nobody waits any more for
     /// one that was.
     pub(crate) fn give_up(&mut self, at: usize, guest: &mut Guest) {
-        match &guest.wait {
-            Wait::Nothing => {}
-            Wait::Room(name, _) => self.drop_all_of(*name, at),
-            Wait::Answer(id) => self.leave(id.name, guest.number),
+        if let Some(id) = awaited(&guest.wait) {
+            self.withdraw(&id);
+            self.leave(id.name, guest.number);
+        } else if let Wait::Room(name, _) = &guest.wait {
+            self.drop_all_of(*name, at);
         }
         guest.wait = Wait::Nothing;
     }
@@ -316,6 +329,14 @@ impl<'h, J: Terms<Weighted>, G: Gate, R: Waits + Clock> Session<'h, J, G, R> {
     // The connection of this number waits no more at a node.
     fn leave(&self, name: Name, number: u32) {
         self.hub.post.give_up(self.rt, name, self.place, number);
+    }
+}
+
+// The call whose answer is waited for, if one is.
+fn awaited(wait: &Wait) -> Option<CallId> {
+    match wait {
+        Wait::Answer(id) => Some(*id),
+        _ => None,
     }
 }
 
