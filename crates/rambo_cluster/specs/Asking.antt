@@ -6,8 +6,8 @@ use Rattle.rambo_run.specs.declared.step.Step.TheVariants as step
 use Rattle.rambo_commands.specs.declared.server_request.ServerRequest.{ServerRequest}
 use Rattle.rambo_commands.specs.declared.server_request.ServerRequest.TheVariants.{Common, Use, Join, Recon, Collect, Stop, Config, Shutdown}
 
--- the node whose step a request asks for, and the step: the client's own node has a configuration chosen, or its lowest
--- place removed; the request names a node that joins or stops
+-- the node whose step a request asks for, and the step. The client's own node has a configuration chosen, or its lowest
+-- place removed. A node that joins or stops is named by the request
 abbrev pub asked_of : ℕ → ServerRequest → Option (ℕ × Step Weights)
 asked_of used (Join name known) = Some (name, step.Join name known)
 asked_of used (Recon wish) = Some (used, step.Recon used wish)

@@ -4,7 +4,7 @@ use mio::{Registry, Token, Waker};
 use std::io;
 use std::sync::atomic::{AtomicBool, Ordering};
 
-/// Wakes a thread that waits for sockets. That it rang says no more than that it is time to look.
+/// Wakes a thread that waits for sockets. A ring says only that there may be something to do.
 #[derive(Drop)]
 pub(crate) struct Alarm {
     rung: AtomicBool,
@@ -13,7 +13,7 @@ pub(crate) struct Alarm {
 }
 
 impl Alarm {
-    /// An alarm that ends the waits for what is registered there.
+    /// An alarm for the thread that waits by the poll of this registry.
     pub(crate) fn new(registry: &Registry, token: Token) -> io::Result<Alarm> {
         Ok(Alarm {
             rung: AtomicBool::new(false),
@@ -22,30 +22,30 @@ impl Alarm {
         })
     }
 
-    /// Rings it. Its thread wakes if it sleeps; else it doesn't fall asleep before it has looked.
+    /// Rings it. Its thread wakes if it sleeps, and else looks once more before it sleeps.
     pub(crate) fn ring(&self) {
         if !self.rung.swap(true, Ordering::SeqCst) && self.sleeps.load(Ordering::SeqCst) {
             let _ = self.waker.wake();
         }
     }
 
-    /// Whether it rang since that was last forgotten.
+    /// Whether it rang since `forget` was last called.
     pub(crate) fn has_rung(&self) -> bool {
         self.rung.load(Ordering::SeqCst)
     }
 
-    /// That it rang is forgotten: its thread is about to look. Whether it rang.
+    /// Forgets that it rang, as its thread is about to look. Returns whether it rang.
     pub(crate) fn forget(&self) -> bool {
         self.rung.swap(false, Ordering::SeqCst)
     }
 
-    /// Its thread is about to sleep. Whether it may: it hasn't rung.
+    /// Notes that its thread is about to sleep. Returns whether it may: it hasn't rung.
     pub(crate) fn lie_down(&self) -> bool {
         self.sleeps.store(true, Ordering::SeqCst);
         !self.has_rung()
     }
 
-    /// Its thread sleeps no more.
+    /// Notes that its thread is awake.
     pub(crate) fn get_up(&self) {
         self.sleeps.store(false, Ordering::SeqCst);
     }

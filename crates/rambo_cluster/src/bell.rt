@@ -1,9 +1,9 @@
-//! A bell, by which threads wake another one.
+//! What wakes a thread that waits for nothing else.
 
 use std::sync::{Condvar, CondvarTimeouts, Mutex, Wait};
 use std::time::{Clock, Duration};
 
-/// A bell that one thread waits for. That it rang says no more than that it is time to look.
+/// A bell that one thread waits for. A ring says only that there may be something to do.
 #[derive(Drop)]
 pub(crate) struct Bell {
     rung: Mutex<bool>,
@@ -18,7 +18,7 @@ impl Bell {
         }
     }
 
-    /// Rings it. Who waits for it wakes; else the next wait is over at once.
+    /// Rings it. The thread that waits for it wakes, or else its next wait is over at once.
     pub(crate) fn ring<R: Wait>(&self, rt: &R) {
         *self.rung.lock(rt) = true;
         self.moved.notify_one();
@@ -30,7 +30,7 @@ impl Bell {
         *rung = false;
     }
 
-    /// Sleeps until it rings, but at most for so many milliseconds.
+    /// Sleeps until it rings, but at most for this many milliseconds.
     pub(crate) fn wait_for<R: Wait + Clock>(&self, rt: &R, millis: u64) {
         let (mut rung, _) = self.moved.wait_timeout_while(
             rt,

@@ -9,10 +9,11 @@ use thiserror::Error;
 /// Why a server doesn't serve.
 #[derive(Clone, Copy, PartialEq, Eq, Debug, Error)]
 pub enum ServeFault {
-    /// The listening socket gives no address, or the system gives no random numbers.
+    /// The listening socket has no address, or the system gives no clock, no random numbers or nothing to wait for
+    /// sockets by.
     #[error("fault socket")]
     Socket,
-    /// There is no room for the nodes, or no thread for a worker.
+    /// There is no room for the nodes, no thread for a worker, no founder, or a pass too few for the workers.
     #[error("fault memory")]
     Memory,
 }

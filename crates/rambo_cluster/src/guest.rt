@@ -7,10 +7,10 @@ use rambo_names::Name;
 use std::alloc::Global;
 use std::io::{ErrorKind, Read, Write};
 
-// How often a read or a write that was interrupted is tried again.
+// How often a read or a write is tried that is interrupted each time.
 const TRIES: u64 = 1000;
 
-/// What the command of a connection waits for that is under way.
+/// What the command waits for that is under way on a connection.
 #[derive(Drop)]
 pub(crate) enum Wait {
     /// Nothing: none is under way.
@@ -29,19 +29,19 @@ pub(crate) struct Guest {
     pub(crate) wait: Wait,
     /// Its number among the connections of its worker.
     pub(crate) number: u32,
-    /// The number of its command that is under way, among those of its worker.
+    /// The number of its last operation, among those of its worker.
     pub(crate) serial: u64,
-    // Whether it is among those of its worker that may go on, and among those that have replies to write.
+    // Whether it is in its worker's list of those that may go on, and in that of those that have replies to write.
     pub(crate) is_ready: bool,
     pub(crate) is_unwritten: bool,
-    // For which command it is noted that the other side sends no more.
+    // The number of the operation for which its worker noted that the peer sends no more.
     pub(crate) left: u64,
-    /// How often it had no room for a reply.
+    /// How often in a row there was no room for a reply.
     pub(crate) lacks: u64,
     // Whether there may be something to read, and whether its end came too.
     reads: bool,
     has_end: bool,
-    // Whether the other side sends no more.
+    // Whether the peer sends no more.
     is_half: bool,
     // Whether its socket failed.
     is_broken: bool,
@@ -56,7 +56,7 @@ pub(crate) enum Came {
     Some,
     /// Nothing yet.
     Nothing,
-    /// The other side sends no more.
+    /// The peer sends no more.
     End,
 }
 
@@ -87,17 +87,17 @@ impl Guest {
         self.has_end |= has_end;
     }
 
-    /// No further command is taken on.
+    /// Takes on no further command.
     pub(crate) fn end(&mut self) {
         self.ends = true;
     }
 
-    /// It can't go on.
+    /// Breaks it off, as it can't go on.
     pub(crate) fn break_off(&mut self) {
         self.is_broken = true;
     }
 
-    /// Whether the other side sends no more; it may wait for replies.
+    /// Whether the peer sends no more. It may still wait for replies.
     pub(crate) fn is_half(&self) -> bool {
         self.is_half
     }
@@ -128,7 +128,7 @@ impl Guest {
                 Ok(0) => return Came::End,
                 Ok(count) => {
                     if count < piece.len() {
-                        // (it took all that there was)
+                        // (there is no more for now, but perhaps the end)
                         self.reads = self.has_end;
                     }
                     if count <= piece.len() {

@@ -32,13 +32,13 @@ pub(crate) struct Hub<J: Terms<Weighted>> {
     pub(crate) rooms: Rooms,
     /// Each client worker has one.
     pub(crate) stations: Vec<Station>,
-    /// The names whose nodes have something to do, as bits.
+    /// The names whose nodes have something to do, by bits.
     pub(crate) pending: AtomicU64,
-    /// The names at whose nodes somebody is, by bits.
+    /// The names whose nodes a thread is visiting, by bits.
     pub(crate) visited: AtomicU64,
     /// The names whose nodes have stopped, by bits.
     stopped: AtomicU64,
-    /// Its thread visits nodes again where it is time, until when it sleeps, and what wakes it.
+    /// What wakes the timer's thread, which visits nodes that are due; and until when that thread sleeps.
     pub(crate) timer: Bell,
     pub(crate) sleeps_until: AtomicU64,
     /// How many connections are served.
@@ -49,7 +49,7 @@ pub(crate) struct Hub<J: Terms<Weighted>> {
 }
 
 impl<J: Terms<Weighted>> Hub<J> {
-    /// Nothing is to do.
+    /// What threads share of this post, whose nodes have nothing to do yet.
     pub(crate) fn new(
         alloc: Global,
         post: Post<J, Weighted, Copies>,
@@ -91,7 +91,8 @@ impl<J: Terms<Weighted>> Hub<J> {
         }
     }
 
-    /// The node that a connection uses at first: the lowest founder that wasn't asked to stop, or else the lowest one.
+    /// The node that a connection uses at first: the lowest founder that wasn't stopped, or the lowest of all if each
+    /// was.
     pub(crate) fn first_node(&self) -> Name {
         let stopped = self.stopped.load(Ordering::SeqCst);
         for name in self.founders.iter() {
@@ -102,7 +103,7 @@ impl<J: Terms<Weighted>> Hub<J> {
         self.first
     }
 
-    /// Counts one connection more, unless there are so many. Whether it did.
+    /// Counts one connection more, unless there are `most`. Returns whether it did.
     pub(crate) fn let_in(&self, most: u64) -> bool {
         if self.connections.load(Ordering::SeqCst) >= most {
             return false;
@@ -116,18 +117,18 @@ impl<J: Terms<Weighted>> Hub<J> {
         self.connections.fetch_sub(1, Ordering::SeqCst);
     }
 
-    /// Whether the server ends.
+    /// Whether the server is to end.
     pub(crate) fn is_closing(&self) -> bool {
         self.is_closing.load(Ordering::SeqCst)
     }
 
-    /// Whether the book is full.
+    /// Whether a visit found the book full.
     pub(crate) fn is_full(&self) -> bool {
         self.is_full.load(Ordering::SeqCst)
     }
 
-    /// Has a node take a step that a client asks for. There is then something to do at it. Refused with what the post
-    /// refuses.
+    /// Has a node take a step that a client asks for, and notes that there is something to do at it. Refused as the
+    /// post refuses it.
     pub(crate) fn change<R: Wait>(
         &self,
         rt: &R,
@@ -156,14 +157,15 @@ impl<J: Terms<Weighted>> Hub<J> {
         }
     }
 
-    /// The book is full: wakes all who wait.
+    /// Notes that the book is full, and wakes all client workers.
     pub(crate) fn fill(&self) {
         if !self.is_full.swap(true, Ordering::SeqCst) {
             self.ring_all();
         }
     }
 
-    /// Ends the server: nothing more is carried out, and all that sleep wake.
+    /// Notes that the server is to end, and wakes the client workers and the timer's thread. No further command is
+    /// carried out.
     pub(crate) fn close<R: Wait>(&self, rt: &R) {
         self.is_closing.store(true, Ordering::SeqCst);
         self.ring_all();

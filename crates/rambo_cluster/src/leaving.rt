@@ -1,12 +1,12 @@
-//! Connections whose other side sends no more.
+//! Connections whose peer sends no more.
 
 use std::alloc::{AllocError, Global};
 use std::time::Duration;
 
-// So many milliseconds a command is still waited for after the other side has sent its last byte.
+// How many milliseconds a command is still waited for once the peer sends no more.
 const GRACE: u64 = 200;
 
-/// A connection whose other side sends no more, while a command of it is under way.
+/// A connection whose peer sends no more, while a command of it is under way.
 #[derive(Clone, Copy)]
 pub(crate) struct Left {
     pub(crate) at: usize,
@@ -15,7 +15,8 @@ pub(crate) struct Left {
     pub(crate) due: u64,
 }
 
-/// The connections whose other side sends no more, while a command of each is under way. Those that were noted first are due first.
+/// The connections whose peers send no more, while a command of each is under way. Those that were noted first are due
+/// first.
 #[derive(Drop)]
 pub(crate) struct Leaving {
     list: Vec<Left>,
@@ -28,7 +29,7 @@ impl Leaving {
         }
     }
 
-    /// Makes room for so many.
+    /// Makes room for this many more.
     pub(crate) fn reserve(&mut self, count: usize) -> Result<(), AllocError> {
         self.list.reserve(count)
     }
@@ -48,13 +49,13 @@ impl Leaving {
         self.list.get(place).copied()
     }
 
-    /// The other side of a connection sends no more, while its command of this number is under way.
+    /// Notes that the peer of a connection sends no more, while its command of this number is under way.
     pub(crate) fn note(&mut self, at: usize, serial: u64, now: u64) {
         let due = now.saturating_add(GRACE);
         let _ = self.list.push(Left { at, serial, due }).is_ok();
     }
 
-    /// That at a place is one of these no more.
+    /// Removes the one at a place.
     pub(crate) fn remove(&mut self, place: usize) {
         if place < self.list.len() {
             let _left = self.list.remove(place);

@@ -5,10 +5,10 @@ use rambo_names::{Members, Name, Refusal};
 use std::alloc::Global;
 use std::sync::atomic::{AtomicU64, Ordering};
 
-// So many names there are.
+// How many names there are.
 const NAMES: u64 = 64;
 
-/// No time.
+/// A time that never comes.
 pub(crate) const NEVER: u64 = u64::MAX;
 
 /// What threads share of a node, beside its keeper and its outbox.

@@ -28,21 +28,19 @@ use std::thread;
 use std::thread::Threads;
 use std::time::{Clock, Duration, Instant};
 
-// So many milliseconds pass before a socket that failed is tried again, and so often one of our own is tried.
+// How many milliseconds pass before a socket that failed is tried again, and how often one of our own is tried.
 const PAUSE: u64 = 10;
 
 const TRIES: u64 = 1000;
 
-// What a connection is told that is one too many.
+// What is told to one connection too many.
 const TOO_MANY: &[u8] = b"-ERR max number of clients reached\r\n";
 
 /// Serves clients over the sockets of a listener until one asks for the end, and returns all steps. None of them was
-/// refused in its turn, and there are at most as many as the options allow. The founders have members, there is room
-/// for 1 to 32 clients, and for 1 to 1,000,000 steps. It also returns one order of the calls of all keys, which
-/// explains their answers together, or None where there is no room for it.
+/// refused in its turn, and there are at most as many as the options allow. It also returns one order of the calls of
+/// all keys, which explains their answers together, or None where there is no room for it.
 ///
-/// A socket that fails ends its own connection alone. `Socket` where the listener has no address or the system gives no
-/// random numbers, `Memory` where there is no room for the nodes or a thread; then nobody was served.
+/// A socket that fails ends its own connection alone. `ServeFault` says for what faults nobody is served.
 pub fn serve<G: Gate, R>(
     rt: &R,
     alloc: Global,
@@ -120,8 +118,8 @@ fn left_by<J: Terms<Weighted>>(closed: Closed<J, Weighted>, founders: Weighted) 
     closed.into_left()
 }
 
-// The same: the post of this name once it is closed. There is no other of this name, since that takes the one roll that was
-// opened for it, and nothing but its close gives this.
+// The same. Returns the post of this name once it is closed. There is no other post of this name, since one takes the
+// one roll that was opened for the name, and only the close of a post gives this.
 fn serve_as<J: Terms<Weighted> + Send + Sync, G: Gate, R>(
     rt: &R,
     alloc: Global,
@@ -172,8 +170,8 @@ where
     }
 }
 
-// What all threads share, whose clients begin at the lowest founder; and a pass for each client worker, which has seen nothing.
-// `Memory` where there is no founder, too many workers, or no room; `Socket` where the system has no clock.
+// What all threads share, whose clients begin at the lowest founder, and a pass for each client worker, which has seen
+// nothing. `Memory` where there is no founder, too many workers, or no room; `Socket` where the system has no clock.
 fn set_up<J: Terms<Weighted>, R: Wait + Clock>(
     rt: &R,
     alloc: Global,
@@ -233,7 +231,7 @@ fn post_of<J: Terms<Weighted>>(
     Ok(post)
 }
 
-// So many passes, which have seen nothing.
+// This many passes, which have seen nothing.
 fn passes_of<J: Terms<Weighted>, R: Wait>(
     rt: &R,
     alloc: Global,
@@ -271,8 +269,8 @@ fn lowest(founders: Weighted) -> Result<Name, Refusal>
     }
 }
 
-// Runs all threads until the end. Whether each of them could be started; else nobody was served, and those that were have
-// ended.
+// Runs all threads until the end. Returns whether each of them could be started. If not, nobody was served, and those
+// that were started have ended.
 fn run<J: Terms<Weighted> + Send + Sync, G: Gate, R>(
     rt: &R,
     gate: &G,
@@ -309,7 +307,7 @@ where
     })
 }
 
-// Hands the sockets that come to the client workers by turns, until the server ends.
+// Accepts sockets and hands them to the client workers by turns, until the server is to end.
 fn accept_all<J: Terms<Weighted>, R: Wait + Clock>(
     rt: &R,
     hub: &Hub<J>,
@@ -346,7 +344,7 @@ fn turn_away(stream: &TcpStream) {
     let _ = write_all(&mut Wrapped::new(stream), TOO_MANY);
 }
 
-// Hands a socket to the client worker at a place. Whether it works still.
+// Hands a socket to the client worker at a place. Returns whether that is still at work.
 fn hand_over<J: Terms<Weighted>, R: Wait>(
     rt: &R,
     hub: &Hub<J>,
@@ -366,7 +364,7 @@ fn hand_over<J: Terms<Weighted>, R: Wait>(
     true
 }
 
-// Ends the wait for the next socket, by a socket of our own.
+// Ends the wait for the next socket, by a connection of our own.
 fn wake_acceptor<R>(rt: &R, own: SocketAddr)
 where
     R: Net<Listener = TcpListener, Stream = TcpStream> + Clock,

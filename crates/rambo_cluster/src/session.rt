@@ -16,10 +16,10 @@ use std::collections::VecDeque;
 use std::sync::Wait as Waits;
 use std::time::Clock;
 
-// So many commands of a connection are taken on before others have their turn.
+// At most this many commands of a connection are taken on before others have their turn.
 const TURN: u64 = 256;
 
-// So often a connection tries to have room for a reply.
+// How often in a row a connection may lack room for a reply before it is broken off.
 const LACKS: u64 = 1000;
 
 /// How a server goes on after a command.
@@ -51,9 +51,9 @@ pub(crate) struct Session<'h, J: Terms<Weighted>, G: Gate, R> {
     pub(crate) hub: &'h Hub<J>,
     pub(crate) pass: &'h mut Pass<J, Weighted>,
     pub(crate) place: u32,
-    // Of the names 1, 2, .. the commands that wait for its node, the oldest first.
+    // For each of the names 1, 2, .. the commands that wait for its node, the oldest first.
     queues: &'h mut Vec<VecDeque<Ticket>>,
-    // So many commands were under way.
+    // How many commands have waited for a node.
     serial: u64,
     /// The names for whose nodes commands wait, by bits.
     pub(crate) asks: u64,
@@ -113,8 +113,8 @@ impl<'h, J: Terms<Weighted>, G: Gate, R: Waits + Clock> Session<'h, J, G, R> {
         Flow::GoesOn
     }
 
-    // There is no room for a reply: what is to be written goes first. Where nothing is, it is tried again some times, and then the
-    // connection can't go on.
+    // There is no room for a reply. Replies that are there are written first. Where there are none it is tried again
+    // some times, and then the connection is broken off.
     fn lack_room(&self, guest: &mut Guest) -> Flow {
         if !guest.connection.out().is_empty() {
             return Flow::Waits;
@@ -136,7 +136,7 @@ impl<'h, J: Terms<Weighted>, G: Gate, R: Waits + Clock> Session<'h, J, G, R> {
         }
     }
 
-    // Does what any client may ask for: the connection itself replies but to operations.
+    // Does what any client may ask for. That is an operation, since the connection itself replies to all else.
     fn begin_common(&mut self, at: usize, guest: &mut Guest, request: &Request) {
         if let Request::Does(op) = request {
             match op.clone() {
@@ -196,7 +196,7 @@ impl<'h, J: Terms<Weighted>, G: Gate, R: Waits + Clock> Session<'h, J, G, R> {
             .copied()
     }
 
-    /// That command waits no more.
+    /// Takes that command out of its queue.
     pub(crate) fn drop_first(&mut self, name: Name) {
         if let Some(queue) = self.queues.get_mut(name.number() as usize - 1) {
             let _ = queue.pop_front();
@@ -204,7 +204,7 @@ impl<'h, J: Terms<Weighted>, G: Gate, R: Waits + Clock> Session<'h, J, G, R> {
         self.note_queue(name);
     }
 
-    // The commands of a connection at a place wait no more for a node.
+    // Takes the commands of the connection at a place out of the queue of a node.
     fn drop_all_of(&mut self, name: Name, at: usize) {
         if let Some(queue) = self.queues.get_mut(name.number() as usize - 1) {
             queue.retain(|ticket| ticket.at != at);
@@ -212,7 +212,7 @@ impl<'h, J: Terms<Weighted>, G: Gate, R: Waits + Clock> Session<'h, J, G, R> {
         self.note_queue(name);
     }
 
-    // Where no command waits for a node any more, no room is wanted there.
+    // Notes that no room is wanted at a node for which no command waits any more.
     fn note_queue(&mut self, name: Name) {
         if self.first(name).is_some() {
             return;
@@ -224,7 +224,7 @@ impl<'h, J: Terms<Weighted>, G: Gate, R: Waits + Clock> Session<'h, J, G, R> {
         }
     }
 
-    /// A node has no room for a call: its commands wait for that.
+    /// Notes that a node has no room for a call. The commands that wait for it are tried again once it has.
     pub(crate) fn block(&mut self, name: Name) {
         self.blocked |= bit(name);
         self.hub.await_room(name, self.place);
@@ -235,7 +235,8 @@ impl<'h, J: Terms<Weighted>, G: Gate, R: Waits + Clock> Session<'h, J, G, R> {
         self.asks & !self.blocked
     }
 
-    /// Calls for what a connection waits to call for. Whether it waits no more for room: else its node has none.
+    /// Makes the call that a connection waits to make. Returns false where its node has no room, so that it still
+    /// waits.
     pub(crate) fn call(&mut self, guest: &mut Guest) -> bool {
         let Wait::Room(name, op) = &guest.wait else {
             return true;
@@ -262,13 +263,14 @@ impl<'h, J: Terms<Weighted>, G: Gate, R: Waits + Clock> Session<'h, J, G, R> {
         true
     }
 
-    // The command under way is refused.
+    // Refuses the command that is under way.
     fn refuse(&self, guest: &mut Guest, refusal: Refusal) {
         guest.wait = Wait::Nothing;
         guest.connection.refuse(refusal);
     }
 
-    /// Takes the answer that a connection waits for, if there is one. Else its command is refused, where that is told.
+    /// Takes the answer that a connection waits for, if there is one. Else its command is refused, if a refusal is
+    /// given.
     pub(crate) fn settle(&mut self, guest: &mut Guest, or: Option<Refusal>) {
         let Some(id) = awaited(&guest.wait) else {
             return;
@@ -296,7 +298,7 @@ impl<'h, J: Terms<Weighted>, G: Gate, R: Waits + Clock> Session<'h, J, G, R> {
         let _did_wait = self.hub.post.withdraw(self.rt, self.pass, id);
     }
 
-    /// The same, and nobody waits any more for the call of the connection.
+    /// The same with a refusal. Nobody waits for the call of the connection any more.
     pub(crate) fn refuse_waiting(&mut self, guest: &mut Guest, refusal: Refusal) {
         if let Wait::Answer(id) = &guest.wait {
             let name = id.name;
@@ -305,7 +307,7 @@ impl<'h, J: Terms<Weighted>, G: Gate, R: Waits + Clock> Session<'h, J, G, R> {
         }
     }
 
-    /// The command of the connection at a place is refused that waits for its node, if one does.
+    /// Refuses the command of the connection at a place, if it waits for its node.
     pub(crate) fn refuse_queued(&mut self, at: usize, guest: &mut Guest, refusal: Refusal) {
         if let Wait::Room(name, _) = &guest.wait {
             let name = *name;
@@ -314,8 +316,8 @@ impl<'h, J: Terms<Weighted>, G: Gate, R: Waits + Clock> Session<'h, J, G, R> {
         }
     }
 
-    /// The connection at a place has gone: its command that waits for its node is never called for, and nobody waits any more for
-    /// one that was.
+    /// The connection at a place has gone. A call that it waits to make is never made, and nobody waits any more for
+    /// one that was made.
     pub(crate) fn give_up(&mut self, at: usize, guest: &mut Guest) {
         if let Some(id) = awaited(&guest.wait) {
             self.withdraw(&id);
@@ -326,7 +328,7 @@ impl<'h, J: Terms<Weighted>, G: Gate, R: Waits + Clock> Session<'h, J, G, R> {
         guest.wait = Wait::Nothing;
     }
 
-    // The connection of this number waits no more at a node.
+    // The connection of this number no longer waits at a node.
     fn leave(&self, name: Name, number: u32) {
         self.hub.post.give_up(self.rt, name, self.place, number);
     }

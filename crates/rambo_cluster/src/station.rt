@@ -13,16 +13,16 @@ use std::net::{Net, TcpStream};
 use std::sync::atomic::{AtomicBool, Ordering};
 use std::sync::{Mutex, Wait};
 
-/// Under this token the alarm of a client worker is among what it waits for.
+/// The token of a client worker's alarm, among those of its sockets.
 pub(crate) const ALARM: usize = usize::MAX;
 
 // How many bytes are read at once.
 const PIECE: usize = 16 * 1024;
 
-// So many events are told at once.
+// How many events are reported at once.
 const EVENTS: usize = 1024;
 
-// So many sockets wait for a client worker.
+// How many sockets may wait for a client worker.
 const WAITING: usize = 64;
 
 /// What other threads know of a client worker: how to wake it, and what they leave for it.
@@ -30,7 +30,7 @@ const WAITING: usize = 64;
 pub(crate) struct Station {
     pub(crate) alarm: Alarm,
     given: Mutex<Vec<Waiter>>,
-    // Whether there was no room to tell who is given an answer, so that it has to look at all who wait.
+    // Whether there was no room to note such a waiter, so that the worker has to look at all who wait.
     missed: AtomicBool,
 }
 
@@ -44,7 +44,7 @@ impl Station {
         })
     }
 
-    /// Leaves word that one of those who wait is given an answer, and wakes the worker.
+    /// Notes that there is an answer for this waiter, and wakes the worker.
     pub(crate) fn leave_word<R: Wait>(&self, rt: &R, who: Waiter) {
         if self.given.lock(rt).push(who).is_err() {
             self.missed.store(true, Ordering::SeqCst);
@@ -52,12 +52,12 @@ impl Station {
         self.alarm.ring();
     }
 
-    /// Takes one of those who are given an answer.
+    /// Takes out one of the waiters for whom there is an answer.
     pub(crate) fn take<R: Wait>(&self, rt: &R) -> Option<Waiter> {
         self.given.lock(rt).pop()
     }
 
-    /// Whether there was no room to leave word since this was last asked.
+    /// Whether there was no room to note a waiter since this was last asked.
     pub(crate) fn take_missed(&self) -> bool {
         self.missed.swap(false, Ordering::SeqCst)
     }
@@ -69,9 +69,9 @@ pub(crate) struct Seat {
     pub(crate) poll: Poll,
     pub(crate) events: Events,
     pub(crate) piece: Vec<u8>,
-    /// Its worker takes this, and so none is handed to it once it works no more.
+    /// Its worker takes this, so that no socket is handed to it once it has ended.
     pub(crate) streams: Option<Receiver<TcpStream>>,
-    /// Of the names 1, 2, .. the commands that wait for its node, the oldest first.
+    /// For each of the names 1, 2, .. the commands that wait for its node, the oldest first.
     pub(crate) queues: Vec<VecDeque<Ticket>>,
 }
 
@@ -97,7 +97,7 @@ impl Seat {
     }
 }
 
-/// So many seats, and where sockets go to them.
+/// This many seats, and for each where its sockets are sent to.
 pub(crate) fn seats_of<R: Net>(
     rt: &R,
     alloc: Global,

@@ -1,4 +1,4 @@
-//! Nodes are visited again where it is time.
+//! The timer, which visits nodes that are due.
 
 use crate::hub::Hub;
 use crate::room::NEVER;
@@ -11,8 +11,8 @@ use std::sync::atomic::Ordering;
 use std::time::Clock;
 
 impl<J: Terms<Weighted>> Hub<J> {
-    /// The work of the thread that keeps the time: it visits the nodes that are due, and sleeps until the next one is. Until the
-    /// server ends.
+    /// The work of the timer's thread, until the server is to end. It visits the nodes that are due, and sleeps until
+    /// the next one is.
     pub(crate) fn keep_time<R: Wait + Clock, G: Gate>(&self, rt: &R, gate: &G, alloc: Global) {
         let mut hands = Hands::new(alloc, NOBODY);
         for _ in rt.forever() {
@@ -25,7 +25,7 @@ impl<J: Terms<Weighted>> Hub<J> {
         }
     }
 
-    // There is something to do at each node that is due.
+    // Notes that there is something to do at each node that is due.
     fn point_at_due(&self, now: u64) {
         for number in 1..65u64 {
             if let Ok(name) = Name::new(number) {
@@ -41,7 +41,8 @@ impl<J: Terms<Weighted>> Hub<J> {
         }
     }
 
-    // Sleeps until the next node is due, or it is rung. Who sets an earlier time meanwhile rings, or is seen here.
+    // Sleeps until the next node is due, or the bell rings. A thread that sets an earlier time meanwhile either rings
+    // or is seen here.
     fn sleep<R: Wait + Clock>(&self, rt: &R) {
         let due = self.next_due();
         self.sleeps_until.store(due, Ordering::SeqCst);

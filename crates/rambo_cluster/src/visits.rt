@@ -10,19 +10,19 @@ use std::sync::Wait;
 use std::sync::atomic::Ordering;
 use std::time::Clock;
 
-/// What a thread carries from the nodes to those who wait.
+/// What a thread carries from the nodes that it visits to those who wait.
 #[derive(Drop)]
 pub(crate) struct Hands {
     given: Vec<Waiter>,
-    // Whose hands they are: the place of a client worker, or none of these.
+    // Whose hands they are: the place of a client worker, or `NOBODY`.
     place: u32,
-    /// Who of its own connections is given an answer.
+    /// The waiters of its own connections for whom there is an answer.
     pub(crate) own: Vec<Waiter>,
-    // Whether there was no room to tell one of these.
+    // Whether there was no room for one of these.
     missed: bool,
 }
 
-/// The hands of no client worker.
+/// In the place of a client worker: it is another thread.
 pub(crate) const NOBODY: u32 = u32::MAX;
 
 impl Hands {
@@ -35,20 +35,20 @@ impl Hands {
         }
     }
 
-    /// Whether there was no room to tell somebody since this was last asked.
+    /// Whether there was no room for one of its own since this was last asked.
     pub(crate) fn take_missed(&mut self) -> bool {
         mem::replace(&mut self.missed, false)
     }
 }
 
 impl<J: Terms<Weighted>> Hub<J> {
-    /// There is something to do at a node.
+    /// Notes that there is something to do at a node.
     pub(crate) fn point_at(&self, name: Name) {
         self.pending.fetch_or(bit(name), Ordering::SeqCst);
     }
 
-    /// The names at whose nodes nobody is, by bits, of those where there is something to do and of these beside. None where the
-    /// server ends or the book is full.
+    /// The names whose nodes may be visited now, by bits: those where there is something to do and those of `beside`,
+    /// if no thread is there. None where the server is to end or the book is full.
     pub(crate) fn free(&self, beside: u64) -> u64 {
         if self.is_closing() || self.is_full() {
             return 0;
@@ -56,7 +56,7 @@ impl<J: Terms<Weighted>> Hub<J> {
         (self.pending.load(Ordering::SeqCst) | beside) & !self.visited.load(Ordering::SeqCst)
     }
 
-    /// Enters a node, unless somebody is there. Whether it did.
+    /// Enters a node, unless a thread is there. Returns whether it did.
     pub(crate) fn enter(&self, name: Name) -> bool {
         self.visited.fetch_or(bit(name), Ordering::SeqCst) & bit(name) == 0
     }
@@ -81,25 +81,25 @@ impl<J: Terms<Weighted>> Hub<J> {
         }
     }
 
-    /// A client worker is woken once a node is left.
+    /// Has a client worker woken once a node is left.
     pub(crate) fn await_leave(&self, name: Name, place: u32) {
         let callers = &self.rooms.of(name).callers;
         callers.fetch_or(1u64.wrapping_shl(place), Ordering::SeqCst);
     }
 
-    /// A client worker is woken once a node has room for a call.
+    /// Has a client worker woken once a node has room for a call.
     pub(crate) fn await_room(&self, name: Name, place: u32) {
         let seekers = &self.rooms.of(name).seekers;
         seekers.fetch_or(1u64.wrapping_shl(place), Ordering::SeqCst);
     }
 
-    /// A client worker wants no room any more.
+    /// A client worker no longer wants room at a node.
     pub(crate) fn leave_room(&self, name: Name, place: u32) {
         let seekers = &self.rooms.of(name).seekers;
         seekers.fetch_and(!1u64.wrapping_shl(place), Ordering::SeqCst);
     }
 
-    /// Visits each node where there is something to do and nobody is, until there is none.
+    /// Visits each node where there is something to do and no thread is, until there is none.
     pub(crate) fn work<R: Wait + Clock, G: Gate>(&self, rt: &R, gate: &G, hands: &mut Hands) {
         for _ in rt.forever() {
             let Some(name) = lowest(self.free(0)) else {
@@ -112,9 +112,9 @@ impl<J: Terms<Weighted>> Hub<J> {
         }
     }
 
-    /// Does what there is to do at a node that was entered, and tells who waited for it.
+    /// Does what there is to do at a node that was entered, and tells those who are given an answer.
     ///
-    /// `OutOfMemory` where memory is out: what is left is done a moment later.
+    /// `OutOfMemory` where memory is out. What was left is done a moment later.
     pub(crate) fn visit<R: Wait + Clock, G: Gate>(
         &self,
         rt: &R,
@@ -145,7 +145,7 @@ impl<J: Terms<Weighted>> Hub<J> {
         }
     }
 
-    // The node is to be visited again at this time, if at any.
+    // Has a node visited again at this time, if at any.
     fn set_wake<R: Wait>(&self, rt: &R, name: Name, wake: Option<u64>) {
         let wake = wake.unwrap_or(NEVER);
         self.rooms.of(name).wake.store(wake, Ordering::SeqCst);
@@ -154,7 +154,7 @@ impl<J: Terms<Weighted>> Hub<J> {
         }
     }
 
-    // Who waited is told that there is an answer.
+    // Tells those who waited that there is an answer.
     fn tell<R: Wait>(&self, rt: &R, hands: &mut Hands) {
         for _ in rt.forever() {
             let Some(who) = hands.given.pop() else {

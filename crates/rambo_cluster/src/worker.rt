@@ -18,10 +18,11 @@ use std::sync::Wait as Waits;
 use std::time::{Clock, Duration, Instant};
 use std::{mem, net};
 
-// So many rounds are made at most before it is looked for events, where there is something else to do.
+// At most this many rounds are made without a look for events, while there is something else to do.
 const ROUNDS: u64 = 16;
 
-// So often a worker looks for events before it sleeps, where its last sleep was short: of fewer microseconds than these.
+// How often a worker looks for events before it sleeps, if its last sleep was short; and of fewer than how many
+// microseconds that is.
 const LOOKS: u64 = 100;
 
 const SHORT: u64 = 60;
@@ -42,18 +43,18 @@ pub(crate) struct Worker<'h, J: Terms<Weighted>, G: Gate, R> {
     going: Vec<usize>,
     // The connections that have replies to write.
     unwritten: Vec<usize>,
-    // The connections whose other side sends no more, while a command is under way.
+    // The connections whose peers send no more, while a command is under way.
     leaving: Leaving,
     hands: Hands,
-    // How many rounds were made since it was looked for events.
+    // How many rounds were made since it last looked for events.
     rounds: u64,
-    // So often it is worth while to look for events before it sleeps.
+    // How often it looks for events before it sleeps.
     looks: u64,
     // Whether those who wait were told that the book is full.
     has_told_full: bool,
 }
 
-/// What a client worker does, until the server ends. Whether it was asked to end the server.
+/// What a client worker does, until the server is to end. Returns whether a client of its own asked for that.
 pub(crate) fn serve_connections<J: Terms<Weighted>, G: Gate, R: Waits + Clock>(
     rt: &R,
     gate: &G,
@@ -98,7 +99,7 @@ pub(crate) fn serve_connections<J: Terms<Weighted>, G: Gate, R: Waits + Clock>(
 
 // Rounds.
 impl<'h, J: Terms<Weighted>, G: Gate, R: Waits + Clock> Worker<'h, J, G, R> {
-    // Serves until the server ends, or is asked to.
+    // Serves until the server is to end, or a client of its own asks for that.
     fn run(&mut self) -> Flow {
         let rt = self.session.rt;
         for _ in rt.forever() {
@@ -144,7 +145,7 @@ impl<'h, J: Terms<Weighted>, G: Gate, R: Waits + Clock> Worker<'h, J, G, R> {
         self.note_events();
     }
 
-    // Where its alarm rang, sockets may have come, and nodes may have room.
+    // If its alarm rang, takes the sockets that came, and looks again for room at nodes that had none.
     fn hear_alarm(&mut self) {
         if self.station.alarm.forget() {
             self.session.blocked = 0;
@@ -157,7 +158,7 @@ impl<'h, J: Terms<Weighted>, G: Gate, R: Waits + Clock> Worker<'h, J, G, R> {
         let _ = self.poll.poll(self.events, Some(Duration::ZERO));
     }
 
-    // Looks for events as often as is worth it. Whether there is something to do.
+    // Looks for events some times, if its last sleep was short. Returns whether there is something to do.
     fn look_often(&mut self) -> bool {
         for _ in 0..self.looks {
             self.look();
@@ -168,8 +169,8 @@ impl<'h, J: Terms<Weighted>, G: Gate, R: Waits + Clock> Worker<'h, J, G, R> {
         false
     }
 
-    // Sleeps until there is an event, or a connection is to be given up. Where that was short, it is worth while to look for some
-    // time before the next sleep.
+    // Sleeps until there is an event, or a connection is to be given up. After a short sleep it looks for events some
+    // times before the next one.
     fn sleep(&mut self) {
         let rt = self.session.rt;
         let may_sleep = self.station.alarm.lie_down();
@@ -228,7 +229,7 @@ impl<'h, J: Terms<Weighted>, G: Gate, R: Waits + Clock> Worker<'h, J, G, R> {
         }
     }
 
-    // Serves a socket from now on, if there is room for it. Whether it does.
+    // Serves a socket from now on, if there is room for it. Returns whether it does.
     fn add(&mut self, stream: net::TcpStream) -> bool {
         // (it is tried twice, since memory that is out may be there a moment later)
         if self.make_room().is_err() && self.make_room().is_err() {
@@ -286,7 +287,7 @@ impl<'h, J: Terms<Weighted>, G: Gate, R: Waits + Clock> Worker<'h, J, G, R> {
         Flow::Waits
     }
 
-    // Goes on with a connection. Its replies are written at once where no command of it is under way.
+    // Goes on with the connection at a place. Its replies are written at once where no command of it is under way.
     fn go_on(&mut self, at: usize) -> Flow {
         let Some(guest) = self.guests.get_mut(at) else {
             return Flow::Waits;
@@ -320,8 +321,7 @@ impl<'h, J: Terms<Weighted>, G: Gate, R: Waits + Clock> Worker<'h, J, G, R> {
         }
     }
 
-    // Connections whose other side sends no more are given up where it is time, or where their command can't be called for at
-    // once.
+    // Gives up connections whose peers send no more, where it is time, or where their call can't be made at once.
     fn give_up_left(&mut self) {
         if self.leaving.is_empty() {
             return;
@@ -341,7 +341,8 @@ impl<'h, J: Terms<Weighted>, G: Gate, R: Waits + Clock> Worker<'h, J, G, R> {
         }
     }
 
-    // Whether the connection at a place isn't waited for any more, where its time is over or isn't.
+    // Breaks off the connection at a place if its time is over, or its call isn't made yet. Returns whether it needn't
+    // be noted any more.
     fn is_given_up(&mut self, at: usize, serial: u64, is_due: bool) -> bool {
         let Some(guest) = self.guests.get_mut(at) else {
             return true;
@@ -366,7 +367,8 @@ impl<'h, J: Terms<Weighted>, G: Gate, R: Waits + Clock> Worker<'h, J, G, R> {
         }
     }
 
-    // Writes the replies of the connection at a place. Where it took on no command since there were many, it may go on.
+    // Writes the replies of the connection at a place. If it took on no command since too many replies waited, it may
+    // go on then.
     fn write_replies_of(&mut self, at: usize) {
         if let Some(guest) = self.guests.get_mut(at) {
             guest.is_unwritten = false;
@@ -381,7 +383,7 @@ impl<'h, J: Terms<Weighted>, G: Gate, R: Waits + Clock> Worker<'h, J, G, R> {
 
 // Nodes.
 impl<'h, J: Terms<Weighted>, G: Gate, R: Waits + Clock> Worker<'h, J, G, R> {
-    // Visits the nodes where there is something to do or to call for, and where nobody is.
+    // Visits the nodes where there is something to do or a call to make, and where no thread is.
     fn visit_nodes(&mut self) {
         let rt = self.session.rt;
         for _ in rt.forever() {
@@ -395,7 +397,7 @@ impl<'h, J: Terms<Weighted>, G: Gate, R: Waits + Clock> Worker<'h, J, G, R> {
         self.await_others();
     }
 
-    // Calls for what waits for a node that was entered, and visits it.
+    // Makes the calls that wait for a node that was entered, and visits it.
     fn visit(&mut self, name: Name) {
         let hub = self.session.hub;
         self.call_all(name);
@@ -406,7 +408,7 @@ impl<'h, J: Terms<Weighted>, G: Gate, R: Waits + Clock> Worker<'h, J, G, R> {
         }
     }
 
-    // Where commands wait for nodes at which others are, it is woken once these are left.
+    // Has itself woken once the nodes are left for which commands wait.
     fn await_others(&mut self) {
         let mut rest = self.session.wanted();
         for _ in 0..64u64 {
@@ -418,7 +420,7 @@ impl<'h, J: Terms<Weighted>, G: Gate, R: Waits + Clock> Worker<'h, J, G, R> {
         }
     }
 
-    // Calls for all that waits for a node, while that has room.
+    // Makes the calls that wait for a node, while that has room.
     fn call_all(&mut self, name: Name) {
         let rt = self.session.rt;
         for _ in rt.forever() {
@@ -453,7 +455,7 @@ impl<'h, J: Terms<Weighted>, G: Gate, R: Waits + Clock> Worker<'h, J, G, R> {
         }
     }
 
-    // One of its own who is given an answer.
+    // A waiter of its own for whom there is an answer.
     fn next_given(&mut self) -> Option<Waiter> {
         match self.hands.own.pop() {
             Some(who) => Some(who),
@@ -461,7 +463,7 @@ impl<'h, J: Terms<Weighted>, G: Gate, R: Waits + Clock> Worker<'h, J, G, R> {
         }
     }
 
-    // The connection that waited takes its answer, if it waits still.
+    // Takes the answer for the connection that waited, if it still waits.
     fn settle(&mut self, who: Waiter) {
         let at = who.connection as usize;
         if let Some(guest) = self.guests.get_mut(at) {
@@ -472,7 +474,7 @@ impl<'h, J: Terms<Weighted>, G: Gate, R: Waits + Clock> Worker<'h, J, G, R> {
         }
     }
 
-    // All that wait for an answer take it, where there is one.
+    // Takes the answers that are there for all that wait.
     fn settle_all(&mut self) {
         for at in 0..self.guests.capacity() {
             if let Some(guest) = self.guests.get_mut(at) {
@@ -482,7 +484,7 @@ impl<'h, J: Terms<Weighted>, G: Gate, R: Waits + Clock> Worker<'h, J, G, R> {
         }
     }
 
-    // Memory is out at a node: who waits for an answer there is refused.
+    // Refuses all that wait for an answer at a node where memory is out.
     fn refuse_at(&mut self, name: Name, refusal: Refusal) {
         for at in 0..self.guests.capacity() {
             if let Some(guest) = self.guests.get_mut(at) {
@@ -494,7 +496,7 @@ impl<'h, J: Terms<Weighted>, G: Gate, R: Waits + Clock> Worker<'h, J, G, R> {
         }
     }
 
-    // Where the book is full, all that wait are refused. What comes later is refused at once.
+    // Refuses all that wait, once the book is full. What comes later is refused at once.
     fn tell_full(&mut self) {
         if self.has_told_full || !self.session.hub.is_full() {
             return;
@@ -510,14 +512,14 @@ impl<'h, J: Terms<Weighted>, G: Gate, R: Waits + Clock> Worker<'h, J, G, R> {
     }
 }
 
-// The connection at a place may go on.
+// Notes that the connection at a place may go on.
 fn make_ready(ready: &mut Vec<usize>, guest: &mut Guest, at: usize) {
     if !guest.is_ready {
         guest.is_ready = ready.push(at).is_ok();
     }
 }
 
-// The connection at a place has replies to write.
+// Notes the connection at a place, if it has replies to write.
 fn make_unwritten(unwritten: &mut Vec<usize>, guest: &mut Guest, at: usize) {
     if !guest.is_unwritten && !guest.connection.out().is_empty() {
         guest.is_unwritten = unwritten.push(at).is_ok();

@@ -8,13 +8,14 @@ use Rattle.rambo_outbox.specs.declared.opened.BidStage.{BidStage}
 use Rattle.rambo_outbox.specs.declared.opened.Opened.{Opened}
 use Rattle.rambo_outbox.specs.Waiting.{forgotten}
 
--- the calls that somebody waits for
--- what was asked for: the phase numbers up to one, a bid, and to join
--- who asked and is owed a letter, who was asked first and said nothing yet, and who of these was silent
--- how often it was time to ask again, by which it is told whose turn it is; reminders since something went on; when the next
--- one is due
--- how many bids of the attempt were asked for, and when the last is to be made anew
--- the call that is kept open
+-- waiting: the calls that somebody waits for
+-- asked, bid, joins: what was asked for, which is the phase numbers up to one, a bid, and to join
+-- owes: who asked and is owed a letter
+-- first, silent: who was asked first and hasn't replied yet, and who was silent then until it was asked again
+-- turn, stood, due: how many reminders there were, which says whose turn it is, how many since something went on, and
+-- when the next one is due
+-- bids, rebid_at: how many bids of the attempt were asked for, and when the attempt is to be retried
+-- idle: the call that is kept open
 pub record OutboxState : Type 0 where
   pub waiting : List Entry
   pub asked : ℕ

@@ -48,8 +48,8 @@ rebid_after b o now = if begins b o now then later now (patience b.stood b.bids 
 abbrev pub bids_after : {Q : Type 0} → OutboxState → OpenedState Q → ℕ → ℕ
 bids_after b o now = if is_some o.bid then (if begins b o now then more b.bids else b.bids) else 0
 
--- what is asked for counts as asked, all that is wished for with it; who was asked first and said nothing until it is asked
--- again counts as silent, and then it is the next one's turn
+-- all that is wished for then counts as asked. At a reminder, who was asked first and hasn't replied counts as silent,
+-- and it is the next one's turn
 abbrev pub noted : OutboxState → Asks → NameSet → ℕ → OutboxState
 noted b Nothing asked last = b
 noted b More asked last = record b { asked = max b.asked last; first = asked }

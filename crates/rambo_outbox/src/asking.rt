@@ -8,7 +8,7 @@ ghost use Rattle.rambo_outbox.specs.Asking.{with_next, enough, turned, those, wi
 use rambo_config_map::ConfigMap;
 use rambo_names::{Members, Name, Quorums};
 
-/// What a node chooses by whom to ask: itself, whom it may write to, who was silent lately, and whose turn it is.
+/// By what a node chooses whom to ask: its own name, whom it may write to, who was silent lately, and whose turn it is.
 #[derive(Clone, Copy)]
 pub struct Choice {
     pub me: Name,
@@ -17,7 +17,7 @@ pub struct Choice {
     pub turn: u64,
 }
 
-// These names with one more, unless there is a quorum already.
+// These names and one more, unless they hold a quorum already.
 fn with_next<Q: Quorums>(config: &Q, who: Members, name: Name) -> Members
     ensures { result ≡ with_next Q.system config.now who name }
 {
@@ -28,7 +28,7 @@ fn with_next<Q: Quorums>(config: &Q, who: Members, name: Name) -> Members
     }
 }
 
-// These names with one more, if it is silent or not as it should be, unless there is a quorum already.
+// The same where `is_silent` says rightly whether the name is silent; else these names alone.
 fn with_one<Q: Quorums>(
     config: &Q,
     who: Members,
@@ -45,7 +45,8 @@ fn with_one<Q: Quorums>(
     }
 }
 
-// These names with those members, silent or not, one after the other until there is a quorum: from a place on.
+// These names and, one after the other until they hold a quorum, those of the others from a place on that are silent,
+// or that aren't.
 fn enough_behind<Q: Quorums>(
     config: &Q,
     who: Members,
@@ -109,7 +110,7 @@ fn enough<Q: Quorums>(
 }
 
 impl Choice {
-    // With a quorum of one more configuration.
+    // These names and enough others for a quorum of one more configuration, the silent ones last.
     fn with_quorum<Q: Quorums>(&self, config: &Q, who: Members) -> Members
         ensures { result ≡ with_quorum Q.system self.now who config.now }
     {

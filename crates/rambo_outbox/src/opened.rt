@@ -18,9 +18,9 @@ pub struct BidStage {
 pub struct Opened<'a, Q: Quorums> {
     /// The name of the node.
     pub me: Name,
-    /// Whom it may write to; that itself is among them doesn't count.
+    /// Whom it may write to. Its own name may be among them, and doesn't count.
     pub reach: Members,
-    /// Whether it asks its contacts to join.
+    /// Whether it is joining, and asks its contacts for that.
     pub is_joining: bool,
     /// Its open calls.
     pub calls: &'a [OpenCall<Q>],
@@ -37,7 +37,7 @@ pub struct Opened<'a, Q: Quorums> {
 impl BidStage {
     ghost use Rattle.rambo_outbox.specs.Bids.{same_stage};
 
-    /// Whether it is another's, at the same stage.
+    /// Whether both have the same ballot, at the same stage.
     pub fn is_same(&self, other: &BidStage) -> bool
         ensures { result ≡ same_stage self.now other.now }
     {

@@ -26,18 +26,25 @@ use std::marker::Model;
 /// All times are in milliseconds since one moment, the same for all calls.
 #[derive(Drop)]
 pub struct Outbox {
+    // The calls that somebody waits for.
     waiting: Vec<Entry>,
+    // What was asked for: the phase numbers up to this one, this bid, and whether to join.
     asked: u64,
     bid: Option<BidStage>,
     joins: bool,
+    // Who asked for a letter and is owed one.
     owes: Members,
+    // Who was asked first and hasn't replied yet, and who was silent then until it was asked again.
     first: Members,
     silent: Members,
+    // How many reminders there were, which says whose turn it is; how many since something went on; when the next is due.
     turn: u64,
     stood: u64,
     due: u64,
+    // How many bids of the attempt were asked for, and when the attempt is to be retried.
     bids: u64,
     rebid_at: u64,
+    // The call that is kept open.
     idle: Option<u64>,
 }
 
@@ -125,7 +132,7 @@ impl Outbox {
         }
     }
 
-    /// One of those who wait, who waits no more. None where nobody waits.
+    /// Takes out the last of those who wait, who then waits no more. None where nobody waits.
     pub fn take_waiter(&mut self) -> Option<Waiter>
         ensures taken { MatchOption result (self.old.waiting ≡ []) (λ w. (n : ℕ) × (self.old.waiting ≡ awaited n w self.new.waiting)) }
         ensures nobody { IfNone result (self.new ≡ self.old) }
@@ -172,7 +179,7 @@ impl Outbox {
         owed
     }
 
-    /// A name is owed a letter.
+    /// A name is owed a letter, perhaps again.
     pub fn owe(&mut self, to: Name)
         ensures { self.new ≡ record self.old { owes = set.insert self.old.owes to } }
     {
@@ -255,7 +262,7 @@ impl Outbox {
         }
     }
 
-    // Whether something was asked for, and isn't there yet. Whether a phase is under way is told.
+    // Whether something was asked for, and isn't there yet. `runs` says whether a phase is under way.
     fn has_asked<Q: Quorums>(&self, opened: &Opened<'_, Q>, runs: bool) -> bool
         requires { runs ≡ is_under_way self.now (seen opened.now) }
         ensures { result ≡ has_asked self.now (seen opened.now) }
@@ -274,7 +281,8 @@ impl Outbox {
         }
     }
 
-    // Whether something is to be asked for. Whether a phase is under way is told, and the last phase.
+    // Whether something new is to be asked for. `runs` says whether a phase is under way, and `last` is the greatest
+    // phase number that is wished for.
     fn is_new<Q: Quorums>(&self, opened: &Opened<'_, Q>, runs: bool, last: u64) -> bool
         requires runs { runs ≡ is_under_way self.now (seen opened.now) }
         requires last { last ≡ greatest (wished self.now (seen opened.now)) }
@@ -285,7 +293,7 @@ impl Outbox {
             || (!runs && self.asked < last)
     }
 
-    // What the node asks for, of which this was found.
+    // What the node asks for, where this was found of its wishes.
     fn asks<Q: Quorums>(&self, opened: &Opened<'_, Q>, found: &Found, now: u64) -> Asks
         requires runs { found.now.is_under_way ≡ is_under_way self.now (seen opened.now) }
         requires last { found.now.greatest ≡ greatest (wished self.now (seen opened.now)) }
@@ -330,14 +338,14 @@ impl Outbox {
         }
     }
 
-    // Whether a bid's time begins.
+    // Whether the time begins for which a bid is left alone: it is a new one, or the last such time is over.
     fn begins(&self, bid: &Option<BidStage>, now: u64) -> bool
         ensures { result ≡ (not (is_asked_bid self.now.bid bid.now) || nat_le self.now.rebid_at now) }
     {
         !self.is_asked_bid(bid) || self.rebid_at <= now
     }
 
-    // When the bid is to be made anew.
+    // When the attempt is to be retried.
     fn rebid_after<Q: Quorums>(&self, opened: &Opened<'_, Q>, has_begun: bool, now: u64) -> u64
         requires { has_begun ≡ begins self.now (seen opened.now) now }
         ensures { result ≡ rebid_after self.now (seen opened.now) now }
@@ -364,8 +372,8 @@ impl Outbox {
         }
     }
 
-    // What is asked for counts as asked, and those that said nothing to the last first asking as silent where it is asked
-    // again.
+    // What is asked for counts as asked. At a reminder, those that were asked first and haven't replied count as
+    // silent.
     fn note(&mut self, asks: Asks, asked: Members, greatest: u64)
         ensures { self.new ≡ noted self.old asks asked greatest }
     {
@@ -385,8 +393,8 @@ impl Outbox {
         }
     }
 
-    /// Whether it is time for the node to retry its attempt. It is asked before `next`, and what is then open again
-    /// goes there.
+    /// Whether it is time for the node to retry its attempt. It is called before `next`, which is given what is open
+    /// after the retry.
     pub fn rebids<Q: Quorums>(&self, opened: &Opened<'_, Q>, now: u64) -> bool
         ensures { result ≡ rebids self.now (seen opened.now) now }
     {
@@ -394,7 +402,7 @@ impl Outbox {
     }
 
     /// Whom the node writes to now, and when to look again at the latest. All of these letters are to be written: those
-    /// asked count as asked, and nobody is owed a letter any more.
+    /// asked count as asked, and nobody is owed a letter any more. `owe` is for a letter that couldn't be written.
     pub fn next<Q: Quorums>(&mut self, opened: &Opened<'_, Q>, now: u64) -> Round
         ensures round { result ≡ round_of Q.system self.old (seen opened.now) now }
         ensures after { self.new ≡ after_round Q.system self.old (seen opened.now) now }

@@ -1,17 +1,18 @@
-//! What turns and visits are watched by.
+//! Test hooks inside turns and visits.
 
 use rambo_names::Name;
 
-/// Is told of each turn and of each visit, by its thread.
+/// Is called in each turn and each visit, by the thread that makes it.
 pub trait Gate: Sync {
-    /// The turn or visit of this name has taken its mail, or as much of it as there was room for. It has its keeper's lock, and
-    /// the book's is free; the node hasn't changed.
+    /// The turn or visit of this name has taken its mail, as far as there was room. It holds its keeper's lock, and not
+    /// the book's. The node hasn't changed.
     fn working(&self, name: Name);
 
-    /// The turn of this name has what it needs for its step, its keeper's lock and not the book's; the node hasn't changed.
+    /// The turn of this name has made the first half of its step. It holds its keeper's lock, and not the book's. The
+    /// node hasn't changed.
     fn prepared(&self, name: Name);
 
-    /// The turn or visit of this name has let all locks go.
+    /// The turn or visit of this name has released all locks.
     fn ended(&self, name: Name);
 }
 

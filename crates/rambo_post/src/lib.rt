@@ -1,12 +1,13 @@
-//! Keepers of nodes, the book of all steps, and what clients see of it: the threads of a store, tied to its runs.
+//! Keepers of nodes, the book of all steps, and what clients see of it, each behind its lock: what the threads of a
+//! server share.
 //!
-//! - `Post`: a lock for each keeper and one for the book; what threads call.
-//! - `Gate`: what turns and visits are watched by.
+//! - `Post`: a lock for each keeper and each outbox, and one for the book; what threads call.
+//! - `Gate`: test hooks inside turns and visits.
 //!
-//! What matters is done by functions that borrow what is under the locks (`commit`, `act_in`, `take_in`, ..), so that
-//! their contracts can say what they did. What takes a lock only lends to them. They are in the crates below:
-//! `rambo_book` has keepers and the book, `rambo_pass` what clients see, `rambo_turn` what keepers do by themselves one
-//! step at a time, `rambo_visit` what they do at one go.
+//! A function that takes a lock lends what is behind it to another one (`commit`, `act_in`, `take_in`, ..), whose
+//! contract can say what it did. Those are in the crates below: `rambo_book` has keepers and the book, `rambo_pass`
+//! what clients see. `rambo_turn` has what a node does by itself one step at a time, and `rambo_visit` what it does at
+//! one go.
 #![tactic(auto)]
 
 mod gate;

@@ -140,7 +140,7 @@ impl<J: Terms<Q>, Q: Quorums, S: Replica> Post<J, Q, S> {
         )
     }
 
-    // The same, with these outboxes, which know of nothing. Whether it keeps all calls and answers; else steps are drawn.
+    // The same, with these outboxes, all of them new. Whether it keeps all calls and answers; else steps are drawn.
     fn with_boxes(
         alloc: Global,
         opened: Opened<Step<Q>, Actor>,
@@ -166,7 +166,7 @@ impl<J: Terms<Q>, Q: Quorums, S: Replica> Post<J, Q, S> {
         may_found(founders)?;
         let mails = Mails::new(alloc, lose, twice)?;
         let mut roll = opened.named::<J>();
-        // Nobody has the name 0.
+        // (the first is of the name 0, which nobody has)
         let _ = roll.keeper();
         let mut keepers = Vec::new(alloc);
         keepers.reserve(64)?;
@@ -251,7 +251,7 @@ impl<J: Terms<Q>, Q: Quorums, S: Replica> Post<J, Q, S> {
         }
     }
 
-    /// A connection waits at a node no more. Its call stays open there, but no reminder is sent for it.
+    /// A connection no longer waits at a node. Its call stays open there, but no reminder is sent for it.
     pub fn give_up<R: Wait>(&self, rt: &R, name: Name, client: u32, connection: u32) {
         self.outboxes[place_of(name)]
             .lock(rt)
@@ -331,16 +331,16 @@ impl<J: Terms<Q>, Q: Quorums, S: Replica> Post<J, Q, S> {
         send_in(&mut book, &mut keeper, from, to, asks, half)
     }
 
-    /// The nodes to which a worker of this name writes. While its node is joining or has a call, a collection or an
-    /// attempt open, these are all that it knows; else those whose marked letters it heard since this was last asked.
-    /// Itself is never among them.
+    /// Whom a node writes to that is driven by turns and `send`. While it is joining or has a call, a collection or an
+    /// attempt open, these are all that it knows. Else they are those whose asking letters it heard since this was last
+    /// called. Its own name is never among them.
     pub fn wanted<R: Wait>(&self, rt: &R, name: Name) -> Members
         ensures { set.contains result name ≡ false }
     {
         self.all_wanted(rt, name).without(name)
     }
 
-    // The same, with itself perhaps.
+    // The same, perhaps with its own name.
     fn all_wanted<R: Wait>(&self, rt: &R, name: Name) -> Members {
         let keeper = self.keeper_of(rt, name);
         if keeper.is_open() {
@@ -385,8 +385,9 @@ impl<J: Terms<Q>, Q: Quorums, S: Replica> Post<J, Q, S> {
     /// The answer of a call of this client, who has then seen all steps, and waits for it no longer. None where they have no
     /// answer of it yet, and its node hasn't stopped.
     ///
-    /// `NoSuchCall` where the call isn't one of this client's that wait; `Stopped` where it has no answer and its node has stopped;
-    /// `OutOfMemory` where the answer can't be shared. After 22 and 7 the pass is as before, after 4 its calls are.
+    /// `NoSuchCall` where the call isn't one of this client's that wait; `Stopped` where it has no answer and its node has
+    /// stopped; `OutOfMemory` where the answer can't be shared. After `Stopped` the calls of the pass are as before, and
+    /// after the other two the whole pass is.
     pub fn take_answer<R: Wait>(
         &self,
         rt: &R,
@@ -407,7 +408,7 @@ impl<J: Terms<Q>, Q: Quorums, S: Replica> Post<J, Q, S> {
         self.ungiven(rt, pass, id)
     }
 
-    // The same with the lock of the keeper, who knows whether its node has stopped.
+    // The same with the lock of the keeper, which knows whether its node has stopped.
     fn ungiven<R: Wait>(
         &self,
         rt: &R,
@@ -446,9 +447,11 @@ impl<J: Terms<Q>, Q: Quorums, S: Replica> Post<J, Q, S> {
     /// The node of this name takes its mail, and does what it then picks. The book is free while the node picks, and
     /// makes the first half of that.
     ///
-    /// The gate is called when the mail was taken, all of it or as much as there was room for; when the first half is
-    /// made, if there is something to do; and when both locks are free again. The first and the last come whatever the
-    /// turn returns. Refused is 23 where the book is full and there is something to do, 22 where there is no room; the
+    /// `working` of the gate is called once the mail was taken, as far as there was room. `prepared` is called once the
+    /// first half is made, if there is something to do, and `ended` once both locks are free. The first and the last
+    /// are called whatever the turn returns.
+    ///
+    /// Refused with 23 where the book is full and there is something to do, and with 22 where there is no room. The
     /// letters that it took stay in its tray.
     pub fn turn<R: Wait, G: Gate>(&self, rt: &R, name: Name, gate: &G) -> Result<Turn<Q>, Refusal>
         ensures told { IfOk result (λ t. (f : Q) → J.founders ≡ Some f → HasTurned Q.system f J.capacity name t) }
@@ -484,7 +487,8 @@ impl<J: Terms<Q>, Q: Quorums, S: Replica> Post<J, Q, S> {
         turn
     }
 
-    // The outbox of this name knows what a turn did, of a letter of this sender that asks or doesn't, if of one.
+    // Notes in the outbox of this name what a turn did. `came` is the sender of the letter that it delivered, if it
+    // did, and whether that asks for one in return.
     fn note_turn<R: Wait>(
         &self,
         rt: &R,
@@ -512,9 +516,9 @@ impl<J: Terms<Q>, Q: Quorums, S: Replica> Post<J, Q, S> {
     /// is answered meanwhile is appended to `given`.
     ///
     /// `now` is in milliseconds since a fixed moment. `wants_room` says whether somebody waits for room for a call. The
-    /// gate hears when the mail was taken, as far as there was room for it, and when the keeper's lock is free again.
-    /// In `left`, 23 means that the book is full and something is to be done, 22 that memory ran out; a later visit
-    /// does what was left.
+    /// gate is called once the mail was taken, as far as there was room, and once the keeper's lock is free. In `left`,
+    /// 23 means that the book is full and something is to be done, 22 that memory ran out. A later visit does what was
+    /// left.
     pub fn visit<R: Wait, G: Gate>(
         &self,
         rt: &R,
@@ -572,8 +576,8 @@ impl<J: Terms<Q>, Q: Quorums, S: Replica> Post<J, Q, S> {
         keeper.map()
     }
 
-    /// Two clients meet. Both have then seen what the one had that had seen more; what the other had seen begins that.
-    /// So what either calls later comes after all that both had seen.
+    /// Two clients meet: both have then seen what the one had seen that had seen more. So what either calls later comes
+    /// after all that both had seen.
     pub fn meet<R: Wait>(
         &self,
         rt: &R,
@@ -647,9 +651,9 @@ impl<J: Terms<Q>, Q: Quorums, S: Replica> Post<J, Q, S> {
         end_in(book.into_inner(), passes, drawn)
     }
 
-    /// All steps, once the post is closed: none was refused in its turn, and what each client has seen begins them. Also the
-    /// one order of the calls in them, which is None where there is no room for it; nothing else here allocates. Nothing is
-    /// drawn from such a post.
+    /// Closes the post, from which nothing was drawn. Returns all steps: none was refused in its turn, and what each client
+    /// has seen begins them. It also returns the one order of the calls in them, or None where there is no room for it.
+    /// Nothing else here allocates.
     pub fn close(self, passes: Vec<Pass<J, Q>>) -> Closed<J, Q>
         requires { J.endless ≡ false }
         ensures legal { (f : Q) → J.founders ≡ Some f → IsLegal Q.system f result.steps }

@@ -1,4 +1,4 @@
-//! What is open at a node goes on.
+//! What is open at a node advances.
 ghost use Rattle.std.specs.Prelude.{◌≡◌, ◌<◌, ◌++◌, IfErr};
 ghost use Rattle.std.specs.Vec.{vec_len, vec_capacity};
 ghost use Rattle.rambo_visit.specs.Advances.{given_by, settled};
@@ -16,8 +16,8 @@ use rambo_tag::Replica;
 use std::alloc::Global;
 use std::sync::{Mutex, Wait};
 
-/// Each open call goes on that may, and so do the collection and the attempt. Who waited for a call that is answered now is
-/// given.
+/// Advances the open calls, the collection and the attempt, until none of them may advance. The waiter of each call
+/// that is answered is appended to `given`.
 pub(crate) fn go_on<J: Terms<Q>, Q: Quorums, S: Replica, R: Wait>(
     rt: &R,
     alloc: Global,
@@ -37,7 +37,7 @@ pub(crate) fn go_on<J: Terms<Q>, Q: Quorums, S: Replica, R: Wait>(
     Ok(())
 }
 
-// Each open call goes on that may, the oldest first, but the one that is kept open.
+// Advances each open call as far as it may, the oldest first, except the one that is kept open.
 fn advance_all<J: Terms<Q>, Q: Quorums, S: Replica, R: Wait>(
     rt: &R,
     alloc: Global,
@@ -72,7 +72,8 @@ fn number_at<J: Terms<Q>, Q: Quorums, S: Replica>(
     }
 }
 
-// The call of this number goes on, if it may. Where it is answered, who waited for it is given. Whether it went on.
+// Advances the call of this number, if it may. Its waiter is appended to `given` once it is answered. Returns whether
+// it advanced.
 fn advance<J: Terms<Q>, Q: Quorums, S: Replica, R: Wait>(
     rt: &R,
     alloc: Global,
@@ -94,8 +95,8 @@ fn advance<J: Terms<Q>, Q: Quorums, S: Replica, R: Wait>(
     Ok(true)
 }
 
-// A step of the call of this number had this effect: its outbox knows that something went on, and who waited for an answer is
-// given. There is room for that.
+// Notes in the outbox what a step of the call of this number did. The waiter of an answered call is appended to
+// `given`, which has room for it.
 fn settle<Q: Quorums>(outbox: &mut Outbox, number: u64, effect: &Effect<Q>, given: &mut Vec<Waiter>)
     requires { vec_len given.old < vec_capacity given.old }
     ensures outbox { outbox.new ≡ settled effect.now number outbox.old }
@@ -111,7 +112,7 @@ fn settle<Q: Quorums>(outbox: &mut Outbox, number: u64, effect: &Effect<Q>, give
     }
 }
 
-// The collection and the attempt of the node go on, if they may. Whether one did.
+// Advances the collection and the attempt of the node, if they may. Returns whether one of them advanced.
 fn advance_configurations<J: Terms<Q>, Q: Quorums, S: Replica, R: Wait>(
     rt: &R,
     alloc: Global,
@@ -130,7 +131,7 @@ fn advance_configurations<J: Terms<Q>, Q: Quorums, S: Replica, R: Wait>(
     Ok(collects || bids)
 }
 
-/// The node makes its bid anew, where its outbox says that it is time. What the rules refuse isn't done.
+/// The node retries its attempt, unless its rules refuse that.
 pub(crate) fn bid_again<J: Terms<Q>, Q: Quorums, S: Replica, R: Wait>(
     rt: &R,
     alloc: Global,

@@ -13,7 +13,7 @@ use rambo_tag::Replica;
 use std::alloc::Global;
 use std::sync::{Mutex, Wait};
 
-/// The second half of a step, for which the book is locked: what it did.
+/// Does the second half of a step, with the book locked. Returns what it did.
 ///
 /// `HistoryFull` where the book is full, else `OutOfMemory` where it has no room for the step. The keeper is then as before.
 pub(crate) fn enter<J: Terms<Q>, Q: Quorums, S: Replica, R: Wait>(
@@ -33,7 +33,7 @@ pub(crate) fn enter<J: Terms<Q>, Q: Quorums, S: Replica, R: Wait>(
     commit_ready(&mut book, keeper, half)
 }
 
-/// Takes a step of the node, but no delivery, unless its rules refuse it: what it did.
+/// Takes a step of the node, which is no delivery. Returns what it did, or None where the node's rules refuse it.
 ///
 /// `HistoryFull` where the book is full, else `OutOfMemory` where there is no room for the step.
 pub(crate) fn take<J: Terms<Q>, Q: Quorums, S: Replica, R: Wait>(

@@ -35,8 +35,8 @@ pub(crate) fn hear_all<J: Terms<Q>, Q: Quorums, S: Replica, R: Wait>(
     Ok(())
 }
 
-// The node hears the letter at a place of its tray, unless it refuses it. Its outbox knows then who wrote, and whether the letter
-// asks. Whether it was heard.
+// The node hears the letter at a place of its tray, unless it refuses it. Then the outbox notes the sender, and whether
+// the letter asks for one in return. Returns whether it was heard.
 fn hear_one<J: Terms<Q>, Q: Quorums, S: Replica, R: Wait>(
     rt: &R,
     alloc: Global,

@@ -34,10 +34,10 @@ pub fn opened<'a, J: Terms<Q>, Q: Quorums, S: Replica>(
     }
 }
 
-// So many calls are open at a node at most.
+// At most this many calls are open at a node.
 const CALLS: usize = 64;
 
-/// Whether the node of a keeper has room for a call more.
+/// Whether the node of a keeper has room for one more call.
 pub(crate) fn has_room<J: Terms<Q>, Q: Quorums, S: Replica>(keeper: &Keeper<J, Q, S>) -> bool {
     calls_of(keeper).len() < CALLS
 }
@@ -51,7 +51,7 @@ pub(crate) fn calls_of<'a, J: Terms<Q>, Q: Quorums, S: Replica>(
     keeper.worker().node().calls()
 }
 
-// Whom a node may write to, by its status and the names that it knows; itself may be among them.
+// Whom a node may write to, by its status and the names that it knows. Its own name may be among them.
 fn reach_of(status: Status, known: Members) -> Members
     ensures { result ≡ reach_of status known }
 {
@@ -61,7 +61,7 @@ fn reach_of(status: Status, known: Members) -> Members
     }
 }
 
-// Whether a node asks to join.
+// Whether a node is joining.
 fn is_joining(status: Status) -> bool
     ensures { result ≡ is_joining status }
 {

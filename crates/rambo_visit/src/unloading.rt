@@ -14,11 +14,11 @@ use rambo_tag::Replica;
 use std::alloc::Global;
 use std::sync::{Mutex, Wait};
 
-/// Where the letters of the node carried much, its phase number rises: what changed before, it needn't tell again to those who
-/// heard of that.
+/// Raises the phase number of a node whose letters carried much. Copies that changed before aren't sent again to a name
+/// that has acknowledged the new number.
 ///
-/// A phase number rises by the node's calls. A node that no client asks has one of its own, a get of the empty key, which stays
-/// open: its phase begins anew each time. Nobody is asked for it.
+/// The number rises with each phase of a call. So that a node has a call also while no client asks it, it keeps one of
+/// its own open, a get of the empty key. Its phase restarts each time, and nobody is asked for it.
 pub(crate) fn unload<J: Terms<Q>, Q: Quorums, S: Replica, R: Wait>(
     rt: &R,
     alloc: Global,
@@ -37,7 +37,7 @@ pub(crate) fn unload<J: Terms<Q>, Q: Quorums, S: Replica, R: Wait>(
     }
 }
 
-// The phase of the call that is kept open begins anew.
+// Restarts the phase of the call that is kept open.
 fn begin_again<J: Terms<Q>, Q: Quorums, S: Replica, R: Wait>(
     rt: &R,
     alloc: Global,
@@ -58,7 +58,7 @@ fn begin_again<J: Terms<Q>, Q: Quorums, S: Replica, R: Wait>(
     Ok(())
 }
 
-// A call is made that is kept open, if the node has room for it.
+// Makes the call that is kept open, if the node has room for it.
 fn keep_call<J: Terms<Q>, Q: Quorums, S: Replica, R: Wait>(
     rt: &R,
     alloc: Global,

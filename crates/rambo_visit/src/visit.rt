@@ -14,7 +14,7 @@ use rambo_tag::Replica;
 use std::alloc::Global;
 use std::sync::{Mutex, Wait};
 
-// After so many milliseconds what failed is tried again.
+// How many milliseconds later what was left is tried again.
 const PAUSE: u64 = 20;
 
 /// The result of a visit.
@@ -24,14 +24,14 @@ pub struct Visited {
     pub written: Members,
     /// When the node is to be visited again at the latest, if nothing happens before. None where nothing is open.
     pub wake: Option<u64>,
-    /// Whether the node has room for a call more.
+    /// Whether the node has room for one more call. False where something was left.
     pub has_room: bool,
     /// Why something was left to be done, if it was.
     pub left: Option<Refusal>,
 }
 
 impl Visited {
-    /// Something was left undone at this time (milliseconds), after letters were written to these.
+    /// What a visit came to that left something undone at this time, in milliseconds, after it wrote to these names.
     pub fn left(written: Members, refusal: Refusal, now: u64) -> Visited
         ensures { result.left ≡ Some refusal }
     {
@@ -84,7 +84,7 @@ pub fn visit_in<J: Terms<Q>, Q: Quorums, S: Replica, R: Wait>(
     }
 }
 
-// The same: when to look again, and to whom letters were written, some of them though something was left.
+// The same. Returns when to look again. Whom it wrote to is added to `written`, also where something was left.
 fn take_steps<J: Terms<Q>, Q: Quorums, S: Replica, R: Wait>(
     rt: &R,
     alloc: Global,
@@ -112,7 +112,7 @@ fn take_steps<J: Terms<Q>, Q: Quorums, S: Replica, R: Wait>(
     Ok(round.wake)
 }
 
-// Whoever waits is given.
+// Appends all who wait to `given`, as their node has stopped.
 fn give_all<R: Wait>(
     rt: &R,
     outbox: &mut Outbox,

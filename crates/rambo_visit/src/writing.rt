@@ -11,7 +11,8 @@ use rambo_turn::send_in;
 use std::alloc::Global;
 use std::sync::{Mutex, Wait};
 
-/// Writes to all that a round names, and notes to whom. Who is owed a letter for which there is no room is owed it still.
+/// Writes to all names of a round, and adds those that it wrote to to `written`. A name is still owed a letter for
+/// which there was no room; one that was only asked is reminded.
 pub(crate) fn write_all<J: Terms<Q>, Q: Quorums, S: Replica, R: Wait>(
     rt: &R,
     alloc: Global,
@@ -39,7 +40,8 @@ pub(crate) fn write_all<J: Terms<Q>, Q: Quorums, S: Replica, R: Wait>(
     done
 }
 
-// Writes a letter to a name, which asks for one or doesn't, unless the rules refuse it. Whether it was written.
+// Writes a letter to a name, unless the rules refuse it. It asks for one in return where `asks` says so. Returns
+// whether it was written.
 fn write<J: Terms<Q>, Q: Quorums, S: Replica, R: Wait>(
     rt: &R,
     alloc: Global,
