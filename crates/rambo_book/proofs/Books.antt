@@ -108,7 +108,7 @@ module _ {Q : Type 0} {s : QuorumSystem Q} {agreed : Option Q} {most : ℕ} {end
   after_step steps' letters' roomy kept' drawn' less near undrawn came comes e l keeps takes =
       let old = run s f steps in
       let whole : IsWhole s agreed most steps' f steps' letters' (with_event old.history d.event) (with_mark old.marks d.mark) capacity =
-          book_after (whole_book b) k idle st h steps' steps' letters' (with_event old.history d.event) (with_mark old.marks d.mark) less came comes e e l refl refl in
+      book_after (whole_book b) k idle st h steps' steps' letters' (with_event old.history d.event) (with_mark old.marks d.mark) less came comes e e l refl refl in
       let more = record_after old.history old.marks roomy kept' (run_well_formed s f steps) (record_kept old.history old.marks kept roomy b.recorded keeps) d.event d.mark h.fits takes in
       record {
         founded = b.founded;

@@ -103,10 +103,7 @@ fn note_call<Q: Quorums>(mine: &mut Mine, place: usize, effect: &Effect<Q>)
     ensures { mine.new.entries ≡ mine_with mine.old.entries place effect.now }
 {
     if let Effect::Called(id) = effect {
-        mine.push_reserved(Entry {
-            place,
-            id: *id,
-        });
+        mine.push_reserved(Entry { place, id: *id });
     }
 }
 

@@ -26,8 +26,8 @@ use rambo_names::{Members, Name, Quorums, Refusal};
 use rambo_node::Effect;
 use rambo_outbox::{Outbox, Waiter};
 use rambo_pass::{
-    Closed, Ended, Pass, act_in, act_ready_in, call_in, close_in, end_in, give_up_in, meet_in, named,
-    take_given, take_in,
+    Closed, Ended, Pass, act_in, act_ready_in, call_in, close_in, end_in, give_up_in, meet_in,
+    named, take_given, take_in,
 };
 use rambo_roll::{Drawn, Opened};
 use rambo_run::{Step, may_found};
@@ -181,9 +181,7 @@ impl<J: Terms<Q>, Q: Quorums, S: Replica> Post<J, Q, S> {
         Ok(Post {
             keepers,
             outboxes,
-            book: Mutex::new(Book::new(
-                alloc, founders, capacity, ahead, keeps_all, roll, mails,
-            )),
+            book: Mutex::new(Book::new(alloc, founders, capacity, ahead, keeps_all, roll, mails)),
             spare: None,
         })
     }

@@ -85,12 +85,12 @@ invariant_of-book-2 g c =
     let lose = ap (λ (m : MailState). m.lose) posted ∙ posted_lose m p n ∙ ap (λ (m : MailState). m.lose) room.3 in
     let twice = ap (λ (m : MailState). m.twice) posted ∙ posted_twice m p n ∙ ap (λ (m : MailState). m.twice) room.3 in
     let book = after_step c.book.invariant.0 c.keeper.invariant c.agree.ensures.idle c.args.ready.step done c.add.new.self.all c.leave_out_copies.new.letters.items c.make_room.new.kept c.finish-effect.new.kept c.add.new.self.drawn less near
-        (λ is. grew.drawn ∙ c.book.invariant.0.undrawn is)
-        c.delivered-came.result c.delivered-came.ensures
-        grew.all
-        (c.leave_out_copies.ensures ∙ ap (λ ls. lightened ls c.delivered-came.result) (c.finish-effect.ensures.letters ∙ ap (λ ls. with_letter ls (letter_of half)) room.1))
-        room.2
-        c.finish-effect.ensures.kept in
+    (λ is. grew.drawn ∙ c.book.invariant.0.undrawn is)
+    c.delivered-came.result c.delivered-came.ensures
+    grew.all
+    (c.leave_out_copies.ensures ∙ ap (λ ls. lightened ls c.delivered-came.result) (c.finish-effect.ensures.letters ∙ ap (λ ls. with_letter ls (letter_of half)) room.1))
+    room.2
+    c.finish-effect.ensures.kept in
     (book, lose ∙ c.book.invariant.1, twice ∙ c.book.invariant.2)
 
 pub invariant_of-keeper-2 : goal.invariant_of-keeper-2
