@@ -91,7 +91,7 @@ module _ {Q : Type 0} {s : QuorumSystem Q} {agreed : Option Q} {most : ℕ} {rol
   -- where it isn't refused, what is ready by the letter of the book is ready
   pub ready_here : (o : Option (Letter Q)) (half : Half Q) (v : RoomyNode Q) (held : List (Mail Q)) (looked : List (Step Q)) → v.state ≡ node.state → o ≡ letter_in letters st → meant_by o st ≡ meant_in letters st
       → refusal s (run s f steps) st ≡ None → ((m : Meant Q) → meant_by o st ≡ Some m → IsReadyStep s v (outline_of o) m.change half)
-      → IsReadyIn s (run s f steps) (record { name = name; node = v.state; room = v.room; beside = v.beside; tray = held; seen = looked }) (record { step = st; half = half; asks = false })
+      → IsReadyIn s (run s f steps) (record { name = name; node = v.state; room = v.room; beside = v.beside; tray = held; seen = looked }) (record { step = st; half = half; letter = o; asks = false })
   ready_here o half v held looked same letter named none ready =
       let w = run s f steps in
       let x = v.state in
@@ -99,7 +99,7 @@ module _ {Q : Type 0} {s : QuorumSystem Q} {agreed : Option Q} {most : ℕ} {rol
       let alike : Alike s x (meant_in letters st) (meant w st) = subst (λ x. Alike s x (meant_in letters st) (meant w st)) (sym same) j.same in
       let outline = ap outline_of letter ∙ outlines_alike w letters st b.sent in
       let ok : judged s x (meant_in letters st) ≡ None = ap (λ x. judged s x (meant_in letters st)) same ∙ sym j.verdict ∙ none in
-      ready_alike s w st (record { name = name; node = x; room = v.room; beside = v.beside; tray = held; seen = looked }) (meant_in letters st) (outline_of o) half alike outline served none ok (λ m is. ready m (named ∙ is))
+      ready_alike s w st (record { name = name; node = x; room = v.room; beside = v.beside; tray = held; seen = looked }) (meant_in letters st) o half alike outline served none ok (λ m is. ready m (named ∙ is))
 
 module _ {Q : Type 0} {s : QuorumSystem Q} {agreed : Option Q} {most : ℕ} {rolled : List (Step Q)} {f : Q} {steps : List (Step Q)} {letters : List (Letter Q)} {history : List Event} {marks : List Mark} {capacity : ℕ}
     {holds name : ℕ} {node : FullNode Q} {tray : List (Mail Q)} {seen : List (Step Q)}
@@ -110,16 +110,14 @@ module _ {Q : Type 0} {s : QuorumSystem Q} {agreed : Option Q} {most : ℕ} {rol
     abbrev kept : RoomyNode Q
     kept = record { state = node.state; room = room; beside = record { stamps = node.stamps; bases = node.bases } }
 
-    module _ {asks : Bool} (ready : IsReadyIn s (run s f steps) (record { name = name; node = node.state; room = room; beside = kept.beside; tray = held; seen = looked }) (record { step = st; half = half; asks = asks })) (ls : List (Letter Q)) (same : ls ≡ letters) where
-      -- a step whose first half is made, which the letters of the book tell
-      pub half_here : IsReadyStep s kept (outline_of (letter_in ls st)) ready.change half
-      half_here =
-          subst (λ o. IsReadyStep s kept o ready.change half)
-          (sym (outlines_alike (run s f steps) letters st b.sent) ∙ sym (ap (λ ls. outline_of (letter_in ls st)) same)) ready.ready
+    module _ {asks : Bool} {letter : Option (Letter Q)} (ready : IsReadyIn s (run s f steps) (record { name = name; node = node.state; room = room; beside = kept.beside; tray = held; seen = looked }) (record { step = st; half = half; letter = letter; asks = asks })) (came : Option (Letter Q)) (brought : came ≡ letter) where
+      -- a step whose first half is made, which the letter that it brings along tells
+      pub half_here : IsReadyStep s kept (outline_of came) ready.change half
+      half_here = subst (λ o. IsReadyStep s kept o ready.change half) (sym ready.brings ∙ sym (ap outline_of brought)) ready.ready
 
       -- and then the second
       pub finished_here : (new : RoomyNode Q) (effect : Effect Q) → new.state ≡ (made_by node.state ready.change).node → new.beside ≡ beside_after node.state kept.beside ready.change
-          → effect ≡ effect_in ls (made_by node.state ready.change).deed.effect (made_by node.state ready.change).letter
+          → effect ≡ effect_in letters (made_by node.state ready.change).deed.effect (made_by node.state ready.change).letter
           → Finished s f steps st name letters history marks (full new) (record { effect = effect; event = event_of half; mark = mark_of half; letter = letter_of half })
       finished_here new effect after beside did =
           let w = run s f steps in
@@ -128,7 +126,7 @@ module _ {Q : Type 0} {s : QuorumSystem Q} {agreed : Option Q} {most : ℕ} {rol
           let whole = still_full s agreed most rolled f steps letters history marks capacity holds name node tray seen b k idle in
           let d : Done Q = record { effect = effect; event = event_of half; mark = mark_of half; letter = letter_of half } in
           let told : d ≡ record (done letters made) { letter = d.letter } = λ i. record {
-            effect = (did ∙ ap (λ ls. effect_in ls made.deed.effect made.letter) same) i;
+            effect = did i;
             event = ready.ready.event i;
             mark = ready.ready.mark i;
             letter = d.letter;

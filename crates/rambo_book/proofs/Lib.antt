@@ -16,3 +16,4 @@ pub mod Steps
 pub mod Opening
 pub mod Recording
 pub mod Books
+pub mod Windows

@@ -121,10 +121,10 @@ module _ {Q : Type 0} (s : QuorumSystem Q) (v : RoomyNode Q) where
       }
 
 -- so what is ready as it is seen is ready in a world, where it comes to what the step means there
-pub ready_alike : {Q : Type 0} (s : QuorumSystem Q) (w : WorldState Q) (st : Step Q) (k : KeeperView Q) (p : Option (Meant Q)) (o : Option (Letter Q)) (half : Half Q) → Alike s k.node p (meant w st)
-    → o ≡ outline_of (letter_in w.letters st) → IsServedBy w st k.name → refusal s w st ≡ None → judged s k.node p ≡ None → ((m : Meant Q) → p ≡ Some m → IsReadyStep s (roomy k) o m.change half)
-    → IsReadyIn s w k (record { step = st; half = half; asks = false })
-ready_alike s w st k p o half same outline served accepted none ready =
+pub ready_alike : {Q : Type 0} (s : QuorumSystem Q) (w : WorldState Q) (st : Step Q) (k : KeeperView Q) (p : Option (Meant Q)) (came : Option (Letter Q)) (half : Half Q) → Alike s k.node p (meant w st)
+    → outline_of came ≡ outline_of (letter_in w.letters st) → IsServedBy w st k.name → refusal s w st ≡ None → judged s k.node p ≡ None → ((m : Meant Q) → p ≡ Some m → IsReadyStep s (roomy k) (outline_of came) m.change half)
+    → IsReadyIn s w k (record { step = st; half = half; letter = came; asks = false })
+ready_alike s w st k p came half same outline served accepted none ready =
     let kept = some_meant s k.node p none in
     let found = some_meant s k.node (meant w st) (sym same.judges ∙ none) in
     let own : found.0.name ≡ k.name = served found.0 found.1 in
@@ -133,7 +133,8 @@ ready_alike s w st k p o half same outline served accepted none ready =
       change = found.0.change;
       means = found.1 ∙ (λ i. Some (record { name = own i; change = found.0.change }));
       accepted = accepted;
-      ready = subst (λ o. IsReadyStep s (roomy k) o found.0.change half) outline (ready_as s (roomy k) o kept.0.change found.0.change half ok (same.changes kept.0 found.0 kept.1 found.1) (ready kept.0 kept.1));
+      ready = subst (λ o. IsReadyStep s (roomy k) o found.0.change half) outline (ready_as s (roomy k) (outline_of came) kept.0.change found.0.change half ok (same.changes kept.0 found.0 kept.1 found.1) (ready kept.0 kept.1));
+      brings = outline;
     }
 
 -- a letter of a number that is in a tray
@@ -282,6 +283,7 @@ ready_longer s f steps k r legal idle h =
       means = there;
       accepted = same ∙ h.accepted;
       ready = subst (λ o. IsReadyStep s (roomy k) (outline_of o) h.change r.half) (letters_longer s f k.seen steps p r.step m h.means) h.ready;
+      brings = h.brings ∙ ap outline_of (letters_longer s f k.seen steps p r.step m h.means);
     }
 
 -- a keeper whose node has more room
@@ -300,11 +302,11 @@ module _ {Q : Type 0} {s : QuorumSystem Q} {agreed : Option Q} {most holds name 
 
   pub tray_ready : (o : Option (Letter Q)) → o ≡ came_in tray st → (half : Half Q) (v : RoomyNode Q) → v.state ≡ node.state → judged s node.state (meant_by o st) ≡ None
       → ((m : Meant Q) → meant_by o st ≡ Some m → IsReadyStep s v (outline_of o) m.change half)
-      → IsReadyFor s agreed (record { name = name; node = v.state; room = v.room; beside = v.beside; tray = tray; seen = seen }) (record { step = st; half = half; asks = false })
+      → IsReadyFor s agreed (record { name = name; node = v.state; room = v.room; beside = v.beside; tray = tray; seen = seen }) (record { step = st; half = half; letter = o; asks = false })
   tray_ready o is half v same none ready = λ f e.
       let w = run s f seen in
       let x = v.state in
       let t = tray_alike s w name node.state tray (k.replays f e) (k.mail f e) st (own f e) there in
       let alike : Alike s x (meant_by o st) (meant w st) = subst (λ x. Alike s x (meant_by o st) (meant w st)) (sym same) (subst (λ o. Alike s node.state (meant_by o st) (meant w st)) (sym is) t.1) in
       let ok : judged s x (meant_by o st) ≡ None = ap (λ x. judged s x (meant_by o st)) same ∙ none in
-      ready_alike s w st (record { name = name; node = x; room = v.room; beside = v.beside; tray = tray; seen = seen }) (meant_by o st) (outline_of o) half alike (ap outline_of is ∙ tray_outline w name tray (k.mail f e) st there) t.0 (tray_judged o is f e ∙ none) ok ready
+      ready_alike s w st (record { name = name; node = x; room = v.room; beside = v.beside; tray = tray; seen = seen }) (meant_by o st) o half alike (ap outline_of is ∙ tray_outline w name tray (k.mail f e) st there) t.0 (tray_judged o is f e ∙ none) ok ready

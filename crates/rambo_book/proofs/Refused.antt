@@ -1,5 +1,5 @@
 -- Want of memory is no cause of a step's refusal
-use Rattle.std.proofs.Common.{◌≡◌, ◌≢◌, ℕ, Option, None, Some, refl, sym, ◌∙◌, subst}
+use Rattle.std.proofs.Common.{◌≡◌, ◌≢◌, ℕ, Option, None, Some, Result, Ok, Err, OnOk, refl, sym, ◌∙◌, subst}
 use Rattle.rambo_names.specs.declared.refusal.Refusal.{Refusal}
 use Rattle.rambo_names.specs.declared.refusal.Refusal.TheVariants.{OutOfMemory, NoSuchLetter}
 use Rattle.rambo_names.specs.Quorums.{QuorumSystem}
@@ -28,3 +28,8 @@ pub told_half : (o : Option Refusal) (cause r : Refusal) (count capacity : ℕ) 
     → (cause ≡ OutOfMemory → Told None count capacity r) → Told o count capacity r
 told_half None cause r count capacity is none rule memory = memory is
 told_half (Some f) cause r count capacity is none rule memory = rule (λ short. none-some f (sym (none short))) ∙ is
+
+-- what holds anyway holds where it is done
+pub always : {A B P : Type 0} (r : Result A B) → P → OnOk r P
+always (Ok a) p = p
+always (Err b) p = tt

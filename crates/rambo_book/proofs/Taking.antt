@@ -1,11 +1,11 @@
 -- Letters that wait go to a tray one behind another
 use Rattle.std.proofs.Common.{◌≡◌, ℕ, zero, suc, ◌-◌, ◌<◌, ◌≤◌, true, false, Bool, if◌then◌else◌, List, [], ◌∷◌, ◌++◌, length, map, take, drop, slice_get, slice_set, slice_index_or, option_to_list, Option, None, Some, refl, sym, ap, ◌∙◌, append_assoc, append-nil, set-set, arith}
 use Rattle.std.proofs.lemmas.List.{set-get_or}
-use Rattle.rambo_run.specs.Worlds.{WorldState, letter_at}
+use Rattle.rambo_run.specs.Worlds.{WorldState}
 use Rattle.rambo_run.proofs.Lists.{none-some, some_inj}
 use Rattle.rambo_deeds.specs.declared.mail.Mail.{Mail}
 use Rattle.rambo_mail.specs.Waiting.{waiting_for, with_waiting}
-use Rattle.rambo_book.specs.Mailing.{goes_to, sent_to, IsBehind, AreTaken}
+use Rattle.rambo_book.specs.Mailing.{comes_to, sent_to, IsBehind, AreTaken}
 
 abbrev nothing : List ℕ
 nothing = []
@@ -46,10 +46,10 @@ chosen_append : (b : Bool) (n : ℕ) (xs ys : List ℕ) → (if b then n ∷ (xs
 chosen_append true n xs ys = refl
 chosen_append false n xs ys = refl
 
-sent_append : {Q : Type 0} (w : WorldState Q) (name : ℕ) (xs ys : List ℕ) → sent_to w name (xs ++ ys) ≡ sent_to w name xs ++ sent_to w name ys
-sent_append w name [] ys = refl
-sent_append w name (x ∷ xs) ys =
-    ap (λ l. if goes_to name (letter_at w.letters x) then x ∷ l else l) (sent_append w name xs ys) ∙ chosen_append (goes_to name (letter_at w.letters x)) x (sent_to w name xs) (sent_to w name ys)
+sent_append : {Q : Type 0} (w : WorldState Q) (gone name : ℕ) (xs ys : List ℕ) → sent_to w gone name (xs ++ ys) ≡ sent_to w gone name xs ++ sent_to w gone name ys
+sent_append w gone name [] ys = refl
+sent_append w gone name (x ∷ xs) ys =
+    ap (λ l. if comes_to w gone name x then x ∷ l else l) (sent_append w gone name xs ys) ∙ chosen_append (comes_to w gone name x) x (sent_to w gone name xs) (sent_to w gone name ys)
 
 map_append : {A B : Type 0} (f : A → B) (xs ys : List A) → map f (xs ++ ys) ≡ map f xs ++ map f ys
 map_append f [] ys = refl
@@ -66,32 +66,32 @@ behind_both before mid after ns ms h k = record {
   numbered = map_append (λ (m : Mail _). m.number) h.more k.more ∙ (λ i. h.numbered i ++ k.numbered i);
 }
 
-module _ {Q : Type 0} (w : WorldState Q) (name : ℕ) (lists : List (List ℕ)) (before : List (Mail Q)) where
-  pub none_taken : AreTaken w name 0 lists lists before before
+module _ {Q : Type 0} (w : WorldState Q) (gone name : ℕ) (lists : List (List ℕ)) (before : List (Mail Q)) where
+  pub none_taken : AreTaken w gone name 0 lists lists before before
   none_taken = record { taken = nothing_behind before; others = sym (set-get_or lists (name - 1) []) }
 
-  left_is : (count : ℕ) (left : List (List ℕ)) (mid : List (Mail Q)) → AreTaken w name count lists left before mid → waiting_for left name ≡ drop count (waiting_for lists name)
+  left_is : (count : ℕ) (left : List (List ℕ)) (mid : List (Mail Q)) → AreTaken w gone name count lists left before mid → waiting_for left name ≡ drop count (waiting_for lists name)
   left_is count left mid t = ap (λ l. waiting_for l name) t.others ∙ left_here lists (name - 1) count
 
-  pub next_below : (count n : ℕ) (left : List (List ℕ)) (mid : List (Mail Q)) → AreTaken w name count lists left before mid → Some n ≡ slice_get (waiting_for left name) 0 → count < length (waiting_for lists name)
+  pub next_below : (count n : ℕ) (left : List (List ℕ)) (mid : List (Mail Q)) → AreTaken w gone name count lists left before mid → Some n ≡ slice_get (waiting_for left name) 0 → count < length (waiting_for lists name)
   next_below count n left mid t e = (next (waiting_for lists name) count n (ap (λ l. slice_get l 0) (sym (left_is count left mid t)) ∙ sym e)).below
 
   -- the next one is in the tray too
-  pub one_more : (count n : ℕ) (left : List (List ℕ)) (mid after : List (Mail Q)) → AreTaken w name count lists left before mid → Some n ≡ slice_get (waiting_for left name) 0
-      → IsBehind mid (sent_to w name (n ∷ [])) after → AreTaken w name (suc count) lists (with_waiting left name (drop 1 (waiting_for left name))) before after
+  pub one_more : (count n : ℕ) (left : List (List ℕ)) (mid after : List (Mail Q)) → AreTaken w gone name count lists left before mid → Some n ≡ slice_get (waiting_for left name) 0
+      → IsBehind mid (sent_to w gone name (n ∷ [])) after → AreTaken w gone name (suc count) lists (with_waiting left name (drop 1 (waiting_for left name))) before after
   one_more count n left mid after t e h =
       let ns = waiting_for lists name in
       let r = next ns count n (ap (λ l. slice_get l 0) (sym (left_is count left mid t)) ∙ sym e) in
-      let b = behind_both before mid after (sent_to w name (take count ns)) (sent_to w name (n ∷ [])) t.taken h in
+      let b = behind_both before mid after (sent_to w gone name (take count ns)) (sent_to w gone name (n ∷ [])) t.taken h in
       record {
-        taken = record { more = b.more; tray = b.tray; numbered = b.numbered ∙ sym (sent_append w name (take count ns) (n ∷ [])) ∙ ap (sent_to w name) (sym r.taken) };
+        taken = record { more = b.more; tray = b.tray; numbered = b.numbered ∙ sym (sent_append w gone name (take count ns) (n ∷ [])) ∙ ap (sent_to w gone name) (sym r.taken) };
         others =
             (λ i. slice_set (t.others i) (name - 1) ((ap (drop 1) (left_is count left mid t) ∙ r.rest) i))
             ∙ set-set lists (name - 1) (drop count ns) (drop (suc count) ns);
       }
 
   -- all are
-  pub all_taken : (count : ℕ) (left : List (List ℕ)) (mid : List (Mail Q)) → AreTaken w name count lists left before mid → count ≤ length (waiting_for lists name)
+  pub all_taken : (count : ℕ) (left : List (List ℕ)) (mid : List (Mail Q)) → AreTaken w gone name count lists left before mid → count ≤ length (waiting_for lists name)
       → None ≡ slice_get (waiting_for left name) 0 → count ≡ length (waiting_for lists name)
   all_taken count left mid t most e =
       let past = ended (waiting_for lists name) count (ap (λ l. slice_get l 0) (sym (left_is count left mid t)) ∙ sym e) in

@@ -1,5 +1,6 @@
 -- A letter more in a tray
-use Rattle.std.proofs.Common.{◌≡◌, ℕ, Bool, nat_eq, if◌then◌else◌, List, [], ◌∷◌, ◌++◌, Option, Some, All, sym, ap, ◌∙◌, subst, inl, inr}
+use Rattle.std.proofs.Common.{◌≡◌, ℕ, zero, suc, ◌-◌, ◌≤◌, Bool, true, false, nat_eq, nat_le, if◌then◌else◌, List, [], ◌∷◌, ◌++◌, length, Option, Some, All, refl, sym, ap, ◌∙◌, subst, inl, inr, arith}
+use Rattle.std.proofs.lemmas.Bool.{leb-true, leb-false, le-ltb}
 use Rattle.std.proofs.lemmas.List.Elements.{All-push}
 use Rattle.rambo_names.specs.Quorums.{QuorumSystem}
 use Rattle.rambo_history.specs.declared.event.Event.{Event}
@@ -12,8 +13,10 @@ use Rattle.rambo_run.proofs.Lists.{none-some, some_inj}
 use Rattle.rambo_sequence.specs.declared.mark.Mark.{Mark}
 use Rattle.rambo_deeds.specs.declared.mail.Mail.{Mail}
 use Rattle.rambo_book.specs.Kept.{StandsFor, AreSent, IsMailOf, IsKeeper}
+use Rattle.rambo_book.specs.Windows.{LettersView, completed, is_gone, kept_at}
 use Rattle.rambo_book.proofs.Whole.{IsWhole}
-use Rattle.rambo_book.specs.Mailing.{goes_to, sent_to}
+use Rattle.rambo_book.proofs.Windows.{at_kept}
+use Rattle.rambo_book.specs.Mailing.{goes_to, comes_to, sent_to}
 use Rattle.rambo_book.proofs.Standing.{letters_paired, goes_alike}
 
 pub tray_more : {Q : Type 0} {s : QuorumSystem Q} {agreed : Option Q} {most : ℕ} {rolled : List (Step Q)} {f : Q} {steps : List (Step Q)} {letters : List (Letter Q)} {history : List Event} {marks : List Mark} {capacity : ℕ}
@@ -48,6 +51,19 @@ goes_same w letters name number sent = elim (letters_paired w letters sent numbe
   | inr p ↦ ap (goes_to name) p.2 ∙ ap (λ a. nat_eq a name) (goes_alike p.0 p.1 _ p.4) ∙ sym (ap (goes_to name) p.3)
 ]
 
-pub sent_one : {Q : Type 0} (w : WorldState Q) (letters : List (Letter Q)) (name number : ℕ) (b : Bool) → AreSent w letters → goes_to name (letter_at letters number) ≡ b
-    → sent_to w name (number ∷ []) ≡ (if b then number ∷ [] else [])
-sent_one w letters name number b sent e = ap (λ b. if b then number ∷ [] else []) (sym (goes_same w letters name number sent) ∙ e)
+-- and one that is gone goes to none
+module _ {Q : Type 0} (w : WorldState Q) (v : LettersView Q) (within : v.gone ≤ length w.letters) (sent : AreSent w (completed w v)) where
+  there : (gone number : ℕ) → nat_le number gone ≡ false → is_gone gone number ≡ false
+  there gone zero e = refl
+  there gone (suc i) e = (let past = leb-false (suc i) gone e in le-ltb i gone (omega (arith, past)))
+
+  comes_by : (name number : ℕ) (b : Bool) → nat_le number v.gone ≡ b → goes_to name (kept_at v number) ≡ (if b then false else goes_to name (letter_at w.letters number))
+  comes_by name number true e =
+      let le = leb-true number v.gone e in
+      let none : number - v.gone ≡ 0 = omega (arith, le) in
+      ap (λ n. goes_to name (letter_at v.kept n)) none
+  comes_by name number false e = ap (goes_to name) (at_kept w v within number (there v.gone number e)) ∙ goes_same w (completed w v) name number sent
+
+  pub sent_one : (gone name number : ℕ) (b : Bool) → v.gone ≡ gone → goes_to name (kept_at v number) ≡ b → sent_to w gone name (number ∷ []) ≡ (if b then number ∷ [] else [])
+  sent_one gone name number b same e =
+      ap (λ g. sent_to w g name (number ∷ [])) (sym same) ∙ ap (λ b. if b then number ∷ [] else []) (sym (comes_by name number (nat_le number v.gone) refl) ∙ e)

@@ -21,6 +21,7 @@ use Rattle.rambo_deltas.specs.Deltas.{full_at}
 use Rattle.rambo_deeds.specs.declared.mail.Mail.{Mail}
 use Rattle.rambo_run.specs.Legal.{IsLegal}
 use Rattle.rambo_book.specs.Records.{RecordView, IsRecord}
+use Rattle.rambo_book.specs.Windows.{LettersView, completed, gone_of, window_of}
 
 -- room: what there is in the node; beside: what it keeps for letters that carry only what is new
 pub record KeeperView (Q : Type 0) : Type 0 where
@@ -67,6 +68,10 @@ abbrev pub lightened : {Q : Type 0} → List (Letter Q) → Option ℕ → List 
 lightened letters None = letters
 lightened letters (Some number) = lightened_at letters number (letter_at letters number)
 
+-- a letter represents that of this number
+abbrev pub IsLetterOf : {Q : Type 0} → WorldState Q → ℕ → Letter Q → Type 0
+IsLetterOf {Q} w number l = (whole : Letter Q) × (letter_at w.letters number ≡ Some whole) × StandsFor w l whole
+
 -- a letter to this name, which represents that of its number
 abbrev pub IsMailOf : {Q : Type 0} → WorldState Q → ℕ → Mail Q → Type 0
 IsMailOf {Q} w name m = (whole : Letter Q) × (letter_at w.letters m.number ≡ Some whole) × StandsFor w m.letter whole × (whole.addressee ≡ name)
@@ -93,8 +98,8 @@ AreBasesOf {Q} s f k = (j : ℕ) → IsName j → heard_from k.beside.bases j �
 
 -- a book is of the founders and the capacity that it was opened with. Its steps are legal and at most as many, and of them
 -- at most so many are at hand: all of them where it isn't endless. Its letters, and what it keeps of calls and answers, are
--- those of their run; where it isn't endless it keeps all of these
-pub record IsBook {Q : Type 0} (s : QuorumSystem Q) (agreed : Option Q) (most : ℕ) (endless : Bool) (founders : Q) (steps : List (Step Q)) (letters : List (Letter Q)) (kept : RecordView) (capacity drawn ahead : ℕ) : Type 0 where
+-- those of their run; where it isn't endless it keeps all of these, and else the letters that were sent last
+pub record IsBook {Q : Type 0} (s : QuorumSystem Q) (agreed : Option Q) (most : ℕ) (endless : Bool) (founders : Q) (steps : List (Step Q)) (letters : LettersView Q) (kept : RecordView) (capacity drawn ahead : ℕ) : Type 0 where
   pub founded : agreed ≡ Some founders
   pub terms : capacity ≡ most
   pub fits : length steps ≤ capacity
@@ -102,7 +107,9 @@ pub record IsBook {Q : Type 0} (s : QuorumSystem Q) (agreed : Option Q) (most : 
   pub undrawn : endless ≡ false → drawn ≡ 0
   pub whole : endless ≡ false → is_some kept.all ≡ true
   pub legal : IsLegal s founders steps
-  pub sent : AreSent (run s founders steps) letters
+  pub window : letters.window ≡ window_of endless most
+  pub gone : letters.gone ≡ gone_of endless most (run s founders steps)
+  pub sent : AreSent (run s founders steps) (completed (run s founders steps) letters)
   pub recorded : IsRecord (run s founders steps).history (run s founders steps).marks kept
 
 -- the node that the step means, if it means one, is that of the name

@@ -3,3 +3,4 @@ pub mod Mailing
 pub mod OpenCalls
 pub mod Readying
 pub mod Records
+pub mod Windows

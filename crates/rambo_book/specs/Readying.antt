@@ -33,12 +33,13 @@ abbrev pub roomy : {Q : Type 0} → KeeperView Q → RoomyNode Q
 roomy k = record { state = k.node; room = k.room; beside = k.beside }
 
 -- in this world a step is one of the keeper's node, and isn't refused; and its first half is made, by the letter that
--- it delivers, if it delivers one
+-- it delivers, if it delivers one, which it brings along
 pub record IsReadyIn {Q : Type 0} (s : QuorumSystem Q) (w : WorldState Q) (k : KeeperView Q) (r : Ready Q) : Type 0 where
   pub change : Change Q
   pub means : meant w r.step ≡ Some (record { name = k.name; change = change })
   pub accepted : refusal s w r.step ≡ None
   pub ready : IsReadyStep s (roomy k) (outline_of (letter_in w.letters r.step)) change r.half
+  pub brings : outline_of r.letter ≡ outline_of (letter_in w.letters r.step)
 
 -- that holds in the run of what the keeper has seen
 abbrev pub IsReadyFor : {Q : Type 0} → QuorumSystem Q → Option Q → KeeperView Q → Ready Q → Type 0

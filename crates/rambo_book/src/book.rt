@@ -1,21 +1,23 @@
-//! The list of all steps, with the letters that they gave, and what is kept of the calls and answers.
-ghost use Rattle.std.specs.Prelude.{◌≡◌, ◌+◌, ◌-◌, ◌++◌, ◌<◌, ◌≤◌, [], length, None, Some, is_some, true, false, IfSome};
+//! The list of all steps, with the letters that were sent last, and what is kept of the calls and answers.
+ghost use Rattle.std.specs.Prelude.{◌≡◌, ◌+◌, ◌-◌, ◌++◌, ◌<◌, ◌≤◌, [], length, None, Some, is_some, true, false, not, IfSome};
 ghost use Rattle.std.specs.Option.{option_copied};
 ghost use Rattle.rambo_history.specs.Histories.{answer_in};
 ghost use Rattle.rambo_mail.specs.Waiting.{numbers_of};
-ghost use Rattle.rambo_book.specs.Kept.{AreSent, IsServedBy, Told, state};
+ghost use Rattle.rambo_book.specs.Kept.{IsLetterOf, IsServedBy, Told, state};
+ghost use Rattle.rambo_book.specs.Windows.{delivers_gone, gone_of, is_gone};
 ghost use Rattle.rambo_roll.specs.Rolls.{Idle};
 ghost use Rattle.rambo_run.specs.Actors.{actor};
 ghost use Rattle.rambo_run.specs.Runs.{run};
 ghost use Rattle.rambo_run.specs.Steps.{Meant, meant};
-ghost use Rattle.rambo_run.specs.Worlds.{node_at};
+ghost use Rattle.rambo_run.specs.Worlds.{letter_at, node_at};
 ghost use Rattle.rambo_run.specs.Legal.{IsLegal};
 
 use crate::keeper::{Actor, Keeper};
+use crate::letters::{Letters, window_for};
 use crate::passes::Passes;
 use crate::record::Record;
 use crate::terms::Terms;
-use rambo_deeds::{SharedLetter, named_by};
+use rambo_deeds::SharedLetter;
 use rambo_history::{Answer, CallId};
 use rambo_mail::Mails;
 use rambo_names::{Name, Quorums, Refusal};
@@ -30,7 +32,7 @@ use std::marker::Model;
 pub struct Book<J: Terms<Q>, Q: Quorums> {
     pub(crate) steps: Stock<J, Step<Q>, Actor>,
     pub(crate) founders: Q,
-    pub(crate) letters: Vec<SharedLetter<Q>>,
+    pub(crate) letters: Letters<Q>,
     pub(crate) kept: Record,
     pub(crate) mails: Mails,
     pub(crate) passes: Passes,
@@ -52,11 +54,12 @@ impl<J: Terms<Q>, Q: Quorums> Model for Book<J, Q> {
 
     ghost view = { λ b. record { founders = b.founders; steps = b.steps.all; drawn = b.steps.drawn; capacity = b.capacity; ahead = b.ahead; waiting = numbers_of b.mails.waiting; lose = b.mails.lose; twice = b.mails.twice } };
 
-    ghost invariant = { λ b. IsBook Q.system J.founders J.capacity J.endless b.founders b.steps.all b.letters.items b.kept b.capacity b.steps.drawn b.ahead × (b.mails.lose ≡ J.lose) × (b.mails.twice ≡ J.twice) };
+    ghost invariant = { λ b. IsBook Q.system J.founders J.capacity J.endless b.founders b.steps.all b.letters b.kept b.capacity b.steps.drawn b.ahead × (b.mails.lose ≡ J.lose) × (b.mails.twice ≡ J.twice) };
 }
 
 impl<J: Terms<Q>, Q: Quorums> Book<J, Q> {
-    /// The book of no step. At most `ahead` steps are at hand at once; where it isn't endless it keeps all calls and answers.
+    /// The book of no step. At most `ahead` steps are at hand at once. Where it isn't endless it keeps all letters, calls and
+    /// answers, and else the last 16,384 letters, and the calls whose answers weren't taken.
     pub fn new(
         alloc: Global,
         founders: Q,
@@ -69,7 +72,7 @@ impl<J: Terms<Q>, Q: Quorums> Book<J, Q> {
         requires roll { roll.1 ≡ [] }
         requires founders { J.founders ≡ Some founders }
         requires capacity { capacity ≡ J.capacity }
-        requires keeps_all { J.endless ≡ false → keeps_all ≡ true }
+        requires keeps_all { keeps_all ≡ not J.endless }
         requires lose { mails.lose ≡ J.lose }
         requires twice { mails.twice ≡ J.twice }
         ensures { result ≡ record { founders = founders; steps = []; drawn = 0; capacity = capacity; ahead = ahead; waiting = numbers_of mails.waiting; lose = mails.lose; twice = mails.twice } }
@@ -77,7 +80,7 @@ impl<J: Terms<Q>, Q: Quorums> Book<J, Q> {
         Book {
             steps: Stock::new(alloc, roll),
             founders,
-            letters: Vec::new(alloc),
+            letters: Letters::new(alloc, window_for(keeps_all, capacity)),
             kept: Record::new(alloc, keeps_all),
             mails,
             passes: Passes::none(),
@@ -86,24 +89,26 @@ impl<J: Terms<Q>, Q: Quorums> Book<J, Q> {
         }
     }
 
-    /// Whose keeper's step a step is, by the keeper's place among the 64: the first for a letter that was never sent.
+    /// Whose keeper's step a step is, by the keeper's place among the 64: the first for a letter that was never sent, and
+    /// any one for a letter that is gone, as nobody knows whose it was. `commit` refuses that.
     pub fn place_of(&self, step: &Step<Q>) -> usize
         ensures within { result < 64 }
-        ensures own { (m : Meant Q) → meant (state Q.system self.now) step.now ≡ Some m → result ≡ m.name - 1 }
+        ensures own { delivers_gone (gone_of J.endless J.capacity (state Q.system self.now)) step.now ≡ false → (m : Meant Q) → meant (state Q.system self.now) step.now ≡ Some m → result ≡ m.name - 1 }
         ensures other { meant (state Q.system self.now) step.now ≡ None → result ≡ 0 }
     {
-        match named_by(self.letters.as_slice(), step) {
+        match self.letters.named_by(step) {
             Some(name) => name.number() as usize - 1,
             None => 0,
         }
     }
 
-    /// Whether a step is of the node of this name, or of none.
+    /// Whether a step is of the node of this name, or of none. Each name serves for a letter that is gone.
     pub fn serves(&self, step: &Step<Q>, name: Name) -> bool
-        ensures served { result ≡ true → IsServedBy (state Q.system self.now) step.now name }
+        ensures served { result ≡ true → delivers_gone (gone_of J.endless J.capacity (state Q.system self.now)) step.now ≡ false → IsServedBy (state Q.system self.now) step.now name }
         ensures unserved { IsServedBy (state Q.system self.now) step.now name → result ≡ true }
+        ensures gone { delivers_gone (gone_of J.endless J.capacity (state Q.system self.now)) step.now ≡ true → result ≡ true }
     {
-        match named_by(self.letters.as_slice(), step) {
+        match self.letters.named_by(step) {
             Some(own) => own == name,
             None => true,
         }
@@ -119,6 +124,7 @@ impl<J: Terms<Q>, Q: Quorums> Book<J, Q> {
         ensures few { length self.now.steps ≤ self.now.drawn + self.now.ahead }
         ensures undrawn { J.endless ≡ false → self.now.drawn ≡ 0 }
         ensures legal { IsLegal Q.system self.now.founders self.now.steps }
+        ensures kept { J.endless ≡ false → gone_of J.endless J.capacity (state Q.system self.now) ≡ 0 }
     {
         let _ = &self.steps;
     }
@@ -135,15 +141,39 @@ impl<J: Terms<Q>, Q: Quorums> Book<J, Q> {
 
     /// The allocator of what belongs to the book.
     pub fn allocator(&self) -> Global {
-        *self.letters.allocator()
+        self.letters.allocator()
     }
 
-    /// The letters that were sent, as they are stored. Each represents that of its number in the run of the steps, and
-    /// may leave out copies that its addressee holds there.
-    pub fn letters(&self) -> &[SharedLetter<Q>]
-        ensures { AreSent (state Q.system self.now) result.now }
+    /// How many letters were sent.
+    pub fn letters_sent(&self) -> usize
+        ensures { result ≡ length (state Q.system self.now).letters }
     {
-        self.letters.as_slice()
+        let _steps = self.steps.len();
+        self.letters.sent()
+    }
+
+    /// How many of them are kept: those that were sent last.
+    pub fn letters_kept(&self) -> usize
+        ensures { result ≡ length (state Q.system self.now).letters - gone_of J.endless J.capacity (state Q.system self.now) }
+    {
+        self.letters.count()
+    }
+
+    /// The letter of a number as it is stored, if it was sent and isn't gone. It represents that of its number in the run of
+    /// the steps, and may leave out copies that its addressee holds there.
+    pub fn letter(&self, number: u64) -> Option<&SharedLetter<Q>>
+        ensures sent { IfSome result (λ l. IsLetterOf (state Q.system self.now) number l.now) }
+        ensures none { result ≡ None → is_gone (gone_of J.endless J.capacity (state Q.system self.now)) number ≡ false → letter_at (state Q.system self.now).letters number ≡ None }
+        ensures gone { is_gone (gone_of J.endless J.capacity (state Q.system self.now)) number ≡ true → result ≡ None }
+    {
+        self.letters.of(number)
+    }
+
+    // Whether a step delivers a letter that is gone.
+    pub(crate) fn has_gone(&self, step: &Step<Q>) -> bool
+        ensures { result ≡ delivers_gone (gone_of J.endless J.capacity (state Q.system self.now)) step.now }
+    {
+        self.letters.has_gone(step)
     }
 
     /// The answer of a call, if it has one. None where nothing is kept of the call any more, as its answer was taken or it

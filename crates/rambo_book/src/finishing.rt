@@ -1,8 +1,9 @@
 //! The second half of a step: its node changes, and what it reports goes to where it belongs.
 //!
 //! Nothing here allocates, and nothing fails.
-ghost use Rattle.std.specs.Prelude.{◌≡◌, ◌<◌, ◌^◌, None, Some, length};
-ghost use Rattle.std.specs.Vec.{vec_len, vec_capacity};
+ghost use Rattle.std.specs.Prelude.{◌≡◌, ◌+◌, ◌<◌, ◌^◌, ◌++◌, ◌∷◌, [], List, None, Some, length};
+ghost use Rattle.std.specs.Option.{option_copied};
+ghost use Rattle.rambo_gossip.specs.declared.letter.Letter.{Letter};
 ghost use Rattle.rambo_history.specs.Faults.{fault_of};
 ghost use Rattle.rambo_node.specs.Changes.{made_by};
 ghost use Rattle.rambo_node.specs.FullNodes.{beside_after};
@@ -10,38 +11,39 @@ ghost use Rattle.rambo_node.specs.Prepared.{IsPrepared, change_of};
 ghost use Rattle.rambo_node.specs.declared.change.Change.{Change};
 ghost use Rattle.rambo_run.specs.Steps.{effect_in, with_letter};
 ghost use Rattle.rambo_book.specs.Records.{ChronicleView, Recorded};
-ghost use Rattle.rambo_deeds.specs.Deeds.{IsReadyDelivery, IsReadyStep, event_of, letter_in, letter_of, mark_of, outline_of};
+ghost use Rattle.rambo_deeds.specs.Deeds.{IsReadyDelivery, IsReadyStep, event_of, letter_of, mark_of, outline_of};
 
+use crate::letters::Letters;
 use crate::record::Record;
-use rambo_deeds::{Half, SharedLetter, Worker, letter_named};
+use rambo_deeds::{Half, SharedLetter, Worker};
 use rambo_history::Event;
 use rambo_names::Quorums;
 use rambo_node::{Effect, Hearing, Prepared};
-use rambo_run::Step;
 use rambo_tag::Replica;
 
-// The second half of a step whose first half is made: what is told of it. A letter that comes is the book's.
+// The second half of a step whose first half is made: what is told of it. A letter that comes is this one.
 pub(crate) fn finish<Q: Quorums, S: Replica>(
-    letters: &mut Vec<SharedLetter<Q>>,
+    letters: &mut Letters<Q>,
     kept: &mut Record,
     worker: &mut Worker<Q, S>,
-    step: &Step<Q>,
+    letter: Option<&SharedLetter<Q>>,
     half: Half<Q>,
 ) -> Effect<Q>
-    requires ready { (c : Change Q) × IsReadyStep Q.system worker.old (outline_of (letter_in letters.old.items step.now)) c half }
-    requires few { length letters.old.items < 2 ^ 63 }
-    requires room { (vec_len letters.old < vec_capacity letters.old) × (0 < kept.old.room) }
+    requires ready { (c : Change Q) × IsReadyStep Q.system worker.old (outline_of (option_copied letter)) c half }
+    requires few { letters.old.gone + length letters.old.kept + 1 < 2 ^ 64 }
+    requires room { (0 < letters.old.room) × (0 < kept.old.room) }
     requires fits { (c : ChronicleView) (e : Event) → kept.old.all ≡ Some c → event_of half ≡ Some e → fault_of c.events e ≡ None }
-    ensures node { (c : Change Q) → IsReadyStep Q.system worker.old (outline_of (letter_in letters.old.items step.now)) c half → worker.new.state ≡ (made_by worker.old.state c).node }
-    ensures beside { (c : Change Q) → IsReadyStep Q.system worker.old (outline_of (letter_in letters.old.items step.now)) c half → worker.new.beside ≡ beside_after worker.old.state worker.old.beside c }
-    ensures effect { (c : Change Q) → IsReadyStep Q.system worker.old (outline_of (letter_in letters.old.items step.now)) c half → result ≡ effect_in letters.old.items (made_by worker.old.state c).deed.effect (made_by worker.old.state c).letter }
-    ensures letters { letters.new.items ≡ with_letter letters.old.items (letter_of half) }
+    ensures node { (c : Change Q) → IsReadyStep Q.system worker.old (outline_of (option_copied letter.entry)) c half → worker.new.state ≡ (made_by worker.old.state c).node }
+    ensures beside { (c : Change Q) → IsReadyStep Q.system worker.old (outline_of (option_copied letter.entry)) c half → worker.new.beside ≡ beside_after worker.old.state worker.old.beside c }
+    ensures effect { (c : Change Q) (ls : List (Letter Q)) → IsReadyStep Q.system worker.old (outline_of (option_copied letter.entry)) c half → length ls ≡ letters.old.gone + length letters.old.kept → result ≡ effect_in ls (made_by worker.old.state c).deed.effect (made_by worker.old.state c).letter }
+    ensures letters { letters.new.kept ≡ with_letter letters.old.kept (letter_of half) }
+    ensures window { (letters.new.gone ≡ letters.old.gone) × (letters.new.window ≡ letters.old.window) }
     ensures kept { Recorded (event_of half) (mark_of half) kept.old kept.new }
 {
     match half {
         Half::Send(letter) => send(letters, letter),
         Half::Hear(hearing) => {
-            hear(letters.as_slice(), worker, step, hearing);
+            hear(worker, letter, hearing);
             Effect::Done
         }
         Half::Call(prepared) => finish_call(kept, worker, Box::into_inner(prepared)),
@@ -50,28 +52,29 @@ pub(crate) fn finish<Q: Quorums, S: Replica>(
 }
 
 // A letter goes out: its number.
-fn send<Q: Quorums>(letters: &mut Vec<SharedLetter<Q>>, letter: SharedLetter<Q>) -> Effect<Q>
-    requires few { length letters.old.items < 2 ^ 63 }
-    requires room { vec_len letters.old < vec_capacity letters.old }
-    ensures effect { result ≡ effect_in letters.old.items Effect.Done (Some letter) }
-    ensures letters { letters.new.items ≡ with_letter letters.old.items (Some letter) }
+fn send<Q: Quorums>(letters: &mut Letters<Q>, letter: SharedLetter<Q>) -> Effect<Q>
+    requires few { letters.old.gone + length letters.old.kept + 1 < 2 ^ 64 }
+    requires room { 0 < letters.old.room }
+    ensures effect { result ≡ Effect.Sent (letters.old.gone + length letters.old.kept + 1) }
+    ensures letters { letters.new.kept ≡ letters.old.kept ++ letter ∷ [] }
+    ensures window { (letters.new.gone ≡ letters.old.gone) × (letters.new.window ≡ letters.old.window) }
 {
-    letters.push_reserved(letter);
-    Effect::Sent(letters.len() as u64)
+    let number = letters.sent() as u64 + 1;
+    letters.push(letter);
+    Effect::Sent(number)
 }
 
 // The letter that comes is heard.
 fn hear<Q: Quorums, S: Replica>(
-    letters: &[SharedLetter<Q>],
     worker: &mut Worker<Q, S>,
-    step: &Step<Q>,
+    letter: Option<&SharedLetter<Q>>,
     hearing: Hearing,
 )
-    requires { (c : Change Q) × IsReadyDelivery worker.old (outline_of (letter_in letters.now step.now)) c hearing }
-    ensures node { (c : Change Q) → IsReadyDelivery worker.old (outline_of (letter_in letters.now step.now)) c hearing → worker.new.state ≡ (made_by worker.old.state c).node }
-    ensures beside { (c : Change Q) → IsReadyDelivery worker.old (outline_of (letter_in letters.now step.now)) c hearing → worker.new.beside ≡ beside_after worker.old.state worker.old.beside c }
+    requires { (c : Change Q) × IsReadyDelivery worker.old (outline_of (option_copied letter)) c hearing }
+    ensures node { (c : Change Q) → IsReadyDelivery worker.old (outline_of (option_copied letter.entry)) c hearing → worker.new.state ≡ (made_by worker.old.state c).node }
+    ensures beside { (c : Change Q) → IsReadyDelivery worker.old (outline_of (option_copied letter.entry)) c hearing → worker.new.beside ≡ beside_after worker.old.state worker.old.beside c }
 {
-    let Some(letter) = letter_named(letters, step) else {
+    let Some(letter) = letter else {
         return;
     };
     worker.finish_delivery(letter, hearing);

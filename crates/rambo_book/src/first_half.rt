@@ -16,7 +16,8 @@ use rambo_tag::Replica;
 use std::alloc::Global;
 
 /// The first half of a step of the keeper's node: it is judged by what the keeper has seen, room is made in the node, and what
-/// it will do is found. A letter that is delivered is one of the tray.
+/// it will do is found. A letter that is delivered is one of the tray, and is brought along: it stays deliverable though the
+/// book doesn't keep it any more.
 ///
 /// Its letter asks for none in return, if it sends one, unless it is made `asking`.
 ///
@@ -36,11 +37,26 @@ pub fn ready<J: Terms<Q>, Q: Quorums, S: Replica>(
 {
     let letter = letter_in(keeper.tray.as_slice(), &step);
     let half = keeper.worker.ready(alloc, letter, &step)?;
+    let letter = share(letter)?;
     Ok(Ready {
         step,
         half,
+        letter,
         asks: false,
     })
+}
+
+// One that is shared, if there is one.
+pub(crate) fn share<Q: Quorums>(
+    letter: Option<&SharedLetter<Q>>,
+) -> Result<Option<SharedLetter<Q>>, Refusal>
+    ensures same { IfOk result (λ l. l ≡ option_copied letter.entry) }
+    ensures refused { IfErr result (λ r. r ≡ Refusal.OutOfMemory) }
+{
+    match letter {
+        Some(letter) => Ok(Some(letter.share()?)),
+        None => Ok(None),
+    }
 }
 
 // The letter of a tray that a step lets come, if it lets one come that is there.

@@ -2,12 +2,13 @@
 ghost use Rattle.std.specs.Prelude.{◌≡◌, ◌<◌, ℕ, [], ◌∷◌, drop, option_map, slice_get, OnOk, OnErr, IfErr};
 ghost use Rattle.rambo_book.specs.Kept.{state};
 ghost use Rattle.rambo_mail.specs.Waiting.{number_of, waiting_for, with_waiting};
+ghost use Rattle.rambo_book.specs.Windows.{gone_of};
 ghost use Rattle.rambo_book.specs.Mailing.{sent_to, IsBehind, AreTaken, all_for};
 
 use crate::book::Book;
 use crate::keeper::Keeper;
 use crate::terms::Terms;
-use rambo_deeds::{Mail, letter_of};
+use rambo_deeds::Mail;
 use rambo_mail::Entry;
 use rambo_names::{Name, Quorums, Refusal};
 use rambo_tag::Replica;
@@ -24,7 +25,7 @@ pub fn see_all<J: Terms<Q>, Q: Quorums, S: Replica>(
     book.steps.catch_up(&mut keeper.holder);
 }
 
-/// A letter that waits goes into the tray of the keeper whose node it is for. It is shared with the book.
+/// A letter that waits goes into the tray of the keeper whose node it is for, unless it is gone. It is shared with the book.
 ///
 /// `OutOfMemory` where there is no room for it; the keeper is then unchanged.
 pub fn take_letter<J: Terms<Q>, Q: Quorums, S: Replica>(
@@ -34,11 +35,11 @@ pub fn take_letter<J: Terms<Q>, Q: Quorums, S: Replica>(
 ) -> Result<(), Refusal>
     requires { keeper.old.seen ≡ book.now.steps }
     ensures keeper { keeper.new ≡ record keeper.old { tray = keeper.new.tray } }
-    ensures tray { OnOk result (IsBehind keeper.old.tray (sent_to (state Q.system book.now) keeper.old.name (entry.number ∷ [])) keeper.new.tray) }
+    ensures tray { OnOk result (IsBehind keeper.old.tray (sent_to (state Q.system book.now) (gone_of J.endless J.capacity (state Q.system book.now)) keeper.old.name (entry.number ∷ [])) keeper.new.tray) }
     ensures err { OnErr result (keeper.new ≡ keeper.old) }
     ensures refused { IfErr result (λ r. r ≡ Refusal.OutOfMemory) }
 {
-    let Some(letter) = letter_of(book.letters.as_slice(), entry.number) else {
+    let Some(letter) = book.letters.of(entry.number) else {
         return Ok(());
     };
     if letter.addressee() != keeper.name {
@@ -70,8 +71,8 @@ impl<J: Terms<Q>, Q: Quorums> Book<J, Q> {
     }
 }
 
-/// The letters that wait for the keeper's node go to its tray. A node that has stopped hears nothing more, and leaves
-/// them.
+/// The letters that wait for the keeper's node go to its tray, but for those that are gone. A node that has stopped hears
+/// nothing more, and leaves them.
 ///
 /// `OutOfMemory` where there is no room for one; those before it were taken, and the others wait.
 pub fn take_mail<J: Terms<Q>, Q: Quorums, S: Replica>(
@@ -81,8 +82,8 @@ pub fn take_mail<J: Terms<Q>, Q: Quorums, S: Replica>(
     requires { keeper.old.seen ≡ book.old.steps }
     ensures book { book.new ≡ record book.old { waiting = book.new.waiting } }
     ensures keeper { keeper.new ≡ record keeper.old { tray = keeper.new.tray } }
-    ensures all { OnOk result (AreTaken (state Q.system book.old) keeper.old.name (all_for keeper.old book.old.waiting) book.old.waiting book.new.waiting keeper.old.tray keeper.new.tray) }
-    ensures some { OnErr result ((count : ℕ) × (count < all_for keeper.old book.old.waiting) × AreTaken (state Q.system book.old) keeper.old.name count book.old.waiting book.new.waiting keeper.old.tray keeper.new.tray) }
+    ensures all { OnOk result (AreTaken (state Q.system book.old) (gone_of J.endless J.capacity (state Q.system book.old)) keeper.old.name (all_for keeper.old book.old.waiting) book.old.waiting book.new.waiting keeper.old.tray keeper.new.tray) }
+    ensures some { OnErr result ((count : ℕ) × (count < all_for keeper.old book.old.waiting) × AreTaken (state Q.system book.old) (gone_of J.endless J.capacity (state Q.system book.old)) keeper.old.name count book.old.waiting book.new.waiting keeper.old.tray keeper.new.tray) }
     ensures refused { IfErr result (λ r. r ≡ Refusal.OutOfMemory) }
 {
     if keeper.has_stopped() {

@@ -37,6 +37,11 @@ impl OpenCalls {
         }
     }
 
+    /// How many calls are open.
+    pub(crate) fn count(&self) -> usize {
+        self.calls.len()
+    }
+
     /// Makes room for one more call.
     pub(crate) fn reserve(&mut self) -> Result<(), AllocError>
         ensures same { KeepsCalls self.old.calls self.new.calls }

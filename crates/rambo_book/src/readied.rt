@@ -3,15 +3,18 @@ ghost use Rattle.std.specs.Prelude.{◌≡◌, Option, true};
 ghost use Rattle.rambo_book.specs.Kept.{KeeperView};
 ghost use Rattle.rambo_book.specs.Readying.{IsReadyFor};
 
-use rambo_deeds::Half;
+use rambo_deeds::{Half, SharedLetter};
 use rambo_names::Quorums;
 use rambo_run::Step;
 
-/// A step of a keeper's node that isn't refused, for which the node has room, and what it will do.
+/// A step of a keeper's node that isn't refused, for which the node has room, and what it will do. It brings along the letter that
+/// it delivers.
 #[derive(Drop)]
 pub struct Ready<Q: Quorums> {
     pub step: Step<Q>,
     pub(crate) half: Half<Q>,
+    // The letter that it delivers, if it delivers one.
+    pub(crate) letter: Option<SharedLetter<Q>>,
     // Whether the letter that it sends, if it sends one, asks for one in return.
     pub(crate) asks: bool,
 }
@@ -25,11 +28,13 @@ impl<Q: Quorums> Ready<Q> {
         let Ready {
             step,
             half,
+            letter,
             asks: _,
         } = self;
         Ready {
             step,
             half,
+            letter,
             asks: true,
         }
     }

@@ -103,6 +103,11 @@ impl Record {
         let _answer = self.calls.forget(id);
     }
 
+    /// How many calls are kept until their answers are taken.
+    pub(crate) fn count(&self) -> usize {
+        self.calls.count()
+    }
+
     /// All calls and answers, with the marks, where they are kept.
     pub(crate) fn chronicle(&self) -> Option<&Chronicle>
         ensures { option_copied result ≡ self.now.all }

@@ -4,7 +4,7 @@ use Rattle.rambo_names.specs.Weights.{Weights}
 use Rattle.rambo_run.specs.declared.step.Step.{Step}
 use Rattle.rambo_run.specs.declared.step.Step.TheVariants as step
 use Rattle.rambo_commands.specs.declared.server_request.ServerRequest.{ServerRequest}
-use Rattle.rambo_commands.specs.declared.server_request.ServerRequest.TheVariants.{Common, Use, Join, Recon, Collect, Stop, Config, Shutdown}
+use Rattle.rambo_commands.specs.declared.server_request.ServerRequest.TheVariants.{Common, Use, Join, Recon, Collect, Stop, Config, Info, Shutdown}
 
 -- the node whose step a request asks for, and the step. The client's own node has a configuration chosen, or its lowest
 -- place removed. A node that joins or stops is named by the request
@@ -16,4 +16,5 @@ asked_of used (Stop name) = Some (name, step.Stop name)
 asked_of used (Common request) = None
 asked_of used (Use name) = None
 asked_of used Config = None
+asked_of used Info = None
 asked_of used Shutdown = None

@@ -19,6 +19,7 @@ pub(crate) fn asked_of(used: Name, request: &ServerRequest) -> Option<(Name, Ste
         ServerRequest::Common(_)
         | ServerRequest::Use(_)
         | ServerRequest::Config
+        | ServerRequest::Info
         | ServerRequest::Shutdown => None,
     }
 }

@@ -9,7 +9,8 @@ use crate::bell::Bell;
 use crate::fault::ServeFault;
 use crate::room::{NEVER, Rooms, bit};
 use crate::station::Station;
-use rambo_names::{Members, Name, Refusal, Weighted};
+use rambo_commands::Report;
+use rambo_names::{Name, Quorums, Refusal, Weighted};
 use rambo_post::{Pass, Post, Terms};
 use rambo_run::Step;
 use rambo_tag::Registers;
@@ -19,6 +20,12 @@ use std::sync::Wait;
 use std::sync::atomic::{AtomicBool, AtomicU64, Ordering};
 use std::time::{Clock, Instant};
 
+/// Where this many steps are at hand they are drawn at once.
+pub(crate) const MANY: usize = 1024;
+
+// Where this many are, no further call is made before.
+const TOO_MANY: usize = 65_536;
+
 /// The copies of a node, with a seeded hash: keys that a client chose can't make look-ups slow.
 pub(crate) type Copies = Registers<RandomState>;
 
@@ -26,7 +33,10 @@ pub(crate) type Copies = Registers<RandomState>;
 #[derive(Drop)]
 pub(crate) struct Hub<J: Terms<Weighted>> {
     pub(crate) post: Post<J, Weighted, Copies>,
-    founders: Members,
+    founders: Weighted,
+    // How many steps the book takes in all, and whether these are drawn.
+    capacity: usize,
+    draws: bool,
     /// The lowest founder.
     pub(crate) first: Name,
     pub(crate) rooms: Rooms,
@@ -41,19 +51,30 @@ pub(crate) struct Hub<J: Terms<Weighted>> {
     /// What wakes the timer's thread, which visits nodes that are due; and until when that thread sleeps.
     pub(crate) timer: Bell,
     pub(crate) sleeps_until: AtomicU64,
+    /// What wakes the thread that writes the trace.
+    pub(crate) scribe: Bell,
+    /// How many bytes of the trace were written.
+    pub(crate) trace_bytes: AtomicU64,
     /// How many connections are served.
     connections: AtomicU64,
+    // How many calls wait for their answer, and how many were answered.
+    calls: AtomicU64,
+    operations: AtomicU64,
     begun: Instant,
     is_closing: AtomicBool,
     is_full: AtomicBool,
+    has_failed: AtomicBool,
 }
 
 impl<J: Terms<Weighted>> Hub<J> {
-    /// What threads share of this post, whose nodes have nothing to do yet.
+    /// What threads share of this post, whose nodes have nothing to do yet. It takes so many steps in all, which are drawn or
+    /// aren't.
     pub(crate) fn new(
         alloc: Global,
         post: Post<J, Weighted, Copies>,
-        founders: Members,
+        founders: Weighted,
+        capacity: usize,
+        draws: bool,
         first: Name,
         stations: Vec<Station>,
         begun: Instant,
@@ -65,6 +86,8 @@ impl<J: Terms<Weighted>> Hub<J> {
         Ok(Hub {
             post,
             founders,
+            capacity,
+            draws,
             first,
             rooms: Rooms::new(alloc)?,
             stations,
@@ -73,10 +96,15 @@ impl<J: Terms<Weighted>> Hub<J> {
             stopped: AtomicU64::new(0),
             timer: Bell::new(),
             sleeps_until: AtomicU64::new(NEVER),
+            scribe: Bell::new(),
+            trace_bytes: AtomicU64::new(0),
             connections: AtomicU64::new(0),
+            calls: AtomicU64::new(0),
+            operations: AtomicU64::new(0),
             begun,
             is_closing: AtomicBool::new(false),
             is_full: AtomicBool::new(false),
+            has_failed: AtomicBool::new(false),
         })
     }
 
@@ -95,7 +123,7 @@ impl<J: Terms<Weighted>> Hub<J> {
     /// was.
     pub(crate) fn first_node(&self) -> Name {
         let stopped = self.stopped.load(Ordering::SeqCst);
-        for name in self.founders.iter() {
+        for name in self.founders.members().iter() {
             if stopped & bit(name) == 0 {
                 return name;
             }
@@ -117,9 +145,60 @@ impl<J: Terms<Weighted>> Hub<J> {
         self.connections.fetch_sub(1, Ordering::SeqCst);
     }
 
+    /// Counts one call more that waits for its answer.
+    pub(crate) fn note_call(&self) {
+        self.calls.fetch_add(1, Ordering::SeqCst);
+    }
+
+    /// Counts one call less that waits, and if it was answered one operation more.
+    pub(crate) fn note_end(&self, is_answered: bool) {
+        self.calls.fetch_sub(1, Ordering::SeqCst);
+        if is_answered {
+            self.operations.fetch_add(1, Ordering::SeqCst);
+        }
+    }
+
+    /// Whether so many steps are at hand that no further call is made before they were drawn. Where there are many, their
+    /// drawer is woken.
+    pub(crate) fn is_held<R: Wait>(&self, rt: &R) -> bool {
+        if !self.draws {
+            return false;
+        }
+        let at_hand = self.post.at_hand(rt);
+        if at_hand >= MANY {
+            self.scribe.ring(rt);
+        }
+        at_hand >= TOO_MANY
+    }
+
+    /// The founders.
+    pub(crate) fn founders(&self) -> Weighted {
+        self.founders
+    }
+
+    /// The counts of the server.
+    pub(crate) fn report<R: Wait>(&self, rt: &R) -> Report {
+        let counts = self.post.counts(rt);
+        Report {
+            steps: counts.steps as u64,
+            steps_at_hand: counts.at_hand as u64,
+            steps_at_most: self.capacity as u64,
+            letters_kept: counts.letters as u64,
+            calls_open: self.calls.load(Ordering::SeqCst),
+            trace_bytes: self.trace_bytes.load(Ordering::SeqCst),
+            connections: self.connections.load(Ordering::SeqCst),
+            operations: self.operations.load(Ordering::SeqCst),
+        }
+    }
+
     /// Whether the server is to end.
     pub(crate) fn is_closing(&self) -> bool {
         self.is_closing.load(Ordering::SeqCst)
+    }
+
+    /// Whether the trace can't be written any more.
+    pub(crate) fn has_failed(&self) -> bool {
+        self.has_failed.load(Ordering::SeqCst)
     }
 
     /// Whether a visit found the book full.
@@ -139,7 +218,7 @@ impl<J: Terms<Weighted>> Hub<J> {
         ensures acted { OnOk result ((f : Weights) → J.founders ≡ Some f → (e : Effect Weights) × Acted weighted_majorities f pass.old pass.new step e) }
         ensures begins { IsPrefix pass.old.seen pass.new.seen }
         ensures err { OnErr result (pass.new.mine ≡ pass.old.mine) }
-        ensures cause { IfErr result (λ r. (f : Weights) → J.founders ≡ Some f → WhyUndone weighted_majorities f J.capacity pass.old pass.new step r) }
+        ensures cause { IfErr result (λ r. (f : Weights) → J.founders ≡ Some f → WhyUndone weighted_majorities f J.endless J.capacity pass.old pass.new step r) }
     {
         let stops = matches!(step, Step::Stop(_));
         let _effect = self.post.act(rt, pass, step)?;
@@ -170,5 +249,13 @@ impl<J: Terms<Weighted>> Hub<J> {
         self.is_closing.store(true, Ordering::SeqCst);
         self.ring_all();
         self.timer.ring(rt);
+        self.scribe.ring(rt);
+    }
+
+    /// Notes that the trace can't be written any more, so that the server is to end. A client worker writes no reply from its
+    /// next round on.
+    pub(crate) fn fail<R: Wait>(&self, rt: &R) {
+        self.has_failed.store(true, Ordering::SeqCst);
+        self.close(rt);
     }
 }

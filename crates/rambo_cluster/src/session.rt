@@ -4,7 +4,7 @@ use crate::asking::asked_of;
 use crate::guest::{Came, Guest, Wait};
 use crate::hub::Hub;
 use crate::room::bit;
-use rambo_commands::{Request, ServerRequest, map_reply, telling};
+use rambo_commands::{Request, ServerRequest, map_reply, report_reply, telling};
 use rambo_config_map::ConfigMap;
 use rambo_connection::Next;
 use rambo_history::{CallId, Op};
@@ -59,6 +59,8 @@ pub(crate) struct Session<'h, J: Terms<Weighted>, G: Gate, R> {
     pub(crate) asks: u64,
     /// Those of these names whose nodes had no room.
     pub(crate) blocked: u64,
+    // Whether no call is made now, since too many steps are to be written.
+    is_held: bool,
 }
 
 impl<'h, J: Terms<Weighted>, G: Gate, R: Waits + Clock> Session<'h, J, G, R> {
@@ -83,6 +85,7 @@ impl<'h, J: Terms<Weighted>, G: Gate, R: Waits + Clock> Session<'h, J, G, R> {
             serial: 0,
             asks: 0,
             blocked: 0,
+            is_held: false,
         }
     }
 
@@ -132,6 +135,7 @@ impl<'h, J: Terms<Weighted>, G: Gate, R: Waits + Clock> Session<'h, J, G, R> {
         match request {
             ServerRequest::Common(common) => self.begin_common(at, guest, common),
             ServerRequest::Config => self.tell_map(guest),
+            ServerRequest::Info => self.tell_report(guest),
             _ => self.change(guest, request),
         }
     }
@@ -161,6 +165,26 @@ impl<'h, J: Terms<Weighted>, G: Gate, R: Waits + Clock> Session<'h, J, G, R> {
     fn tell_map(&mut self, guest: &mut Guest) {
         let map = self.hub.post.map(self.rt, guest.connection.node());
         match map_told(self.alloc, &map) {
+            Ok(reply) => guest.connection.answer(&reply),
+            Err(refusal) => guest.connection.refuse(refusal),
+        }
+    }
+
+    // Tells the counts of the server, and the map of the node that a connection uses.
+    fn tell_report(&mut self, guest: &mut Guest) {
+        let report = self.hub.report(self.rt);
+        let map = self.hub.post.map(self.rt, guest.connection.node());
+        let founders = self.hub.founders();
+        let told = configs_of(self.alloc, &map).and_then(|configs| {
+            report_reply(
+                self.alloc,
+                &report,
+                founders,
+                map.floor(),
+                configs.as_slice(),
+            )
+        });
+        match told {
             Ok(reply) => guest.connection.answer(&reply),
             Err(refusal) => guest.connection.refuse(refusal),
         }
@@ -230,8 +254,21 @@ impl<'h, J: Terms<Weighted>, G: Gate, R: Waits + Clock> Session<'h, J, G, R> {
         self.hub.await_room(name, self.place);
     }
 
-    /// The names of the nodes that commands wait for and that may have room, by bits.
+    /// Looks whether calls can be made now.
+    pub(crate) fn look_at_hand(&mut self) {
+        self.is_held = self.hub.is_held(self.rt);
+    }
+
+    /// Whether commands wait since too many steps are to be written.
+    pub(crate) fn is_held_back(&self) -> bool {
+        self.is_held && self.asks != 0
+    }
+
+    /// The names of the nodes that commands wait for and that may have room, by bits. None where no call can be made now.
     pub(crate) fn wanted(&self) -> u64 {
+        if self.is_held {
+            return 0;
+        }
         self.asks & !self.blocked
     }
 
@@ -252,9 +289,12 @@ impl<'h, J: Terms<Weighted>, G: Gate, R: Waits + Clock> Session<'h, J, G, R> {
             serial: guest.serial,
         };
         match self.hub.post.ask(self.rt, self.pass, name, op, who) {
-            Ok(asked) if asked.is_awaited => guest.wait = Wait::Answer(asked.id),
+            Ok(asked) if asked.is_awaited => {
+                self.hub.note_call();
+                guest.wait = Wait::Answer(asked.id);
+            }
             Ok(asked) => {
-                self.withdraw(&asked.id);
+                self.forget(&asked.id);
                 self.refuse(guest, Refusal::OutOfMemory);
             }
             Err(Refusal::Busy) => return false,
@@ -278,6 +318,7 @@ impl<'h, J: Terms<Weighted>, G: Gate, R: Waits + Clock> Session<'h, J, G, R> {
         match self.hub.post.take_answer(self.rt, self.pass, id) {
             Ok(Some(answer)) => {
                 guest.wait = Wait::Nothing;
+                self.hub.note_end(true);
                 guest.connection.answer(&telling(answer));
             }
             Ok(None) => {
@@ -293,8 +334,14 @@ impl<'h, J: Terms<Weighted>, G: Gate, R: Waits + Clock> Session<'h, J, G, R> {
         }
     }
 
-    // Nobody takes the answer of a call any more.
+    // Nobody waits for the answer of a call any more.
     fn withdraw(&mut self, id: &CallId) {
+        self.hub.note_end(false);
+        self.forget(id);
+    }
+
+    // Nobody takes the answer of a call any more.
+    fn forget(&mut self, id: &CallId) {
         let _did_wait = self.hub.post.withdraw(self.rt, self.pass, id);
     }
 
@@ -343,11 +390,17 @@ fn awaited(wait: &Wait) -> Option<CallId> {
 }
 
 fn map_told(alloc: Global, map: &ConfigMap<Weighted>) -> Result<Reply, Refusal> {
+    let configs = configs_of(alloc, map)?;
+    map_reply(alloc, map.floor(), configs.as_slice())
+}
+
+// The configurations of a map that weren't removed.
+fn configs_of(alloc: Global, map: &ConfigMap<Weighted>) -> Result<Vec<Weighted>, Refusal> {
     let mut configs = Vec::new(alloc);
     for place in 0..map.places().len() {
         if let Some(config) = map.places().get(place) {
             configs.push(config)?;
         }
     }
-    map_reply(alloc, map.floor(), configs.as_slice())
+    Ok(configs)
 }

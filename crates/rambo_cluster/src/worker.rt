@@ -27,6 +27,9 @@ const LOOKS: u64 = 100;
 
 const SHORT: u64 = 60;
 
+// How many milliseconds pass before it looks again whether calls can be made that were held back.
+const HELD: u64 = 5;
+
 /// A client worker.
 #[derive(Drop)]
 pub(crate) struct Worker<'h, J: Terms<Weighted>, G: Gate, R> {
@@ -103,6 +106,9 @@ impl<'h, J: Terms<Weighted>, G: Gate, R: Waits + Clock> Worker<'h, J, G, R> {
     fn run(&mut self) -> Flow {
         let rt = self.session.rt;
         for _ in rt.forever() {
+            if self.session.hub.has_failed() {
+                return Flow::Waits;
+            }
             if self.session.hub.is_closing() {
                 self.write_replies();
                 return Flow::Waits;
@@ -135,6 +141,7 @@ impl<'h, J: Terms<Weighted>, G: Gate, R: Waits + Clock> Worker<'h, J, G, R> {
             return;
         }
         self.rounds = 0;
+        self.session.look_at_hand();
         self.write_replies();
         if self.is_busy() {
             self.look();
@@ -169,13 +176,26 @@ impl<'h, J: Terms<Weighted>, G: Gate, R: Waits + Clock> Worker<'h, J, G, R> {
         false
     }
 
+    // How long it sleeps at most: until a connection is to be given up, and only for a while where calls are held back.
+    fn patience(&self) -> Option<Duration> {
+        let patience = self.leaving.patience(self.session.hub.now(self.session.rt));
+        if !self.session.is_held_back() {
+            return patience;
+        }
+        let while_held = Duration::from_millis(HELD);
+        match patience {
+            Some(patience) if patience < while_held => Some(patience),
+            _ => Some(while_held),
+        }
+    }
+
     // Sleeps until there is an event, or a connection is to be given up. After a short sleep it looks for events some
     // times before the next one.
     fn sleep(&mut self) {
         let rt = self.session.rt;
         let may_sleep = self.station.alarm.lie_down();
         let timeout = if may_sleep && !self.is_busy() {
-            self.leaving.patience(self.session.hub.now(rt))
+            self.patience()
         } else {
             Some(Duration::ZERO)
         };

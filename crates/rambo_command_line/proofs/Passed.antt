@@ -7,14 +7,16 @@ use Rattle.std.specs.Str.{bytes_eq, chars}
 use Rattle.std.proofs.lemmas.Slice.Eq.{bytes_eq-Decides}
 use Rattle.clap.specs.Lexer.{long_of, short_of}
 use Rattle.clap.specs.Kinds.{Kinds, or_else, value_kinds, values_kinds}
-use Rattle.clap.specs.Walk.{Held, Outcome, Row, Rule, Step, Text, Waiting, Walk, action_of, after_flag, after_step, arg_by_id, arg_by_index, arg_by_long, arg_by_short, at_row, attached_value, bundle_met, bundle_step, default_rows, done, finished, has_row, idle, is_pending, long_met, long_or_other, more_values, next, nothing_held, option, option_met, plain, plain_word, positional, positional_held, reacted, reading_by, refused, rows_after, settled, short_met, short_or_plain, subcommand, subcommand_met, subcommand_or_other, takes_several, takes_values, to_positional, trailing, used, used_as, value, values_or_missing, waits, walk, walk_from, walked, with_default, word_met}
+use Rattle.clap.specs.Walk.{Held, Outcome, Row, Rule, Step, Text, Waiting, Walk, action_of, after_flag, after_step, arg_by_id, arg_by_index, arg_by_long, arg_by_short, at_row, attached_value, bundle_met, bundle_step, default_rows, done, finished, has_row, idle, is_pending, long_met, long_or_other, more_values, next, nothing_held, option, option_met, plain, plain_word, positional, positional_held, reacted, reading_by, refused, rows_after, settled, short_met, short_or_plain, subcommand, subcommand_met, subcommand_or_other, takes_several, takes_values, to_positional, trailing, used, used_as, value, values_or_missing, waits, walk, walk_from, walked, with_default, with_values, without, word_met}
 use Rattle.clap.specs.Simple.{App, Shape, entered, label_of, rows_at}
 use Rattle.clap.specs.Facts.{parser_of_value}
 use Rattle.clap.specs.Values.{read_as}
 use Rattle.clap.specs.Walk.{answers_to, first_of, one_of, row_text, walked_from}
 use Rattle.clap.specs.Faults.{action_fault, bundle_fault, bundle_step_fault, check_fault, defaults_fault, entered_fault, flag_word_fault, flags_fault, level_fault, long_fault, option_fault, other_fault, positional_fault, react_fault, settle_fault, short_fault, step_fault, turn_fault, use_fault, values_fault, walk_fault, word_fault}
-use Rattle.clap.specs.declared.builder.action.ArgAction.TheVariants.{Set, Help}
-use Rattle.clap.specs.declared.parser.matches.ValueSource.TheVariants.{CommandLine}
+use Rattle.clap.specs.declared.builder.action.ArgAction.TheVariants.{Set, SetTrue, Help}
+use Rattle.clap.specs.declared.builder.action.ArgAction.{ArgAction}
+use Rattle.clap.specs.declared.parser.matches.ValueSource.{ValueSource}
+use Rattle.clap.specs.declared.parser.matches.ValueSource.TheVariants.{CommandLine, DefaultValue}
 use Rattle.rambo_command_line.proofs.NoKinds.{first_none, second_none, some_kind}
 
 -- ---- rows
@@ -23,20 +25,25 @@ use Rattle.rambo_command_line.proofs.NoKinds.{first_none, second_none, some_kind
 abbrev pub Passes : Rule → Row → Type 0
 Passes a r = (values_fault a r.values ≡ []) × (r.reading ≡ reading_by a)
 
+-- they have where the rule is that of an option with a value
 abbrev pub Fits : List Rule → Row → Type 0
-Fits c r = IfSome (arg_by_id c r.id) (λ a. Passes a r)
+Fits c r = IfSome (arg_by_id c r.id) (λ a. action_of a ≡ Set → Passes a r)
 
 abbrev RowsFit : List Rule → List Row → Type 0
 RowsFit c = AllByRecursion (Fits c)
 
--- an option with a value, or a request for help, that its id names
-abbrev pub IsOption : List Rule → Rule → Type 0
-IsOption c a = (arg_by_id c a.id ≡ Some a) × (action_of a ≡ Set) ⊎ (action_of a ≡ Help)
+-- a flag that its id names
+abbrev pub IsNamedFlag : List Rule → Rule → Type 0
+IsNamedFlag c a = (arg_by_id c a.id ≡ Some a) × (action_of a ≡ SetTrue)
 
--- a list of these, of which none has values of its own
+-- an option with a value that its id names, such a flag, or a request for help
+abbrev pub IsOption : List Rule → Rule → Type 0
+IsOption c a = (arg_by_id c a.id ≡ Some a) × (action_of a ≡ Set) ⊎ IsNamedFlag c a ⊎ (action_of a ≡ Help)
+
+-- a list of these, of which the flags alone have values of their own
 pub record AreOptions (c : List Rule) : Type 0 where
   pub options : AllByRecursion (IsOption c) c
-  pub no_defaults : AllByRecursion (λ a. a.defaults ≡ []) c
+  pub defaults : AllByRecursion (λ a. (a.defaults ≡ []) ⊎ IsNamedFlag c a) c
 
 found_one : {X : Type 0} (P : X → Type 0) (p : X → Bool) (xs : List X) → AllByRecursion P xs → IfSome (find p xs) P
 found_one P p [] all = tt
@@ -65,19 +72,36 @@ at_row_fits c id change missing (r ∷ rs) changes new all = at (bytes_eq r.id i
     at true is rest = both (change r) rs (changes r is all.0) all.1
     at false is rest = (all.0, rest)
 
+abbrev is_set : ArgAction → Bool
+is_set Set = true
+is_set _ = false
+
 module _ (c : List Rule) where
+  -- a row of a flag has no parser to pass
+  flag_row : (a : Rule) (r : Row) → IsNamedFlag c a → r.id ≡ a.id → Fits c r
+  flag_row a r is same =
+      subst (λ o. IfSome o (λ b. action_of b ≡ Set → Passes b r)) (sym (ap (arg_by_id c) same ∙ is.0))
+      (λ set. absurd (true≢false (sym (ap is_set set) ∙ ap is_set is.1)))
+
+  flag_values : (a : Rule) (source : ValueSource) (values : List Text) (rows : List Row) → IsNamedFlag c a → RowsFit c rows
+      → RowsFit c (with_values a.id (reading_by a) source values rows)
+  flag_values a source values rows is all =
+      at_row_fits c a.id (more_values source values) _ _
+      (λ r same fit. (flag_row a (record r { values = r.values ++ values }) is ((bytes_eq-Decides r.id a.id).0 same), tt))
+      (flag_row a (record { id = a.id; values = values; count = None; source = None; reading = reading_by a }) is refl, tt) all
+
   -- an option is used, with values that pass
-  set_fits : (a : Rule) (values : List Text) (rows : List Row) → arg_by_id c a.id ≡ Some a → values_fault a values ≡ [] → RowsFit c rows
+  set_fits : (a : Rule) (values : List Text) (rows : List Row) → arg_by_id c a.id ≡ Some a → action_of a ≡ Set → values_fault a values ≡ [] → RowsFit c rows
       → RowsFit c (used_as Set a.id (reading_by a) values rows)
-  set_fits a values rows own pass all =
-      at_row_fits c a.id (more_values CommandLine values) _ _ more (rw own (pass, refl), tt)
+  set_fits a values rows own set pass all =
+      at_row_fits c a.id (more_values CommandLine values) _ _ more (rw own (λ _. (pass, refl)), tt)
       (at_row_fits c a.id (λ r. []) [] rows (λ r is fit. tt) tt all)
     where
       more : (r : Row) → bytes_eq r.id a.id ≡ true → Fits c r → RowsFit c (more_values CommandLine values r)
       more r is fit =
           let here : arg_by_id c r.id ≡ Some a = ap (arg_by_id c) ((bytes_eq-Decides r.id a.id).0 is) ∙ own in
-          let old : Passes a r = subst (λ o. IfSome o (λ b. Passes b r)) here fit in
-          (rw here (joined a.ignore_case _ r.values values old.0 pass, old.1), tt)
+          let old : Passes a r = subst (λ o. IfSome o (λ b. action_of b ≡ Set → Passes b r)) here fit set in
+          (rw here (λ _. (joined a.ignore_case _ r.values values old.0 pass, old.1)), tt)
 
   use_fits : (again : Bool) (a : Rule) (values : List Text) (rows : List Row) → IsOption c a → use_fault again a values rows ≡ [] → RowsFit c rows
       → RowsFit c (used a values rows)
@@ -85,8 +109,11 @@ module _ (c : List Rule) where
       let set : action_fault Set again a (values_or_missing a values) rows ≡ [] =
       subst (λ x. action_fault x again a (values_or_missing a values) rows ≡ []) is.1 (second_none _ _ fine) in
       subst (λ x. RowsFit c (used_as x a.id (reading_by a) (values_or_missing a values) rows)) (sym is.1)
-      (set_fits a (values_or_missing a values) rows is.0 (second_none _ _ set) all)
-  use_fits again a values rows (inr is) fine all =
+      (set_fits a (values_or_missing a values) rows is.0 is.1 (second_none _ _ set) all)
+  use_fits again a values rows (inr (inl is)) fine all =
+      subst (λ x. RowsFit c (used_as x a.id (reading_by a) (values_or_missing a values) rows)) (sym is.1)
+      (flag_values a CommandLine (values_or_missing a values) (without a.id rows) is (at_row_fits c a.id (λ r. []) [] rows (λ r same fit. tt) tt all))
+  use_fits again a values rows (inr (inr is)) fine all =
       absurd (some_kind _ _ (subst (λ x. action_fault x again a (values_or_missing a values) rows ≡ []) is (second_none _ _ fine)))
 
   module _ (again : Bool) (are : AreOptions c) where
@@ -230,14 +257,23 @@ module _ (s : Shape) (are : AreOptions s.rules) where
   walk_fits [] w fine all = all
   walk_fits (word ∷ words) w fine all = walk_fits words (walked s.rules [] w word) (second_none _ _ fine) (turn_fits w word (first_none _ _ fine) all)
 
-  -- no option has a value of its own, so that none joins behind the walk
-  as_walked : (rules : List Rule) (rows : List Row) → AllByRecursion (λ a. a.defaults ≡ []) rules → fold with_default rows rules ≡ rows
-  as_walked [] rows none = refl
-  as_walked (a ∷ rules) rows none = ap (λ rs. fold with_default rs rules) (one (has_row a.id rows)) ∙ as_walked rules rows none.1
+  -- behind the walk only the values of flags join
+  defaults_fit : (rules : List Rule) (rows : List Row) → AllByRecursion (λ a. (a.defaults ≡ []) ⊎ IsNamedFlag s.rules a) rules → RowsFit s.rules rows
+      → RowsFit s.rules (fold with_default rows rules)
+  defaults_fit [] rows each all = all
+  defaults_fit (a ∷ rules) rows each all = defaults_fit rules (with_default rows a) each.1 (one (has_row a.id rows))
     where
-      one : (b : Bool) → cond b rows (default_rows a.id (reading_by a) a.defaults rows) ≡ rows
-      one true = refl
-      one false = ap (λ vs. default_rows a.id (reading_by a) vs rows) none.0
+      values : (vs : List Text) → IsNamedFlag s.rules a → RowsFit s.rules (default_rows a.id (reading_by a) vs rows)
+      values [] is = all
+      values (v ∷ vs) is = flag_values s.rules a DefaultValue (v ∷ vs) rows is all
+
+      joining : (a.defaults ≡ []) ⊎ IsNamedFlag s.rules a → RowsFit s.rules (default_rows a.id (reading_by a) a.defaults rows)
+      joining (inl none) = subst (λ vs. RowsFit s.rules (default_rows a.id (reading_by a) vs rows)) (sym none) all
+      joining (inr is) = values a.defaults is
+
+      one : (b : Bool) → RowsFit s.rules (cond b rows (default_rows a.id (reading_by a) a.defaults rows))
+      one true = all
+      one false = joining each.0
 
   level_fits : (words : List Text) → level_fault s [] nothing_held words false [] ≡ [] → RowsFit s.rules (rows_after s.rules [] words)
   level_fits words fine =
@@ -246,15 +282,15 @@ module _ (s : Shape) (are : AreOptions s.rules) where
       let after : or_else (settle_fault s.rules s.args_override_self end) (or_else (defaults_fault (settled s.rules end).rows s.rules) (check_fault s (finished s.rules end) false)) ≡ [] =
       second_none (walk_fault s [] (walk_from nothing_held) words) _ fine in
       let settle_fine : settle_fault s.rules s.args_override_self end ≡ [] = first_none _ _ after in
-      subst (RowsFit s.rules) (sym (as_walked s.rules (settled s.rules end).rows are.no_defaults))
+      defaults_fit s.rules (settled s.rules end).rows are.defaults
       (settled_fits s.rules s.args_override_self are end settle_fine (walk_fits words (walk_from nothing_held) walked_fine tt))
 
 -- ---- what is read of an option
 
 -- where each row passes the parser of its rule, so does what is read of an option
-pub read_passes : (c : List Rule) (rows : List Row) (a : Rule) (word : Text) → AllByRecursion (Fits c) rows → arg_by_id c a.id ≡ Some a → first_of a.id rows ≡ Some word
+pub read_passes : (c : List Rule) (rows : List Row) (a : Rule) (word : Text) → AllByRecursion (Fits c) rows → arg_by_id c a.id ≡ Some a → action_of a ≡ Set → first_of a.id rows ≡ Some word
     → (value_kinds a.ignore_case (parser_of_value a.parser) word ≡ []) × (one_of a.id rows ≡ Some (read_as (reading_by a) word))
-read_passes c rows a word all own first = at (find (λ r. bytes_eq r.id a.id) rows) (named_row rows) (found_one (Fits c) (λ r. bytes_eq r.id a.id) rows all) first
+read_passes c rows a word all own set first = at (find (λ r. bytes_eq r.id a.id) rows) (named_row rows) (found_one (Fits c) (λ r. bytes_eq r.id a.id) rows all) first
   where
     named_row : (rs : List Row) → IfSome (find (λ r. bytes_eq r.id a.id) rs) (λ r. bytes_eq r.id a.id ≡ true)
     named_row [] = tt
@@ -274,7 +310,7 @@ read_passes c rows a word all own first = at (find (λ r. bytes_eq r.id a.id) ro
     at None is fit first = absurd (true≢false (ap (λ (o : Option Text). option_map_or (λ t. false) o true) first))
     at (Some r) is fit first =
         let here : arg_by_id c r.id ≡ Some a = ap (arg_by_id c) ((bytes_eq-Decides r.id a.id).0 is) ∙ own in
-        let pass : Passes a r = subst (λ o. IfSome o (λ b. Passes b r)) here fit in
+        let pass : Passes a r = subst (λ o. IfSome o (λ b. action_of b ≡ Set → Passes b r)) here fit set in
         (head r.values first pass.0, ap (option_map (read_as r.reading)) first ∙ ap (λ how. Some (read_as how word)) pass.1)
 
 -- what a command holds that the words enter

@@ -8,16 +8,17 @@ use Rattle.std.specs.Str.Parse.{IsNumeral, without_leading_plus}
 use Rattle.clap.specs.Kinds.{Kinds, value_kinds}
 use Rattle.clap.specs.Matches.{found_of, one_text}
 use Rattle.clap.specs.Values.{Accepts}
-use Rattle.clap.specs.Walk.{Row, Rule, Text, arg_by_id, first_of, one_of, row_text, rows_of, stop_after}
+use Rattle.clap.specs.Walk.{Row, Rule, Text, action_of, arg_by_id, first_of, one_of, row_text, rows_of, stop_after}
 use Rattle.clap.specs.Simple.{argument_words, built, built_leaf, inherited, marked_built, names_of, new_rule, subcommand_of, with_leaf_noted}
 use Rattle.clap.specs.Faults.{fault_of}
 use Rattle.clap.proofs.ValueTestLemmas.{accepts-Accepts}
 use Rattle.clap.proofs.WalkLemmas.{one_text-rows}
+use Rattle.clap.specs.declared.builder.action.ArgAction.TheVariants.{Set}
 use Rattle.clap.specs.declared.builder.value_parser.ValueParser.TheVariants.{Unsigned}
 use Rattle.clap.specs.declared.parser.matches.ArgMatches.{ArgMatches}
 use Rattle.rambo_command_line.proofs.NoKinds.{first_none, second_none, some_kind}
 use Rattle.rambo_command_line.proofs.Passed.{AreOptions, Fits, entered_fits, read_passes}
-use Rattle.rambo_command_line.specs.Lines.{IsNumberBehind, number_of, rambo, serve_name, with_options, word_behind}
+use Rattle.rambo_command_line.specs.Lines.{IsNumberBehind, flag_told, number_of, rambo, serve_name, with_options, word_behind}
 
 -- the options of `serve` as clap has built them
 abbrev pub options : List Rule
@@ -25,8 +26,8 @@ options = (built_leaf (inherited (with_leaf_noted (marked_built rambo.top)) with
 
 are_options : AreOptions options
 are_options = record {
-  options = (inl (refl, refl), (inl (refl, refl), (inl (refl, refl), (inl (refl, refl), (inl (refl, refl), (inl (refl, refl), (inl (refl, refl), (inr refl, tt))))))));
-  no_defaults = (refl, (refl, (refl, (refl, (refl, (refl, (refl, (refl, tt))))))));
+  options = (inl (refl, refl), (inl (refl, refl), (inl (refl, refl), (inl (refl, refl), (inl (refl, refl), (inl (refl, refl), (inl (refl, refl), (inr (inl (refl, refl)), (inr (inl (refl, refl)), (inr (inr refl), tt))))))))));
+  defaults = (inl refl, (inl refl, (inl refl, (inl refl, (inl refl, (inl refl, (inl refl, (inr (refl, refl), (inr (refl, refl), (inl refl, tt))))))))));
 }
 
 other_name : (name : Text) → bytes_eq name serve_name ≡ false → name ≡ serve_name → ⊥
@@ -49,6 +50,7 @@ fits_serve words rows fine is =
 -- an option of a number in a range
 pub record IsNumberOption (option : Text) (least most : ℕ) (a : Rule) : Type 0 where
   pub is : arg_by_id options a.id ≡ Some a
+  pub action : action_of a ≡ Set
   pub id : a.id ≡ option
   pub parser : a.parser ≡ Some (Unsigned least most)
   pub case : a.ignore_case ≡ false
@@ -57,9 +59,9 @@ pub record IsNumberOption (option : Text) (least most : ℕ) (a : Rule) : Type 0
 abbrev pub option_at : ℕ → Rule
 option_at k = slice_index_or options k (new_rule [])
 
-pub number_option : (option : Text) (least most k : ℕ) → arg_by_id options (option_at k).id ≡ Some (option_at k) → (option_at k).id ≡ option
+pub number_option : (option : Text) (least most k : ℕ) → arg_by_id options (option_at k).id ≡ Some (option_at k) → action_of (option_at k) ≡ Set → (option_at k).id ≡ option
     → (option_at k).parser ≡ Some (Unsigned least most) → (option_at k).ignore_case ≡ false → IsNumberOption option least most (option_at k)
-number_option option least most k is id parser case = record { is = is; id = id; parser = parser; case = case }
+number_option option least most k is action id parser case = record { is = is; action = action; id = id; parser = parser; case = case }
 
 none_read : (id : Text) (rows : List Row) → first_of id rows ≡ None → one_of id rows ≡ None
 none_read id rows none = at (find (λ r. bytes_eq r.id id) rows) none
@@ -77,6 +79,10 @@ module _ (words : List Text) (sub : ArgMatches) (fine : fault_of rambo words ≡
   pub behind : (option : Text) → word_behind option words ≡ first_of option (rows_of (found_of sub))
   behind option = ap (option_and_then (λ p. first_of option p.1)) is
 
+  -- what clap tells of a flag
+  pub flag_is : (option : Text) → flag_told option words ≡ one_text (found_of sub) option
+  flag_is option = ap (option_and_then (λ p. one_of option p.1)) is ∙ sym (one_text-rows (found_of sub) option)
+
   pub told : (option : Text) (other least most limit n : ℕ) (a : Rule) → IsNumberOption option least most a → most < limit → least ≤ other → other ≤ most
       → (one_text (found_of sub) option ≡ None → n ≡ other)
       → ((word : Text) → one_text (found_of sub) option ≡ Some word → IsNumeral 10 (without_leading_plus word) → number_of word < limit → n ≡ number_of word)
@@ -92,7 +98,7 @@ module _ (words : List Text) (sub : ArgMatches) (fine : fault_of rambo words ≡
             to = subst (λ k. k ≤ most) (sym same) to;
           }
       at (Some word) first =
-          let pass = read_passes options (rows_of (found_of sub)) a word (fits_serve words _ fine is) has.is (ap (λ id. first_of id (rows_of (found_of sub))) has.id ∙ first) in
+          let pass = read_passes options (rows_of (found_of sub)) a word (fits_serve words _ fine is) has.is has.action (ap (λ id. first_of id (rows_of (found_of sub))) has.id ∙ first) in
           let kinds : value_kinds false (Unsigned least most) word ≡ [] =
           subst (λ c. value_kinds c (Unsigned least most) word ≡ []) has.case (subst (λ p. value_kinds a.ignore_case (Rattle.clap.specs.Facts.parser_of_value p) word ≡ []) has.parser pass.0) in
           let within : Accepts false (Unsigned least most) word = accepts-Accepts false (Unsigned least most) word (accepted _ _ kinds (some_kind _ _)) in

@@ -1,5 +1,5 @@
 -- Command lines
-use Rattle.std.specs.Prelude.{◌≡◌, ◌≢◌, ◌⊎◌, ◌≤◌, ℕ, Bool, true, false, List, [], ◌∷◌, Option, None, Some, option_map, codes}
+use Rattle.std.specs.Prelude.{◌≡◌, ◌≢◌, ◌⊎◌, ◌≤◌, ℕ, Bool, true, false, List, [], ◌∷◌, Option, None, Some, is_some, option_map, codes}
 use Rattle.std.specs.Option.{option_and_then, option_map_or, unwrap_or}
 use Rattle.std.specs.Str.Parse.{digits_value, without_leading_plus}
 use Rattle.clap.specs.declared.builder.action.ArgAction.TheVariants.{Set, SetTrue}
@@ -74,10 +74,13 @@ with_network =
     with_rule (with_rule with_clients (number_rule (codes "connections") 1 1000000)) (number_rule (codes "steps") 1 1000000)
 
 -- and with those about its letters
+abbrev pub with_letters : App
+with_letters =
+    with_rule (with_rule with_network (number_rule (codes "lose") 0 18446744073709551615)) (number_rule (codes "twice") 0 18446744073709551615)
+
+-- and with the flags about its trace
 abbrev pub with_options : Shape
-with_options =
-    (with_rule (with_rule with_network (number_rule (codes "lose") 0 18446744073709551615))
-    (number_rule (codes "twice") 0 18446744073709551615)).top
+with_options = (with_rule (with_rule with_letters (flag_rule (codes "endless"))) (flag_rule (codes "no-trace"))).top
 
 -- a command that has these, and no argument that others share
 abbrev pub IsServe : Command → Type 0
@@ -134,6 +137,9 @@ pub record IsServing (words : List (List ℕ)) (s : Serving) : Type 0 where
   pub steps : IsNumberBehind (codes "steps") 100000 1 1000000 words s.steps
   pub lose : IsNumberBehind (codes "lose") 0 0 18446744073709551615 words s.lose
   pub twice : IsNumberBehind (codes "twice") 0 0 18446744073709551615 words s.twice
+  pub endless : IsFlag (codes "endless") words s.endless
+  pub untraced : IsFlag (codes "no-trace") words s.untraced
+  pub counted : s.counted ≡ is_some (word_behind (codes "steps") words)
 
 -- words that ask for a task by its name alone, which the mark of the last option may follow
 abbrev pub AsksByName : List (List ℕ) → List ℕ → Type 0

@@ -3,6 +3,7 @@ ghost use Rattle.std.specs.Prelude.{◌≡◌, ◌<◌, ◌≤◌, ◌^◌, ℕ,
 ghost use Rattle.std.specs.Str.Parse.{IsNumeral, without_leading_plus};
 ghost use Rattle.clap.specs.declared.builder.command.Command.TheViews.{out-Command as fields_of};
 ghost use Rattle.clap.specs.Words.{app_of, found_of, one_text, rows_of, rule_of, shape_of, subcommand_of, with_rule};
+ghost use Rattle.rambo_command_line.specs.Clashes.{clash_of};
 ghost use Rattle.rambo_command_line.specs.Lines.{
   AsksServe,
   IsServe,
@@ -12,10 +13,12 @@ ghost use Rattle.rambo_command_line.specs.Lines.{
   rambo,
   serve_name,
   with_clients,
+  with_letters,
   with_network,
 };
 
-use crate::parts::{bare_command, founders_of, founders_option};
+use crate::clash::Clash;
+use crate::parts::{bare_command, flag, founders_of, founders_option};
 use clap::builder::ValueParser;
 use clap::{Arg, ArgAction, ArgMatches, Command};
 use rambo_names::Weighted;
@@ -28,10 +31,11 @@ commands, as redis clients do. Keys have at most 256 bytes, values 4,096.
   RAMBO USE NAME       this connection asks this node from now on; at first it
                        asks the lowest founder that wasn't stopped
   RAMBO JOIN NAME SET  this node begins to join, by way of these contacts
-  RAMBO RECON CONF     the connection's node begins to have this chosen as next
-                       members
+  RAMBO RECON CONF     the connection's node begins to have this chosen as
+                       next members
   RAMBO COLLECT        it begins to remove its oldest set of members
   RAMBO CONFIG         replies how many sets it has removed, and those it has
+  RAMBO INFO           replies counts: of steps, letters, calls, connections
   RAMBO STOP NAME      this node stops for good
   RAMBO SHUTDOWN       the server ends
 
@@ -39,11 +43,16 @@ A NAME is a node, 1 to 64. A SET is names in ascending order, separated by
 commas. A CONF is such names with weights, each after a colon, from 2 to 15; a
 name without one weighs 1.
 
-What happens is recorded in a book of steps. The default 100,000 steps hold some
-9,000 gets and sets; once it is full, each further step is refused with 23. Only
-after RAMBO SHUTDOWN is the book written to standard output, as a script: replay
-gives the answers that the clients got. A signal ends the server at once, and
-the trace is lost.
+What happens is recorded in a book of steps. The default 100,000 steps hold
+some 9,000 gets and sets; once it is full, each further step is refused with
+23. After RAMBO SHUTDOWN the book is written to standard output, as a script:
+replay gives the answers that the clients got. A signal ends the server at
+once, and the trace is lost.
+
+With --endless there is no end of the steps. The trace is written to standard
+output as they are done, at most some hundredths of a second later; where it
+can't be written, the server ends with fault write. With --no-trace nothing is
+written.
 
 A connection beyond --connections is refused. RAMBO SHUTDOWN is heard on each
 other one.
@@ -61,7 +70,8 @@ Exit statuses:
   0  done
   1  a socket or stream failed or memory ran out (fault socket, fault write,
      fault memory)
-  2  the command line is faulty, or the founders are invalid (bad founders)";
+  2  the command line is faulty, options don't go together (bad options), or
+     the founders are invalid (bad founders)";
 
 /// The founders of a server where none are given.
 const FOUNDERS: &str = "1,2,3";
@@ -83,6 +93,27 @@ pub struct Serving {
     pub lose: u64,
     /// A letter that isn't lost comes twice where this divides its number; 0 doubles none.
     pub twice: u64,
+    /// Whether steps are taken without end.
+    pub endless: bool,
+    /// Whether no trace is written.
+    pub untraced: bool,
+    /// Whether `--steps` was given.
+    pub counted: bool,
+}
+
+impl Serving {
+    /// Why its options don't go together, where they don't.
+    pub fn clash(&self) -> Option<Clash>
+        ensures { result ≡ clash_of self.now }
+    {
+        if self.endless && self.counted {
+            return Some(Clash::Steps);
+        }
+        if self.untraced && !self.endless {
+            return Some(Clash::NoTrace);
+        }
+        None
+    }
 }
 
 /// What the words after `serve` ask for, after a parse without a fault.
@@ -99,6 +130,9 @@ pub(crate) fn serving_in(matches: &ArgMatches<'_>) -> Serving
         steps: number_in(matches, "steps", 100_000),
         lose: number_in(matches, "lose", 0),
         twice: number_in(matches, "twice", 0),
+        endless: matches.get_flag("endless"),
+        untraced: matches.get_flag("no-trace"),
+        counted: matches.get_str("steps").is_some(),
     }
 }
 
@@ -123,6 +157,20 @@ fn number_in(matches: &ArgMatches<'_>, option: &str, default: u64) -> u64
 /// The command that serves many clients.
 pub(crate) fn serve_command<'a>(alloc: Global) -> Result<Command<'a>, AllocError>
     ensures { IfOk result IsServe }
+{
+    letters_command(alloc)?
+        .arg(flag(
+            alloc,
+            "endless",
+            "Takes steps without end, and writes the trace as they are done; excludes --steps",
+        ))?
+        .arg(flag(alloc, "no-trace", "Writes no trace; needs --endless"))
+}
+
+// The same, still without the flags about its trace.
+fn letters_command<'a>(alloc: Global) -> Result<Command<'a>, AllocError>
+    ensures app { IfOk result (λ c. app_of c ≡ with_letters) }
+    ensures local { IfOk result (λ c. (fields_of c).has_globals ≡ false) }
 {
     network_command(alloc)?
         .arg(number_option(

@@ -11,7 +11,7 @@ use Rattle.rambo_names.proofs.ConfOnce.{one_conf_is, one_set_is}
 use Rattle.rambo_commands.specs.declared.administration.Action.{Action}
 use Rattle.rambo_commands.specs.declared.administration.Action.TheVariants as action
 use Rattle.rambo_commands.specs.declared.server_request.ServerRequest.{ServerRequest}
-use Rattle.rambo_commands.specs.declared.server_request.ServerRequest.TheVariants.{Common, Join, Recon, Use, Stop, Collect, Config, Shutdown}
+use Rattle.rambo_commands.specs.declared.server_request.ServerRequest.TheVariants.{Common, Join, Recon, Use, Stop, Collect, Config, Info, Shutdown}
 use Rattle.rambo_commands.specs.Administration.{IsNumber, IsSet, IsOfConf, IsNamed, ActsOnNode, Joins, Changes, ActsAlone, Acts, ActsIfKnown, Administers, action_of}
 use Rattle.rambo_commands.specs.Requests.{request_of}
 use Rattle.rambo_commands.specs.Laws.{AsksOnce}
@@ -74,6 +74,7 @@ one_act action.Recon words a b x y = one_recon words a b x y
 one_act action.Collect words a b x y = one_alone Collect words a b x y
 one_act action.Stop words a b x y = one_on_node Stop words a b x y
 one_act action.Config words a b x y = one_alone Config words a b x y
+one_act action.Info words a b x y = one_alone Info words a b x y
 one_act action.Shutdown words a b x y = one_alone Shutdown words a b x y
 
 one_known : (act : Option Action) (words : List (List ℕ)) (a b : ServerRequest) → ActsIfKnown act words a → ActsIfKnown act words b → a ≡ b

@@ -12,7 +12,7 @@ use Rattle.rambo_commands.specs.declared.administration.Action.TheVariants as ac
 use Rattle.rambo_commands.specs.declared.mistake.Mistake.{Mistake}
 use Rattle.rambo_commands.specs.declared.mistake.Mistake.TheVariants.{UnknownCommand, WrongCount, BadArgument, Refused}
 use Rattle.rambo_commands.specs.declared.server_request.ServerRequest.{ServerRequest}
-use Rattle.rambo_commands.specs.declared.server_request.ServerRequest.TheVariants.{Common, Use, Join, Recon, Collect, Stop, Config, Shutdown}
+use Rattle.rambo_commands.specs.declared.server_request.ServerRequest.TheVariants.{Common, Use, Join, Recon, Collect, Stop, Config, Info, Shutdown}
 use Rattle.rambo_commands.specs.Requests.{fails, request_of}
 
 -- a command that is answered by an error alone
@@ -80,7 +80,8 @@ action_of word =
     else (if str_eq_ignore_ascii_case word (codes "COLLECT") then Some action.Collect
     else (if str_eq_ignore_ascii_case word (codes "STOP") then Some action.Stop
     else (if str_eq_ignore_ascii_case word (codes "CONFIG") then Some action.Config
-    else (if str_eq_ignore_ascii_case word (codes "SHUTDOWN") then Some action.Shutdown else None))))))
+    else (if str_eq_ignore_ascii_case word (codes "INFO") then Some action.Info
+    else (if str_eq_ignore_ascii_case word (codes "SHUTDOWN") then Some action.Shutdown else None)))))))
 
 abbrev pub Acts : Action → List (List ℕ) → ServerRequest → Type 0
 Acts action.Use words asked = ActsOnNode Use words asked
@@ -89,6 +90,7 @@ Acts action.Recon words asked = Changes words asked
 Acts action.Collect words asked = ActsAlone Collect words asked
 Acts action.Stop words asked = ActsOnNode Stop words asked
 Acts action.Config words asked = ActsAlone Config words asked
+Acts action.Info words asked = ActsAlone Info words asked
 Acts action.Shutdown words asked = ActsAlone Shutdown words asked
 
 abbrev pub ActsIfKnown : Option Action → List (List ℕ) → ServerRequest → Type 0

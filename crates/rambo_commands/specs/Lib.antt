@@ -1,5 +1,6 @@
-pub mod Mistakes
-pub mod Requests
 pub mod Administration
-pub mod Replies
 pub mod Laws
+pub mod Mistakes
+pub mod Replies
+pub mod Reports
+pub mod Requests

@@ -18,6 +18,7 @@ enum Action {
     Collect,
     Stop,
     Config,
+    Info,
     Shutdown,
 }
 
@@ -37,6 +38,8 @@ fn action_of(word: &[u8]) -> Option<Action>
         Some(Action::Stop)
     } else if is_word(word, b"CONFIG") {
         Some(Action::Config)
+    } else if is_word(word, b"INFO") {
+        Some(Action::Info)
     } else if is_word(word, b"SHUTDOWN") {
         Some(Action::Shutdown)
     } else {
@@ -68,6 +71,7 @@ fn acting(action: Action, arguments: &[Bytes]) -> Result<ServerRequest, Mistake>
         Action::Collect => alone(ServerRequest::Collect, arguments),
         Action::Stop => stopping(arguments),
         Action::Config => alone(ServerRequest::Config, arguments),
+        Action::Info => alone(ServerRequest::Info, arguments),
         Action::Shutdown => alone(ServerRequest::Shutdown, arguments),
     }
 }

@@ -63,8 +63,8 @@ pub fn map_reply(alloc: Global, floor: u64, configs: &[Weighted]) -> Result<Repl
     Ok(Reply::Bulk(Bytes::from_vec(text)?))
 }
 
-// Appends each configuration after a space, or after a refusal some bytes.
-fn append_configs(configs: &[Weighted], text: &mut Vec<u8>) -> Result<(), Refusal>
+/// Appends each configuration after a space, or after a refusal some bytes.
+pub(crate) fn append_configs(configs: &[Weighted], text: &mut Vec<u8>) -> Result<(), Refusal>
     ensures ok { OnOk result (text.new.items ≡ text.old.items ++ more_words (map conf_text configs.now)) }
     ensures refused { IfErr result (λ r. r ≡ Refusal.OutOfMemory) }
 {

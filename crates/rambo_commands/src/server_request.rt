@@ -27,6 +27,8 @@ pub enum ServerRequest {
     Stop(Name),
     /// The map of the client's node.
     Config,
+    /// A report on the server.
+    Info,
     /// That the server ends.
     Shutdown,
 }

@@ -14,7 +14,7 @@ use Rattle.rambo_commands.specs.Administration.{Asks}
 use Rattle.rambo_commands.specs.Replies.{refusal_reply}
 use Rattle.rambo_commands.specs.declared.request.Request.TheVariants.{Says, Does}
 use Rattle.rambo_commands.specs.declared.server_request.ServerRequest.{ServerRequest}
-use Rattle.rambo_commands.specs.declared.server_request.ServerRequest.TheVariants.{Common, Use, Join, Recon, Collect, Stop, Config, Shutdown}
+use Rattle.rambo_commands.specs.declared.server_request.ServerRequest.TheVariants.{Common, Use, Join, Recon, Collect, Stop, Config, Info, Shutdown}
 use Rattle.rambo_commands.proofs.OneRequest.{asks_once}
 use Rattle.rambo_connection.specs.Incoming.{Feeds}
 use Rattle.rambo_connection.specs.Connections.{ConnectionState, fresh, replied, owing, Tells, no_memory, next_taken, IsFree, own_reply, settled, Settles, AsksServer, faulted}
@@ -119,6 +119,7 @@ settled_holds (Recon wish) s c h = h c.ended
 settled_holds Collect s c h = h c.ended
 settled_holds (Stop node) s c h = h c.ended
 settled_holds Config s c h = h c.ended
+settled_holds Info s c h = h c.ended
 settled_holds Shutdown s c h = h true
 
 -- the reply of a command that the connection itself replied to

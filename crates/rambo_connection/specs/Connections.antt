@@ -12,7 +12,7 @@ use Rattle.rambo_commands.specs.Administration.{Asks}
 use Rattle.rambo_commands.specs.Replies.{refusal_reply, fault_reply}
 use Rattle.rambo_commands.specs.declared.request.Request.TheVariants.{Says, Does}
 use Rattle.rambo_commands.specs.declared.server_request.ServerRequest.{ServerRequest}
-use Rattle.rambo_commands.specs.declared.server_request.ServerRequest.TheVariants.{Common, Use, Join, Recon, Collect, Stop, Config, Shutdown}
+use Rattle.rambo_commands.specs.declared.server_request.ServerRequest.TheVariants.{Common, Use, Join, Recon, Collect, Stop, Config, Info, Shutdown}
 use Rattle.rambo_connection.specs.Incoming.{has_command}
 
 -- the node that its commands are asked of; what came in; the command that the server is asked for; the bytes that are
@@ -66,6 +66,7 @@ own_reply (Recon wish) = None
 own_reply Collect = None
 own_reply (Stop node) = None
 own_reply Config = None
+own_reply Info = None
 own_reply Shutdown = Some reply.Ok
 
 -- what becomes of the connection with it: it uses another node, or it ends

@@ -2,7 +2,7 @@
 ghost use Rattle.std.specs.Prelude.{◌≡◌, ◌-◌, ◌<◌, None, Some, [], drop, replicate, slice_get, option_to_list, OnOk, IfOk, IfErr};
 ghost use Rattle.rambo_names.specs.Names.{IsName};
 ghost use Rattle.rambo_run.specs.Actors.{sent_by};
-ghost use Rattle.rambo_mail.specs.Waiting.{waiting_for, with_waiting, divides, sent, posted};
+ghost use Rattle.rambo_mail.specs.Waiting.{waiting_for, with_waiting, divides, left, sent, posted};
 
 use crate::entry::Entry;
 use crate::posting::Posting;
@@ -105,17 +105,27 @@ impl Mails {
         Ok(())
     }
 
-    /// The step was done, after which this many letters were sent. There is room for its letter, if it sends one.
-    pub fn post(&mut self, posting: &Posting, letters: usize)
-        ensures { posting.now.to ≡ self.old.ready → self.new ≡ posted self.old posting.now letters }
+    /// The step was done, after which this many letters were sent, of which so many, the first, are gone. There is room for
+    /// its letter, if it sends one. The letters that waited for its addressee for the longest time leave, as long as they
+    /// are gone.
+    pub fn post(&mut self, posting: &Posting, letters: usize, gone: usize)
+        ensures { posting.now.to ≡ self.old.ready → self.new ≡ posted self.old posting.now letters gone }
     {
         if let Some(to) = posting.to {
             let entry = Entry {
                 number: letters as u64,
                 asks: posting.asks,
             };
+            self.drop_gone(to, gone as u64);
             self.note_sent(to, entry);
         }
+    }
+
+    // The letters that waited for this name for the longest time leave, as long as they are gone.
+    fn drop_gone(&mut self, to: Name, gone: u64)
+        ensures { self.new ≡ left self.old to gone }
+    {
+        self.queues[place_of(to)].drop_gone(gone);
     }
 
     // The letter waits for this name, for which there is room.

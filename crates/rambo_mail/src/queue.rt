@@ -1,5 +1,6 @@
 //! Letters that wait for one name.
 ghost use Rattle.std.specs.Prelude.{◌≡◌, ◌<◌, ◌≤◌, ◌-◌, ◌++◌, ◌∷◌, [], drop, slice_get, OnOk, IfErr};
+ghost use Rattle.rambo_mail.specs.Waiting.{drop_gone, starts_gone};
 
 use crate::entry::Entry;
 use rambo_names::Refusal;
@@ -68,5 +69,25 @@ impl Queue {
         ensures more { self.old.room ≤ self.new.room }
     {
         let _ = self.entries.pop_front();
+    }
+
+    /// The letters from its front on that are gone wait no more: those of this number or less.
+    pub(crate) fn drop_gone(&mut self, gone: u64)
+        ensures rest { self.new.entries ≡ drop_gone gone self.old.entries }
+        ensures more { self.old.room ≤ self.new.room }
+    {
+        while self.starts_gone(gone) {
+            self.drop_first();
+        }
+    }
+
+    // Whether the letter that waits for the longest time, if there is one, is gone.
+    fn starts_gone(&self, gone: u64) -> bool
+        ensures { result ≡ starts_gone gone self.now.entries }
+    {
+        match self.entries.front() {
+            Some(entry) => entry.number <= gone,
+            None => false,
+        }
     }
 }

@@ -16,6 +16,8 @@ use Rattle.rambo_client.specs.declared.fault.LocalFault.TheVariants as local
 use Rattle.rambo_client.specs.Talks.{Served, Stopped}
 use Rattle.rambo_command_line.specs.Lines.{rambo, founders_or, IsFlag, IsFounders, IsServing}
 use Rattle.rambo_command_line.specs.declared.serving.Serving.{Serving}
+use Rattle.rambo_command_line.specs.declared.clash.Clash.{Clash}
+use Rattle.rambo_command_line.specs.Clashes.{clash_of, words_of}
 use Rattle.rambo_serving.specs.declared.ending.Ending.{Ending}
 use Rattle.rambo_main.specs.Servers as servers
 use Rattle.rambo_telling.specs.Telling.{Stream, IsFine, Takes, Tells, GivesUp, EndsAs, fault_line, status_of, stream}
@@ -135,16 +137,23 @@ LocalTo words status read write told =
     (EndsBy Memory status read write told × Keeps write.old write.new)
     ⊎ ((founders : Option Weights) × IsFounders (founders_or (codes "1") words) founders × LocalEnds founders status read write told)
 
--- how serving many clients ends, where there are founders
-abbrev pub ServeEnds : {E : Type 0} → (E → Option (List ℕ)) → (E → ℕ) → Serving → Option Weights → Ending → Stream → E → E → Type 0
-ServeEnds taken failures s (Some founders) e write old new = servers.ServesTo taken failures s founders e write old new
-ServeEnds taken failures s None e write old new = IsRefused e.status write (stream taken failures old new) × (e.trace ≡ None)
+-- words that aren't to be done: nothing was written, and why was reported
+pub record IsMistaken (words : List ℕ) (status : ℕ) (write told : Stream) : Type 0 where
+  pub status_is : status ≡ 2
+  pub unwritten : Takes [] write
+  pub line : Tells (words ++ 10 ∷ []) told
+
+-- how serving many clients ends, where the options go together and there are founders
+abbrev pub ServeEnds : {E : Type 0} → (E → Option (List ℕ)) → (E → ℕ) → Serving → Option Clash → Option Weights → Ending → Stream → E → E → Type 0
+ServeEnds taken failures s (Some clash) founders e write old new = IsMistaken (words_of clash) e.status write (stream taken failures old new) × (e.trace ≡ None)
+ServeEnds taken failures s None (Some founders) e write old new = servers.ServesTo taken failures s founders e write old new
+ServeEnds taken failures s None None e write old new = IsRefused e.status write (stream taken failures old new) × (e.trace ≡ None)
 
 -- how words end that ask for it, unless there was no room to read them
 abbrev pub ServeTo : {E : Type 0} → (E → Option (List ℕ)) → (E → ℕ) → List Text → Ending → Stream → E → E → Type 0
 ServeTo taken failures words e write old new =
     (GivesUp e.status write (stream taken failures old new) × (e.trace ≡ None))
-    ⊎ ((s : Serving) × IsServing words s × ServeEnds taken failures s s.founders e write old new)
+    ⊎ ((s : Serving) × IsServing words s × ServeEnds taken failures s (clash_of s) s.founders e write old new)
 
 -- how a command of words that ask for no task ends
 abbrev pub AnswersTo : List Text → ℕ → Stream → Stream → Type 0

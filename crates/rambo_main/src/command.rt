@@ -1,7 +1,8 @@
 //! The program's work over any streams.
-ghost use Rattle.std.specs.Prelude.{◌≡◌, ◌≤◌, ◌⊎◌, None, map};
+ghost use Rattle.std.specs.Prelude.{◌≡◌, ◌≤◌, ◌⊎◌, ◌++◌, ◌∷◌, [], None, map};
 ghost use Rattle.rambo_names.specs.Names.{count_of};
 ghost use Rattle.rambo_names.specs.Weights.{members_of};
+ghost use Rattle.rambo_command_line.specs.Clashes.{clash_of, words_of};
 ghost use Rattle.rambo_command_line.specs.Lines.{Asks, AsksCheck, AsksLocal, AsksServe};
 ghost use Rattle.clap.specs.Words.{kind_of};
 ghost use Rattle.rambo_telling.specs.Telling.{EndsAs, GivesUp, Tells, stream};
@@ -24,13 +25,13 @@ use clap::Error;
 use clap::error::ErrorKind;
 use rambo_atomic::{Sink, Source};
 use rambo_client::LocalFault;
-use rambo_command_line::{Serving, Task, task_of};
+use rambo_command_line::{Clash, Serving, Task, task_of};
 use rambo_direct::local;
 use rambo_names::Weighted;
 use rambo_outcome::check_text;
 use rambo_replay::replay;
 use rambo_serving::Ending;
-use rambo_telling::{DONE, answer, tell, tell_bad_founders};
+use rambo_telling::{DONE, answer, tell, tell_bad_founders, tell_mistake};
 use rambo_text::ReplayFault;
 use std::alloc::Global;
 use std::convert::AsStr;
@@ -43,24 +44,24 @@ use std::time::Clock;
 /// The exit status of a check that said no for some key, or for the order of all keys.
 const SAID_NO: u8 = 3;
 
-/// Does what the words after the program's name ask for, and returns how that ended. Sockets and threads are the
-/// host's.
+/// Does what the words after the program's name ask for, and returns how that ended, with the writer. Sockets and threads are
+/// the host's.
 ///
 /// - 0: done. Of words that ask for no task, help or the version was written.
 /// - 1: the reader, the writer or the server failed or memory ran out.
-/// - 2: the words ask for nothing that there is, the founders aren't valid, or the input is faulty.
+/// - 2: the words ask for nothing that there is, the founders aren't valid, options don't go together, or the input is faulty.
 /// - 3: the check said no for some key, or for the order of all keys.
 ///
 /// After 1 and 2 the cause was reported to `errors`, as far as it took that. A failure of `errors` itself changes no
 /// status: there is nowhere left to report it.
-pub fn command<S: AsStr, H, R: Source, W: Sink, E: Sink>(
+pub fn command<S: AsStr, H, R: Source, W: Sink + Drop + Send, E: Sink>(
     host: &H,
     alloc: Global,
     words: &[S],
     reader: &mut R,
-    writer: &mut W,
+    mut writer: W,
     errors: &mut E,
-) -> Ending
+) -> (Ending, W)
 where
     H: Net<Listener = TcpListener, Stream = TcpStream>
         + Threads
@@ -69,45 +70,47 @@ where
         + RandomSource
         + Sync,
     ensures replay { Asks (map S.text words.now) Task.Replay
-        → ReplaysTo result.status (stream R.left R.failures reader.old reader.new)
-        (stream W.taken W.failures writer.old writer.new)
+        → ReplaysTo result.0.status (stream R.left R.failures reader.old reader.new)
+        (stream W.taken W.failures writer result.1)
         (stream E.taken E.failures errors.old errors.new) }
     ensures check { AsksCheck (map S.text words.now)
-        → CheckTo (map S.text words.now) result.status (stream R.left R.failures reader.old reader.new)
-        (stream W.taken W.failures writer.old writer.new)
+        → CheckTo (map S.text words.now) result.0.status (stream R.left R.failures reader.old reader.new)
+        (stream W.taken W.failures writer result.1)
         (stream E.taken E.failures errors.old errors.new) }
     ensures local { AsksLocal (map S.text words.now)
-        → LocalTo (map S.text words.now) result.status (stream R.left R.failures reader.old reader.new)
-        (stream W.taken W.failures writer.old writer.new)
+        → LocalTo (map S.text words.now) result.0.status (stream R.left R.failures reader.old reader.new)
+        (stream W.taken W.failures writer result.1)
         (stream E.taken E.failures errors.old errors.new) }
     ensures serve { AsksServe (map S.text words.now)
-        → ServeTo E.taken E.failures (map S.text words.now) result
-        (stream W.taken W.failures writer.old writer.new) errors.old errors.new × (reader.new ≡ reader.old) }
+        → ServeTo E.taken E.failures (map S.text words.now) result.0
+        (stream W.taken W.failures writer result.1) errors.old errors.new × (reader.new ≡ reader.old) }
     ensures other { ((t : AnyTask) → ¬ (Asks (map S.text words.now) t))
-        → AnswersTo (map S.text words.now) result.status (stream W.taken W.failures writer.old writer.new)
+        → AnswersTo (map S.text words.now) result.0.status (stream W.taken W.failures writer result.1)
         (stream E.taken E.failures errors.old errors.new) × (reader.new ≡ reader.old) }
-    ensures quiet { ¬ (AsksServe (map S.text words.now)) → (result.status ≡ 0) ⊎ (result.status ≡ 3)
+    ensures quiet { ¬ (AsksServe (map S.text words.now)) → (result.0.status ≡ 0) ⊎ (result.0.status ≡ 3)
         → errors.new ≡ errors.old }
-    ensures untraced { ¬ (AsksServe (map S.text words.now)) → result.trace ≡ None }
+    ensures untraced { ¬ (AsksServe (map S.text words.now)) → result.0.trace ≡ None }
 {
     match task_of(alloc, words) {
-        Ok(Task::Replay) => replayed(alloc, reader, writer, errors),
-        Ok(Task::Check(why)) => checked(alloc, why, reader, writer, errors),
-        Ok(Task::Local(Some(founders))) => served(alloc, founders, reader, writer, errors),
-        Ok(Task::Local(None)) => rejected(errors),
+        Ok(Task::Replay) => (replayed(alloc, reader, &mut writer, errors), writer),
+        Ok(Task::Check(why)) => { (checked(alloc, why, reader, &mut writer, errors), writer) }
+        Ok(Task::Local(Some(founders))) => {
+            (served(alloc, founders, reader, &mut writer, errors), writer)
+        }
+        Ok(Task::Local(None)) => (rejected(errors), writer),
         Ok(Task::Serve(serving)) => serve(host, alloc, &serving, writer, errors),
-        Err(error) => shown(alloc, &error, writer, errors),
+        Err(error) => (shown(alloc, &error, &mut writer, errors), writer),
     }
 }
 
-// Many clients are served, where there are founders.
-fn serve<H, W: Sink, E: Sink>(
+// Many clients are served, where there are founders and the options go together.
+fn serve<H, W: Sink + Drop + Send, E: Sink>(
     host: &H,
     alloc: Global,
     serving: &Serving,
-    writer: &mut W,
+    writer: W,
     errors: &mut E,
-) -> Ending
+) -> (Ending, W)
 where
     H: Net<Listener = TcpListener, Stream = TcpStream>
         + Threads
@@ -115,13 +118,25 @@ where
         + Clock
         + RandomSource
         + Sync,
-    ensures { ServeEnds E.taken E.failures serving.now serving.now.founders result
-        (stream W.taken W.failures writer.old writer.new) errors.old errors.new }
+    ensures { ServeEnds E.taken E.failures serving.now (clash_of serving.now) serving.now.founders result.0
+        (stream W.taken W.failures writer result.1) errors.old errors.new }
 {
+    if let Some(clash) = serving.clash() {
+        return (clashing(clash, errors), writer);
+    }
     match serving.founders {
         Some(founders) => serve_clients(host, alloc, founders, serving, writer, errors),
-        None => rejected(errors),
+        None => (rejected(errors), writer),
     }
+}
+
+// Reports options that don't go together.
+fn clashing<E: Sink>(clash: Clash, errors: &mut E) -> Ending
+    ensures status { result.status ≡ 2 }
+    ensures line { Tells (words_of clash ++ 10 ∷ []) (stream E.taken E.failures errors.old errors.new) }
+    ensures untraced { result.trace ≡ None }
+{
+    Ending::of(tell_mistake(clash.words(), errors))
 }
 
 // Reports founders that aren't valid.

@@ -1,18 +1,21 @@
 //! Many clients are served, on the sockets of this machine.
-ghost use Rattle.std.specs.Prelude.{◌≡◌, [], ◌∷◌, IfOk};
+ghost use Rattle.std.specs.Prelude.{◌≡◌, ◌⊎◌, [], ◌∷◌, Option, IfOk};
 ghost use Rattle.std.specs.Net.Addr.{ipv4_octets};
 ghost use Rattle.std.specs.Net.Socket.{v4_ip, v4_port};
 ghost use Rattle.rambo_telling.specs.Telling.{stream};
 ghost use Rattle.rambo_serving.specs.Endings.{Fails};
-ghost use Rattle.rambo_main.specs.Servers.{GivesTo, ListensOn, ServesTo, server_line};
+ghost use Rattle.rambo_cluster.specs.declared.fault.ServeFault.{ServeFault as AnyServeFault};
+ghost use Rattle.rambo_scribe.specs.declared.fault.TraceFault.{TraceFault as AnyTraceFault};
+ghost use Rattle.rambo_main.specs.Servers.{Ends, GivesTo, Leaves, ListensOn, ServesTo, Traces, Unserved, server_line};
 
-use rambo_atomic::Sink;
-use rambo_cluster::{Options, ServeFault, serve};
+use rambo_atomic::{Sink, Wrapped};
+use rambo_cluster::{Options, ServeFault, Traced, serve, serve_endless};
 use rambo_command_line::Serving;
 use rambo_names::Weighted;
 use rambo_post::NoGate;
+use rambo_scribe::TraceFault;
 use rambo_serving::{Ending, write_steps};
-use rambo_telling::{tell, tell_listening, tell_socket};
+use rambo_telling::{DONE, tell, tell_listening, tell_socket};
 use rambo_text::ReplayFault;
 use std::alloc::Global;
 use std::io;
@@ -23,19 +26,19 @@ use std::thread::Threads;
 use std::time::Clock;
 
 /// Serves clients of a store of these founders on a port of 127.0.0.1, as it is asked, until one of them ends the
-/// server. Then the trace of its steps is written.
+/// server. Then the trace of its steps is written, or where it is endless meanwhile, or never.
 ///
 /// Once it listens, its port is reported to `errors`. The status is 0 where the trace was written whole. Else it is 1,
 /// and the fault is reported in a line. After a fault of the writer, or out of memory, a prefix of the trace may be
-/// written.
-pub(crate) fn serve_clients<R, W: Sink, E: Sink>(
+/// written. The writer is given back.
+pub(crate) fn serve_clients<R, W: Sink + Drop + Send, E: Sink>(
     rt: &R,
     alloc: Global,
     founders: Weighted,
     serving: &Serving,
-    writer: &mut W,
+    writer: W,
     errors: &mut E,
-) -> Ending
+) -> (Ending, W)
 where
     R: Net<Listener = TcpListener, Stream = TcpStream>
         + Threads
@@ -43,25 +46,55 @@ where
         + Clock
         + RandomSource
         + Sync,
-    ensures { ServesTo E.taken E.failures serving.now founders result
-        (stream W.taken W.failures writer.old writer.new) errors.old errors.new }
+    ensures { ServesTo E.taken E.failures serving.now founders result.0
+        (stream W.taken W.failures writer result.1) errors.old errors.new }
 {
     match bound(rt, serving.port) {
         Ok((listener, port)) => {
             tell_listening(port, errors);
             served(rt, alloc, &listener, founders, serving, writer, errors)
         }
-        Err(_) => unserved(ServeFault::Socket, errors),
+        Err(_) => (unserved(ServeFault::Socket, errors), writer),
     }
 }
 
 // The same on a listener, whose port is reported.
-fn served<R, W: Sink, E: Sink>(
+fn served<R, W: Sink + Drop + Send, E: Sink>(
     rt: &R,
     alloc: Global,
     listener: &TcpListener,
     founders: Weighted,
     serving: &Serving,
+    mut writer: W,
+    errors: &mut E,
+) -> (Ending, W)
+where
+    R: Net<Listener = TcpListener, Stream = TcpStream>
+        + Threads
+        + Wait
+        + Clock
+        + RandomSource
+        + Sync,
+    ensures { GivesTo serving.now founders result.0 (stream W.taken W.failures writer result.1)
+        (stream E.taken E.failures errors.old errors.new) }
+{
+    let options = options_of(founders, serving);
+    if serving.endless && serving.untraced {
+        return (drained(rt, alloc, listener, &options, errors), writer);
+    }
+    if serving.endless {
+        return traced(rt, alloc, listener, &options, writer, errors);
+    }
+    let ending = bounded(rt, alloc, listener, &options, &mut writer, errors);
+    (ending, writer)
+}
+
+// A server whose book has an end: its trace is written once it has ended.
+fn bounded<R, W: Sink, E: Sink>(
+    rt: &R,
+    alloc: Global,
+    listener: &TcpListener,
+    options: &Options<Weighted>,
     writer: &mut W,
     errors: &mut E,
 ) -> Ending
@@ -72,12 +105,77 @@ where
         + Clock
         + RandomSource
         + Sync,
-    ensures { GivesTo serving.now founders result (stream W.taken W.failures writer.old writer.new)
-        (stream E.taken E.failures errors.old errors.new) }
+    ensures { Leaves options.now.steps options.now.founders result (stream W.taken W.failures writer.old writer.new)
+        (stream E.taken E.failures errors.old errors.new)
+        ⊎ Unserved result (stream W.taken W.failures writer.old writer.new) (stream E.taken E.failures errors.old errors.new) }
 {
-    match serve(rt, alloc, listener, &options_of(founders, serving), &NoGate) {
-        Ok(left) => write_steps(alloc, founders, left.steps(), writer, errors),
+    match serve(rt, alloc, listener, options, &NoGate) {
+        Ok(left) => write_steps(alloc, options.founders, left.steps(), writer, errors),
         Err(fault) => unserved(fault, errors),
+    }
+}
+
+// An endless server: its trace is written meanwhile.
+fn traced<R, W: Sink + Drop + Send, E: Sink>(
+    rt: &R,
+    alloc: Global,
+    listener: &TcpListener,
+    options: &Options<Weighted>,
+    writer: W,
+    errors: &mut E,
+) -> (Ending, W)
+where
+    R: Net<Listener = TcpListener, Stream = TcpStream>
+        + Threads
+        + Wait
+        + Clock
+        + RandomSource
+        + Sync,
+    ensures { Traces options.now.founders result.0 (stream W.taken W.failures writer result.1)
+        (stream E.taken E.failures errors.old errors.new)
+        ⊎ Unserved result.0 (stream W.taken W.failures writer result.1) (stream E.taken E.failures errors.old errors.new) }
+{
+    let Traced { writer, ended } = serve_endless(rt, alloc, listener, options, &NoGate, writer);
+    let ending = match ended {
+        Ok(fault) => ended_by(fault, errors),
+        Err(fault) => unserved(fault, errors),
+    };
+    (ending, writer)
+}
+
+// The same without a trace.
+fn drained<R, E: Sink>(
+    rt: &R,
+    alloc: Global,
+    listener: &TcpListener,
+    options: &Options<Weighted>,
+    errors: &mut E,
+) -> Ending
+where
+    R: Net<Listener = TcpListener, Stream = TcpStream>
+        + Threads
+        + Wait
+        + Clock
+        + RandomSource
+        + Sync,
+    ensures { ((fault : Option AnyTraceFault) × Ends fault result (stream E.taken E.failures errors.old errors.new))
+        ⊎ ((fault : AnyServeFault) × Fails (server_line fault) result (stream E.taken E.failures errors.old errors.new)) }
+{
+    let nowhere = Wrapped::new(io::sink());
+    match serve_endless(rt, alloc, listener, options, &NoGate, nowhere).ended {
+        Ok(fault) => ended_by(fault, errors),
+        Err(fault) => unserved(fault, errors),
+    }
+}
+
+// How a server ends whose trace is whole, or has this fault, which is reported.
+fn ended_by<E: Sink>(fault: Option<TraceFault>, errors: &mut E) -> Ending
+    ensures { Ends fault result (stream E.taken E.failures errors.old errors.new) }
+{
+    match fault {
+        None => Ending::of(DONE),
+        Some(TraceFault::Memory) => Ending::of(tell(ReplayFault::Memory, errors)),
+        Some(TraceFault::Write | TraceFault::Drawn) => Ending::of(tell(ReplayFault::Write, errors)),
     }
 }
 

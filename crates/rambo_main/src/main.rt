@@ -20,15 +20,16 @@ fn main(rt: HostRuntime) -> ExitCode {
     let ending = match words(&rt) {
         Ok(words) => {
             let mut reader = Wrapped::new(rt.stdin());
-            let mut writer = Wrapped::new(rt.stdout());
-            command(
+            let writer = Wrapped::new(rt.stdout());
+            let (ending, _writer) = command(
                 &rt,
                 rt.alloc(),
                 words.as_slice(),
                 &mut reader,
-                &mut writer,
+                writer,
                 &mut errors,
-            )
+            );
+            ending
         }
         Err(fault) if fault.kind() == ErrorKind::InvalidData => {
             Ending::of(tell_no_text(&mut errors))

@@ -1,7 +1,7 @@
 -- Refusals: their numbers, and which one is answered
 use Rattle.std.specs.Prelude.{◌≡◌, codes, ℕ, Bool, if◌then◌else◌, List, [], ◌∷◌, Option, None, Some}
 use Rattle.rambo_names.specs.declared.refusal.Refusal.{Refusal}
-use Rattle.rambo_names.specs.declared.refusal.Refusal.TheVariants.{NoSuchName, NameUsed, NotActive, Stopped, NotKnown, NoSuchLetter, NoSuchCall, NotYet, Busy, NothingToCollect, CollectOpen, NoCollect, NotMember, ReconOpen, NoRecon, TooManyActive, UnknownMember, EmptyMembers, KeyTooLong, ValueTooLong, NumbersSpent, OutOfMemory, HistoryFull, NoPassLeft}
+use Rattle.rambo_names.specs.declared.refusal.Refusal.TheVariants.{NoSuchName, NameUsed, NotActive, Stopped, NotKnown, NoSuchLetter, NoSuchCall, NotYet, Busy, NothingToCollect, CollectOpen, NoCollect, NotMember, ReconOpen, NoRecon, TooManyActive, UnknownMember, EmptyMembers, KeyTooLong, ValueTooLong, NumbersSpent, OutOfMemory, HistoryFull, NoPassLeft, LetterGone}
 
 abbrev pub number_of : Refusal → ℕ
 number_of NoSuchName = 1
@@ -28,6 +28,7 @@ number_of NumbersSpent = 21
 number_of OutOfMemory = 22
 number_of HistoryFull = 23
 number_of NoPassLeft = 24
+number_of LetterGone = 25
 
 -- the word that is printed for a refusal
 abbrev pub word_of : Refusal → List ℕ
@@ -55,6 +56,7 @@ word_of NumbersSpent = codes "NumbersSpent"
 word_of OutOfMemory = codes "OutOfMemory"
 word_of HistoryFull = codes "HistoryFull"
 word_of NoPassLeft = codes "NoPassLeft"
+word_of LetterGone = codes "LetterGone"
 
 -- a cause of refusal, and whether it holds
 pub record Cause : Type 0 where

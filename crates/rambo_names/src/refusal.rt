@@ -56,12 +56,14 @@ pub enum Refusal {
     HistoryFull = 23,
     /// All 32 passes were given out.
     NoPassLeft = 24,
+    /// A letter that was sent isn't kept any more.
+    LetterGone = 25,
 }
 
 impl Refusal {
     ghost use Rattle.rambo_names.specs.Refusals.{number_of, word_of};
 
-    /// The number of the refusal, 1 to 24.
+    /// The number of the refusal, 1 to 25.
     pub fn number(self) -> u64
         ensures { result ≡ number_of self }
     {
@@ -97,6 +99,7 @@ impl Refusal {
             Refusal::OutOfMemory => "OutOfMemory",
             Refusal::HistoryFull => "HistoryFull",
             Refusal::NoPassLeft => "NoPassLeft",
+            Refusal::LetterGone => "LetterGone",
         }
     }
 }

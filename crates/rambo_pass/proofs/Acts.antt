@@ -1,8 +1,8 @@
 -- What a client learns of its step
-use Rattle.std.proofs.Common.{◌≡◌, ◌≢◌, ◌<◌, ◌⊎◌, inl, inr, ⊎_elim, ℕ, List, [], ◌∷◌, ◌++◌, length, Option, None, Some, Result, Ok, Err, OnOk, IfOk, IfErr, refl, sym, ap, ◌∙◌, subst, arith}
+use Rattle.std.proofs.Common.{◌≡◌, ◌≢◌, ◌<◌, ◌⊎◌, inl, inr, ⊎_elim, ℕ, Bool, true, false, if◌then◌else◌, List, [], ◌∷◌, ◌++◌, length, Option, None, Some, Result, Ok, Err, OnOk, IfOk, IfErr, refl, sym, ap, ◌∙◌, subst, arith}
 use mathlib.Core.List.{IsPrefix}
 use Rattle.rambo_names.specs.declared.refusal.Refusal.{Refusal}
-use Rattle.rambo_names.specs.declared.refusal.Refusal.TheVariants.{NotActive, NoSuchLetter, OutOfMemory, HistoryFull}
+use Rattle.rambo_names.specs.declared.refusal.Refusal.TheVariants.{LetterGone, NotActive, NoSuchLetter, OutOfMemory, HistoryFull}
 use Rattle.rambo_names.specs.Quorums.{QuorumSystem}
 use Rattle.rambo_names.specs.Refusals.{least}
 use Rattle.rambo_history.specs.declared.event.CallId.{CallId}
@@ -11,12 +11,15 @@ use Rattle.rambo_node.specs.declared.effect.Effect.{Effect}
 use Rattle.rambo_node.specs.declared.effect.Effect.TheVariants as effect
 use Rattle.rambo_node.specs.Nodes.{NodeState}
 use Rattle.rambo_run.specs.declared.step.Step.{Step}
-use Rattle.rambo_run.specs.Steps.{Meant, meant, causes_at, causes_of, refusal, turn}
+use Rattle.rambo_run.specs.Steps.{Meant, meant, meant_in, causes_at, causes_of, refusal, turn}
 use Rattle.rambo_run.specs.Worlds.{WorldState, node_at}
 use Rattle.rambo_run.specs.Runs.{run}
 use Rattle.rambo_run.proofs.Causes.{never_memory, no_letter_differs}
 use Rattle.rambo_run.proofs.Lists.{some_inj}
+use Rattle.rambo_deeds.specs.Deeds.{name_in}
 use Rattle.rambo_book.proofs.Judging.{refusal_is}
+use Rattle.rambo_book.proofs.Windows.{named_there, refused_there}
+use Rattle.rambo_book.specs.Windows.{delivers_gone, gone_of, refused_in}
 use Rattle.rambo_book.specs.Kept.{BookView, Told, state}
 use Rattle.rambo_run.specs.Legal.{IsLegal}
 use Rattle.rambo_pass.specs.Passes.{PassView, Acted, WhyUndone, mine_with}
@@ -62,27 +65,49 @@ short_by None count capacity never h = ⊎_elim (λ (f : (OutOfMemory ≡ Histor
 short_by (Some d) count capacity never h = absurd (never d refl (sym h))
 
 -- so where it is told the step isn't refused, and there is room for it
-pub short_of : {Q : Type 0} (s : QuorumSystem Q) (w : WorldState Q) (st : Step Q) (count capacity : ℕ) (r : Refusal) → r ≡ OutOfMemory → Told (refusal s w st) count capacity r → (refusal s w st ≡ None) × (count < capacity)
-short_of s w st count capacity r is h = short_by (refusal s w st) count capacity (λ d e. never_of s w (meant w st) d (sym (refusal_is s w st) ∙ e)) (subst (Told (refusal s w st) count capacity) is h)
+gone_differs : LetterGone ≢ OutOfMemory
+gone_differs e = absurd cc
+
+never_in : {Q : Type 0} (s : QuorumSystem Q) (w : WorldState Q) (st : Step Q) (gone : Bool) (d : Refusal) → (if gone then Some LetterGone else refusal s w st) ≡ Some d → d ≢ OutOfMemory
+never_in s w st true d e = subst (λ r. r ≢ OutOfMemory) (some_inj LetterGone d e) gone_differs
+never_in s w st false d e = never_of s w (meant w st) d (sym (refusal_is s w st) ∙ e)
+
+pub short_of : {Q : Type 0} (s : QuorumSystem Q) (endless : Bool) (most : ℕ) (w : WorldState Q) (st : Step Q) (count capacity : ℕ) (r : Refusal) → r ≡ OutOfMemory → Told (refused_in s endless most w st) count capacity r
+    → (refused_in s endless most w st ≡ None) × (count < capacity)
+short_of s endless most w st count capacity r is h =
+    short_by (refused_in s endless most w st) count capacity (λ d e. never_in s w st (delivers_gone (gone_of endless most w) st) d e) (subst (Told (refused_in s endless most w st) count capacity) is h)
 
 -- and the other way round
 pub told_short : (o : Option Refusal) (count capacity : ℕ) → o ≡ None → count < capacity → Told o count capacity OutOfMemory
 told_short o count capacity none less = subst (λ o. Told o count capacity OutOfMemory) (sym none) (inr (refl, less))
 
+-- of a book as it was before
+pub told_free : {Q : Type 0} (s : QuorumSystem Q) (endless : Bool) (most : ℕ) (b mid : BookView Q) (st : Step Q) → mid ≡ b → refusal s (state s mid) st ≡ None → delivers_gone (gone_of endless most (state s mid)) st ≡ false
+    → length mid.steps < mid.capacity → Told (refused_in s endless most (state s b) st) (length b.steps) b.capacity OutOfMemory
+told_free s endless most b mid st same none there less =
+    subst (λ (b : BookView _). Told (refused_in s endless most (state s b) st) (length b.steps) b.capacity OutOfMemory) same
+    (told_short (refused_in s endless most (state s mid) st) (length mid.steps) mid.capacity (refused_there s endless most (state s mid) st there ∙ none) less)
+
+-- a step that names its node delivers no letter that is gone
+pub told_named : {Q : Type 0} (s : QuorumSystem Q) (endless : Bool) (most : ℕ) (w : WorldState Q) (st : Step Q) (name count capacity : ℕ) {A : Type 0} (r : Result A Refusal) → name_in (meant_in [] st) ≡ Some name
+    → IfErr r (Told (refusal s w st) count capacity) → IfErr r (Told (refused_in s endless most w st) count capacity)
+told_named s endless most w st name count capacity r own told =
+    subst (λ o. IfErr r (Told o count capacity)) (sym (refused_there s endless most w st (named_there (gone_of endless most w) name st own))) told
+
 -- why a step isn't done, as its client sees it
-module _ {Q : Type 0} (s : QuorumSystem Q) (agreed : Option Q) (most : ℕ) (b : BookView Q) (before after : PassView Q) (st : Step Q)
+module _ {Q : Type 0} (s : QuorumSystem Q) (agreed : Option Q) (endless : Bool) (most : ℕ) (b : BookView Q) (before after : PassView Q) (st : Step Q)
     (founded : agreed ≡ Some b.founders) (terms : b.capacity ≡ most) (begins : IsPrefix before.seen b.steps) (legal : IsLegal s b.founders b.steps) where
-  undone : (r : Refusal) → Told (refusal s (state s b) st) (length b.steps) b.capacity r → (r ≡ OutOfMemory) ⊎ (after.seen ≡ b.steps) → WhyUndone s b.founders most before after st r
+  undone : (r : Refusal) → Told (refused_in s endless most (state s b) st) (length b.steps) b.capacity r → (r ≡ OutOfMemory) ⊎ (after.seen ≡ b.steps) → WhyUndone s b.founders endless most before after st r
   undone r told shown =
       ⊎_elim
       (λ (is : r ≡ OutOfMemory).
-      let short = short_of s (state s b) st (length b.steps) b.capacity r is told in
+      let short = short_of s endless most (state s b) st (length b.steps) b.capacity r is told in
       inl (is, record { later = b.steps; begins = begins; legal = legal; accepted = short.0; room = omega (arith, short.1, terms) }))
       (λ (seen : after.seen ≡ b.steps).
-      inr (subst (λ l. Told (refusal s (run s b.founders l) st) (length l) most r) (sym seen) (subst (λ n. Told (refusal s (state s b) st) (length b.steps) n r) terms told)))
+      inr (subst (λ l. Told (refused_in s endless most (run s b.founders l) st) (length l) most r) (sym seen) (subst (λ n. Told (refused_in s endless most (state s b) st) (length b.steps) n r) terms told)))
       shown
 
-  pub caused : {A : Type 0} (r : Result A Refusal) → IfErr r (Told (refusal s (state s b) st) (length b.steps) b.capacity) → IfErr r (λ r. (r ≡ OutOfMemory) ⊎ (after.seen ≡ b.steps))
-      → IfErr r (λ r. (f : Q) → agreed ≡ Some f → WhyUndone s f most before after st r)
+  pub caused : {A : Type 0} (r : Result A Refusal) → IfErr r (Told (refused_in s endless most (state s b) st) (length b.steps) b.capacity) → IfErr r (λ r. (r ≡ OutOfMemory) ⊎ (after.seen ≡ b.steps))
+      → IfErr r (λ r. (f : Q) → agreed ≡ Some f → WhyUndone s f endless most before after st r)
   caused (Ok a) told shown = tt
-  caused (Err r) told shown = λ f is. subst (λ f. WhyUndone s f most before after st r) (some_inj b.founders f (sym founded ∙ is)) (undone r told shown)
+  caused (Err r) told shown = λ f is. subst (λ f. WhyUndone s f endless most before after st r) (some_inj b.founders f (sym founded ∙ is)) (undone r told shown)

@@ -19,6 +19,7 @@ use Rattle.rambo_run.specs.Steps.{meant_in, refusal, turn}
 use Rattle.rambo_run.specs.Runs.{run}
 use Rattle.rambo_deeds.specs.Deeds.{name_in}
 use Rattle.rambo_book.specs.Kept.{KeeperView, Told}
+use Rattle.rambo_book.specs.Windows.{refused_in}
 use Rattle.rambo_book.specs.declared.readied.Ready.{Ready}
 use Rattle.rambo_pass.specs.declared.mine.Entry.{Entry}
 use Rattle.rambo_run.specs.Legal.{IsLegal}
@@ -58,20 +59,21 @@ pub record IsHalf {Q : Type 0} (s : QuorumSystem Q) (agreed : Option Q) (k : Kee
   pub made : IfOk half (λ r. r.step ≡ st)
   pub refused : IfErr half (IsRefusedHalf s agreed k st)
 
--- after some legal steps that begin with these a step isn't refused, and there is room for it
-pub record CouldGo {Q : Type 0} (s : QuorumSystem Q) (founders : Q) (most : ℕ) (seen : List (Step Q)) (st : Step Q) : Type 0 where
+-- after some legal steps that begin with these a step isn't refused, also not as it delivers a letter that is gone, and there is
+-- room for it
+pub record CouldGo {Q : Type 0} (s : QuorumSystem Q) (founders : Q) (endless : Bool) (most : ℕ) (seen : List (Step Q)) (st : Step Q) : Type 0 where
   pub later : List (Step Q)
   pub begins : IsPrefix seen later
   pub legal : IsLegal s founders later
-  pub accepted : refusal s (run s founders later) st ≡ None
+  pub accepted : refused_in s endless most (run s founders later) st ≡ None
   pub room : length later < most
 
 -- why a client's step isn't done: out of memory, where it could be taken; or the refusal of it in what the client has
--- then seen
-abbrev pub WhyUndone : {Q : Type 0} → QuorumSystem Q → Q → ℕ → PassView Q → PassView Q → Step Q → Refusal → Type 0
-WhyUndone s founders most before after st r =
-    ((r ≡ refused.OutOfMemory) × CouldGo s founders most before.seen st)
-    ⊎ Told (refusal s (run s founders after.seen) st) (length after.seen) most r
+-- then seen, which is `LetterGone` exactly where it delivers a letter that is gone there
+abbrev pub WhyUndone : {Q : Type 0} → QuorumSystem Q → Q → Bool → ℕ → PassView Q → PassView Q → Step Q → Refusal → Type 0
+WhyUndone s founders endless most before after st r =
+    ((r ≡ refused.OutOfMemory) × CouldGo s founders endless most before.seen st)
+    ⊎ Told (refused_in s endless most (run s founders after.seen) st) (length after.seen) most r
 
 -- a client's calls, and whether there is room for one more
 pub record MineState : Type 0 where

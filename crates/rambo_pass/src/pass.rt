@@ -1,11 +1,12 @@
 //! What a client has seen of the book, and its calls.
-ghost use Rattle.std.specs.Prelude.{◌≡◌, ◌++◌, ◌∷◌, [], None, Some, length, ◌<◌, ◌⊎◌, OnOk, OnErr, IfOk, IfErr};
+ghost use Rattle.std.specs.Prelude.{◌≡◌, ◌++◌, ◌∷◌, [], None, Some, false, length, ◌<◌, ◌⊎◌, OnOk, OnErr, IfOk, IfErr};
 ghost use mathlib.Core.List.{IsPrefix};
 ghost use Rattle.rambo_run.specs.Runs.{run};
 ghost use Rattle.rambo_run.specs.Steps.{meant_in, refusal, turn};
 ghost use Rattle.rambo_deeds.specs.Deeds.{name_in};
 ghost use Rattle.rambo_book.specs.Readying.{IsReadyFor};
 ghost use Rattle.rambo_book.specs.Kept.{IsServedBy, Told, state};
+ghost use Rattle.rambo_book.specs.Windows.{delivers_gone, gone_of, refused_in};
 ghost use Rattle.rambo_run.specs.Legal.{IsLegal};
 ghost use Rattle.rambo_pass.specs.Passes.{mine_with, IsHalf, IsRefusedHalf, PassView};
 
@@ -109,15 +110,16 @@ fn note_call<Q: Quorums>(mine: &mut Mine, place: usize, effect: &Effect<Q>)
 
 /// Does a step for this client, who has then seen it.
 ///
-/// Refused with what the rules of the step's kind say, by the least number; else 23 where the book is full; else 22.
-/// After 22 the pass is as before; after another number its calls are, and it has seen all steps.
+/// Refused with 25 exactly where it delivers a letter that is gone, whoever's keeper this is; else with what the rules of the
+/// step's kind say, by the least number; else 23 where the book is full; else 22. After 22 the pass is as before; after another
+/// number its calls are, and it has seen all steps.
 pub fn act_in<J: Terms<Q>, Q: Quorums, S: Replica>(
     book: &mut Book<J, Q>,
     keeper: &mut Keeper<J, Q, S>,
     pass: &mut Pass<J, Q>,
     step: Step<Q>,
 ) -> Result<Effect<Q>, Refusal>
-    requires { IsServedBy (state Q.system book.old) step keeper.old.name }
+    requires { delivers_gone (gone_of J.endless J.capacity (state Q.system book.old)) step ≡ false → IsServedBy (state Q.system book.old) step keeper.old.name }
     ensures begins { IsPrefix pass.old.seen pass.new.seen }
     ensures between { IsPrefix pass.old.seen book.old.steps }
     ensures terms { (J.founders ≡ Some book.old.founders) × (book.old.capacity ≡ J.capacity) }
@@ -125,12 +127,13 @@ pub fn act_in<J: Terms<Q>, Q: Quorums, S: Replica>(
     ensures last { OnOk result (pass.new.seen ≡ book.old.steps ++ step ∷ []) }
     ensures legal { OnOk result (IsLegal Q.system book.old.founders pass.new.seen) }
     ensures accepted { OnOk result (refusal Q.system (state Q.system book.old) step ≡ None) }
+    ensures there { OnOk result (delivers_gone (gone_of J.endless J.capacity (state Q.system book.old)) step ≡ false) }
     ensures effect { IfOk result (λ e. e ≡ (turn (state Q.system book.old) step).effect) }
     ensures mine { IfOk result (λ e. pass.new.mine ≡ mine_with pass.old.mine (length book.old.steps) e) }
     ensures err { OnErr result (pass.new.mine ≡ pass.old.mine) }
     ensures memory { IfErr result (λ r. r ≡ Refusal.OutOfMemory → pass.new ≡ pass.old) }
     ensures shown { IfErr result (λ r. (r ≡ Refusal.OutOfMemory) ⊎ (pass.new.seen ≡ book.old.steps)) }
-    ensures cause { IfErr result (λ r. Told (refusal Q.system (state Q.system book.old) step) (length book.old.steps) book.old.capacity r) }
+    ensures cause { IfErr result (λ r. Told (refused_in Q.system J.endless J.capacity (state Q.system book.old) step) (length book.old.steps) book.old.capacity r) }
 {
     let Pass { seen, count, mine } = pass;
     let place = book.begun(seen);

@@ -1,6 +1,6 @@
 //! The locks.
 ghost use Rattle.std.specs.Bool.{MatchBool};
-ghost use Rattle.std.specs.Prelude.{◌≡◌, ◌<◌, ◌≤◌, ◌⊎◌, ◌++◌, [], Option, None, Some, true, false, length, vec_len, IsOk, MatchOption, OnOk, OnErr, IfOk, IfErr, IfSome, All};
+ghost use Rattle.std.specs.Prelude.{◌≡◌, ◌<◌, ◌≤◌, ◌⊎◌, ◌++◌, [], Option, None, Some, true, false, not, length, vec_len, IsOk, MatchOption, OnOk, OnErr, IfOk, IfErr, IfSome, All};
 ghost use Rattle.std.specs.FinMap as map;
 ghost use Rattle.std.specs.FinSet as set;
 ghost use Rattle.rambo_names.specs.Refusals.{least, IsRefusal};
@@ -11,6 +11,7 @@ ghost use Rattle.rambo_run.specs.Runs.{run, given_order};
 ghost use Rattle.rambo_run.specs.Steps.{refusal};
 ghost use Rattle.rambo_book.specs.Kept.{IsServedBy, KeeperView, Told, state};
 ghost use Rattle.rambo_book.specs.Readying.{IsReadyFor};
+ghost use Rattle.rambo_book.specs.Windows.{delivers_gone, gone_of};
 ghost use Rattle.rambo_run.specs.Legal.{IsLegal};
 ghost use Rattle.rambo_history.specs.Histories.{answer_in};
 ghost use Rattle.rambo_history.specs.Proper.{IsProperForAll};
@@ -18,7 +19,7 @@ ghost use Rattle.rambo_pass.specs.Passes.{Acted, IsAnsweredLater, IsGoing, IsGon
 ghost use Rattle.rambo_visit.specs.Happened.{Happened, HasMap, HasNoRoom, HasTurned, IsHeldUp, IsLast};
 
 use crate::gate::Gate;
-use rambo_book::{Actor, Book, Keeper, Ready, Terms, ready};
+use rambo_book::{Actor, Book, Counts, Keeper, Ready, Terms, ready};
 use rambo_config_map::ConfigMap;
 use rambo_history::{Answer, CallId, Op};
 use rambo_mail::Mails;
@@ -158,7 +159,7 @@ impl<J: Terms<Q>, Q: Quorums, S: Replica> Post<J, Q, S> {
         requires capacity { capacity ≡ J.capacity }
         requires lose { lose ≡ J.lose }
         requires twice { twice ≡ J.twice }
-        requires keeps_all { J.endless ≡ false → keeps_all ≡ true }
+        requires keeps_all { keeps_all ≡ not J.endless }
         requires boxes { vec_len outboxes ≡ 64 }
         ensures founded { OnOk result (least (founding_causes Q.system founders) ≡ None) }
         ensures refused { IfErr result (IsRefusal (least (founding_causes Q.system founders))) }
@@ -213,7 +214,7 @@ impl<J: Terms<Q>, Q: Quorums, S: Replica> Post<J, Q, S> {
         ensures begins { IsPrefix pass.old.seen pass.new.seen }
         ensures err { OnErr result (pass.new.mine ≡ pass.old.mine) }
         ensures memory { IfErr result (λ r. r ≡ Refusal.OutOfMemory → pass.new ≡ pass.old) }
-        ensures cause { IfErr result (λ r. (f : Q) → J.founders ≡ Some f → WhyUndone Q.system f J.capacity pass.old pass.new (Step.Call name op) r) }
+        ensures cause { IfErr result (λ r. (f : Q) → J.founders ≡ Some f → WhyUndone Q.system f J.endless J.capacity pass.old pass.new (Step.Call name op) r) }
     {
         self.call_noted(rt, pass, name, op, |_| {})
     }
@@ -233,7 +234,7 @@ impl<J: Terms<Q>, Q: Quorums, S: Replica> Post<J, Q, S> {
         ensures begins { IsPrefix pass.old.seen pass.new.seen }
         ensures err { OnErr result (pass.new.mine ≡ pass.old.mine) }
         ensures memory { IfErr result (λ r. r ≡ Refusal.OutOfMemory → pass.new ≡ pass.old) }
-        ensures cause { IfErr result (λ r. (f : Q) → J.founders ≡ Some f → WhyUndone Q.system f J.capacity pass.old pass.new (Step.Call name op) r) }
+        ensures cause { IfErr result (λ r. (f : Q) → J.founders ≡ Some f → WhyUndone Q.system f J.endless J.capacity pass.old pass.new (Step.Call name op) r) }
     {
         let outbox = &self.outboxes[place_of(name)];
         let mut awaited = Ok(());
@@ -272,7 +273,7 @@ impl<J: Terms<Q>, Q: Quorums, S: Replica> Post<J, Q, S> {
         ensures begins { IsPrefix pass.old.seen pass.new.seen }
         ensures err { OnErr result (pass.new.mine ≡ pass.old.mine) }
         ensures memory { IfErr result (λ r. r ≡ Refusal.OutOfMemory → pass.new ≡ pass.old) }
-        ensures cause { IfErr result (λ r. (f : Q) → J.founders ≡ Some f → WhyUndone Q.system f J.capacity pass.old pass.new (Step.Call name op) r) }
+        ensures cause { IfErr result (λ r. (f : Q) → J.founders ≡ Some f → WhyUndone Q.system f J.endless J.capacity pass.old pass.new (Step.Call name op) r) }
     {
         let mut keeper = self.keeper_of(rt, name);
         let half = ready(*self.keepers.allocator(), &mut keeper, Step::Call(name, op));
@@ -288,9 +289,10 @@ impl<J: Terms<Q>, Q: Quorums, S: Replica> Post<J, Q, S> {
     /// Does a step for a client, and returns what it did. The client has then seen all steps up to it, and it is the
     /// last.
     ///
-    /// Refused with what the rules of the step's kind say, by the least number; else 23 where the book is full; else 22
-    /// where there is no room. After 22 the pass is as before; after another number its calls are, and the cause holds
-    /// in the run of what it has then seen.
+    /// Refused with 25 exactly where the step delivers, by its number, a letter that was sent and isn't kept any more: an
+    /// endless post keeps the last 16,384, and any other post all, so that it never says so. Else refused with what the rules
+    /// of the step's kind say, by the least number; else 23 where the book is full; else 22 where there is no room. After 22
+    /// the pass is as before; after another number its calls are, and the cause holds in the run of what it has then seen.
     pub fn act<R: Wait>(
         &self,
         rt: &R,
@@ -301,7 +303,7 @@ impl<J: Terms<Q>, Q: Quorums, S: Replica> Post<J, Q, S> {
         ensures begins { IsPrefix pass.old.seen pass.new.seen }
         ensures err { OnErr result (pass.new.mine ≡ pass.old.mine) }
         ensures memory { IfErr result (λ r. r ≡ Refusal.OutOfMemory → pass.new ≡ pass.old) }
-        ensures cause { IfErr result (λ r. (f : Q) → J.founders ≡ Some f → WhyUndone Q.system f J.capacity pass.old pass.new step r) }
+        ensures cause { IfErr result (λ r. (f : Q) → J.founders ≡ Some f → WhyUndone Q.system f J.endless J.capacity pass.old pass.new step r) }
     {
         let Some(name) = named(&step) else {
             let (mut keeper, mut book) = self.both(rt, &step);
@@ -347,13 +349,13 @@ impl<J: Terms<Q>, Q: Quorums, S: Replica> Post<J, Q, S> {
         self.outboxes[place_of(name)].lock(rt).take_owed()
     }
 
-    // Takes the lock of the keeper that may do the step, and then the book's.
+    // Takes the lock of the keeper that may do the step, and then the book's. For a letter that is gone any keeper may.
     fn both<'a, R: Wait>(
         &'a self,
         rt: &R,
         step: &Step<Q>,
     ) -> (MutexGuard<'a, Keeper<J, Q, S>>, MutexGuard<'a, Book<J, Q>>)
-        ensures { IsServedBy (state Q.system (mutex_guard_value result.1)) step.now (mutex_guard_value result.0).name }
+        ensures { delivers_gone (gone_of J.endless J.capacity (state Q.system (mutex_guard_value result.1))) step.now ≡ false → IsServedBy (state Q.system (mutex_guard_value result.1)) step.now (mutex_guard_value result.0).name }
     {
         for _ in rt.forever() {
             let place = self.book.lock(rt).place_of(step);
@@ -597,6 +599,11 @@ impl<J: Terms<Q>, Q: Quorums, S: Replica> Post<J, Q, S> {
         ensures mine { MatchBool result (IsGone pass.old.mine id.now pass.new.mine) ((pass.new ≡ pass.old) × IsNone pass.old.mine id.now) }
     {
         give_up_in(&mut self.book.lock(rt), pass, id)
+    }
+
+    /// How much the book holds.
+    pub fn counts<R: Wait>(&self, rt: &R) -> Counts {
+        self.book.lock(rt).counts()
     }
 
     /// How many steps are at hand, since they weren't drawn.

@@ -1,28 +1,39 @@
 -- What was written goes on
-use Rattle.std.proofs.Common.{◌≡◌, ℕ, true, false, List, ◌++◌, Option, None, Some, is_some, IfSome, option_map, refl, sym, subst, ap, ◌∙◌, true≢false}
+use Rattle.std.proofs.Common.{◌≡◌, ◌⊎◌, ℕ, true, false, List, Option, None, Some, is_some, IfSome, option_map, refl, sym, subst, ap, ◌∙◌, inl, inr, true≢false}
 use mathlib.Core.List.{IsPrefix}
-use Rattle.std.specs.Io.KnownBytes.{Appends}
 use Rattle.rambo_names.specs.Weights.{Weights}
-use Rattle.rambo_atomic.specs.Streams.{Begins}
+use Rattle.rambo_atomic.specs.Streams.{Begins, counted}
+use Rattle.rambo_atomic.specs.declared.whole.StreamFault.{StreamFault}
+use Rattle.rambo_atomic.specs.declared.whole.StreamFault.TheVariants as stream
 use Rattle.rambo_run.specs.declared.step.Step.{Step}
 use Rattle.rambo_lines.specs.Scripts.{steps_text}
 use Rattle.rambo_trace.specs.Traces.{trace_text}
 use Rattle.rambo_trace.proofs.Pieces.{trace-append, begins_more}
 use Rattle.rambo_scribe.specs.declared.fault.TraceFault.{TraceFault}
-use Rattle.rambo_scribe.specs.Traced.{HasWritten}
+use Rattle.rambo_scribe.specs.Traced.{HasWritten, Taken, failures_after, fault_of}
 
-module _ (before taken : Option (List ℕ)) (f : Weights) (drawn all : List (Step Weights)) (prefix : IsPrefix drawn all) where
+module _ (before now : Taken) (f : Weights) (drawn all : List (Step Weights)) (prefix : IsPrefix drawn all) where
   -- after a fault a beginning of the trace stays one of a longer trace
-  pub stays : (fault : TraceFault) → HasWritten before taken f drawn (Some fault) → HasWritten before taken f all (Some fault)
-  stays fault b = subst (λ l. Begins before taken (trace_text f l)) prefix.1 (begins_more before taken f drawn prefix.0 b)
+  pub stays : (fault : TraceFault) → HasWritten before now f drawn (Some fault) → HasWritten before now f all (Some fault)
+  stays fault b = (subst (λ l. Begins before.bytes now.bytes (trace_text f l)) prefix.1 (begins_more before.bytes now.bytes f drawn prefix.0 b.0), b.1)
 
-  -- and so is a whole one
-  pub stops : (fault : TraceFault) → HasWritten before taken f drawn None → HasWritten before taken f all (Some fault)
-  stops fault a = (trace_text f drawn, steps_text prefix.0, ap (trace_text f) (sym prefix.1) ∙ trace-append f drawn prefix.0, a)
+  -- and a whole one is such a beginning
+  pub stops : (fault : TraceFault) → ((n : ℕ) → failures_after fault n ≡ n) → HasWritten before now f drawn None → HasWritten before now f all (Some fault)
+  stops fault quiet a = ((trace_text f drawn, steps_text prefix.0, ap (trace_text f) (sym prefix.1) ∙ trace-append f drawn prefix.0, a.0), a.1 ∙ sym (quiet before.failures))
 
-  pub stays_so : (o : Option TraceFault) → is_some o ≡ true → HasWritten before taken f drawn o → HasWritten before taken f all o
+  pub stays_so : (o : Option TraceFault) → is_some o ≡ true → HasWritten before now f drawn o → HasWritten before now f all o
   stays_so None is w = absurd (true≢false (sym is))
   stays_so (Some fault) is w = stays fault w
+
+-- the stream failed, after a beginning of the trace
+pub broken : (before now : Taken) (f : Weights) (steps : List (Step Weights)) (failed : ℕ) (fault : StreamFault) (told : TraceFault) → told ≡ fault_of fault → failed ≡ before.failures
+    → Begins before.bytes now.bytes (trace_text f steps)
+    → ((fault ≡ stream.Write) × (now.failures ≡ counted failed)) ⊎ ((fault ≡ stream.Memory) × (now.failures ≡ failed))
+    → HasWritten before now f steps (Some told)
+broken before now f steps failed fault told is same begun (inl w) =
+    (begun, w.1 ∙ ap counted same ∙ sym (ap (λ t. failures_after t before.failures) (is ∙ ap fault_of w.0)))
+broken before now f steps failed fault told is same begun (inr m) =
+    (begun, m.1 ∙ same ∙ sym (ap (λ t. failures_after t before.failures) (is ∙ ap fault_of m.0)))
 
 -- what isn't there is none
 pub none_so : {A : Type 0} (o : Option A) → is_some o ≡ false → o ≡ None

@@ -15,11 +15,15 @@ pub enum TraceFault {
 }
 
 impl TraceFault {
+    ghost use Rattle.rambo_scribe.specs.Traced.{fault_of};
+
     /// That of a stream.
-    pub fn of(fault: StreamFault) -> TraceFault {
+    pub fn of(fault: StreamFault) -> TraceFault
+        ensures { result ≡ fault_of fault }
+    {
         match fault {
             StreamFault::Memory => TraceFault::Memory,
-            _ => TraceFault::Write,
+            StreamFault::Read | StreamFault::Write => TraceFault::Write,
         }
     }
 }

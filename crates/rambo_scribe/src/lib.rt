@@ -6,6 +6,7 @@
 #![tactic(auto)]
 
 mod fault;
+mod metered;
 mod scribe;
 mod starts;
 mod writing;

@@ -1,8 +1,10 @@
 //! Steps are written as they are done.
 ghost use Rattle.std.specs.Prelude.{◌≡◌, [], Some, None, true, is_some, All};
 ghost use mathlib.Core.List.{IsPrefix};
+ghost use Rattle.rambo_scribe.specs.Traced.{taken_by};
 
 use crate::fault::TraceFault;
+use crate::metered::Metered;
 use crate::starts::Starts;
 use crate::writing::{write_first, write_last, write_next};
 use crate::written::Written;
@@ -23,7 +25,7 @@ pub struct Scribe<J: Terms<Weighted> + Starts, W: Sink + Drop> {
     drawn: Drawn<J, Step<Weighted>>,
     // What is drawn into.
     steps: Vec<Step<Weighted>>,
-    writer: W,
+    writer: Metered<W>,
     fault: Option<TraceFault>,
 }
 
@@ -31,7 +33,7 @@ impl<J: Terms<Weighted> + Starts, W: Sink + Drop> Model for Scribe<J, W> {
     ghost use Rattle.std.specs.Prelude.{◌≡◌, true};
     ghost use Rattle.std.specs.Coded.{codes};
     ghost use Rattle.rambo_names.specs.Names.{names_code};
-    ghost use Rattle.rambo_scribe.specs.Traced.{ScribeView, IsScribe};
+    ghost use Rattle.rambo_scribe.specs.Traced.{ScribeView, IsScribe, taken_by};
 
     ghost Value = { ScribeView };
 
@@ -39,7 +41,7 @@ impl<J: Terms<Weighted> + Starts, W: Sink + Drop> Model for Scribe<J, W> {
 
     ghost view = { λ s. record { drawn = s.drawn; fault = s.fault } };
 
-    ghost invariant = { λ s. (J.endless ≡ true) × IsScribe J.founders J.before (W.taken s.writer) (record { drawn = s.drawn; fault = s.fault }) };
+    ghost invariant = { λ s. (J.endless ≡ true) × IsScribe J.founders J.before (taken_by W.taken W.failures s.writer.inner) (record { drawn = s.drawn; fault = s.fault }) };
 }
 
 impl<J: Terms<Weighted> + Starts, W: Sink + Drop> Scribe<J, W> {
@@ -49,13 +51,14 @@ impl<J: Terms<Weighted> + Starts, W: Sink + Drop> Scribe<J, W> {
         alloc: Global,
         post: &Post<J, Weighted, S>,
         founders: Weighted,
-        mut writer: W,
+        writer: W,
     ) -> Scribe<J, W>
         requires founders { J.founders ≡ Some founders }
         requires endless { J.endless ≡ true }
-        requires before { W.taken writer ≡ J.before }
+        requires before { taken_by W.taken W.failures writer ≡ J.before }
         ensures drawn { result.drawn ≡ [] }
     {
+        let mut writer = Metered::new(writer);
         let fault = write_first(alloc, founders, &mut writer);
         Scribe {
             drawn: post.drawing(rt),
@@ -70,6 +73,11 @@ impl<J: Terms<Weighted> + Starts, W: Sink + Drop> Scribe<J, W> {
         ensures { result ≡ self.now.fault }
     {
         self.fault
+    }
+
+    /// How many bytes of the trace were written.
+    pub fn bytes(&self) -> u64 {
+        self.writer.count()
     }
 
     /// Draws the steps at hand, and writes them. How many there were. After a fault nothing is drawn.
@@ -110,6 +118,6 @@ impl<J: Terms<Weighted> + Starts, W: Sink + Drop> Scribe<J, W> {
         } = self;
         let (seen, rest) = post.end(passes, drawn).into_parts();
         let fault = write_last(alloc, rest, &mut writer, fault);
-        Written::new(seen, writer, fault)
+        Written::new(seen, writer.into_inner(), fault)
     }
 }

@@ -1,9 +1,9 @@
 //! What is written of a trace, and why it isn't whole.
-ghost use Rattle.std.specs.Prelude.{◌≡◌, ◌++◌, [], ℕ, List, Option, None, IfSome, option_map};
+ghost use Rattle.std.specs.Prelude.{◌≡◌, ◌++◌, [], List, None, IfSome, option_map};
 ghost use mathlib.Core.List.{IsPrefix};
 ghost use Rattle.rambo_names.specs.Weights.{Weights};
 ghost use Rattle.rambo_run.specs.declared.step.Step.{Step};
-ghost use Rattle.rambo_scribe.specs.Traced.{HasWritten};
+ghost use Rattle.rambo_scribe.specs.Traced.{HasWritten, Taken, taken_by};
 
 use crate::fault::TraceFault;
 use rambo_atomic::Sink;
@@ -18,7 +18,7 @@ pub(crate) fn write_first<W: Sink>(
     founders: Weighted,
     writer: &mut W,
 ) -> Option<TraceFault>
-    ensures { HasWritten (W.taken writer.old) (W.taken writer.new) founders [] result }
+    ensures { HasWritten (taken_by W.taken W.failures writer.old) (taken_by W.taken W.failures writer.new) founders [] result }
 {
     match write_head(alloc, founders, writer) {
         Ok(()) => None,
@@ -32,7 +32,7 @@ pub(crate) fn write_next<W: Sink>(
     steps: &[Step<Weighted>],
     writer: &mut W,
 ) -> Option<TraceFault>
-    ensures { (before : Option (List ℕ)) (f : Weights) (drawn : List (Step Weights)) → HasWritten before (W.taken writer.old) f drawn None → HasWritten before (W.taken writer.new) f (drawn ++ steps.now) result }
+    ensures { (before : Taken) (f : Weights) (drawn : List (Step Weights)) → HasWritten before (taken_by W.taken W.failures writer.old) f drawn None → HasWritten before (taken_by W.taken W.failures writer.new) f (drawn ++ steps.now) result }
 {
     match write_more(alloc, steps, writer) {
         Ok(()) => None,
@@ -47,8 +47,8 @@ pub(crate) fn write_last<W: Sink>(
     writer: &mut W,
     fault: Option<TraceFault>,
 ) -> Option<TraceFault>
-    ensures { (before : Option (List ℕ)) (f : Weights) (drawn all : List (Step Weights)) → IsPrefix drawn all → IfSome (option_map (λ r. r.items) rest) (λ r. drawn ++ r ≡ all)
-        → HasWritten before (W.taken writer.old) f drawn fault → HasWritten before (W.taken writer.new) f all result }
+    ensures { (before : Taken) (f : Weights) (drawn all : List (Step Weights)) → IsPrefix drawn all → IfSome (option_map (λ r. r.items) rest) (λ r. drawn ++ r ≡ all)
+        → HasWritten before (taken_by W.taken W.failures writer.old) f drawn fault → HasWritten before (taken_by W.taken W.failures writer.new) f all result }
 {
     if fault.is_some() {
         return fault;

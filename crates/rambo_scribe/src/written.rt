@@ -2,7 +2,7 @@
 ghost use Rattle.std.specs.Prelude.{◌≡◌, Some};
 ghost use Rattle.rambo_names.specs.Weights.{Weights, weighted_majorities};
 ghost use Rattle.rambo_run.specs.Legal.{IsLegal};
-ghost use Rattle.rambo_scribe.specs.Traced.{HasWritten, IsScribe};
+ghost use Rattle.rambo_scribe.specs.Traced.{HasWritten, IsScribe, taken_by};
 
 use crate::fault::TraceFault;
 use crate::starts::Starts;
@@ -26,7 +26,7 @@ pub struct Written<J: Terms<Weighted> + Starts, W: Sink + Drop> {
 impl<J: Terms<Weighted> + Starts, W: Sink + Drop> Model for Written<J, W> {
     ghost use Rattle.std.specs.Coded.{codes};
     ghost use Rattle.rambo_names.specs.Names.{names_code};
-    ghost use Rattle.rambo_scribe.specs.Traced.{ScribeView, IsWritten};
+    ghost use Rattle.rambo_scribe.specs.Traced.{ScribeView, IsWritten, taken_by};
 
     ghost Value = { ScribeView };
 
@@ -34,7 +34,7 @@ impl<J: Terms<Weighted> + Starts, W: Sink + Drop> Model for Written<J, W> {
 
     ghost view = { λ w. record { drawn = w.seen; fault = w.fault } };
 
-    ghost invariant = { λ w. IsWritten J.founders J.before (W.taken w.writer) (record { drawn = w.seen; fault = w.fault }) };
+    ghost invariant = { λ w. IsWritten J.founders J.before (taken_by W.taken W.failures w.writer) (record { drawn = w.seen; fault = w.fault }) };
 }
 
 impl<J: Terms<Weighted> + Starts, W: Sink + Drop> Written<J, W> {
@@ -45,7 +45,7 @@ impl<J: Terms<Weighted> + Starts, W: Sink + Drop> Written<J, W> {
         fault: Option<TraceFault>,
     ) -> Written<J, W>
         requires legal { (f : Weights) → J.founders ≡ Some f → IsLegal weighted_majorities f seen }
-        requires written { IsScribe J.founders J.before (W.taken writer) (record { drawn = seen; fault = fault }) }
+        requires written { IsScribe J.founders J.before (taken_by W.taken W.failures writer) (record { drawn = seen; fault = fault }) }
         ensures { result ≡ record { drawn = seen; fault = fault } }
     {
         Written {
@@ -59,7 +59,7 @@ impl<J: Terms<Weighted> + Starts, W: Sink + Drop> Written<J, W> {
     pub fn into_parts(self) -> (W, Option<TraceFault>)
         ensures fault { result.1 ≡ self.fault }
         ensures legal { (f : Weights) → J.founders ≡ Some f → IsLegal weighted_majorities f self.drawn }
-        ensures written { (f : Weights) → J.founders ≡ Some f → HasWritten J.before (W.taken result.0) f self.drawn result.1 }
+        ensures written { (f : Weights) → J.founders ≡ Some f → HasWritten J.before (taken_by W.taken W.failures result.0) f self.drawn result.1 }
     {
         let Written {
             seen: _seen,

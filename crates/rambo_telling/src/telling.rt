@@ -64,16 +64,16 @@ fn tell_stream<E: Sink>(fault: StreamFault, errors: &mut E) -> u8
     ensures status { result ≡ 1 }
     ensures line { Tells (words_of fault ++ 10 ∷ []) (stream E.taken E.failures errors.old errors.new) }
 {
-    let _ = write_words(fault, errors);
+    let _ = write_words(fault.words(), errors);
     FAILED
 }
 
-// Writes the line of such a fault. It allocates nothing.
-fn write_words<E: Sink>(fault: StreamFault, errors: &mut E) -> Result<(), StreamFault>
-    ensures ok { OnOk result (Takes (words_of fault ++ 10 ∷ []) (stream E.taken E.failures errors.old errors.new)) }
-    ensures err { OnErr result (Breaks (words_of fault ++ 10 ∷ []) (stream E.taken E.failures errors.old errors.new)) }
+// Writes words as a line. It allocates nothing.
+fn write_words<E: Sink>(words: &str, errors: &mut E) -> Result<(), StreamFault>
+    ensures ok { OnOk result (Takes (words.now ++ 10 ∷ []) (stream E.taken E.failures errors.old errors.new)) }
+    ensures err { OnErr result (Breaks (words.now ++ 10 ∷ []) (stream E.taken E.failures errors.old errors.new)) }
 {
-    write_all(errors, fault.words().as_bytes())?;
+    write_all(errors, words.as_bytes())?;
     write_all(errors, b"\n")?;
     Ok(())
 }
@@ -137,7 +137,15 @@ pub fn tell_bad_founders<E: Sink>(errors: &mut E) -> u8
     ensures status { result ≡ 2 }
     ensures line { Tells (codes "bad founders" ++ 10 ∷ []) (stream E.taken E.failures errors.old errors.new) }
 {
-    let _ = write_all(errors, b"bad founders\n");
+    tell_mistake("bad founders", errors)
+}
+
+/// Reports a mistake in the command line in one line of these words, and returns the exit status for it.
+pub fn tell_mistake<E: Sink>(words: &str, errors: &mut E) -> u8
+    ensures status { result ≡ 2 }
+    ensures line { Tells (words.now ++ 10 ∷ []) (stream E.taken E.failures errors.old errors.new) }
+{
+    let _ = write_words(words, errors);
     FAULTY
 }
 

@@ -1,10 +1,11 @@
 //! A letter is sent.
-ghost use Rattle.std.specs.Prelude.{◌≡◌, ◌<◌, ◌≤◌, ◌++◌, ◌∷◌, [], Option, None, Some, length, OnOk, OnErr, IfOk, IfErr};
+ghost use Rattle.std.specs.Prelude.{◌≡◌, ◌<◌, ◌≤◌, ◌++◌, ◌∷◌, [], Option, None, Some, false, length, OnOk, OnErr, IfOk, IfErr};
 ghost use Rattle.rambo_run.specs.Legal.{IsLegal};
 ghost use Rattle.rambo_run.specs.Steps.{refusal, turn};
 ghost use Rattle.rambo_book.specs.Readying.{IsReadyFor};
 ghost use Rattle.rambo_book.specs.Kept.{IsServedBy, KeeperView, Told, state};
 ghost use Rattle.rambo_book.specs.Mailing.{waiting_after};
+ghost use Rattle.rambo_book.specs.Windows.{delivers_gone, gone_of};
 
 use rambo_book::{Book, Keeper, Ready, Terms, commit_ready, may_commit};
 use rambo_names::{Name, Quorums, Refusal};
@@ -12,14 +13,15 @@ use rambo_node::Effect;
 use rambo_run::Step;
 use rambo_tag::Replica;
 
-// Why a step is refused of which the first half was: what the rules of its kind say, by the least number; else 23 where the
-// book is full; else 22.
+// Why a step that delivers no letter that is gone is refused, of which the first half was: what the rules of its kind
+// say, by the least number; else 23 where the book is full; else 22.
 fn why_not<J: Terms<Q>, Q: Quorums, S: Replica>(
     book: &mut Book<J, Q>,
     keeper: &mut Keeper<J, Q, S>,
     step: &Step<Q>,
 ) -> Refusal
-    requires { IsServedBy (state Q.system book.old) step.now keeper.old.name }
+    requires there { delivers_gone (gone_of J.endless J.capacity (state Q.system book.old)) step.now ≡ false }
+    requires served { IsServedBy (state Q.system book.old) step.now keeper.old.name }
     ensures same { (book.new ≡ book.old) × (keeper.new ≡ keeper.old) }
     ensures told { Told (refusal Q.system (state Q.system book.old) step.now) (length book.old.steps) book.old.capacity result }
 {
@@ -58,7 +60,7 @@ pub fn send_in<J: Terms<Q>, Q: Quorums, S: Replica>(
     ensures accepted { OnOk result (refusal Q.system (state Q.system book.old) (Step.Send from to) ≡ None) }
     ensures room { OnOk result (length book.old.steps < book.old.capacity) }
     ensures effect { IfOk result (λ number. Effect.Sent number ≡ (turn (state Q.system book.old) (Step.Send from to)).effect) }
-    ensures book { OnOk result (book.new ≡ record book.old { steps = book.old.steps ++ Step.Send from to ∷ []; waiting = waiting_after book.old (to ∷ []) (length (state Q.system book.new).letters) }) }
+    ensures book { OnOk result (book.new ≡ record book.old { steps = book.old.steps ++ Step.Send from to ∷ []; waiting = waiting_after book.old (to ∷ []) (gone_of J.endless J.capacity (state Q.system book.new)) (length (state Q.system book.new).letters) }) }
     ensures same { OnErr result ((book.new ≡ book.old) × (keeper.new ≡ keeper.old)) }
     ensures told { IfErr result (λ r. Told (refusal Q.system (state Q.system book.old) (Step.Send from to)) (length book.old.steps) book.old.capacity r) }
 {

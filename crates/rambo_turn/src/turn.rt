@@ -7,6 +7,7 @@ ghost use Rattle.rambo_run.specs.Worlds.{node_at};
 ghost use Rattle.rambo_book.specs.Readying.{IsReadyFor};
 ghost use Rattle.rambo_book.specs.Kept.{Told, state};
 ghost use Rattle.rambo_book.specs.Mailing.{AreTaken, all_for};
+ghost use Rattle.rambo_book.specs.Windows.{gone_of};
 ghost use Rattle.rambo_turn.specs.Turns.{cleared, informed, longer, mailed, next_of, IsQuiet};
 
 use crate::picking::pick;
@@ -25,8 +26,8 @@ pub enum Turn<Q: Quorums> {
     Nothing,
 }
 
-/// A turn begins: the keeper has seen all steps, and takes its mail. A node that has stopped hears nothing more, and
-/// leaves it.
+/// A turn begins: the keeper has seen all steps, and takes its mail, but for letters that are gone. A node that has stopped
+/// hears nothing more, and leaves it.
 ///
 /// `OutOfMemory` where there is no room for a letter; those before it were taken, and the others wait.
 pub fn begin_in<J: Terms<Q>, Q: Quorums, S: Replica>(
@@ -35,8 +36,8 @@ pub fn begin_in<J: Terms<Q>, Q: Quorums, S: Replica>(
 ) -> Result<(), Refusal>
     ensures book { book.new ≡ mailed book.old book.new.waiting }
     ensures keeper { keeper.new ≡ informed book.old keeper.old keeper.new.tray }
-    ensures all { OnOk result (AreTaken (state Q.system book.old) keeper.old.name (all_for keeper.old book.old.waiting) book.old.waiting book.new.waiting keeper.old.tray keeper.new.tray) }
-    ensures some { OnErr result ((count : ℕ) × (count < all_for keeper.old book.old.waiting) × AreTaken (state Q.system book.old) keeper.old.name count book.old.waiting book.new.waiting keeper.old.tray keeper.new.tray) }
+    ensures all { OnOk result (AreTaken (state Q.system book.old) (gone_of J.endless J.capacity (state Q.system book.old)) keeper.old.name (all_for keeper.old book.old.waiting) book.old.waiting book.new.waiting keeper.old.tray keeper.new.tray) }
+    ensures some { OnErr result ((count : ℕ) × (count < all_for keeper.old book.old.waiting) × AreTaken (state Q.system book.old) (gone_of J.endless J.capacity (state Q.system book.old)) keeper.old.name count book.old.waiting book.new.waiting keeper.old.tray keeper.new.tray) }
     ensures refused { IfErr result (λ r. r ≡ Refusal.OutOfMemory) }
 {
     see_all(book, keeper);

@@ -4,6 +4,7 @@ use Rattle.rambo_run.specs.Steps.{turn}
 use Rattle.rambo_run.specs.Worlds.{node_at}
 use Rattle.rambo_book.specs.Kept.{BookView, KeeperView, Told, state}
 use Rattle.rambo_book.specs.Mailing.{waiting_after}
+use Rattle.rambo_book.specs.Windows.{gone_of}
 use Rattle.rambo_book.proofs.Commits.{ready_inside}
 use Rattle.rambo_book.proofs.Readying.{ready_longer}
 use Rattle.rambo_book.proofs.committing.commit_ready.Goals as goal
@@ -44,7 +45,7 @@ pub returns-clause-waiting : goal.returns-clause-waiting
 returns-clause-waiting g c =
     let s = g.Q.Quorums.system in
     let eb = c.agree.ensures.same.0 in
-    subst (λ b. OnOk c.enter.result (c.enter.new.book.waiting ≡ waiting_after b (sent_by c.args.ready.step) (length (state s c.enter.new.book).letters))) eb c.enter.ensures.waiting
+    subst (λ b. OnOk c.enter.result (c.enter.new.book.waiting ≡ waiting_after b (sent_by c.args.ready.step) (gone_of g.J.Terms.endless g.J.Terms.capacity (state s c.enter.new.book)) (length (state s c.enter.new.book).letters))) eb c.enter.ensures.waiting
 
 pub returns-clause-keeper : goal.returns-clause-keeper
 returns-clause-keeper g c =

@@ -1,19 +1,20 @@
-use Rattle.std.proofs.Common.{◌≡◌, None, false, sym, ap, ◌∙◌, subst}
+use Rattle.std.proofs.Common.{◌≡◌, None, false, refl, sym, ap, ◌∙◌, subst}
 use Rattle.std.specs.Option.{option_copied}
 use Rattle.rambo_names.specs.declared.refusal.Refusal.TheVariants.{OutOfMemory}
 use Rattle.rambo_names.specs.Refusals.{IsRefusal}
 use Rattle.rambo_names.proofs.Errors.{err_kept}
 use Rattle.rambo_names.proofs.Sizes.{up_fits, back_fits}
 use Rattle.rambo_deeds.proofs.Means.{refused_alike}
-use Rattle.rambo_run.specs.Steps.{meant_in, refusal}
-use Rattle.rambo_deeds.specs.Deeds.{letter_in, meant_by}
+use Rattle.rambo_run.specs.Steps.{refusal}
+use Rattle.rambo_deeds.specs.Deeds.{meant_by}
 use Rattle.rambo_book.specs.Kept.{KeeperView, state}
 use Rattle.rambo_book.specs.Readying.{IsReadyIn}
 use Rattle.rambo_book.proofs.Commits.{served_inside, verdict, ready_here}
 use Rattle.rambo_book.proofs.Readying.{keeper_roomy}
 use Rattle.rambo_book.proofs.Refused.{none_for_memory}
 use Rattle.rambo_book.proofs.Steps.{viewed}
-use Rattle.rambo_book.proofs.Books.{whole_book, still_book}
+use Rattle.rambo_run.specs.Runs.{run}
+use Rattle.rambo_book.proofs.Books.{letter_kept, meant_kept, there_inside, whole_book, still_book}
 use Rattle.rambo_book.proofs.committing.ready_by_book.Goals as goal
 
 pub ready-requires : goal.ready-requires
@@ -32,37 +33,45 @@ returns-clause-same g c = (
 pub returns-clause-legal : goal.returns-clause-legal
 returns-clause-legal g c =
     let s = g.Q.Quorums.system in
-    let served = served_inside s _ _ _ _ c.args.step c.book.view_is c.keeper.view_is c.requires in
+    let there = there_inside s g.J.Terms.endless g.J.Terms.capacity _ _ _ c.args.step false c.book.invariant.0.gone c.book.view_is c.requires.there in
+    let means = ap (λ o. meant_by o c.args.step) c.named-letter.ensures ∙ meant_kept c.book.invariant.0 c.args.step there in
+    let served = served_inside s _ _ _ _ c.args.step c.book.view_is c.keeper.view_is c.requires.served in
     ap (λ b. refusal s (state s b) c.args.step) (sym c.book.view_is)
-    ∙ verdict (whole_book c.book.invariant.0) c.keeper.invariant c.agree.ensures.idle c.args.step served (option_copied c.letter_named-letter.result) c.as_slice.result.now c.as_slice.ensures.value c.letter_named-letter.ensures.meant
+    ∙ verdict (whole_book c.book.invariant.0) c.keeper.invariant c.agree.ensures.idle c.args.step served (option_copied c.named-letter.result) _ refl means
     ∙ c.in_ok-half.ensures.judged
 
 pub returns-clause-ready : goal.returns-clause-ready
 returns-clause-ready g c =
     let s = g.Q.Quorums.system in
-    let served = served_inside s _ _ _ _ c.args.step c.book.view_is c.keeper.view_is c.requires in
-    let legal = verdict (whole_book c.book.invariant.0) c.keeper.invariant c.agree.ensures.idle c.args.step served (option_copied c.letter_named-letter.result) c.as_slice.result.now c.as_slice.ensures.value c.letter_named-letter.ensures.meant ∙ c.in_ok-half.ensures.judged in
-    let letter = c.letter_named-letter.ensures.letter ∙ ap (λ ls. letter_in ls c.args.step) c.as_slice.ensures.value in
-    let named = c.letter_named-letter.ensures.meant ∙ ap (λ ls. meant_in ls c.args.step) c.as_slice.ensures.value in
-    subst (λ b. IsReadyIn s (state s b) (record { name = c.keeper.inside.name; node = c.ready.new.self.state; room = c.ready.new.self.room; beside = c.ready.new.self.beside; tray = c.keeper.inside.tray.items; seen = c.agree.new.keeper.1 }) (record { step = c.args.step; half = c.in_ok-half.half; asks = false })) c.book.view_is
-    (ready_here (whole_book c.book.invariant.0) c.keeper.invariant c.agree.ensures.idle c.args.step served (option_copied c.letter_named-letter.result) c.in_ok-half.half c.ready.new.self c.keeper.inside.tray.items c.agree.new.keeper.1 c.ready.ensures.same letter named legal c.in_ok-half.ensures.ready)
+    let there = there_inside s g.J.Terms.endless g.J.Terms.capacity _ _ _ c.args.step false c.book.invariant.0.gone c.book.view_is c.requires.there in
+    let means = ap (λ o. meant_by o c.args.step) c.named-letter.ensures ∙ meant_kept c.book.invariant.0 c.args.step there in
+    let served = served_inside s _ _ _ _ c.args.step c.book.view_is c.keeper.view_is c.requires.served in
+    let legal = verdict (whole_book c.book.invariant.0) c.keeper.invariant c.agree.ensures.idle c.args.step served (option_copied c.named-letter.result) _ refl means ∙ c.in_ok-half.ensures.judged in
+    let letter = c.named-letter.ensures ∙ letter_kept c.book.invariant.0 c.args.step there in
+    subst (λ b. IsReadyIn s (state s b) (record { name = c.keeper.inside.name; node = c.ready.new.self.state; room = c.ready.new.self.room; beside = c.ready.new.self.beside; tray = c.keeper.inside.tray.items; seen = c.agree.new.keeper.1 }) (record { step = c.args.step; half = c.in_ok-half.half; letter = c.in_ok-letter.letter; asks = false })) c.book.view_is
+    (subst (λ l. IsReadyIn s (run s c.book.inside.founders c.book.inside.steps.all) (record { name = c.keeper.inside.name; node = c.ready.new.self.state; room = c.ready.new.self.room; beside = c.ready.new.self.beside; tray = c.keeper.inside.tray.items; seen = c.agree.new.keeper.1 }) (record { step = c.args.step; half = c.in_ok-half.half; letter = l; asks = false })) (sym c.in_ok-letter.ensures.same)
+    (ready_here (whole_book c.book.invariant.0) c.keeper.invariant c.agree.ensures.idle c.args.step served (option_copied c.named-letter.result) c.in_ok-half.half c.ready.new.self c.keeper.inside.tray.items c.agree.new.keeper.1 c.ready.ensures.same letter means legal c.in_ok-half.ensures.ready))
 
 pub returns-in_err-half-clause-refused : goal.returns-in_err-half-clause-refused
 returns-in_err-half-clause-refused g c =
     let s = g.Q.Quorums.system in
-    let served = served_inside s _ _ _ _ c.args.step c.book.view_is c.keeper.view_is c.requires in
+    let there = there_inside s g.J.Terms.endless g.J.Terms.capacity _ _ _ c.args.step false c.book.invariant.0.gone c.book.view_is c.requires.there in
+    let means = ap (λ o. meant_by o c.args.step) c.named-letter.ensures ∙ meant_kept c.book.invariant.0 c.args.step there in
+    let served = served_inside s _ _ _ _ c.args.step c.book.view_is c.keeper.view_is c.requires.served in
     let same = ap (λ b. refusal s (state s b) c.args.step) (sym c.book.view_is)
-    ∙ verdict (whole_book c.book.invariant.0) c.keeper.invariant c.agree.ensures.idle c.args.step served (option_copied c.letter_named-letter.result) c.as_slice.result.now c.as_slice.ensures.value c.letter_named-letter.ensures.meant in
+    ∙ verdict (whole_book c.book.invariant.0) c.keeper.invariant c.agree.ensures.idle c.args.step served (option_copied c.named-letter.result) _ refl means in
     err_kept c.from_residual.result (IsRefusal (refusal s (state s c.args.book.now) c.args.step)) _ c.from_residual.ensures.1 (refused_alike _ _ _ same c.in_err-half.ensures.refused)
 
 pub returns-in_err-half-clause-memory : goal.returns-in_err-half-clause-memory
 returns-in_err-half-clause-memory g c =
     let s = g.Q.Quorums.system in
-    let served = served_inside s _ _ _ _ c.args.step c.book.view_is c.keeper.view_is c.requires in
+    let there = there_inside s g.J.Terms.endless g.J.Terms.capacity _ _ _ c.args.step false c.book.invariant.0.gone c.book.view_is c.requires.there in
+    let means = ap (λ o. meant_by o c.args.step) c.named-letter.ensures ∙ meant_kept c.book.invariant.0 c.args.step there in
+    let served = served_inside s _ _ _ _ c.args.step c.book.view_is c.keeper.view_is c.requires.served in
     let same = ap (λ b. refusal s (state s b) c.args.step) (sym c.book.view_is)
-    ∙ verdict (whole_book c.book.invariant.0) c.keeper.invariant c.agree.ensures.idle c.args.step served (option_copied c.letter_named-letter.result) c.as_slice.result.now c.as_slice.ensures.value c.letter_named-letter.ensures.meant in
+    ∙ verdict (whole_book c.book.invariant.0) c.keeper.invariant c.agree.ensures.idle c.args.step served (option_copied c.named-letter.result) _ refl means in
     err_kept c.from_residual.result (λ r. r ≡ OutOfMemory → refusal s (state s c.args.book.now) c.args.step ≡ None) _ c.from_residual.ensures.1
-    (λ short. same ∙ none_for_memory s c.keeper.inside.worker.state (meant_by (option_copied c.letter_named-letter.result) c.args.step) _ short c.in_err-half.ensures.refused)
+    (λ short. same ∙ none_for_memory s c.keeper.inside.worker.state (meant_by (option_copied c.named-letter.result) c.args.step) _ short c.in_err-half.ensures.refused)
 
 pub invariant_of-book : goal.invariant_of-book
 invariant_of-book g c = (still_book c.agree.new.self c.book.invariant.0 c.agree.ensures.stock, c.book.invariant.1, c.book.invariant.2)
@@ -72,3 +81,28 @@ invariant_of-book-in_err-half g c = (still_book c.agree.new.self c.book.invarian
 
 pub invariant_of-book-2 : goal.invariant_of-book-2
 invariant_of-book-2 g c = (still_book c.agree.new.self c.book.invariant.0 c.agree.ensures.stock, c.book.invariant.1, c.book.invariant.2)
+
+pub returns-in_err-letter-clause-refused : goal.returns-in_err-letter-clause-refused
+returns-in_err-letter-clause-refused g c =
+    let s = g.Q.Quorums.system in
+    let there = there_inside s g.J.Terms.endless g.J.Terms.capacity _ _ _ c.args.step false c.book.invariant.0.gone c.book.view_is c.requires.there in
+    let means = ap (λ o. meant_by o c.args.step) c.named-letter.ensures ∙ meant_kept c.book.invariant.0 c.args.step there in
+    let served = served_inside s _ _ _ _ c.args.step c.book.view_is c.keeper.view_is c.requires.served in
+    let same = ap (λ b. refusal s (state s b) c.args.step) (sym c.book.view_is)
+    ∙ verdict (whole_book c.book.invariant.0) c.keeper.invariant c.agree.ensures.idle c.args.step served (option_copied c.named-letter.result) _ refl means
+    ∙ c.in_ok-half.ensures.judged in
+    err_kept c.from_residual-in_err-letter.result (IsRefusal (refusal s (state s c.args.book.now) c.args.step)) _ c.from_residual-in_err-letter.ensures.1 (refused_alike _ None _ same c.in_err-letter.ensures.refused)
+
+pub returns-in_err-letter-clause-memory : goal.returns-in_err-letter-clause-memory
+returns-in_err-letter-clause-memory g c =
+    let s = g.Q.Quorums.system in
+    let there = there_inside s g.J.Terms.endless g.J.Terms.capacity _ _ _ c.args.step false c.book.invariant.0.gone c.book.view_is c.requires.there in
+    let means = ap (λ o. meant_by o c.args.step) c.named-letter.ensures ∙ meant_kept c.book.invariant.0 c.args.step there in
+    let served = served_inside s _ _ _ _ c.args.step c.book.view_is c.keeper.view_is c.requires.served in
+    let same = ap (λ b. refusal s (state s b) c.args.step) (sym c.book.view_is)
+    ∙ verdict (whole_book c.book.invariant.0) c.keeper.invariant c.agree.ensures.idle c.args.step served (option_copied c.named-letter.result) _ refl means
+    ∙ c.in_ok-half.ensures.judged in
+    err_kept c.from_residual-in_err-letter.result (λ r. r ≡ OutOfMemory → refusal s (state s c.args.book.now) c.args.step ≡ None) _ c.from_residual-in_err-letter.ensures.1 (λ short. same)
+
+pub invariant_of-book-in_err-letter : goal.invariant_of-book-in_err-letter
+invariant_of-book-in_err-letter g c = (still_book c.agree.new.self c.book.invariant.0 c.agree.ensures.stock, c.book.invariant.1, c.book.invariant.2)

@@ -1,9 +1,11 @@
-use Rattle.std.proofs.Common.{sym, ap, ◌∙◌, subst}
+use Rattle.std.specs.Option.{option_copied}
+use Rattle.rambo_node.specs.declared.effect.Effect.TheVariants.{Sent}
+use Rattle.std.proofs.Common.{◌+◌, sym, ap, ◌∙◌, subst}
 use Rattle.rambo_node.specs.Changes.{made_by, refusal_of}
 use Rattle.rambo_node.specs.FullNodes.{beside_after}
 use Rattle.rambo_node.specs.Prepared.{IsPrepared}
 use Rattle.rambo_node.specs.declared.prepared.Prepared.{Prepared}
-use Rattle.rambo_deeds.specs.Deeds.{IsReadyDelivery, IsReadyStep, event_of, letter_in, mark_of, outline_of}
+use Rattle.rambo_deeds.specs.Deeds.{IsReadyStep, event_of, mark_of, outline_of}
 use Rattle.rambo_book.specs.Records.{Recorded}
 use Rattle.rambo_book.proofs.Recording.{recorded_none}
 use Rattle.rambo_book.proofs.Halves.{none_goes, send_stays, send_keeps, send_tells, told_alone, hear_tells, call_moves, call_keeps, call_tells}
@@ -13,55 +15,50 @@ pub returns-in-Send-clause-node : goal.returns-in-Send-clause-node
 returns-in-Send-clause-node g c = λ ch given.
     let s = g.Q.Quorums.system in
     let v = c.args.worker.now in
-    let o = outline_of (letter_in c.args.letters.now.items c.args.step.now) in
+    let o = outline_of (option_copied c.args.letter) in
     send_stays v o ch s c.in-Send.letter (subst (IsReadyStep s v o ch) c.in-Send.is given)
 
 pub returns-in-Send-clause-beside : goal.returns-in-Send-clause-beside
 returns-in-Send-clause-beside g c = λ ch given.
     let s = g.Q.Quorums.system in
     let v = c.args.worker.now in
-    let o = outline_of (letter_in c.args.letters.now.items c.args.step.now) in
+    let o = outline_of (option_copied c.args.letter) in
     send_keeps v o ch s c.in-Send.letter (subst (IsReadyStep s v o ch) c.in-Send.is given)
 
 pub returns-in-Send-clause-effect : goal.returns-in-Send-clause-effect
-returns-in-Send-clause-effect g c = λ ch given.
+returns-in-Send-clause-effect g c = λ ch ls given counts.
     let s = g.Q.Quorums.system in
     let v = c.args.worker.now in
-    let ls = c.args.letters.now.items in
-    let o = outline_of (letter_in ls c.args.step.now) in
-    c.send.ensures.effect ∙ send_tells v o ch s c.in-Send.letter (subst (IsReadyStep s v o ch) c.in-Send.is given) ls
+    let o = outline_of (option_copied c.args.letter) in
+    c.send.ensures.effect ∙ ap (λ n. Sent (n + 1)) (sym counts) ∙ send_tells v o ch s c.in-Send.letter (subst (IsReadyStep s v o ch) c.in-Send.is given) ls
 
 pub hear-requires : goal.hear-requires
 hear-requires g c =
     let s = g.Q.Quorums.system in
     let v = c.args.worker.now in
     let ch = c.requires.ready.0 in
-    let same = ap (λ ls. outline_of (letter_in ls c.args.step.now)) (sym c.as_slice.ensures.value) in
-    let ready = subst (IsReadyStep s v (outline_of (letter_in c.args.letters.now.items c.args.step.now)) ch) c.in-Hear.is c.requires.ready.1 in
-    (c.requires-raw.1.1.0, (ch, subst (λ o. IsReadyDelivery v o ch c.in-Hear.hearing) same ready.half))
+    let ready = subst (IsReadyStep s v (outline_of (option_copied c.args.letter)) ch) c.in-Hear.is c.requires.ready.1 in
+    (c.requires-raw.1.1.0, (ch, ready.half))
 
 pub returns-in-Hear-clause-node : goal.returns-in-Hear-clause-node
 returns-in-Hear-clause-node g c = λ ch given.
     let s = g.Q.Quorums.system in
     let v = c.args.worker.now in
-    let same = ap (λ ls. outline_of (letter_in ls c.args.step.now)) (sym c.as_slice.ensures.value) in
-    let ready = subst (IsReadyStep s v (outline_of (letter_in c.args.letters.now.items c.args.step.now)) ch) c.in-Hear.is given in
-    c.hear.ensures.node ch (subst (λ o. IsReadyDelivery v o ch c.in-Hear.hearing) same ready.half)
+    let ready = subst (IsReadyStep s v (outline_of (option_copied c.args.letter)) ch) c.in-Hear.is given in
+    c.hear.ensures.node ch ready.half
 
 pub returns-in-Hear-clause-beside : goal.returns-in-Hear-clause-beside
 returns-in-Hear-clause-beside g c = λ ch given.
     let s = g.Q.Quorums.system in
     let v = c.args.worker.now in
-    let same = ap (λ ls. outline_of (letter_in ls c.args.step.now)) (sym c.as_slice.ensures.value) in
-    let ready = subst (IsReadyStep s v (outline_of (letter_in c.args.letters.now.items c.args.step.now)) ch) c.in-Hear.is given in
-    c.hear.ensures.beside ch (subst (λ o. IsReadyDelivery v o ch c.in-Hear.hearing) same ready.half)
+    let ready = subst (IsReadyStep s v (outline_of (option_copied c.args.letter)) ch) c.in-Hear.is given in
+    c.hear.ensures.beside ch ready.half
 
 pub returns-in-Hear-clause-effect : goal.returns-in-Hear-clause-effect
-returns-in-Hear-clause-effect g c = λ ch given.
+returns-in-Hear-clause-effect g c = λ ch ls given counts.
     let s = g.Q.Quorums.system in
     let v = c.args.worker.now in
-    let ls = c.args.letters.now.items in
-    let o = outline_of (letter_in ls c.args.step.now) in
+    let o = outline_of (option_copied c.args.letter) in
     let ready = subst (IsReadyStep s v o ch) c.in-Hear.is given in
     told_alone v o ch ls _ (hear_tells v o ch c.in-Hear.hearing ready.half) (none_goes v _ ready.letter)
 
@@ -69,7 +66,7 @@ pub finish_call-requires : goal.finish_call-requires
 finish_call-requires g c =
     let s = g.Q.Quorums.system in
     let v = c.args.worker.now in
-    let o = outline_of (letter_in c.args.letters.now.items c.args.step.now) in
+    let o = outline_of (option_copied c.args.letter) in
     let ready = subst (IsReadyStep s v o c.requires.ready.0) c.in-Call.is c.requires.ready.1 in
     let value = sym c.into_inner.ensures in (
       c.requires-raw.1.1.0,
@@ -80,22 +77,21 @@ pub returns-in-Call-clause-node : goal.returns-in-Call-clause-node
 returns-in-Call-clause-node g c = λ ch given.
     let s = g.Q.Quorums.system in
     let v = c.args.worker.now in
-    let o = outline_of (letter_in c.args.letters.now.items c.args.step.now) in
+    let o = outline_of (option_copied c.args.letter) in
     c.finish_call.ensures.node ∙ call_moves v o ch s c.in-Call.prepared c.into_inner.result c.into_inner.ensures (subst (IsReadyStep s v o ch) c.in-Call.is given)
 
 pub returns-in-Call-clause-beside : goal.returns-in-Call-clause-beside
 returns-in-Call-clause-beside g c = λ ch given.
     let s = g.Q.Quorums.system in
     let v = c.args.worker.now in
-    let o = outline_of (letter_in c.args.letters.now.items c.args.step.now) in
+    let o = outline_of (option_copied c.args.letter) in
     c.finish_call.ensures.beside ∙ call_keeps v o ch s c.in-Call.prepared c.into_inner.result c.into_inner.ensures (subst (IsReadyStep s v o ch) c.in-Call.is given)
 
 pub returns-in-Call-clause-effect : goal.returns-in-Call-clause-effect
-returns-in-Call-clause-effect g c = λ ch given.
+returns-in-Call-clause-effect g c = λ ch ls given counts.
     let s = g.Q.Quorums.system in
     let v = c.args.worker.now in
-    let ls = c.args.letters.now.items in
-    let o = outline_of (letter_in ls c.args.step.now) in
+    let o = outline_of (option_copied c.args.letter) in
     let ready = subst (IsReadyStep s v o ch) c.in-Call.is given in
     told_alone v o ch ls _ (c.finish_call.ensures.effect ∙ call_tells v o ch s c.in-Call.prepared c.into_inner.result c.into_inner.ensures ready) (none_goes v _ ready.letter)
 
@@ -103,7 +99,7 @@ pub finish_quick-requires : goal.finish_quick-requires
 finish_quick-requires g c =
     let s = g.Q.Quorums.system in
     let v = c.args.worker.now in
-    let o = outline_of (letter_in c.args.letters.now.items c.args.step.now) in
+    let o = outline_of (option_copied c.args.letter) in
     let ready = subst (IsReadyStep s v o c.requires.ready.0) c.in-Quick.is c.requires.ready.1 in
     (c.requires-raw.1.1.0, ap (refusal_of s v.state) (sym ready.half) ∙ ready.accepted)
 
@@ -111,7 +107,7 @@ pub returns-in-Quick-clause-node : goal.returns-in-Quick-clause-node
 returns-in-Quick-clause-node g c = λ ch given.
     let s = g.Q.Quorums.system in
     let v = c.args.worker.now in
-    let o = outline_of (letter_in c.args.letters.now.items c.args.step.now) in
+    let o = outline_of (option_copied c.args.letter) in
     let ready = subst (IsReadyStep s v o ch) c.in-Quick.is given in
     c.finish_quick.ensures.node ∙ ap (λ ch. (made_by v.state ch).node) (sym ready.half)
 
@@ -119,16 +115,15 @@ pub returns-in-Quick-clause-beside : goal.returns-in-Quick-clause-beside
 returns-in-Quick-clause-beside g c = λ ch given.
     let s = g.Q.Quorums.system in
     let v = c.args.worker.now in
-    let o = outline_of (letter_in c.args.letters.now.items c.args.step.now) in
+    let o = outline_of (option_copied c.args.letter) in
     let ready = subst (IsReadyStep s v o ch) c.in-Quick.is given in
     c.finish_quick.ensures.beside ∙ ap (beside_after v.state v.beside) (sym ready.half)
 
 pub returns-in-Quick-clause-effect : goal.returns-in-Quick-clause-effect
-returns-in-Quick-clause-effect g c = λ ch given.
+returns-in-Quick-clause-effect g c = λ ch ls given counts.
     let s = g.Q.Quorums.system in
     let v = c.args.worker.now in
-    let ls = c.args.letters.now.items in
-    let o = outline_of (letter_in ls c.args.step.now) in
+    let o = outline_of (option_copied c.args.letter) in
     let ready = subst (IsReadyStep s v o ch) c.in-Quick.is given in
     told_alone v o ch ls _ (c.finish_quick.ensures.effect ∙ ap (λ ch. (made_by v.state ch).deed.effect) (sym ready.half)) (none_goes v _ ready.letter)
 

@@ -1,21 +1,27 @@
 use Rattle.std.proofs.lemmas.Grind.{common_steps}
-use Rattle.std.proofs.Common.{◌∙◌, sym, ap, subst, arith}
+use Rattle.std.proofs.Common.{◌≡◌, false, length, ◌∙◌, sym, ap, subst, arith}
 use mathlib.Core.List.{IsPrefix}
 use Rattle.rambo_run.specs.Legal.{IsLegal}
 use Rattle.rambo_run.proofs.Lists.{some_inj}
-use Rattle.rambo_book.specs.Kept.{KeeperView, IsServedBy, state}
+use Rattle.rambo_book.specs.Kept.{BookView, KeeperView, IsServedBy, Told, state}
+use Rattle.rambo_book.specs.Windows.{delivers_gone, gone_of, refused_in}
 use Rattle.rambo_pass.specs.Passes.{PassView, mine_with}
 use Rattle.rambo_run.proofs.GoingOn.{prefix_self}
+use Rattle.rambo_pass.proofs.Acts.{told_free}
 use Rattle.rambo_pass.proofs.pass.act_in.Goals as goal
 
 pub may_commit-requires : goal.may_commit-requires
-may_commit-requires g c = (c.requires-raw.1.1.1.0, subst (λ b. IsServedBy (state g.Q.Quorums.system b) c.args.step c.args.keeper.now.name) (sym c.begun-place.ensures.book) c.requires)
+may_commit-requires g c = (
+  c.requires-raw.1.1.1.0,
+  subst (λ b. delivers_gone (gone_of g.J.Terms.endless g.J.Terms.capacity (state g.Q.Quorums.system b)) c.args.step ≡ false → IsServedBy (state g.Q.Quorums.system b) c.args.step c.args.keeper.now.name) (sym c.begun-place.ensures.book) c.requires,
+)
 
 pub commit-requires : goal.commit-requires
 commit-requires g c = (
   c.requires-raw.1.1.1.0,
-  subst (λ b. IsServedBy (state g.Q.Quorums.system b) c.args.step c.may_commit.new.keeper.name) (sym (c.may_commit.ensures.same.0 ∙ c.begun-place.ensures.book))
-      (subst (λ (k : KeeperView _). IsServedBy (state g.Q.Quorums.system c.args.book.now) c.args.step k.name) (sym c.may_commit.ensures.same.1) c.requires),
+  subst (λ b. delivers_gone (gone_of g.J.Terms.endless g.J.Terms.capacity (state g.Q.Quorums.system b)) c.args.step ≡ false → IsServedBy (state g.Q.Quorums.system b) c.args.step c.may_commit.new.keeper.name)
+      (sym (c.may_commit.ensures.same.0 ∙ c.begun-place.ensures.book))
+      (subst (λ (k : KeeperView _). delivers_gone (gone_of g.J.Terms.endless g.J.Terms.capacity (state g.Q.Quorums.system c.args.book.now)) c.args.step ≡ false → IsServedBy (state g.Q.Quorums.system c.args.book.now) c.args.step k.name) (sym c.may_commit.ensures.same.1) c.requires),
 )
 
 pub returns-in-Err-clause-begins : goal.returns-in-Err-clause-begins
@@ -69,7 +75,7 @@ pub returns-in_default-reserve-clause-err : goal.returns-in_default-reserve-clau
 returns-in_default-reserve-clause-err g c = grind (arith, common_steps)
 
 pub returns-in_default-reserve-clause-cause : goal.returns-in_default-reserve-clause-cause
-returns-in_default-reserve-clause-cause g c = grind (arith, common_steps)
+returns-in_default-reserve-clause-cause g c = told_free g.Q.Quorums.system g.J.Terms.endless g.J.Terms.capacity c.args.book.now c.begun-place.new.self c.args.step c.begun-place.ensures.book c.in_default.ensures.legal c.in_default.ensures.there c.in_default.ensures.room
 
 pub invariant_of-pass-2 : goal.invariant_of-pass-2
 invariant_of-pass-2 g c = grind (arith, common_steps)
@@ -81,7 +87,9 @@ pub returns-in-Err-clause-memory : goal.returns-in-Err-clause-memory
 returns-in-Err-clause-memory g c = grind (arith, common_steps)
 
 pub returns-in-Err-clause-cause : goal.returns-in-Err-clause-cause
-returns-in-Err-clause-cause g c = grind (arith, common_steps)
+returns-in-Err-clause-cause g c =
+    let s = g.Q.Quorums.system in
+    subst (λ (b : BookView _). Told (refused_in s g.J.Terms.endless g.J.Terms.capacity (state s b) c.args.step) (length b.steps) b.capacity c.in-Err.refusal) c.begun-place.ensures.book c.in-Err.ensures.told
 
 pub returns-clause-accepted : goal.returns-clause-accepted
 returns-clause-accepted g c = grind (arith, common_steps)
@@ -96,7 +104,7 @@ pub invariant_of-pass : goal.invariant_of-pass
 invariant_of-pass g c = grind (arith, common_steps)
 
 pub returns-in_default-commit-clause-cause : goal.returns-in_default-commit-clause-cause
-returns-in_default-commit-clause-cause g c = grind (arith, common_steps)
+returns-in_default-commit-clause-cause g c = told_free g.Q.Quorums.system g.J.Terms.endless g.J.Terms.capacity c.args.book.now c.begun-place.new.self c.args.step c.begun-place.ensures.book c.in_default.ensures.legal c.in_default.ensures.there c.in_default.ensures.room
 
 pub invariant_of-pass-in_default-reserve : goal.invariant_of-pass-in_default-reserve
 invariant_of-pass-in_default-reserve g c = grind (arith, common_steps)

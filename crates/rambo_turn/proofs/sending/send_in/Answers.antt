@@ -1,4 +1,4 @@
-use Rattle.std.proofs.Common.{◌≡◌, IfOk, sym, ap, ◌∙◌, subst}
+use Rattle.std.proofs.Common.{◌≡◌, IfOk, refl, sym, ap, ◌∙◌, subst}
 use Rattle.rambo_run.specs.declared.step.Step.TheVariants as step
 use Rattle.rambo_run.specs.Steps.{Meant, refusal, turn}
 use Rattle.rambo_run.proofs.Lists.{some_inj}
@@ -9,7 +9,7 @@ use Rattle.rambo_turn.proofs.Told.{send_sent}
 use Rattle.rambo_turn.proofs.sending.send_in.Goals as goal
 
 pub why_not-requires : goal.why_not-requires
-why_not-requires g c = (c.requires-raw.1.1.1.0, λ m e. ap (λ (m : Meant _). m.name) (some_inj m _ (sym e)) ∙ sym c.requires.name)
+why_not-requires g c = (c.requires-raw.1.1.1.0, (refl, λ m e. ap (λ (m : Meant _). m.name) (some_inj m _ (sym e)) ∙ sym c.requires.name))
 
 pub commit_ready-requires : goal.commit_ready-requires
 commit_ready-requires g c =

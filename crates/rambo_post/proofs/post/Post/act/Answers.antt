@@ -1,10 +1,11 @@
-use Rattle.std.proofs.Common.{Some, IfOk, sym, ap, ◌∙◌, subst}
+use Rattle.std.proofs.Common.{◌≡◌, false, Some, IfOk, sym, ap, ◌∙◌, subst}
 use Rattle.rambo_names.proofs.Sizes.{up_fits, back_fits, variant_fits}
 use Rattle.std.specs.Sync.Mutex.{mutex_guard_value}
 use Rattle.rambo_book.specs.Kept.{KeeperView, IsServedBy, state}
+use Rattle.rambo_book.specs.Windows.{delivers_gone, gone_of}
 use Rattle.rambo_book.specs.Readying.{IsReadyFor}
 use Rattle.rambo_pass.specs.Passes.{IsHalf}
-use Rattle.rambo_pass.proofs.Acts.{acted, caused}
+use Rattle.rambo_pass.proofs.Acts.{acted, caused, told_named}
 use Rattle.rambo_pass.proofs.Halves.{half_of, own_name, no_delivery}
 use Rattle.rambo_post.proofs.post.Post.act.Goals as goal
 
@@ -15,8 +16,8 @@ pub act_in-requires : goal.act_in-requires
 act_in-requires g c =
     let post = c.requires-raw.1.1.1.1 in (
       back_fits _ _ _ (up_fits _ _ _ (back_fits _ _ _ (up_fits _ _ _ (variant_fits _ _ _ _ (back_fits _ _ _ (up_fits _ _ _ post)))))),
-      subst (λ b. IsServedBy (state g.Q.Quorums.system b) c.args.step c.deref_mut-in_default.result.now.name) (sym c.deref_mut.ensures.value)
-          (subst (λ (k : KeeperView _). IsServedBy (state g.Q.Quorums.system (mutex_guard_value c.both-keeper.result.1)) c.args.step k.name) (sym c.deref_mut-in_default.ensures.value) c.both-keeper.ensures),
+      subst (λ b. delivers_gone (gone_of g.J.Terms.endless g.J.Terms.capacity (state g.Q.Quorums.system b)) c.args.step ≡ false → IsServedBy (state g.Q.Quorums.system b) c.args.step c.deref_mut-in_default.result.now.name) (sym c.deref_mut.ensures.value)
+          (subst (λ (k : KeeperView _). delivers_gone (gone_of g.J.Terms.endless g.J.Terms.capacity (state g.Q.Quorums.system (mutex_guard_value c.both-keeper.result.1))) c.args.step ≡ false → IsServedBy (state g.Q.Quorums.system (mutex_guard_value c.both-keeper.result.1)) c.args.step k.name) (sym c.deref_mut-in_default.ensures.value) c.both-keeper.ensures),
     )
 
 pub drop-keeper-requires-room-T-Destruct : goal.drop-keeper-requires-room-T-Destruct
@@ -33,7 +34,7 @@ returns-in_default-clause-acted g c =
 pub returns-in_default-clause-cause : goal.returns-in_default-clause-cause
 returns-in_default-clause-cause g c =
     let h = c.act_in.ensures in
-    caused g.Q.Quorums.system g.J.Terms.founders g.J.Terms.capacity c.deref_mut.result.now c.args.pass.now c.act_in.new.pass c.args.step h.terms.0 h.terms.1 h.between h.before c.act_in.result h.cause h.shown
+    caused g.Q.Quorums.system g.J.Terms.founders g.J.Terms.endless g.J.Terms.capacity c.deref_mut.result.now c.args.pass.now c.act_in.new.pass c.args.step h.terms.0 h.terms.1 h.between h.before c.act_in.result h.cause h.shown
 
 pub keeper_of-keeper-requires : goal.keeper_of-keeper-requires
 keeper_of-keeper-requires g c = let post = c.requires-raw.1.1.1.1 in (post, back_fits _ _ _ (up_fits _ _ _ (back_fits _ _ _ (up_fits _ _ _ (variant_fits _ _ _ _ (back_fits _ _ _ (up_fits _ _ _ post)))))))
@@ -66,7 +67,7 @@ returns-clause-cause g c =
     let name = ap (λ (k : KeeperView _). k.name) c.deref_mut-2.ensures.value ∙ c.keeper_of-keeper.ensures in
     let half = half_of g.Q.Quorums.system g.J.Terms.founders c.deref_mut-2.result.now c.ready-half.new.keeper c.args.step c.ready-half.result c.ready-half.ensures.same (named ∙ ap Some (sym name)) c.ready-half.ensures.step c.ready-half.ensures.refused in
     let here = c.asking_if-half.ensures.half g.J.Terms.founders c.deref_mut-4.result.now c.args.step (subst (λ k. IsHalf g.Q.Quorums.system g.J.Terms.founders k c.args.step c.ready-half.result) (sym c.deref_mut-4.ensures.value) half) in
-    caused g.Q.Quorums.system g.J.Terms.founders g.J.Terms.capacity c.deref_mut-3.result.now c.args.pass.now c.act_ready_in.new.pass c.args.step h.terms.0 h.terms.1 h.between h.before c.act_ready_in.result (h.cause c.args.step here) h.shown
+    caused g.Q.Quorums.system g.J.Terms.founders g.J.Terms.endless g.J.Terms.capacity c.deref_mut-3.result.now c.args.pass.now c.act_ready_in.new.pass c.args.step h.terms.0 h.terms.1 h.between h.before c.act_ready_in.result (told_named g.Q.Quorums.system g.J.Terms.endless g.J.Terms.capacity (state g.Q.Quorums.system c.deref_mut-3.result.now) c.args.step c.in-Some.name _ _ c.act_ready_in.result named (h.cause c.args.step here)) h.shown
 
 pub is_open-requires : goal.is_open-requires
 is_open-requires g c = back_fits _ _ _ (up_fits _ _ _ (back_fits _ _ _ (up_fits _ _ _ (variant_fits _ _ _ _ (back_fits _ _ _ (up_fits _ _ _ c.requires-raw.1.1.1.1))))))

@@ -1,8 +1,9 @@
 use Rattle.std.proofs.lemmas.Grind.{common_steps}
-use Rattle.std.proofs.Common.{ap, ◌∙◌, subst, arith}
+use Rattle.std.proofs.Common.{◌≡◌, false, ap, ◌∙◌, subst, arith}
 use Rattle.rambo_names.proofs.Sizes.{up_fits, back_fits, variant_fits}
 use Rattle.std.specs.Sync.Mutex.{mutex_guard_value}
 use Rattle.rambo_book.specs.Kept.{KeeperView, IsServedBy, state}
+use Rattle.rambo_book.specs.Windows.{delivers_gone, gone_of}
 use Rattle.rambo_post.proofs.post.Post.both.Goals as goal
 
 pub loop-init : goal.loop-init
@@ -20,8 +21,9 @@ drop-keeper-requires-room-T-Destruct g c κs within = back_fits _ _ _ (up_fits _
 pub returns-then-serves : goal.returns-then-serves
 returns-then-serves g c =
     let s = g.Q.Quorums.system in
-    subst (IsServedBy (state s (mutex_guard_value c.lock-book.result)) c.args.step.now) (c.name.ensures ∙ ap (λ (k : KeeperView _). k.name) c.deref-in-loop-2.ensures)
-    (subst (λ b. IsServedBy (state s b) c.args.step.now c.name.result) c.deref-in-loop.ensures (c.serves.ensures.served c.if-serves.true))
+    let st = c.args.step.now in
+    subst (λ n. delivers_gone (gone_of g.J.Terms.endless g.J.Terms.capacity (state s (mutex_guard_value c.lock-book.result))) st ≡ false → IsServedBy (state s (mutex_guard_value c.lock-book.result)) st n) (c.name.ensures ∙ ap (λ (k : KeeperView _). k.name) c.deref-in-loop-2.ensures)
+    (subst (λ b. delivers_gone (gone_of g.J.Terms.endless g.J.Terms.capacity (state s b)) st ≡ false → IsServedBy (state s b) st c.name.result) c.deref-in-loop.ensures (c.serves.ensures.served c.if-serves.true))
 
 pub index-requires : goal.index-requires
 index-requires g c = omega arith

@@ -45,7 +45,7 @@ returns-clause-cause g c =
     let half = half_of g.Q.Quorums.system g.J.Terms.founders c.deref_mut.result.now c.ready-half.new.keeper (step.Call c.args.name c.args.op) c.ready-half.result c.ready-half.ensures.same
     (ap Some (sym (ap (λ (k : KeeperView _). k.name) c.deref_mut.ensures.value ∙ c.keeper_of-keeper.ensures))) c.ready-half.ensures.step c.ready-half.ensures.refused in
     let here = subst (λ k. IsHalf g.Q.Quorums.system g.J.Terms.founders k (step.Call c.args.name c.args.op) c.ready-half.result) (sym c.deref_mut-3.ensures.value) half in
-    caused g.Q.Quorums.system g.J.Terms.founders g.J.Terms.capacity c.deref_mut-2.result.now c.args.pass.now c.call_in-called.new.pass (step.Call c.args.name c.args.op) h.terms.0 h.terms.1 h.between h.before c.call_in-called.result (h.cause c.args.op here) h.shown
+    caused g.Q.Quorums.system g.J.Terms.founders g.J.Terms.endless g.J.Terms.capacity c.deref_mut-2.result.now c.args.pass.now c.call_in-called.new.pass (step.Call c.args.name c.args.op) h.terms.0 h.terms.1 h.between h.before c.call_in-called.result (h.cause c.args.op here) h.shown
 
 pub returns-clause-noted : goal.returns-clause-noted
 returns-clause-noted g c = elim c.match-called.branch [

@@ -2,7 +2,7 @@ use Rattle.std.proofs.Common.{◌≡◌, ◌++◌, All, IfSome, sym, ap, ◌∙�
 use mathlib.Core.List.{IsPrefix}
 use Rattle.rambo_names.specs.Weights.{weighted_majorities}
 use Rattle.rambo_run.specs.Legal.{IsLegal}
-use Rattle.rambo_scribe.specs.Traced.{ScribeView}
+use Rattle.rambo_scribe.specs.Traced.{HasWritten, ScribeView, taken_by}
 use Rattle.rambo_scribe.proofs.scribe.Scribe.end.Goals as goal
 
 pub new-requires-clause-legal : goal.new-requires-clause-legal
@@ -14,7 +14,9 @@ new-requires-clause-written g c = λ f e.
     let seen = sym c.into_parts-seen.ensures.seen in
     let prefix = subst (IsPrefix drawn) seen c.end.ensures.drawn in
     let rest = subst (λ o. IfSome o (λ r. drawn ++ r ≡ c.into_parts-seen.result.0)) (sym c.into_parts-seen.ensures.rest) (subst (λ l. IfSome c.end.result.rest (λ r. drawn ++ r ≡ l)) seen c.end.ensures.rest) in
-    c.write_last-fault.ensures g.J.Starts.before f drawn c.into_parts-seen.result.0 prefix rest (c.self.invariant.1 f e)
+    let taken = taken_by g.W.Sink.taken g.W.Sink.failures in
+    subst (λ w. HasWritten g.J.Starts.before (taken w) f c.into_parts-seen.result.0 c.write_last-fault.result) (sym c.into_inner.ensures)
+    (c.write_last-fault.ensures g.J.Starts.before f drawn c.into_parts-seen.result.0 prefix rest (c.self.invariant.1 f e))
 
 pub returns : goal.returns
 returns g c = record {

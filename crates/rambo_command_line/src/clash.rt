@@ -1,0 +1,24 @@
+//! Options of `serve` that don't go together.
+ghost use Rattle.std.specs.Prelude.{◌≡◌};
+ghost use Rattle.rambo_command_line.specs.Clashes.{words_of};
+
+/// Why options of `serve` don't go together.
+#[derive(Clone, Copy, PartialEq, Eq, Debug)]
+pub enum Clash {
+    /// `--endless` stands beside `--steps`.
+    Steps,
+    /// `--no-trace` stands without `--endless`.
+    NoTrace,
+}
+
+impl Clash {
+    /// The words that report it to a user.
+    pub fn words(self) -> &'static str
+        ensures { result.now ≡ words_of self }
+    {
+        match self {
+            Clash::Steps => "bad options: --endless excludes --steps",
+            Clash::NoTrace => "bad options: --no-trace needs --endless",
+        }
+    }
+}
