@@ -15,7 +15,9 @@ mod post;
 
 pub use gate::{Gate, NoGate};
 pub use post::{Asked, Post};
-pub use rambo_book::{Actor, Book, Counts, Keeper, Ready, Terms, commit, commit_ready, may_commit, ready};
+pub use rambo_book::{
+    Actor, Book, Counts, Keeper, Ready, Terms, commit, commit_ready, may_commit, ready,
+};
 pub use rambo_outbox::Waiter;
 pub use rambo_pass::{Closed, Ended, Entry, Left, Pass};
 pub use rambo_roll::{Drawn, Front, Opened};
