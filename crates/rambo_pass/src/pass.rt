@@ -70,6 +70,13 @@ impl<J: Terms<Q>, Q: Quorums> Pass<J, Q> {
         })
     }
 
+    /// How many steps it has seen.
+    pub fn count(&self) -> usize
+        ensures { result ≡ length self.now.seen }
+    {
+        self.count
+    }
+
     /// What it has seen begins the steps of the book.
     pub fn begins(&mut self, book: &mut Book<J, Q>)
         ensures book { book.new ≡ book.old }
