@@ -1,0 +1,7 @@
+mod Faults
+mod FirstSteps
+mod Heads
+mod StepByStep
+mod Stopping
+mod WholeLines
+pub mod WholeTraces
