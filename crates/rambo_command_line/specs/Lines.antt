@@ -1,6 +1,7 @@
 -- Command lines
 use Rattle.std.specs.Prelude.{◌≡◌, ◌≢◌, ◌⊎◌, ◌≤◌, ℕ, Bool, true, false, List, [], ◌∷◌, Option, None, Some, is_some, option_map, codes}
 use Rattle.std.specs.Option.{option_and_then, option_map_or, unwrap_or}
+use Rattle.std.specs.String.{string_bytes}
 use Rattle.std.specs.Str.Parse.{digits_value, without_leading_plus}
 use Rattle.clap.specs.declared.builder.action.ArgAction.TheVariants.{Set, SetTrue}
 use Rattle.clap.specs.declared.builder.command.Command.{Command}
@@ -49,8 +50,12 @@ with_why = (with_rule (new_app check_name) (flag_rule (codes "why"))).top
 abbrev pub IsCheck : Command → Type 0
 IsCheck c = (shape_of c ≡ with_why) × ((out-Command c).has_globals ≡ false)
 
+-- the option of any word
+abbrev pub word_rule : List ℕ → Rule
+word_rule option = record (new_rule option) { long = Some option; action = Some Set; value_names = 1 }
+
 abbrev pub founders_rule : Rule
-founders_rule = record (new_rule (codes "founders")) { long = Some (codes "founders"); action = Some Set; value_names = 1 }
+founders_rule = word_rule (codes "founders")
 
 abbrev pub with_founders : Shape
 with_founders = (with_rule (new_app (codes "local")) founders_rule).top
@@ -78,9 +83,14 @@ abbrev pub with_letters : App
 with_letters =
     with_rule (with_rule with_network (number_rule (codes "lose") 0 18446744073709551615)) (number_rule (codes "twice") 0 18446744073709551615)
 
--- and with the flags about its trace
+-- and with the flags that say whether its steps end, and whether it leaves no trace
+abbrev pub with_endless : App
+with_endless = with_rule (with_rule with_letters (flag_rule (codes "endless"))) (flag_rule (codes "no-trace"))
+
+-- and with those about the file of its trace
 abbrev pub with_options : Shape
-with_options = (with_rule (with_rule with_letters (flag_rule (codes "endless"))) (flag_rule (codes "no-trace"))).top
+with_options =
+    (with_rule (with_rule with_endless (word_rule (codes "trace"))) (flag_rule (codes "sync"))).top
 
 -- a command that has these, and no argument that others share
 abbrev pub IsServe : Command → Type 0
@@ -140,6 +150,8 @@ pub record IsServing (words : List (List ℕ)) (s : Serving) : Type 0 where
   pub endless : IsFlag (codes "endless") words s.endless
   pub untraced : IsFlag (codes "no-trace") words s.untraced
   pub counted : s.counted ≡ is_some (word_behind (codes "steps") words)
+  pub trace : option_map string_bytes s.trace ≡ word_behind (codes "trace") words
+  pub synced : IsFlag (codes "sync") words s.synced
 
 -- words that ask for a task by its name alone, which the mark of the last option may follow
 abbrev pub AsksByName : List (List ℕ) → List ℕ → Type 0

@@ -9,6 +9,12 @@ pub enum Clash {
     Steps,
     /// `--no-trace` stands without `--endless`.
     NoTrace,
+    /// `--trace` stands without `--endless`.
+    Trace,
+    /// `--trace` stands beside `--no-trace`.
+    TraceAndNone,
+    /// `--sync` stands without `--trace`.
+    Sync,
 }
 
 impl Clash {
@@ -19,6 +25,9 @@ impl Clash {
         match self {
             Clash::Steps => "bad options: --endless excludes --steps",
             Clash::NoTrace => "bad options: --no-trace needs --endless",
+            Clash::Trace => "bad options: --trace needs --endless",
+            Clash::TraceAndNone => "bad options: --trace excludes --no-trace",
+            Clash::Sync => "bad options: --sync needs --trace",
         }
     }
 }

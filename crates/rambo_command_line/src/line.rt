@@ -20,8 +20,8 @@ use std::convert::AsStr;
 
 const STATUSES: &str = "Exit statuses:
   0  done
-  1  a stream or socket failed or memory ran out (fault read, fault write,
-     fault socket, fault memory)
+  1  a stream or socket failed, memory ran out, or the file of a trace can't be
+     opened (fault read, fault write, fault socket, fault memory, fault trace)
   2  the command line or the input is faulty
   3  check said no for some key, or for the order of all keys";
 
@@ -145,7 +145,7 @@ Exit statuses:
 const FOUNDERS: &str = "1";
 
 /// What a command line asks for.
-#[derive(Clone, Copy, Debug)]
+#[derive(Debug, Drop)]
 pub enum Task {
     /// A script is run, and its outcome written.
     Replay,
@@ -167,25 +167,25 @@ pub fn task_of<S: AsStr>(alloc: Global, words: &[S]) -> Result<Task, Error>
 {
     let command = rambo_command(alloc)?;
     let matches = command.try_get_matches_from(words)?;
-    Ok(task_in(&matches))
+    Ok(task_in(alloc, &matches)?)
 }
 
-// The task of which a parse without a fault met the command.
-fn task_in(matches: &ArgMatches<'_>) -> Task
+// The task of which a parse without a fault met the command, where there is room for what it keeps of the words.
+fn task_in(alloc: Global, matches: &ArgMatches<'_>) -> Result<Task, AllocError>
     ensures { (words : List (List ℕ)) → (fault_of rambo words ≡ [])
-        → HasMatchesOf rambo words matches.now → Asks words result }
+        → HasMatchesOf rambo words matches.now → IfOk result (Asks words) }
 {
     if let Some(local) = matches.subcommand_matches("local") {
         let word = local.get_str("founders").unwrap_or(FOUNDERS);
-        return Task::Local(founders_of(word));
+        return Ok(Task::Local(founders_of(word)));
     }
     if let Some(serve) = matches.subcommand_matches("serve") {
-        return Task::Serve(serving_in(serve));
+        return Ok(Task::Serve(serving_in(alloc, serve)?));
     }
     if let Some(check) = matches.subcommand_matches("check") {
-        return Task::Check(check.get_flag("why"));
+        return Ok(Task::Check(check.get_flag("why")));
     }
-    Task::Replay
+    Ok(Task::Replay)
 }
 
 // The program and its four commands.

@@ -2,7 +2,7 @@
 ghost use Rattle.std.specs.Prelude.{◌≡◌, false};
 ghost use Rattle.clap.specs.declared.builder.command.Command.TheViews.{out-Command as fields_of};
 ghost use Rattle.clap.specs.Words.{app_of, new_app, rule_of};
-ghost use Rattle.rambo_command_line.specs.Lines.{IsFounders, flag_rule, founders_rule};
+ghost use Rattle.rambo_command_line.specs.Lines.{IsFounders, flag_rule, founders_rule, word_rule};
 
 use clap::{Arg, ArgAction, Command};
 use rambo_names::{Quorums, Weighted, read_conf};
@@ -38,10 +38,23 @@ pub(crate) fn founders_option<'a>(alloc: Global, help: &'a str) -> Arg<'a>
     ensures rule { rule_of result ≡ founders_rule }
     ensures own { result.global ≡ false }
 {
-    Arg::new(alloc, "founders")
-        .long("founders")
+    word_option(alloc, "founders", "CONF", help)
+}
+
+/// An option of a name for a word, with how its help calls the word and what it says of it.
+pub(crate) fn word_option<'a>(
+    alloc: Global,
+    name: &'a str,
+    value: &'a str,
+    help: &'a str,
+) -> Arg<'a>
+    ensures rule { rule_of result ≡ word_rule name.now }
+    ensures own { result.global ≡ false }
+{
+    Arg::new(alloc, name)
+        .long(name)
         .action(ArgAction::Set)
-        .value_name("CONF")
+        .value_name(value)
         .help(help)
 }
 

@@ -1,8 +1,9 @@
 //! What `serve` is asked for.
-ghost use Rattle.std.specs.Prelude.{◌≡◌, ◌<◌, ◌≤◌, ◌^◌, ℕ, List, Some, None, IfOk, false, codes};
+ghost use Rattle.std.specs.Prelude.{◌≡◌, ◌<◌, ◌≤◌, ◌^◌, ℕ, List, Some, None, IfOk, false, codes, option_map};
 ghost use Rattle.std.specs.Str.Parse.{IsNumeral, without_leading_plus};
+ghost use Rattle.std.specs.String.{string_bytes};
 ghost use Rattle.clap.specs.declared.builder.command.Command.TheViews.{out-Command as fields_of};
-ghost use Rattle.clap.specs.Words.{app_of, found_of, one_text, rows_of, rule_of, shape_of, subcommand_of, with_rule};
+ghost use Rattle.clap.specs.Words.{app_of, first_value, found_of, one_text, rows_of, rule_of, shape_of, subcommand_of, with_rule};
 ghost use Rattle.rambo_command_line.specs.Clashes.{clash_of};
 ghost use Rattle.rambo_command_line.specs.Lines.{
   AsksServe,
@@ -13,12 +14,13 @@ ghost use Rattle.rambo_command_line.specs.Lines.{
   rambo,
   serve_name,
   with_clients,
+  with_endless,
   with_letters,
   with_network,
 };
 
 use crate::clash::Clash;
-use crate::parts::{bare_command, flag, founders_of, founders_option};
+use crate::parts::{bare_command, flag, founders_of, founders_option, word_option};
 use clap::builder::ValueParser;
 use clap::{Arg, ArgAction, ArgMatches, Command};
 use rambo_names::Weighted;
@@ -54,6 +56,10 @@ output as they are done, at most some hundredths of a second later; where it
 can't be written, the server ends with fault write. With --no-trace nothing is
 written.
 
+With --trace it goes to FILE, which is made where it is missing, and is empty
+at first. One server at a time has FILE. With --sync a reply waits until the
+disk was told to keep the steps that it tells of.
+
 A connection beyond --connections is refused. RAMBO SHUTDOWN is heard on each
 other one.
 
@@ -68,8 +74,8 @@ Example:
 
 Exit statuses:
   0  done
-  1  a socket or stream failed or memory ran out (fault socket, fault write,
-     fault memory)
+  1  a socket or stream failed, memory ran out, or the trace can't be opened
+     (fault socket, fault read, fault write, fault memory, fault trace)
   2  the command line is faulty, options don't go together (bad options), or
      the founders are invalid (bad founders)";
 
@@ -77,7 +83,7 @@ Exit statuses:
 const FOUNDERS: &str = "1,2,3";
 
 /// How a server is asked to serve.
-#[derive(Clone, Copy, Debug)]
+#[derive(Debug, Drop)]
 pub struct Serving {
     /// The port that it listens on; where it is 0 the system chooses one.
     pub port: u16,
@@ -99,6 +105,10 @@ pub struct Serving {
     pub untraced: bool,
     /// Whether `--steps` was given.
     pub counted: bool,
+    /// The file that the trace goes to, where that isn't standard output.
+    pub trace: Option<String>,
+    /// Whether a reply waits until the steps that it tells of are on the disk.
+    pub synced: bool,
 }
 
 impl Serving {
@@ -112,17 +122,27 @@ impl Serving {
         if self.untraced && !self.endless {
             return Some(Clash::NoTrace);
         }
+        if self.trace.is_some() && !self.endless {
+            return Some(Clash::Trace);
+        }
+        if self.trace.is_some() && self.untraced {
+            return Some(Clash::TraceAndNone);
+        }
+        if self.synced && self.trace.is_none() {
+            return Some(Clash::Sync);
+        }
         None
     }
 }
 
-/// What the words after `serve` ask for, after a parse without a fault.
-pub(crate) fn serving_in(matches: &ArgMatches<'_>) -> Serving
+/// What the words after `serve` ask for, after a parse without a fault, where there is room for the name of the trace's file.
+pub(crate) fn serving_in(alloc: Global, matches: &ArgMatches<'_>) -> Result<Serving, AllocError>
     ensures { (words : List (List ℕ)) → AsksServe words
         → subcommand_of rambo words ≡ Some (serve_name, rows_of (found_of matches.now))
-        → IsServing words result }
+        → IfOk result (IsServing words) }
 {
-    Serving {
+    let trace = word_in(alloc, matches, "trace")?;
+    Ok(Serving {
         port: port_in(matches),
         founders: founders_of(matches.get_str("founders").unwrap_or(FOUNDERS)),
         clients: number_in(matches, "clients", 2),
@@ -133,7 +153,23 @@ pub(crate) fn serving_in(matches: &ArgMatches<'_>) -> Serving
         endless: matches.get_flag("endless"),
         untraced: matches.get_flag("no-trace"),
         counted: matches.get_str("steps").is_some(),
-    }
+        trace,
+        synced: matches.get_flag("sync"),
+    })
+}
+
+// A copy of the word after an option, where it has one.
+fn word_in(
+    alloc: Global,
+    matches: &ArgMatches<'_>,
+    option: &str,
+) -> Result<Option<String>, AllocError>
+    ensures { IfOk result (λ word. option_map string_bytes word ≡ first_value (found_of matches.now) option.now) }
+{
+    let Some(word) = matches.get_str(option) else {
+        return Ok(None);
+    };
+    Ok(Some(String::from_str(alloc, word)?))
 }
 
 // The port, or 0 where none is given.
@@ -158,6 +194,25 @@ fn number_in(matches: &ArgMatches<'_>, option: &str, default: u64) -> u64
 pub(crate) fn serve_command<'a>(alloc: Global) -> Result<Command<'a>, AllocError>
     ensures { IfOk result IsServe }
 {
+    endless_command(alloc)?
+        .arg(word_option(
+            alloc,
+            "trace",
+            "FILE",
+            "The file that the trace goes to, in place of standard output; needs --endless",
+        ))?
+        .arg(flag(
+            alloc,
+            "sync",
+            "Replies only once the disk was told to keep what a reply tells of; needs --trace",
+        ))
+}
+
+// The same, still without what is about the file of its trace.
+fn endless_command<'a>(alloc: Global) -> Result<Command<'a>, AllocError>
+    ensures app { IfOk result (λ c. app_of c ≡ with_endless) }
+    ensures local { IfOk result (λ c. (fields_of c).has_globals ≡ false) }
+{
     letters_command(alloc)?
         .arg(flag(
             alloc,
@@ -167,7 +222,7 @@ pub(crate) fn serve_command<'a>(alloc: Global) -> Result<Command<'a>, AllocError
         .arg(flag(alloc, "no-trace", "Writes no trace; needs --endless"))
 }
 
-// The same, still without the flags about its trace.
+// The same, still without the flags that say whether its steps end, and whether it leaves no trace.
 fn letters_command<'a>(alloc: Global) -> Result<Command<'a>, AllocError>
     ensures app { IfOk result (λ c. app_of c ≡ with_letters) }
     ensures local { IfOk result (λ c. (fields_of c).has_globals ≡ false) }

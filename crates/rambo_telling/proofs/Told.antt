@@ -17,16 +17,13 @@ appends_both a b (Some xs) None z front back = absurd front
 appends_both a b (Some xs) (Some ys) None front back = absurd back
 appends_both a b (Some xs) (Some ys) (Some zs) front back = back ∙ ap (λ l. l ++ b) front ∙ append_assoc xs a b
 
--- what stands before a part of the line of a fault, and what from there on
+-- a line of two numbers: up to the first or the second of them, and from there on
 module _ (a n b l f : List ℕ) where
-  pub from_line : (((a ++ n) ++ b) ++ l) ++ f ≡ ((a ++ n) ++ b) ++ (l ++ f)
-  from_line = append_assoc ((a ++ n) ++ b) l f
+  pub from_first : (((a ++ n) ++ b) ++ l) ++ f ≡ (a ++ n) ++ (b ++ (l ++ f))
+  from_first = append_assoc ((a ++ n) ++ b) l f ∙ append_assoc (a ++ n) b (l ++ f)
 
-  pub from_at : (((a ++ n) ++ b) ++ l) ++ f ≡ (a ++ n) ++ (b ++ (l ++ f))
-  from_at = from_line ∙ append_assoc (a ++ n) b (l ++ f)
-
-  pub from_number : (((a ++ n) ++ b) ++ l) ++ f ≡ a ++ (n ++ (b ++ (l ++ f)))
-  from_number = from_at ∙ append_assoc a n (b ++ (l ++ f))
+  pub from_second : (((a ++ n) ++ b) ++ l) ++ f ≡ (a ++ n) ++ ((b ++ l) ++ f)
+  from_second = ap (λ r. r ++ f) (append_assoc (a ++ n) b l) ∙ append_assoc (a ++ n) (b ++ l) f
 
 module _ {E : Type 0} (taken : E → Option (List ℕ)) (failures : E → ℕ) where
   -- the first part was taken
@@ -38,6 +35,10 @@ module _ {E : Type 0} (taken : E → Option (List ℕ)) (failures : E → ℕ) w
       → Takes (a ++ b) (stream taken failures x z)
   takes_next a b d x y z front is appends fine =
       record { fine = fine ∙ front.fine; taken = appends_both a b _ _ _ front.taken (subst (Appends (taken y) (taken z)) is appends) }
+
+  -- the same text, written otherwise
+  pub takes_same : (a b : List ℕ) (x y : E) → b ≡ a → Takes a (stream taken failures x y) → Takes b (stream taken failures x y)
+  takes_same a b x y is takes = subst (λ t. Takes t (stream taken failures x y)) (sym is) takes
 
   -- a part wasn't
   pub breaks_next : (text a b c d : List ℕ) (x y z : E) → text ≡ a ++ (b ++ c) → Takes a (stream taken failures x y) → d ≡ b → Begins (taken y) (taken z) d

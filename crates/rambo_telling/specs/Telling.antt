@@ -50,6 +50,18 @@ socket_line = codes "fault socket" ++ 10 ∷ []
 abbrev pub listening_line : ℕ → List ℕ
 listening_line port = codes "listening " ++ decimal port ++ 10 ∷ []
 
+-- the line that reports which refusal the step of a line of a trace met
+abbrev pub refused_line : ℕ → ℕ → List ℕ
+refused_line number line = codes "script fault refused " ++ decimal number ++ codes " at line " ++ decimal line ++ 10 ∷ []
+
+-- the line that reports how many steps of its trace a server took
+abbrev pub resumed_line : ℕ → List ℕ
+resumed_line steps = codes "resumed " ++ decimal steps ++ codes " steps" ++ 10 ∷ []
+
+-- the line that reports how many bytes of the last line of a trace were cut off
+abbrev pub torn_line : ℕ → ℕ → List ℕ
+torn_line bytes line = codes "cut " ++ decimal bytes ++ codes " bytes at line " ++ decimal line ++ 10 ∷ []
+
 -- the status after a fault
 abbrev pub status_of : ReplayFault → ℕ
 status_of (Script f) = 2

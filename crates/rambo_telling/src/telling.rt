@@ -1,5 +1,5 @@
 //! What is reported to the user.
-ghost use Rattle.std.specs.Prelude.{◌≡◌, ◌⊎◌, ◌++◌, [], ◌∷◌, codes, OnOk, OnErr};
+ghost use Rattle.std.specs.Prelude.{◌≡◌, ◌⊎◌, ◌++◌, [], ◌∷◌, codes, decimal, OnOk, OnErr};
 ghost use Rattle.clap.specs.Words.{kind_of};
 ghost use Rattle.rambo_atomic.specs.StreamFaults.{words_of};
 ghost use Rattle.rambo_text.specs.Faults.{told};
@@ -11,9 +11,12 @@ ghost use Rattle.rambo_telling.specs.Telling.{
   Tells,
   fault_line,
   listening_line,
+  refused_line,
+  resumed_line,
   socket_line,
   status_of,
   stream,
+  torn_line,
 };
 
 use clap::Error;
@@ -64,8 +67,7 @@ fn tell_stream<E: Sink>(fault: StreamFault, errors: &mut E) -> u8
     ensures status { result ≡ 1 }
     ensures line { Tells (words_of fault ++ 10 ∷ []) (stream E.taken E.failures errors.old errors.new) }
 {
-    let _ = write_words(fault.words(), errors);
-    FAILED
+    tell_failure(fault.words(), errors)
 }
 
 // Writes words as a line. It allocates nothing.
@@ -83,12 +85,59 @@ fn write_line<E: Sink>(fault: ScriptFault, errors: &mut E) -> Result<(), StreamF
     ensures ok { OnOk result (Takes (told fault ++ 10 ∷ []) (stream E.taken E.failures errors.old errors.new)) }
     ensures err { OnErr result (Breaks (told fault ++ 10 ∷ []) (stream E.taken E.failures errors.old errors.new)) }
 {
-    let mut buffer = Buffer::new();
-    write_all(errors, b"script fault S")?;
-    write_all(errors, buffer.format(fault.fault.number()).as_bytes())?;
-    write_all(errors, b" at line ")?;
-    write_all(errors, buffer.format(fault.line).as_bytes())?;
+    write_two_numbers(
+        "script fault S",
+        fault.fault.number(),
+        " at line ",
+        fault.line,
+        errors,
+    )
+}
+
+// Writes a line of two numbers, with what stands before each of them. It allocates nothing.
+fn write_two_numbers<E: Sink>(
+    before: &str,
+    first: u64,
+    between: &str,
+    second: u64,
+    errors: &mut E,
+) -> Result<(), StreamFault>
+    ensures ok { OnOk result (Takes (before.now ++ decimal first ++ between.now ++ decimal second ++ 10 ∷ [])
+        (stream E.taken E.failures errors.old errors.new)) }
+    ensures err { OnErr result (Breaks (before.now ++ decimal first ++ between.now ++ decimal second ++ 10 ∷ [])
+        (stream E.taken E.failures errors.old errors.new)) }
+{
+    write_number(before, first, errors)?;
+    write_number(between, second, errors)?;
     write_all(errors, b"\n")?;
+    Ok(())
+}
+
+// Writes a number between what stands before it and behind it. It allocates nothing.
+fn write_number_between<E: Sink>(
+    before: &str,
+    number: u64,
+    behind: &str,
+    errors: &mut E,
+) -> Result<(), StreamFault>
+    ensures ok { OnOk result (Takes (before.now ++ decimal number ++ behind.now)
+        (stream E.taken E.failures errors.old errors.new)) }
+    ensures err { OnErr result (Breaks (before.now ++ decimal number ++ behind.now)
+        (stream E.taken E.failures errors.old errors.new)) }
+{
+    write_number(before, number, errors)?;
+    write_all(errors, behind.as_bytes())?;
+    Ok(())
+}
+
+// Writes a number and what stands before it. It allocates nothing.
+fn write_number<E: Sink>(before: &str, number: u64, errors: &mut E) -> Result<(), StreamFault>
+    ensures ok { OnOk result (Takes (before.now ++ decimal number) (stream E.taken E.failures errors.old errors.new)) }
+    ensures err { OnErr result (Breaks (before.now ++ decimal number) (stream E.taken E.failures errors.old errors.new)) }
+{
+    let mut buffer = Buffer::new();
+    write_all(errors, before.as_bytes())?;
+    write_all(errors, buffer.format(number).as_bytes())?;
     Ok(())
 }
 
@@ -145,7 +194,33 @@ pub fn tell_mistake<E: Sink>(words: &str, errors: &mut E) -> u8
     ensures status { result ≡ 2 }
     ensures line { Tells (words.now ++ 10 ∷ []) (stream E.taken E.failures errors.old errors.new) }
 {
+    report(words, FAULTY, errors)
+}
+
+/// Reports a failure in one line of these words, and returns the exit status for it.
+pub fn tell_failure<E: Sink>(words: &str, errors: &mut E) -> u8
+    ensures status { result ≡ 1 }
+    ensures line { Tells (words.now ++ 10 ∷ []) (stream E.taken E.failures errors.old errors.new) }
+{
+    report(words, FAILED, errors)
+}
+
+// Reports words in a line, and returns the exit status that was passed.
+fn report<E: Sink>(words: &str, status: u8, errors: &mut E) -> u8
+    ensures same { result ≡ status }
+    ensures line { Tells (words.now ++ 10 ∷ []) (stream E.taken E.failures errors.old errors.new) }
+{
     let _ = write_words(words, errors);
+    status
+}
+
+/// Reports that the step of a line of a trace was refused, and the number of the refusal, and returns the exit status for
+/// it.
+pub fn tell_refused<E: Sink>(number: u64, line: u64, errors: &mut E) -> u8
+    ensures status { result ≡ 2 }
+    ensures line { Tells (refused_line number line) (stream E.taken E.failures errors.old errors.new) }
+{
+    let _ = write_two_numbers("script fault refused ", number, " at line ", line, errors);
     FAULTY
 }
 
@@ -154,25 +229,27 @@ pub fn tell_socket<E: Sink>(errors: &mut E) -> u8
     ensures status { result ≡ 1 }
     ensures line { Tells socket_line (stream E.taken E.failures errors.old errors.new) }
 {
-    let _ = write_all(errors, b"fault socket\n");
-    FAILED
+    tell_failure("fault socket", errors)
 }
 
 /// Reports on which port a server listens, as far as `errors` takes it.
 pub fn tell_listening<E: Sink>(port: u16, errors: &mut E)
     ensures line { Tells (listening_line port) (stream E.taken E.failures errors.old errors.new) }
 {
-    let _ = write_listening(port, errors);
+    let _ = write_number_between("listening ", u64::from(port), "\n", errors);
 }
 
-// Writes on which port a server listens. It allocates nothing.
-fn write_listening<E: Sink>(port: u16, errors: &mut E) -> Result<(), StreamFault>
-    ensures ok { OnOk result (Takes (listening_line port) (stream E.taken E.failures errors.old errors.new)) }
-    ensures err { OnErr result (Breaks (listening_line port) (stream E.taken E.failures errors.old errors.new)) }
+/// Reports how many steps of its trace a server took when it went on from it, as far as `errors` takes it.
+pub fn tell_resumed<E: Sink>(steps: u64, errors: &mut E)
+    ensures line { Tells (resumed_line steps) (stream E.taken E.failures errors.old errors.new) }
 {
-    let mut buffer = Buffer::new();
-    write_all(errors, b"listening ")?;
-    write_all(errors, buffer.format(port).as_bytes())?;
-    write_all(errors, b"\n")?;
-    Ok(())
+    let _ = write_number_between("resumed ", steps, " steps\n", errors);
+}
+
+/// Reports how many bytes of a last line without a line feed were cut off, and the number of that line, as far as `errors`
+/// takes it.
+pub fn tell_torn<E: Sink>(bytes: u64, line: u64, errors: &mut E)
+    ensures line { Tells (torn_line bytes line) (stream E.taken E.failures errors.old errors.new) }
+{
+    let _ = write_two_numbers("cut ", bytes, " bytes at line ", line, errors);
 }

@@ -6,7 +6,7 @@ use Rattle.rambo_command_line.proofs.line.task_of.Goals as goal
 pub returns-clause-task : goal.returns-clause-task
 returns-clause-task g c =
     let words = map g.S.AsStr.text c.args.words.now in
-    c.task_in.ensures words (faultless_as _ words c.in_ok-command.ensures c.in_ok-matches.ensures.kinds)
+    c.in_ok-task_in.ensures words (faultless_as _ words c.in_ok-command.ensures c.in_ok-matches.ensures.kinds)
     (subst (λ (a : App). HasMatchesOf a words c.in_ok-matches.matches) c.in_ok-command.ensures c.in_ok-matches.ensures.matches)
 
 pub returns-in_err-matches-clause-other : goal.returns-in_err-matches-clause-other

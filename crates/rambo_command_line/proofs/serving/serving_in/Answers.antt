@@ -33,4 +33,10 @@ returns c words asks is =
       };
       counted = c.is_some.ensures ∙ some_now c.get_str-2.result
           ∙ ap is_some (c.get_str-2.ensures ∙ first_value-rows (found_of sub) (codes "steps") ∙ sym (behind words sub asks.0 is (codes "steps")));
+      trace = c.in_ok-trace.ensures ∙ first_value-rows (found_of sub) (codes "trace") ∙ sym (behind words sub asks.0 is (codes "trace"));
+      synced = record {
+        there = λ e. c.get_flag-3.ensures.value (sym (flag_is words sub asks.0 is (codes "sync")) ∙ e);
+        absent = λ e. c.get_flag-3.ensures.other (sym (flag_is words sub asks.0 is (codes "sync")) ∙ e);
+        untold = λ e. c.get_flag-3.ensures.none (sym (flag_is words sub asks.0 is (codes "sync")) ∙ e);
+      };
     }
