@@ -1,5 +1,6 @@
 //! Serving clients without an end of the steps, which are written as they are done.
-ghost use Rattle.std.specs.Prelude.{◌≡◌, List, Option, Some, is_some, true, false, IfOk, IfErr, OnErr};
+ghost use Rattle.std.specs.Prelude.{◌≡◌, List, Option, None, Some, is_some, true, false, IsOk, IfOk, IfErr, OnErr};
+ghost use mathlib.Core.List.{IsPrefix};
 ghost use Rattle.rambo_names.specs.Weights.{Weights, weighted_majorities};
 ghost use Rattle.rambo_run.specs.declared.step.Step.{Step as AnyStep};
 ghost use Rattle.rambo_run.specs.Legal.{IsLegal};
@@ -10,9 +11,9 @@ use crate::hub::{Copies, Hub};
 use crate::opening::{House, open_house};
 use crate::options::Options;
 use crate::running::run;
-use rambo_atomic::Sink;
-use rambo_names::Weighted;
-use rambo_post::{Actor, Gate, Pass, Post, Terms};
+use rambo_archive::Durable;
+use rambo_names::{Members, Weighted};
+use rambo_post::{Actor, Drawn, Gate, Pass, Post, Shown, Terms};
 use rambo_roll::Opened;
 use rambo_run::Step;
 use rambo_scribe::{Scribe, Starts, TraceFault};
@@ -25,15 +26,15 @@ use std::sync::{Mutex, Wait};
 use std::thread::Threads;
 use std::time::Clock;
 
-// How many steps are at hand at most, since they weren't written.
-const AHEAD: usize = 131_072;
+/// How many steps are at hand at most, since they weren't written.
+pub const AHEAD: usize = 131_072;
 
-// How many steps an endless server takes in all.
-const LAST: usize = usize::MAX;
+/// How many steps an endless server takes in all.
+pub const LAST: usize = usize::MAX;
 
 /// What a server leaves that wrote its steps as they were done.
 #[derive(Drop)]
-pub struct Traced<W: Sink + Drop> {
+pub struct Traced<W: Durable + Drop> {
     /// The writer of the trace.
     pub writer: W,
     /// Why the trace isn't whole, if that is so; or why nobody was served, and nothing written.
@@ -46,7 +47,7 @@ pub struct Traced<W: Sink + Drop> {
 ///
 /// The options' number of steps isn't used. A socket that fails ends its own connection alone. `ServeFault` says for what
 /// faults nobody is served.
-pub fn serve_endless<W: Sink + Drop + Send, G: Gate, R>(
+pub fn serve_endless<W: Durable + Drop + Send, G: Gate, R>(
     rt: &R,
     alloc: Global,
     listener: &TcpListener,
@@ -90,7 +91,7 @@ where
 // The same by a post of this name.
 fn serve_endless_named<
     J: Terms<Weighted> + Starts + Send + Sync,
-    W: Sink + Drop + Send,
+    W: Durable + Drop + Send,
     G: Gate,
     R,
 >(
@@ -117,28 +118,117 @@ where
     requires endless { J.endless ≡ true }
     requires lose { options.now.lose ≡ J.lose }
     requires twice { options.now.twice ≡ J.twice }
+    requires syncs { options.now.syncs ≡ J.syncs }
     requires before { taken_by W.taken W.failures writer ≡ J.before }
     ensures written { IfOk result.ended (λ fault. (all : List (AnyStep Weights)) × IsLegal weighted_majorities founders all
         × HasWritten J.before (taken_by W.taken W.failures result.writer) founders all fault) }
     ensures unwritten { OnErr result.ended (result.writer ≡ writer) }
 {
-    let opened = endless_house::<J, R>(rt, alloc, opened, listener, options, founders, steps);
+    match endless_house::<J, R>(rt, alloc, opened, listener, options, founders, steps) {
+        Ok(house) => {
+            let post = &house.hub.post;
+            let scribe = Scribe::new(rt, alloc, post, founders, writer);
+            let nothing = post.nothing_shown(rt);
+            serve_house(
+                rt, alloc, listener, options, founders, gate, house, scribe, nothing,
+            )
+        }
+        Err(fault) => Traced {
+            writer,
+            ended: Err(fault),
+        },
+    }
+}
+
+/// Serves clients as `serve_endless` does, by a post that has taken steps before: all of them were shown and drawn, and stand in
+/// the trace that the writer has, which goes on. These nodes have stopped.
+pub fn serve_post<J: Terms<Weighted> + Starts + Send + Sync, W: Durable + Drop + Send, G: Gate, R>(
+    rt: &R,
+    alloc: Global,
+    listener: &TcpListener,
+    options: &Options<Weighted>,
+    founders: Weighted,
+    gate: &G,
+    post: Post<J, Weighted, Copies>,
+    drawn: Drawn<J, Step<Weighted>>,
+    shown: Shown<J, Weighted>,
+    stopped: Members,
+    writer: W,
+) -> Traced<W>
+where
+    R: Net<Listener = TcpListener, Stream = TcpStream>
+        + Threads
+        + Wait
+        + Clock
+        + RandomSource
+        + Sync,
+    requires founders { J.founders ≡ Some founders }
+    requires endless { J.endless ≡ true }
+    requires syncs { options.now.syncs ≡ J.syncs }
+    requires shown { shown ≡ drawn }
+    requires written { HasWritten J.before (taken_by W.taken W.failures writer) founders drawn None }
+    ensures written { IfOk result.ended (λ fault. (all : List (AnyStep Weights)) × IsLegal weighted_majorities founders all × IsPrefix drawn all
+        × HasWritten J.before (taken_by W.taken W.failures result.writer) founders all fault) }
+    ensures unwritten { OnErr result.ended (result.writer ≡ writer) }
+{
+    match open_house(
+        rt,
+        alloc,
+        post,
+        listener,
+        options,
+        founders,
+        LAST,
+        true,
+        options.syncs,
+    ) {
+        Ok(house) => {
+            house.hub.rouse(stopped);
+            let post = &house.hub.post;
+            let scribe = Scribe::resumed(rt, alloc, post, founders, drawn, writer);
+            serve_house(
+                rt, alloc, listener, options, founders, gate, house, scribe, shown,
+            )
+        }
+        Err(fault) => Traced {
+            writer,
+            ended: Err(fault),
+        },
+    }
+}
+
+// The threads of a house work until the server ends, and its scribe writes.
+fn serve_house<J: Terms<Weighted> + Starts + Send + Sync, W: Durable + Drop + Send, G: Gate, R>(
+    rt: &R,
+    alloc: Global,
+    listener: &TcpListener,
+    options: &Options<Weighted>,
+    founders: Weighted,
+    gate: &G,
+    house: House<J>,
+    scribe: Scribe<J, W>,
+    once: Shown<J, Weighted>,
+) -> Traced<W>
+where
+    R: Net<Listener = TcpListener, Stream = TcpStream>
+        + Threads
+        + Wait
+        + Clock
+        + RandomSource
+        + Sync,
+    requires { J.founders ≡ Some founders }
+    ensures written { IfOk result.ended (λ fault. (all : List (AnyStep Weights)) × IsLegal weighted_majorities founders all × IsPrefix once all
+        × HasWritten J.before (taken_by W.taken W.failures result.writer) founders all fault) }
+    ensures served { IsOk result.ended }
+{
     let House {
         hub,
         mut passes,
         mut seats,
         to,
         own,
-    } = match opened {
-        Ok(house) => house,
-        Err(fault) => {
-            return Traced {
-                writer,
-                ended: Err(fault),
-            };
-        }
-    };
-    let scribe = Some(Mutex::new(Scribe::new(rt, alloc, &hub.post, founders, writer)));
+    } = house;
+    let scribe = Some(Mutex::new(scribe));
     let all_run = run(
         rt,
         gate,
@@ -153,7 +243,7 @@ where
         options.connections as u64,
     );
     let Some(scribe) = scribe else { unreachable!() };
-    let (writer, fault) = end(alloc, hub, passes, scribe.into_inner(), founders);
+    let (writer, fault) = end(alloc, hub, passes, scribe.into_inner(), founders, once);
     Traced {
         writer,
         ended: Ok(fault_if(all_run, fault)),
@@ -161,7 +251,7 @@ where
 }
 
 // What a server of an endless post has.
-fn endless_house<J: Terms<Weighted>, R>(
+fn endless_house<J: Terms<Weighted> + Starts, R>(
     rt: &R,
     alloc: Global,
     opened: Opened<Step<Weighted>, Actor>,
@@ -178,6 +268,7 @@ where
     requires endless { J.endless ≡ true }
     requires lose { options.now.lose ≡ J.lose }
     requires twice { options.now.twice ≡ J.twice }
+    requires syncs { options.now.syncs ≡ J.syncs }
 {
     let hasher = RandomState::new(rt)?;
     let copies = Copies::new(alloc, hasher);
@@ -191,22 +282,33 @@ where
         options.lose,
         options.twice,
     )?;
-    open_house(rt, alloc, post, listener, options, founders, steps, true)
+    open_house(
+        rt,
+        alloc,
+        post,
+        listener,
+        options,
+        founders,
+        steps,
+        true,
+        options.syncs,
+    )
 }
 
 // The post ends once no thread works any more, and the rest of its steps is written.
-fn end<J: Terms<Weighted> + Starts, W: Sink + Drop>(
+fn end<J: Terms<Weighted> + Starts, W: Durable + Drop>(
     alloc: Global,
     hub: Hub<J>,
     passes: Vec<Pass<J, Weighted>>,
     scribe: Scribe<J, W>,
     founders: Weighted,
+    once: Shown<J, Weighted>,
 ) -> (W, Option<TraceFault>)
     requires { J.founders ≡ Some founders }
-    ensures { (all : List (AnyStep Weights)) × IsLegal weighted_majorities founders all × HasWritten J.before (taken_by W.taken W.failures result.0) founders all result.1 }
+    ensures { (all : List (AnyStep Weights)) × IsLegal weighted_majorities founders all × IsPrefix once all × HasWritten J.before (taken_by W.taken W.failures result.0) founders all result.1 }
 {
     let Hub { post, .. } = hub;
-    scribe.end(alloc, post, passes).into_parts()
+    scribe.end(alloc, post, passes, once).into_parts()
 }
 
 // Why a trace isn't whole: `Memory` where no thread could be started, unless there was a fault before.

@@ -1,9 +1,13 @@
 //! A connection and its socket.
+ghost use Rattle.std.specs.Prelude.{◌≡◌, true};
+ghost use mathlib.Core.List.{IsPrefix};
 
 use mio::net::TcpStream;
 use rambo_connection::Connection;
 use rambo_history::{CallId, Op};
-use rambo_names::Name;
+use rambo_names::{Name, Weighted};
+use rambo_post::{Pass, Terms};
+use rambo_scribe::{Kept, Starts};
 use std::alloc::Global;
 use std::io::{ErrorKind, Read, Write};
 
@@ -152,8 +156,15 @@ impl Guest {
         Came::Nothing
     }
 
-    /// Writes as much of the replies as the socket takes.
-    pub(crate) fn write_some(&mut self) {
+    /// Writes as much of the replies as the socket takes. Where replies wait for the medium, it keeps the trace of all that
+    /// their client has seen.
+    pub(crate) fn write_some<J: Terms<Weighted> + Starts>(
+        &mut self,
+        _pass: &Pass<J, Weighted>,
+        _kept: &Kept<J>,
+    )
+        requires { J.syncs ≡ true → IsPrefix _pass.now.seen _kept.now }
+    {
         for _ in 0..TRIES {
             if self.is_broken || self.connection.out().is_empty() {
                 return;

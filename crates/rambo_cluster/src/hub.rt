@@ -10,14 +10,15 @@ use crate::fault::ServeFault;
 use crate::room::{NEVER, Rooms, bit};
 use crate::station::Station;
 use rambo_commands::Report;
-use rambo_names::{Name, Quorums, Refusal, Weighted};
+use rambo_names::{Members, Name, Quorums, Refusal, Weighted};
 use rambo_post::{Pass, Post, Terms};
 use rambo_run::Step;
+use rambo_scribe::{Kept, Starts};
 use rambo_tag::Registers;
 use std::alloc::Global;
 use std::hash::RandomState;
-use std::sync::Wait;
 use std::sync::atomic::{AtomicBool, AtomicU64, Ordering};
+use std::sync::{Mutex, Wait};
 use std::time::{Clock, Instant};
 
 /// Where this many steps are at hand they are drawn at once.
@@ -27,11 +28,11 @@ pub(crate) const MANY: usize = 1024;
 const TOO_MANY: usize = 65_536;
 
 /// The copies of a node, with a seeded hash: keys that a client chose can't make look-ups slow.
-pub(crate) type Copies = Registers<RandomState>;
+pub type Copies = Registers<RandomState>;
 
 /// What all threads of a server share: the post, and what wakes them to look at it.
 #[derive(Drop)]
-pub(crate) struct Hub<J: Terms<Weighted>> {
+pub(crate) struct Hub<J: Terms<Weighted> + Starts> {
     pub(crate) post: Post<J, Weighted, Copies>,
     founders: Weighted,
     // How many steps the book takes in all, and whether these are drawn.
@@ -55,6 +56,11 @@ pub(crate) struct Hub<J: Terms<Weighted>> {
     pub(crate) scribe: Bell,
     /// How many bytes of the trace were written.
     pub(crate) trace_bytes: AtomicU64,
+    // The steps whose trace the medium keeps, where replies wait for that; and how many they are.
+    kept: Mutex<Kept<J>>,
+    kept_count: AtomicU64,
+    // How many client workers are at work.
+    workers: AtomicU64,
     /// How many connections are served.
     connections: AtomicU64,
     // How many calls wait for their answer, and how many were answered.
@@ -66,12 +72,13 @@ pub(crate) struct Hub<J: Terms<Weighted>> {
     has_failed: AtomicBool,
 }
 
-impl<J: Terms<Weighted>> Hub<J> {
+impl<J: Terms<Weighted> + Starts> Hub<J> {
     /// What threads share of this post, whose nodes have nothing to do yet. It takes so many steps in all, which are drawn or
     /// aren't.
     pub(crate) fn new(
         alloc: Global,
         post: Post<J, Weighted, Copies>,
+        kept: Kept<J>,
         founders: Weighted,
         capacity: usize,
         draws: bool,
@@ -98,6 +105,9 @@ impl<J: Terms<Weighted>> Hub<J> {
             sleeps_until: AtomicU64::new(NEVER),
             scribe: Bell::new(),
             trace_bytes: AtomicU64::new(0),
+            kept: Mutex::new(kept),
+            kept_count: AtomicU64::new(0),
+            workers: AtomicU64::new(0),
             connections: AtomicU64::new(0),
             calls: AtomicU64::new(0),
             operations: AtomicU64::new(0),
@@ -106,6 +116,55 @@ impl<J: Terms<Weighted>> Hub<J> {
             is_full: AtomicBool::new(false),
             has_failed: AtomicBool::new(false),
         })
+    }
+
+    /// Notes that these nodes have stopped, and that each node may have something to do.
+    pub(crate) fn rouse(&self, stopped: Members) {
+        let mut names = 0;
+        for name in stopped.iter() {
+            names |= bit(name);
+        }
+        self.stopped.store(names, Ordering::SeqCst);
+        self.pending.store(u64::MAX, Ordering::SeqCst);
+    }
+
+    /// What the medium of the trace keeps.
+    pub(crate) fn kept<R: Wait>(&self, rt: &R) -> Kept<J> {
+        self.kept.lock(rt).again(rt, &self.post)
+    }
+
+    /// What the medium keeps, where that is more.
+    pub(crate) fn renew<R: Wait>(&self, rt: &R, kept: &mut Kept<J>) {
+        if self.kept_count.load(Ordering::SeqCst) != kept.count() as u64 {
+            *kept = self.kept(rt);
+        }
+    }
+
+    /// Notes what the medium keeps, and if that is more than before, wakes all client workers.
+    pub(crate) fn publish<R: Wait>(&self, rt: &R, kept: &mut Kept<J>) {
+        let count = kept.count() as u64;
+        if count == self.kept_count.load(Ordering::SeqCst) {
+            return;
+        }
+        *self.kept.lock(rt) = kept.again(rt, &self.post);
+        self.kept_count.store(count, Ordering::SeqCst);
+        self.ring_all();
+    }
+
+    /// Counts one client worker more that is at work.
+    pub(crate) fn begin_work(&self) {
+        self.workers.fetch_add(1, Ordering::SeqCst);
+    }
+
+    /// Counts one less.
+    pub(crate) fn end_work<R: Wait>(&self, rt: &R) {
+        self.workers.fetch_sub(1, Ordering::SeqCst);
+        self.scribe.ring(rt);
+    }
+
+    /// Whether the server is to end, and no client worker waits any more for what the medium keeps.
+    pub(crate) fn has_closed(&self, syncs: bool) -> bool {
+        self.is_closing() && (!syncs || self.workers.load(Ordering::SeqCst) == 0)
     }
 
     /// How many milliseconds the server has run.

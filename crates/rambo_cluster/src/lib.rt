@@ -2,6 +2,7 @@
 //!
 //! - `serve`: serves clients until one asks for the end, and gives the list of all steps.
 //! - `serve_endless`: the same without an end of the steps, which are written as they are done; `Traced`: what it leaves.
+//! - `serve_post`: the same by a post that goes on from a trace.
 //! - `Options`: which founders, how many threads, connections and steps, and which letters are lost or come twice.
 //! - `ServeFault`: why nothing was served.
 #![tactic(auto)]
@@ -26,7 +27,8 @@ mod timer;
 mod visits;
 mod worker;
 
-pub use endless::{Traced, serve_endless};
+pub use endless::{AHEAD, LAST, Traced, serve_endless, serve_post};
 pub use fault::ServeFault;
+pub use hub::Copies;
 pub use options::Options;
 pub use serving::serve;

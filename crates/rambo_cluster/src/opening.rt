@@ -10,6 +10,7 @@ use crate::station::{Seat, seats_of, stations_of};
 use crossbeam_channel::Sender;
 use rambo_names::{Name, Quorums, Refusal, Weighted};
 use rambo_post::{Pass, Post, Terms};
+use rambo_scribe::{Kept, Starts};
 use std::alloc::Global;
 use std::net::{Net, SocketAddr, TcpListener, TcpStream};
 use std::sync::Wait;
@@ -17,7 +18,7 @@ use std::time::{Clock, Instant};
 
 /// What a server has: what all its threads share, and for each client worker a pass, a seat, and where its sockets are sent to.
 #[derive(Drop)]
-pub(crate) struct House<J: Terms<Weighted>> {
+pub(crate) struct House<J: Terms<Weighted> + Starts> {
     pub(crate) hub: Hub<J>,
     pub(crate) passes: Vec<Pass<J, Weighted>>,
     pub(crate) seats: Vec<Seat>,
@@ -27,11 +28,11 @@ pub(crate) struct House<J: Terms<Weighted>> {
 }
 
 /// That of a post of these founders, whose clients begin at the lowest one. It takes so many steps in all, which are drawn or
-/// aren't. The passes have seen nothing.
+/// aren't, and replies wait for what the medium of the trace keeps, or don't. The passes have seen nothing.
 ///
 /// `Memory` where there is no founder, too many workers, or no room; `Socket` where the listener has no address, or the system
 /// has no clock or nothing to wait for sockets by.
-pub(crate) fn open_house<J: Terms<Weighted>, R>(
+pub(crate) fn open_house<J: Terms<Weighted> + Starts, R>(
     rt: &R,
     alloc: Global,
     post: Post<J, Weighted, Copies>,
@@ -40,9 +41,11 @@ pub(crate) fn open_house<J: Terms<Weighted>, R>(
     founders: Weighted,
     steps: usize,
     draws: bool,
+    syncs: bool,
 ) -> Result<House<J>, ServeFault>
 where
     R: Net<Listener = TcpListener, Stream = TcpStream> + Wait + Clock,
+    requires syncs { syncs ≡ J.syncs }
     ensures first { IfOk result (λ h. slice_get (names (members_of founders)) 0 ≡ Some h.hub.first) }
     ensures passes { IfOk result (λ h. vec_len h.passes ≡ options.now.clients) }
     ensures fresh { IfOk result (λ h. All (λ p. p ≡ record { seen = []; mine = [] }) h.passes.items) }
@@ -53,7 +56,10 @@ where
     let (seats, to) = seats_of(rt, alloc, options.clients)?;
     let stations = stations_of(alloc, seats.as_slice())?;
     let passes = passes_of(rt, alloc, &post, options.clients)?;
-    let hub = Hub::new(alloc, post, founders, steps, draws, first, stations, begun)?;
+    let kept = Kept::none(rt, &post, syncs);
+    let hub = Hub::new(
+        alloc, post, kept, founders, steps, draws, first, stations, begun,
+    )?;
     Ok(House {
         hub,
         passes,
@@ -64,7 +70,7 @@ where
 }
 
 // This many passes, which have seen nothing.
-fn passes_of<J: Terms<Weighted>, R: Wait>(
+fn passes_of<J: Terms<Weighted> + Starts, R: Wait>(
     rt: &R,
     alloc: Global,
     post: &Post<J, Weighted, Copies>,

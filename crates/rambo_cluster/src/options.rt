@@ -17,4 +17,6 @@ pub struct Options<Q: Quorums> {
     pub lose: u64,
     /// Each other letter whose number this divides comes twice.
     pub twice: u64,
+    /// Whether a reply waits until the medium keeps the trace of all that it tells. The bounded server's don't.
+    pub syncs: bool,
 }

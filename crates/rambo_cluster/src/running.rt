@@ -5,7 +5,8 @@ use crate::hub::Hub;
 use crate::station::Seat;
 use crate::worker::serve_connections;
 use crossbeam_channel::Sender;
-use rambo_atomic::{Sink, Wrapped, write_all};
+use rambo_archive::Durable;
+use rambo_atomic::{Wrapped, write_all};
 use rambo_names::Weighted;
 use rambo_post::{Gate, Pass, Terms};
 use rambo_scribe::{Scribe, Starts};
@@ -28,7 +29,7 @@ const TOO_MANY: &[u8] = b"-ERR max number of clients reached\r\n";
 /// there is a scribe.
 ///
 /// Returns whether each thread could be started. If not, nobody was served, and those that were started have ended.
-pub(crate) fn run<J: Terms<Weighted> + Starts + Send + Sync, W: Sink + Drop + Send, G: Gate, R>(
+pub(crate) fn run<J: Terms<Weighted> + Starts + Send + Sync, W: Durable + Drop + Send, G: Gate, R>(
     rt: &R,
     gate: &G,
     alloc: Global,
@@ -76,7 +77,7 @@ where
 }
 
 // The work of the thread that writes the steps, until the server ends, which it does where they can't be written.
-fn write_steps<J: Terms<Weighted> + Starts, W: Sink + Drop, R>(
+fn write_steps<J: Terms<Weighted> + Starts, W: Durable + Drop, R>(
     rt: &R,
     alloc: Global,
     hub: &Hub<J>,
@@ -93,7 +94,7 @@ where
 }
 
 // Accepts sockets and hands them to the client workers by turns, until the server is to end.
-fn accept_all<J: Terms<Weighted>, R: Wait + Clock>(
+fn accept_all<J: Terms<Weighted> + Starts, R: Wait + Clock>(
     rt: &R,
     hub: &Hub<J>,
     listener: &TcpListener,
@@ -130,7 +131,7 @@ fn turn_away(stream: &TcpStream) {
 }
 
 // Hands a socket to the client worker at a place. Returns whether that is still at work.
-fn hand_over<J: Terms<Weighted>, R: Wait>(
+fn hand_over<J: Terms<Weighted> + Starts, R: Wait>(
     rt: &R,
     hub: &Hub<J>,
     stream: TcpStream,
@@ -163,7 +164,7 @@ where
 }
 
 // The work of a client worker, until the server ends.
-fn serve_seat<J: Terms<Weighted>, G: Gate, R>(
+fn serve_seat<J: Terms<Weighted> + Starts, G: Gate, R>(
     rt: &R,
     gate: &G,
     alloc: Global,
@@ -176,7 +177,11 @@ fn serve_seat<J: Terms<Weighted>, G: Gate, R>(
 where
     R: Net<Listener = TcpListener, Stream = TcpStream> + Wait + Clock,
 {
-    if serve_connections(rt, gate, alloc, hub, pass, seat, place) {
+    hub.begin_work();
+    let mut kept = hub.kept(rt);
+    let ends_all = serve_connections(rt, gate, alloc, hub, pass, &mut kept, seat, place);
+    hub.end_work(rt);
+    if ends_all {
         hub.close(rt);
         wake_acceptor(rt, own);
     }

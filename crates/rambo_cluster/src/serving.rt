@@ -11,6 +11,7 @@ use crate::hub::{Copies, Hub};
 use crate::opening::{House, open_house};
 use crate::options::Options;
 use crate::running::run;
+use rambo_archive::Loose;
 use rambo_atomic::Tape;
 use rambo_names::Weighted;
 use rambo_post::{Actor, Closed, Gate, Left, Pass, Post, Terms};
@@ -30,7 +31,8 @@ use std::time::Clock;
 /// refused in its turn, and there are at most as many as the options allow. It also returns one order of the calls of
 /// all keys, which explains their answers together, or None where there is no room for it.
 ///
-/// A socket that fails ends its own connection alone. `ServeFault` says for what faults nobody is served.
+/// The options' `syncs` isn't used. A socket that fails ends its own connection alone. `ServeFault` says for what faults nobody is
+/// served.
 pub fn serve<G: Gate, R>(
     rt: &R,
     alloc: Global,
@@ -87,6 +89,7 @@ where
     requires endless { J.endless ≡ false }
     requires lose { options.now.lose ≡ J.lose }
     requires twice { options.now.twice ≡ J.twice }
+    requires syncs { J.syncs ≡ false }
     ensures legal { IfOk result (λ l. IsLegal weighted_majorities founders l.steps) }
     ensures fits { IfOk result (λ l. length l.steps ≤ steps) }
     ensures order { IfOk result (λ l. IfSome l.order (λ o. o ≡ given_order (run weighted_majorities founders l.steps))) }
@@ -133,6 +136,7 @@ where
     requires endless { J.endless ≡ false }
     requires lose { options.now.lose ≡ J.lose }
     requires twice { options.now.twice ≡ J.twice }
+    requires syncs { J.syncs ≡ false }
 {
     let hasher = RandomState::new(rt)?;
     let post = post_of::<J>(alloc, opened, options, founders, steps, hasher)?;
@@ -142,8 +146,10 @@ where
         mut seats,
         to,
         own,
-    } = open_house(rt, alloc, post, listener, options, founders, steps, false)?;
-    let nobody: Option<Mutex<Scribe<J, Tape>>> = None;
+    } = open_house(
+        rt, alloc, post, listener, options, founders, steps, false, false,
+    )?;
+    let nobody: Option<Mutex<Scribe<J, Loose<Tape>>>> = None;
     if run(
         rt,
         gate,
@@ -194,7 +200,10 @@ fn post_of<J: Terms<Weighted>>(
 }
 
 // The post, closed once no thread works any more: what the pass of each client has seen begins its steps.
-fn end<J: Terms<Weighted>>(hub: Hub<J>, passes: Vec<Pass<J, Weighted>>) -> Closed<J, Weighted>
+fn end<J: Terms<Weighted> + Starts>(
+    hub: Hub<J>,
+    passes: Vec<Pass<J, Weighted>>,
+) -> Closed<J, Weighted>
     requires { J.endless ≡ false }
     ensures begins { All (λ p. IsPrefix p.seen result.steps) passes.items }
 {

@@ -11,6 +11,7 @@ use rambo_history::{CallId, Op};
 use rambo_names::{Name, Refusal, Weighted};
 use rambo_post::{Gate, Pass, Terms, Waiter};
 use rambo_resp::Reply;
+use rambo_scribe::{Kept, Starts};
 use std::alloc::Global;
 use std::collections::VecDeque;
 use std::sync::Wait as Waits;
@@ -44,7 +45,7 @@ pub(crate) struct Ticket {
 
 /// Who serves connections: a client worker's place and pass, and the commands that wait for a node.
 #[derive(Drop)]
-pub(crate) struct Session<'h, J: Terms<Weighted>, G: Gate, R> {
+pub(crate) struct Session<'h, J: Terms<Weighted> + Starts, G: Gate, R> {
     pub(crate) rt: &'h R,
     pub(crate) alloc: Global,
     pub(crate) gate: &'h G,
@@ -61,9 +62,11 @@ pub(crate) struct Session<'h, J: Terms<Weighted>, G: Gate, R> {
     pub(crate) blocked: u64,
     // Whether no call is made now, since too many steps are to be written.
     is_held: bool,
+    // What the medium of the trace keeps, as far as it is known here.
+    kept: &'h mut Kept<J>,
 }
 
-impl<'h, J: Terms<Weighted>, G: Gate, R: Waits + Clock> Session<'h, J, G, R> {
+impl<'h, J: Terms<Weighted> + Starts, G: Gate, R: Waits + Clock> Session<'h, J, G, R> {
     /// The session of the worker at a place.
     pub(crate) fn new(
         rt: &'h R,
@@ -71,6 +74,7 @@ impl<'h, J: Terms<Weighted>, G: Gate, R: Waits + Clock> Session<'h, J, G, R> {
         gate: &'h G,
         hub: &'h Hub<J>,
         pass: &'h mut Pass<J, Weighted>,
+        kept: &'h mut Kept<J>,
         queues: &'h mut Vec<VecDeque<Ticket>>,
         place: u32,
     ) -> Session<'h, J, G, R> {
@@ -86,7 +90,28 @@ impl<'h, J: Terms<Weighted>, G: Gate, R: Waits + Clock> Session<'h, J, G, R> {
             asks: 0,
             blocked: 0,
             is_held: false,
+            kept,
         }
+    }
+
+    /// Whether replies may be written: where they wait for the medium, it keeps the trace of all that was seen here. Where it
+    /// doesn't, the thread that writes the trace is woken.
+    pub(crate) fn may_reply(&mut self) -> bool {
+        self.hub.renew(self.rt, self.kept);
+        let may = self.kept.covers(self.rt, &self.hub.post, self.pass);
+        if !may {
+            self.hub.scribe.ring(self.rt);
+        }
+        may
+    }
+
+    /// Writes as much of the replies of a connection as its socket takes, if they may be written. Returns whether they may.
+    pub(crate) fn write_some(&mut self, guest: &mut Guest) -> bool {
+        let may = self.kept.covers(self.rt, &self.hub.post, self.pass);
+        if may {
+            guest.write_some(self.pass, self.kept);
+        }
+        may
     }
 
     /// Goes on with the connection at a place: takes on its commands until one has to wait, and reads what more there is.

@@ -5,12 +5,13 @@ use crate::room::NEVER;
 use crate::visits::{Hands, NOBODY};
 use rambo_names::{Name, Weighted};
 use rambo_post::{Gate, Terms};
+use rambo_scribe::Starts;
 use std::alloc::Global;
 use std::sync::Wait;
 use std::sync::atomic::Ordering;
 use std::time::Clock;
 
-impl<J: Terms<Weighted>> Hub<J> {
+impl<J: Terms<Weighted> + Starts> Hub<J> {
     /// The work of the timer's thread, until the server is to end. It visits the nodes that are due, and sleeps until
     /// the next one is.
     pub(crate) fn keep_time<R: Wait + Clock, G: Gate>(&self, rt: &R, gate: &G, alloc: Global) {

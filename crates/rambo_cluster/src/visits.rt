@@ -4,6 +4,7 @@ use crate::hub::Hub;
 use crate::room::{NEVER, bit, bits_of, lowest};
 use rambo_names::{Name, Refusal, Weighted};
 use rambo_post::{Gate, Terms, Waiter};
+use rambo_scribe::Starts;
 use std::alloc::Global;
 use std::mem;
 use std::sync::Wait;
@@ -41,7 +42,7 @@ impl Hands {
     }
 }
 
-impl<J: Terms<Weighted>> Hub<J> {
+impl<J: Terms<Weighted> + Starts> Hub<J> {
     /// Notes that there is something to do at a node.
     pub(crate) fn point_at(&self, name: Name) {
         self.pending.fetch_or(bit(name), Ordering::SeqCst);

@@ -12,11 +12,12 @@ use mio::net::TcpStream;
 use mio::{Events, Interest, Poll, Token};
 use rambo_names::{Name, Refusal, Weighted};
 use rambo_post::{Gate, Pass, Terms, Waiter};
+use rambo_scribe::{Kept, Starts};
 use slab::Slab;
 use std::alloc::{AllocError, Global};
 use std::sync::Wait as Waits;
 use std::time::{Clock, Duration, Instant};
-use std::{mem, net};
+use std::{mem, net, thread};
 
 // At most this many rounds are made without a look for events, while there is something else to do.
 const ROUNDS: u64 = 16;
@@ -30,9 +31,14 @@ const SHORT: u64 = 60;
 // How many milliseconds pass before it looks again whether calls can be made that were held back.
 const HELD: u64 = 5;
 
+// How often it looks whether its last replies may be written, and how many milliseconds pass meanwhile.
+const TRIES: u64 = 10_000;
+
+const PAUSE: u64 = 1;
+
 /// A client worker.
 #[derive(Drop)]
-pub(crate) struct Worker<'h, J: Terms<Weighted>, G: Gate, R> {
+pub(crate) struct Worker<'h, J: Terms<Weighted> + Starts, G: Gate, R> {
     session: Session<'h, J, G, R>,
     station: &'h Station,
     poll: &'h mut Poll,
@@ -58,12 +64,13 @@ pub(crate) struct Worker<'h, J: Terms<Weighted>, G: Gate, R> {
 }
 
 /// What a client worker does, until the server is to end. Returns whether a client of its own asked for that.
-pub(crate) fn serve_connections<J: Terms<Weighted>, G: Gate, R: Waits + Clock>(
+pub(crate) fn serve_connections<J: Terms<Weighted> + Starts, G: Gate, R: Waits + Clock>(
     rt: &R,
     gate: &G,
     alloc: Global,
     hub: &Hub<J>,
     pass: &mut Pass<J, Weighted>,
+    kept: &mut Kept<J>,
     seat: &mut Seat,
     place: u32,
 ) -> bool {
@@ -81,7 +88,7 @@ pub(crate) fn serve_connections<J: Terms<Weighted>, G: Gate, R: Waits + Clock>(
         return false;
     };
     let mut worker = Worker {
-        session: Session::new(rt, alloc, gate, hub, pass, queues, place),
+        session: Session::new(rt, alloc, gate, hub, pass, kept, queues, place),
         station,
         poll,
         events,
@@ -101,7 +108,7 @@ pub(crate) fn serve_connections<J: Terms<Weighted>, G: Gate, R: Waits + Clock>(
 }
 
 // Rounds.
-impl<'h, J: Terms<Weighted>, G: Gate, R: Waits + Clock> Worker<'h, J, G, R> {
+impl<'h, J: Terms<Weighted> + Starts, G: Gate, R: Waits + Clock> Worker<'h, J, G, R> {
     // Serves until the server is to end, or a client of its own asks for that.
     fn run(&mut self) -> Flow {
         let rt = self.session.rt;
@@ -110,12 +117,12 @@ impl<'h, J: Terms<Weighted>, G: Gate, R: Waits + Clock> Worker<'h, J, G, R> {
                 return Flow::Waits;
             }
             if self.session.hub.is_closing() {
-                self.write_replies();
+                self.write_last();
                 return Flow::Waits;
             }
             self.wait();
             if self.serve_ready() == Flow::EndsAll {
-                self.write_replies();
+                self.write_last();
                 return Flow::EndsAll;
             }
             self.visit_nodes();
@@ -235,7 +242,7 @@ impl<'h, J: Terms<Weighted>, G: Gate, R: Waits + Clock> Worker<'h, J, G, R> {
 }
 
 // Sockets.
-impl<'h, J: Terms<Weighted>, G: Gate, R: Waits + Clock> Worker<'h, J, G, R> {
+impl<'h, J: Terms<Weighted> + Starts, G: Gate, R: Waits + Clock> Worker<'h, J, G, R> {
     // Takes the sockets that came.
     fn take_sockets(&mut self) {
         let rt = self.session.rt;
@@ -318,7 +325,7 @@ impl<'h, J: Terms<Weighted>, G: Gate, R: Waits + Clock> Worker<'h, J, G, R> {
             make_ready(&mut self.ready, guest, at);
         }
         if !guest.connection.is_waiting() {
-            guest.write_some();
+            let _ = self.session.write_some(guest);
         } else if guest.is_half() && guest.left != guest.serial {
             guest.left = guest.serial;
             let now = self.session.hub.now(self.session.rt);
@@ -377,8 +384,11 @@ impl<'h, J: Terms<Weighted>, G: Gate, R: Waits + Clock> Worker<'h, J, G, R> {
         is_due || is_queued
     }
 
-    // Writes the replies that are there.
+    // Writes the replies that are there, if they may be written.
     fn write_replies(&mut self) {
+        if self.unwritten.is_empty() || !self.session.may_reply() {
+            return;
+        }
         for _ in 0..self.unwritten.len() {
             if let Some(at) = self.unwritten.pop() {
                 self.write_replies_of(at);
@@ -393,16 +403,29 @@ impl<'h, J: Terms<Weighted>, G: Gate, R: Waits + Clock> Worker<'h, J, G, R> {
         if let Some(guest) = self.guests.get_mut(at) {
             guest.is_unwritten = false;
             let wanted = guest.connection.wants_input();
-            guest.write_some();
+            if !self.session.write_some(guest) {
+                make_unwritten(&mut self.unwritten, guest, at);
+            }
             if !wanted && guest.connection.wants_input() {
                 make_ready(&mut self.ready, guest, at);
             }
         }
     }
+
+    // Writes the last replies, once they may be written.
+    fn write_last(&mut self) {
+        for _ in 0..TRIES {
+            self.write_replies();
+            if self.unwritten.is_empty() || self.session.hub.has_failed() {
+                return;
+            }
+            thread::sleep(self.session.rt, Duration::from_millis(PAUSE));
+        }
+    }
 }
 
 // Nodes.
-impl<'h, J: Terms<Weighted>, G: Gate, R: Waits + Clock> Worker<'h, J, G, R> {
+impl<'h, J: Terms<Weighted> + Starts, G: Gate, R: Waits + Clock> Worker<'h, J, G, R> {
     // Visits the nodes where there is something to do or a call to make, and where no thread is.
     fn visit_nodes(&mut self) {
         let rt = self.session.rt;

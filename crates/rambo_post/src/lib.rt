@@ -12,6 +12,7 @@
 
 mod gate;
 mod post;
+mod shown;
 
 pub use gate::{Gate, NoGate};
 pub use post::{Asked, Post};
@@ -23,3 +24,4 @@ pub use rambo_pass::{Closed, Ended, Entry, Left, Pass};
 pub use rambo_roll::{Drawn, Front, Opened};
 pub use rambo_turn::{Turn, pick};
 pub use rambo_visit::Visited;
+pub use shown::Shown;

@@ -19,6 +19,7 @@ ghost use Rattle.rambo_pass.specs.Passes.{Acted, IsAnsweredLater, IsGoing, IsGon
 ghost use Rattle.rambo_visit.specs.Happened.{Happened, HasMap, HasNoRoom, HasTurned, IsHeldUp, IsLast};
 
 use crate::gate::Gate;
+use crate::shown::Shown;
 use rambo_book::{Actor, Book, Counts, Keeper, Ready, Terms, ready};
 use rambo_config_map::ConfigMap;
 use rambo_history::{Answer, CallId, Op};
@@ -618,33 +619,21 @@ impl<J: Terms<Q>, Q: Quorums, S: Replica> Post<J, Q, S> {
         self.book.lock(rt).drawing()
     }
 
-    /// Draws the steps at hand: they go to `into`, which is empty, and follow all that was drawn before. None of all these
-    /// was refused in its turn. It holds the book's lock for constant time, and allocates nothing.
-    ///
-    /// False where another drawer has drawn since; then nothing is drawn.
-    pub fn draw<R: Wait>(
-        &self,
-        rt: &R,
-        drawn: &mut Drawn<J, Step<Q>>,
-        into: &mut Vec<Step<Q>>,
-    ) -> bool
-        requires endless { J.endless ≡ true }
-        requires empty { into.old.items ≡ [] }
-        ensures given { result ≡ true → drawn.new ≡ drawn.old ++ into.new.items }
-        ensures legal { result ≡ true → (f : Q) → J.founders ≡ Some f → IsLegal Q.system f drawn.new }
-        ensures same { result ≡ false → (drawn.new ≡ drawn.old) × (into.new.items ≡ []) }
-    {
-        self.book.lock(rt).draw(drawn, into)
-    }
-
-    /// All steps, once the post ends: none was refused in its turn, and what each client has seen begins them. Those that
-    /// weren't drawn follow those that were; they are None where another drawer has drawn. It allocates nothing.
-    pub fn end(self, passes: Vec<Pass<J, Q>>, drawn: Drawn<J, Step<Q>>) -> Ended<J, Q>
+    /// All steps, once the post ends: none was refused in its turn, and what each client has seen begins them, as does what was
+    /// shown. Those that weren't drawn follow those that were; they are None where another drawer has drawn. It allocates
+    /// nothing.
+    pub fn end(
+        self,
+        passes: Vec<Pass<J, Q>>,
+        drawn: Drawn<J, Step<Q>>,
+        shown: Shown<J, Q>,
+    ) -> Ended<J, Q>
         requires { J.endless ≡ true }
         ensures legal { (f : Q) → J.founders ≡ Some f → IsLegal Q.system f result.all }
         ensures fits { length result.all ≤ J.capacity }
         ensures rest { IfSome result.rest (λ r. drawn ++ r ≡ result.all) }
         ensures drawn { IsPrefix drawn result.all }
+        ensures shown { IsPrefix shown result.all }
         ensures begins { All (λ p. IsPrefix p.seen result.all) passes.items }
     {
         let Post {
@@ -653,7 +642,9 @@ impl<J: Terms<Q>, Q: Quorums, S: Replica> Post<J, Q, S> {
             book,
             spare: _spare,
         } = self;
-        end_in(book.into_inner(), passes, drawn)
+        let mut book = book.into_inner();
+        shown.begins(&mut book);
+        end_in(book, passes, drawn)
     }
 
     /// Closes the post, from which nothing was drawn. Returns all steps: none was refused in its turn, and what each client

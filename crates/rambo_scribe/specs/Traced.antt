@@ -1,5 +1,5 @@
 -- What was written of the steps of a post
-use Rattle.std.specs.Prelude.{◌≡◌, ℕ, List, Option, None, Some}
+use Rattle.std.specs.Prelude.{◌≡◌, ℕ, List, Option, None, Some, IfSome}
 use Rattle.std.specs.Io.KnownBytes.{Appends}
 use Rattle.rambo_names.specs.Weights.{Weights, weighted_majorities}
 use Rattle.rambo_atomic.specs.Streams.{Begins, counted}
@@ -37,16 +37,25 @@ abbrev pub HasWritten : Taken → Taken → Weights → List (Step Weights) → 
 HasWritten old new f steps None = Appends old.bytes new.bytes (trace_text f steps) × (new.failures ≡ old.failures)
 HasWritten old new f steps (Some fault) = Begins old.bytes new.bytes (trace_text f steps) × (new.failures ≡ failures_after fault old.failures)
 
--- the steps that were drawn, and why not all of these were written
+-- that was written of the founders of the post
+abbrev pub IsTrace : Option Weights → Taken → Taken → List (Step Weights) → Option TraceFault → Type 0
+IsTrace agreed before taken steps fault = (f : Weights) → agreed ≡ Some f → HasWritten before taken f steps fault
+
+-- what the medium keeps, where that is known, is what was there before with the trace of these steps
+abbrev pub KeepsTrace : Option Weights → Taken → Option (List ℕ) → List (Step Weights) → Type 0
+KeepsTrace agreed before kept steps = (f : Weights) → agreed ≡ Some f → IfSome kept (λ bytes. Appends before.bytes (Some bytes) (trace_text f steps))
+
+-- the steps that were drawn, why not all of these were written, and what the medium keeps
 pub record ScribeView : Type 0 where
   pub drawn : List (Step Weights)
   pub fault : Option TraceFault
+  pub kept : Option (List ℕ)
 
--- that was written of the founders of the post
-abbrev pub IsScribe : Option Weights → Taken → Taken → ScribeView → Type 0
-IsScribe agreed before taken s = (f : Weights) → agreed ≡ Some f → HasWritten before taken f s.drawn s.fault
+-- all steps, which are legal, and why not all were written, once the post has ended
+pub record WrittenView : Type 0 where
+  pub all : List (Step Weights)
+  pub fault : Option TraceFault
 
--- and all steps, which are legal, once the post has ended
-pub record IsWritten (agreed : Option Weights) (before taken : Taken) (s : ScribeView) : Type 0 where
-  pub legal : (f : Weights) → agreed ≡ Some f → IsLegal weighted_majorities f s.drawn
-  pub written : IsScribe agreed before taken s
+pub record IsWritten (agreed : Option Weights) (before taken : Taken) (w : WrittenView) : Type 0 where
+  pub legal : (f : Weights) → agreed ≡ Some f → IsLegal weighted_majorities f w.all
+  pub written : IsTrace agreed before taken w.all w.fault

@@ -2,10 +2,12 @@
 //!
 //! - `Scribe`: what one thread has drawn, and the writer to which just that was written.
 //! - `Written`: the trace of a post that has ended; `TraceFault`: why it isn't whole.
-//! - `Starts`: what a writer had taken before.
+//! - `Kept`: steps whose trace the writer's medium keeps, so that who was shown no others may have replies.
+//! - `Starts`: what a writer had taken before, and whether replies wait for its medium.
 #![tactic(auto)]
 
 mod fault;
+mod kept;
 mod metered;
 mod scribe;
 mod starts;
@@ -13,6 +15,7 @@ mod writing;
 mod written;
 
 pub use fault::TraceFault;
+pub use kept::Kept;
 pub use scribe::Scribe;
 pub use starts::Starts;
 pub use written::Written;

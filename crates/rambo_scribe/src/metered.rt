@@ -1,6 +1,7 @@
 //! Writers whose bytes are counted.
 ghost use Rattle.std.specs.Prelude.{◌≡◌};
 
+use rambo_archive::Durable;
 use rambo_atomic::{Failed, Sink};
 
 /// A writer, and how many bytes it took since it is counted.
@@ -10,7 +11,7 @@ pub(crate) struct Metered<W> {
     count: u64,
 }
 
-impl<W: Sink + Drop> Metered<W> {
+impl<W: Durable + Drop> Metered<W> {
     /// A writer whose bytes are counted from now on.
     pub(crate) fn new(inner: W) -> Metered<W>
         ensures { result.inner ≡ inner }
@@ -31,7 +32,7 @@ impl<W: Sink + Drop> Metered<W> {
     }
 }
 
-impl<W: Sink + Drop> Sink for Metered<W> {
+impl<W: Durable + Drop> Sink for Metered<W> {
     ghost taken = { λ m. W.taken m.inner };
 
     ghost failures = { λ m. W.failures m.inner };
@@ -40,5 +41,13 @@ impl<W: Sink + Drop> Sink for Metered<W> {
         let count = self.inner.write(bytes)?;
         self.count = self.count.wrapping_add(count as u64);
         Ok(count)
+    }
+}
+
+impl<W: Durable + Drop> Durable for Metered<W> {
+    ghost kept = { λ m. W.kept m.inner };
+
+    fn sync(&mut self) -> Result<(), Failed> {
+        self.inner.sync()
     }
 }

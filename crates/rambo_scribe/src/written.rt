@@ -2,11 +2,11 @@
 ghost use Rattle.std.specs.Prelude.{◌≡◌, Some};
 ghost use Rattle.rambo_names.specs.Weights.{Weights, weighted_majorities};
 ghost use Rattle.rambo_run.specs.Legal.{IsLegal};
-ghost use Rattle.rambo_scribe.specs.Traced.{HasWritten, IsScribe, taken_by};
+ghost use Rattle.rambo_scribe.specs.Traced.{HasWritten, IsTrace, taken_by};
 
 use crate::fault::TraceFault;
 use crate::starts::Starts;
-use rambo_atomic::Sink;
+use rambo_archive::Durable;
 use rambo_names::Weighted;
 use rambo_post::{Front, Terms};
 use rambo_run::Step;
@@ -17,27 +17,27 @@ use std::marker::Model;
 ///
 /// Contracts see all steps, and the fault.
 #[derive(Drop)]
-pub struct Written<J: Terms<Weighted> + Starts, W: Sink + Drop> {
+pub struct Written<J: Terms<Weighted> + Starts, W: Durable + Drop> {
     seen: Front<J, Step<Weighted>>,
     writer: W,
     fault: Option<TraceFault>,
 }
 
-impl<J: Terms<Weighted> + Starts, W: Sink + Drop> Model for Written<J, W> {
+impl<J: Terms<Weighted> + Starts, W: Durable + Drop> Model for Written<J, W> {
     ghost use Rattle.std.specs.Coded.{codes};
     ghost use Rattle.rambo_names.specs.Names.{names_code};
-    ghost use Rattle.rambo_scribe.specs.Traced.{ScribeView, IsWritten, taken_by};
+    ghost use Rattle.rambo_scribe.specs.Traced.{WrittenView, IsWritten, taken_by};
 
-    ghost Value = { ScribeView };
+    ghost Value = { WrittenView };
 
     ghost coded = { Prim.hlevel (codes, names_code) };
 
-    ghost view = { λ w. record { drawn = w.seen; fault = w.fault } };
+    ghost view = { λ w. record { all = w.seen; fault = w.fault } };
 
-    ghost invariant = { λ w. IsWritten J.founders J.before (taken_by W.taken W.failures w.writer) (record { drawn = w.seen; fault = w.fault }) };
+    ghost invariant = { λ w. IsWritten J.founders J.before (taken_by W.taken W.failures w.writer) (record { all = w.seen; fault = w.fault }) };
 }
 
-impl<J: Terms<Weighted> + Starts, W: Sink + Drop> Written<J, W> {
+impl<J: Terms<Weighted> + Starts, W: Durable + Drop> Written<J, W> {
     // All that was seen, and what was written of it.
     pub(crate) fn new(
         seen: Front<J, Step<Weighted>>,
@@ -45,8 +45,8 @@ impl<J: Terms<Weighted> + Starts, W: Sink + Drop> Written<J, W> {
         fault: Option<TraceFault>,
     ) -> Written<J, W>
         requires legal { (f : Weights) → J.founders ≡ Some f → IsLegal weighted_majorities f seen }
-        requires written { IsScribe J.founders J.before (taken_by W.taken W.failures writer) (record { drawn = seen; fault = fault }) }
-        ensures { result ≡ record { drawn = seen; fault = fault } }
+        requires written { IsTrace J.founders J.before (taken_by W.taken W.failures writer) seen fault }
+        ensures { result ≡ record { all = seen; fault = fault } }
     {
         Written {
             seen,
@@ -58,8 +58,8 @@ impl<J: Terms<Weighted> + Starts, W: Sink + Drop> Written<J, W> {
     /// The writer, and why it hasn't the whole trace, if that is so.
     pub fn into_parts(self) -> (W, Option<TraceFault>)
         ensures fault { result.1 ≡ self.fault }
-        ensures legal { (f : Weights) → J.founders ≡ Some f → IsLegal weighted_majorities f self.drawn }
-        ensures written { (f : Weights) → J.founders ≡ Some f → HasWritten J.before (taken_by W.taken W.failures result.0) f self.drawn result.1 }
+        ensures legal { (f : Weights) → J.founders ≡ Some f → IsLegal weighted_majorities f self.all }
+        ensures written { (f : Weights) → J.founders ≡ Some f → HasWritten J.before (taken_by W.taken W.failures result.0) f self.all result.1 }
     {
         let Written {
             seen: _seen,

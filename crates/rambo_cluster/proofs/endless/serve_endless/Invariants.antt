@@ -9,4 +9,4 @@ abbrev pub ghosts-serve_endless_named-J-Terms : goal.ghosts-serve_endless_named-
 ghosts-serve_endless_named-J-Terms g a = record { founders = Some a.founders; capacity = a.steps; endless = true; lose = a.options.now.lose; twice = a.options.now.twice }
 
 abbrev pub ghosts-serve_endless_named-J-Starts : goal.ghosts-serve_endless_named-J-Starts
-ghosts-serve_endless_named-J-Starts g a = record { before = taken_by g.W.Sink.taken g.W.Sink.failures a.writer }
+ghosts-serve_endless_named-J-Starts g a = record { before = taken_by g.W.Sink.taken g.W.Sink.failures a.writer; syncs = a.options.now.syncs }

@@ -9,4 +9,4 @@ ghosts-serve_named-J-Terms g a = record { founders = Some a.founders; capacity =
 
 -- (a server whose trace is written at its end has no scribe)
 abbrev pub ghosts-serve_named-J-Starts : goal.ghosts-serve_named-J-Starts
-ghosts-serve_named-J-Starts g a = record { before = record { bytes = None; failures = 0 } }
+ghosts-serve_named-J-Starts g a = record { before = record { bytes = None; failures = 0 }; syncs = false }

@@ -2,7 +2,7 @@ use Rattle.std.proofs.Common.{◌≡◌, ◌++◌, All, IfSome, sym, ap, ◌∙�
 use mathlib.Core.List.{IsPrefix}
 use Rattle.rambo_names.specs.Weights.{weighted_majorities}
 use Rattle.rambo_run.specs.Legal.{IsLegal}
-use Rattle.rambo_scribe.specs.Traced.{HasWritten, ScribeView, taken_by}
+use Rattle.rambo_scribe.specs.Traced.{HasWritten, WrittenView, taken_by}
 use Rattle.rambo_scribe.proofs.scribe.Scribe.end.Goals as goal
 
 pub new-requires-clause-legal : goal.new-requires-clause-legal
@@ -19,6 +19,10 @@ new-requires-clause-written g c = λ f e.
     (c.write_last-fault.ensures g.J.Starts.before f drawn c.into_parts-seen.result.0 prefix rest (c.self.invariant.1 f e))
 
 pub returns : goal.returns
-returns g c = record {
-  begins = subst (λ l. All (λ p. IsPrefix p.seen l) c.args.passes.items) (sym c.into_parts-seen.ensures.seen ∙ sym (ap (λ (v : ScribeView). v.drawn) c.new.ensures)) c.end.ensures.begins;
-}
+returns g c =
+    let all = sym c.into_parts-seen.ensures.seen ∙ sym (ap (λ (v : WrittenView). v.all) c.new.ensures) in
+    record {
+      all = subst (λ l. All (λ p. IsPrefix p.seen l) c.args.passes.items) all c.end.ensures.begins;
+      drawn = subst (λ d. IsPrefix d c.new.result.all) (ap (λ v. v.drawn) c.self.view_is) (subst (IsPrefix c.self.inside.drawn) all c.end.ensures.drawn);
+      once = subst (IsPrefix c.args.once) all c.end.ensures.shown;
+    }
