@@ -1,2 +1,4 @@
+pub mod Endings
+pub mod Files
 pub mod Servers
 pub mod Statuses

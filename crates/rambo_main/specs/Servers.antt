@@ -1,23 +1,18 @@
 -- How serving many clients ends
-use Rattle.std.specs.Prelude.{◌≡◌, ◌⊎◌, ◌≤◌, ℕ, Bool, true, false, List, [], Option, None, Some, length}
+use Rattle.std.specs.Prelude.{◌≡◌, ◌⊎◌, ◌≤◌, ℕ, Bool, true, false, List, [], Option, None, Some, is_some, length}
 use Rattle.rambo_names.specs.Weights.{Weights, weighted_majorities}
 use Rattle.rambo_run.specs.declared.step.Step.{Step}
 use Rattle.rambo_run.specs.Legal.{IsLegal}
-use Rattle.rambo_text.specs.declared.fault.ReplayFault.TheVariants.{Memory, Write}
-use Rattle.rambo_telling.specs.Telling.{Stream, Takes, Tells, fault_line, listening_line, socket_line, stream}
+use Rattle.rambo_telling.specs.Telling.{Stream, Takes, Tells, listening_line, stream}
 use Rattle.rambo_command_line.specs.declared.serving.Serving.{Serving}
 use Rattle.rambo_serving.specs.declared.ending.Ending.{Ending}
-use Rattle.rambo_serving.specs.Endings.{Fails, WritesTo}
+use Rattle.rambo_serving.specs.Endings.{Fails}
+use Rattle.rambo_serving.specs.Endings as serving
 use Rattle.rambo_scribe.specs.declared.fault.TraceFault.{TraceFault}
-use Rattle.rambo_scribe.specs.declared.fault.TraceFault.TheVariants as trace
 use Rattle.rambo_scribe.specs.Traced.{HasWritten, Taken}
 use Rattle.rambo_cluster.specs.declared.fault.ServeFault.{ServeFault}
-use Rattle.rambo_cluster.specs.declared.fault.ServeFault.TheVariants as server
-
--- the line that reports why nothing was served
-abbrev pub server_line : ServeFault → List ℕ
-server_line server.Socket = socket_line
-server_line server.Memory = fault_line Memory
+use Rattle.rambo_main.specs.Endings.{Ends, ListensOn, server_line}
+use Rattle.rambo_main.specs.Files.{OpensTo}
 
 -- nothing was written, since the server failed
 abbrev pub Unserved : Ending → Stream → Stream → Type 0
@@ -27,18 +22,7 @@ Unserved e write told = (f : ServeFault) × Takes [] write × Fails (server_line
 -- are written
 abbrev pub Leaves : ℕ → Weights → Ending → Stream → Stream → Type 0
 Leaves most founders e write told =
-    (steps : List (Step Weights)) × IsLegal weighted_majorities founders steps × (length steps ≤ most) × WritesTo founders steps e write told
-
--- the line that reports why a trace isn't whole
-abbrev pub trace_line : TraceFault → List ℕ
-trace_line trace.Write = fault_line Write
-trace_line trace.Drawn = fault_line Write
-trace_line trace.Memory = fault_line Memory
-
--- how a server ends that wrote its steps as they were done: nothing is reported, or why the trace isn't whole
-abbrev pub Ends : Option TraceFault → Ending → Stream → Type 0
-Ends None e told = (e.status ≡ 0) × (e.trace ≡ None) × Takes [] told
-Ends (Some fault) e told = Fails (trace_line fault) e told
+    (steps : List (Step Weights)) × IsLegal weighted_majorities founders steps × (length steps ≤ most) × serving.WritesTo founders steps e write told
 
 abbrev pub first_in : Stream → Taken
 first_in s = record { bytes = s.old; failures = s.failures }
@@ -66,13 +50,17 @@ GivesBy false untraced most founders e write told = Leaves most founders e write
 abbrev pub GivesTo : Serving → Weights → Ending → Stream → Stream → Type 0
 GivesTo s founders e write told = GivesBy s.endless s.untraced s.steps founders e write told ⊎ Unserved e write told
 
--- a port is the one that is asked for, or any where none is
-abbrev pub ListensOn : ℕ → ℕ → Type 0
-ListensOn asked port = (asked ≡ 0) ⊎ (port ≡ asked)
-
--- how serving ends: it doesn't listen; or its port was reported first
-abbrev pub ServesTo : {E : Type 0} → (E → Option (List ℕ)) → (E → ℕ) → Serving → Weights → Ending → Stream → E → E → Type 0
-ServesTo taken failures s founders e write old new =
+-- how serving ends whose trace, if it has one, goes to the writer: it doesn't listen; or its port was reported first
+abbrev pub WritesTo : {E : Type 0} → (E → Option (List ℕ)) → (E → ℕ) → Serving → Weights → Ending → Stream → E → E → Type 0
+WritesTo taken failures s founders e write old new =
     Unserved e write (stream taken failures old new)
     ⊎ ((port : ℕ) × ListensOn s.port port × (behind : _) × Tells (listening_line port) (stream taken failures old behind)
     × GivesTo s founders e write (stream taken failures behind new))
+
+-- how serving ends, by whether a file is named for the trace: nothing is written then, but to the file
+abbrev pub ServesBy : {E : Type 0} → (E → Option (List ℕ)) → (E → ℕ) → Serving → Bool → Weights → Ending → Stream → E → E → Type 0
+ServesBy taken failures s true founders e write old new = Takes [] write × OpensTo taken failures s founders e old new
+ServesBy taken failures s false founders e write old new = WritesTo taken failures s founders e write old new
+
+abbrev pub ServesTo : {E : Type 0} → (E → Option (List ℕ)) → (E → ℕ) → Serving → Weights → Ending → Stream → E → E → Type 0
+ServesTo taken failures s founders e write old new = ServesBy taken failures s (is_some s.trace) founders e write old new

@@ -35,8 +35,10 @@ use rambo_telling::{DONE, answer, tell, tell_bad_founders, tell_mistake};
 use rambo_text::ReplayFault;
 use std::alloc::Global;
 use std::convert::AsStr;
+use std::fs::File;
 use std::net::{Net, TcpListener, TcpStream};
 use std::random::RandomSource;
+use std::rt::Files;
 use std::sync::Wait;
 use std::thread::Threads;
 use std::time::Clock;
@@ -44,11 +46,11 @@ use std::time::Clock;
 /// The exit status of a check that said no for some key, or for the order of all keys.
 const SAID_NO: u8 = 3;
 
-/// Does what the words after the program's name ask for, and returns how that ended, with the writer. Sockets and threads are
-/// the host's.
+/// Does what the words after the program's name ask for, and returns how that ended, with the writer. Sockets, threads and files
+/// are the host's.
 ///
 /// - 0: done. Of words that ask for no task, help or the version was written.
-/// - 1: the reader, the writer or the server failed or memory ran out.
+/// - 1: the reader, the writer, the server or the file of a trace failed or memory ran out.
 /// - 2: the words ask for nothing that there is, the founders aren't valid, options don't go together, or the input is faulty.
 /// - 3: the check said no for some key, or for the order of all keys.
 ///
@@ -68,7 +70,8 @@ where
         + Wait
         + Clock
         + RandomSource
-        + Sync,
+        + Sync
+        + Files<File = File>,
     ensures replay { Asks (map S.text words.now) Task.Replay
         → ReplaysTo result.0.status (stream R.left R.failures reader.old reader.new)
         (stream W.taken W.failures writer result.1)
@@ -117,7 +120,8 @@ where
         + Wait
         + Clock
         + RandomSource
-        + Sync,
+        + Sync
+        + Files<File = File>,
     ensures { ServeEnds E.taken E.failures serving.now (clash_of serving.now) serving.now.founders result.0
         (stream W.taken W.failures writer result.1) errors.old errors.new }
 {

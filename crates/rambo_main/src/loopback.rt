@@ -6,8 +6,11 @@ ghost use Rattle.rambo_telling.specs.Telling.{stream};
 ghost use Rattle.rambo_serving.specs.Endings.{Fails};
 ghost use Rattle.rambo_cluster.specs.declared.fault.ServeFault.{ServeFault as AnyServeFault};
 ghost use Rattle.rambo_scribe.specs.declared.fault.TraceFault.{TraceFault as AnyTraceFault};
-ghost use Rattle.rambo_main.specs.Servers.{Ends, GivesTo, Leaves, ListensOn, ServesTo, Traces, Unserved, server_line};
+ghost use Rattle.rambo_main.specs.Endings.{Ends, ListensOn, server_line};
+ghost use Rattle.rambo_main.specs.Servers.{GivesTo, Leaves, ServesTo, Traces, Unserved, WritesTo};
 
+use crate::filing::serve_in_file;
+use rambo_archive::Loose;
 use rambo_atomic::{Sink, Wrapped};
 use rambo_cluster::{Options, ServeFault, Traced, serve, serve_endless};
 use rambo_command_line::Serving;
@@ -18,15 +21,19 @@ use rambo_serving::{Ending, write_steps};
 use rambo_telling::{DONE, tell, tell_listening, tell_socket};
 use rambo_text::ReplayFault;
 use std::alloc::Global;
+use std::fs::File;
 use std::io;
 use std::net::{Ipv4Addr, Net, SocketAddrV4, TcpListener, TcpStream};
 use std::random::RandomSource;
+use std::rt::Files;
 use std::sync::Wait;
 use std::thread::Threads;
 use std::time::Clock;
 
 /// Serves clients of a store of these founders on a port of 127.0.0.1, as it is asked, until one of them ends the
 /// server. Then the trace of its steps is written, or where it is endless meanwhile, or never.
+///
+/// Where a file is named for the trace it goes there, and the writer takes nothing.
 ///
 /// Once it listens, its port is reported to `errors`. The status is 0 where the trace was written whole. Else it is 1,
 /// and the fault is reported in a line. After a fault of the writer, or out of memory, a prefix of the trace may be
@@ -45,8 +52,35 @@ where
         + Wait
         + Clock
         + RandomSource
-        + Sync,
+        + Sync
+        + Files<File = File>,
     ensures { ServesTo E.taken E.failures serving.now founders result.0
+        (stream W.taken W.failures writer result.1) errors.old errors.new }
+{
+    if let Some(path) = &serving.trace {
+        let ending = serve_in_file(rt, alloc, founders, serving, path.as_str(), errors);
+        return (ending, writer);
+    }
+    serve_to(rt, alloc, founders, serving, writer, errors)
+}
+
+// The same where no file is named.
+fn serve_to<R, W: Sink + Drop + Send, E: Sink>(
+    rt: &R,
+    alloc: Global,
+    founders: Weighted,
+    serving: &Serving,
+    writer: W,
+    errors: &mut E,
+) -> (Ending, W)
+where
+    R: Net<Listener = TcpListener, Stream = TcpStream>
+        + Threads
+        + Wait
+        + Clock
+        + RandomSource
+        + Sync,
+    ensures { WritesTo E.taken E.failures serving.now founders result.0
         (stream W.taken W.failures writer result.1) errors.old errors.new }
 {
     match bound(rt, serving.port) {
@@ -135,7 +169,9 @@ where
         (stream E.taken E.failures errors.old errors.new)
         ⊎ Unserved result.0 (stream W.taken W.failures writer result.1) (stream E.taken E.failures errors.old errors.new) }
 {
+    let writer = Loose::new(writer);
     let Traced { writer, ended } = serve_endless(rt, alloc, listener, options, &NoGate, writer);
+    let writer = writer.into_inner();
     let ending = match ended {
         Ok(fault) => ended_by(fault, errors),
         Err(fault) => unserved(fault, errors),
@@ -161,15 +197,15 @@ where
     ensures { ((fault : Option AnyTraceFault) × Ends fault result (stream E.taken E.failures errors.old errors.new))
         ⊎ ((fault : AnyServeFault) × Fails (server_line fault) result (stream E.taken E.failures errors.old errors.new)) }
 {
-    let nowhere = Wrapped::new(io::sink());
+    let nowhere = Loose::new(Wrapped::new(io::sink()));
     match serve_endless(rt, alloc, listener, options, &NoGate, nowhere).ended {
         Ok(fault) => ended_by(fault, errors),
         Err(fault) => unserved(fault, errors),
     }
 }
 
-// How a server ends whose trace is whole, or has this fault, which is reported.
-fn ended_by<E: Sink>(fault: Option<TraceFault>, errors: &mut E) -> Ending
+/// How a server ends whose trace is whole, or has this fault, which is reported.
+pub(crate) fn ended_by<E: Sink>(fault: Option<TraceFault>, errors: &mut E) -> Ending
     ensures { Ends fault result (stream E.taken E.failures errors.old errors.new) }
 {
     match fault {
@@ -179,14 +215,15 @@ fn ended_by<E: Sink>(fault: Option<TraceFault>, errors: &mut E) -> Ending
     }
 }
 
-// What a server of these founders is started with.
-fn options_of(founders: Weighted, serving: &Serving) -> Options<Weighted>
+/// What a server of these founders is started with.
+pub(crate) fn options_of(founders: Weighted, serving: &Serving) -> Options<Weighted>
     ensures founders { result.founders ≡ founders }
     ensures clients { result.clients ≡ serving.now.clients }
     ensures connections { result.connections ≡ serving.now.connections }
     ensures steps { result.steps ≡ serving.now.steps }
     ensures lose { result.lose ≡ serving.now.lose }
     ensures twice { result.twice ≡ serving.now.twice }
+    ensures syncs { result.syncs ≡ serving.now.synced }
 {
     Options {
         founders,
@@ -195,11 +232,12 @@ fn options_of(founders: Weighted, serving: &Serving) -> Options<Weighted>
         steps: serving.steps as usize,
         lose: serving.lose,
         twice: serving.twice,
+        syncs: serving.synced,
     }
 }
 
-// Reports why nothing was served.
-fn unserved<E: Sink>(fault: ServeFault, errors: &mut E) -> Ending
+/// Reports why nothing was served.
+pub(crate) fn unserved<E: Sink>(fault: ServeFault, errors: &mut E) -> Ending
     ensures { Fails (server_line fault) result (stream E.taken E.failures errors.old errors.new) }
 {
     match fault {
@@ -216,8 +254,8 @@ fn address_of(port: u16) -> SocketAddrV4
     SocketAddrV4::new(Ipv4Addr::new(127, 0, 0, 1), port)
 }
 
-// A listener on a port of 127.0.0.1, or where it is 0 on one that the system chooses, and the port.
-fn bound<R>(rt: &R, port: u16) -> io::Result<(TcpListener, u16)>
+/// A listener on a port of 127.0.0.1, or where it is 0 on one that the system chooses, and the port.
+pub(crate) fn bound<R>(rt: &R, port: u16) -> io::Result<(TcpListener, u16)>
 where
     R: Net<Listener = TcpListener, Stream = TcpStream>,
     ensures { IfOk result (λ made. ListensOn port made.1) }

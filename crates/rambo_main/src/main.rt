@@ -3,6 +3,7 @@
 #![tactic(auto)]
 
 mod command;
+mod filing;
 mod loopback;
 
 use command::command;
