@@ -1,12 +1,15 @@
 #!/usr/bin/env python3
 """Times `rambo serve` side by side with redis-server, both asked by redis-benchmark on this machine.
 
-    bench/serve.py RAMBO [--operations 30000] [--runs 5] [--clients 1,8,32]
+    bench/serve.py RAMBO [--operations 30000] [--runs 5] [--clients 1,8,32] [--sync FOLDER]
 
 For each number of clients it prints the best of so many runs of SET and of GET, operations a second, of either server, the
 ratio of the two, and how many steps of the book an operation took. Both are started anew for each run, on ports that the
 system picks; redis-server keeps nothing on disk. The founders are 1, 2 and 3. It fails where a server replies an error, or
 where the trace isn't written.
+
+With --sync both tell the disk of a folder to keep what they did before they reply: `rambo serve --endless --trace --sync` and
+`redis-server --appendfsync always`.
 """
 import argparse
 import os
@@ -55,23 +58,26 @@ def load(port, clients, operations):
     return {name: float(figure) for name, figure in found.items()}
 
 
-def redis(clients, operations):
+def redis(clients, operations, folder):
     port = free_port()
-    words = ["redis-server", "--port", str(port), "--bind", "127.0.0.1", "--save", "", "--appendonly", "no"]
-    server = subprocess.Popen(words, stdout=subprocess.DEVNULL)
-    try:
-        wait_for(port)
-        return load(port, clients, operations)
-    finally:
-        server.terminate()
-        server.wait()
+    words = ["redis-server", "--port", str(port), "--bind", "127.0.0.1", "--save", "", "--appendonly", "yes" if folder else "no"]
+    with tempfile.TemporaryDirectory(dir=folder) as kept:
+        words += ["--appendfsync", "always", "--dir", kept]
+        server = subprocess.Popen(words, stdout=subprocess.DEVNULL)
+        try:
+            wait_for(port)
+            return load(port, clients, operations)
+        finally:
+            server.terminate()
+            server.wait()
 
 
-def rambo(program, clients, operations):
+def rambo(program, clients, operations, folder):
     """The same of `rambo serve`, and its steps an operation."""
     port = free_port()
-    with tempfile.NamedTemporaryFile() as trace:
-        words = [program, "serve", "--port", str(port), "--founders", "1,2,3", "--clients", "32", "--steps", str(STEPS)]
+    with tempfile.NamedTemporaryFile(dir=folder) as trace:
+        words = [program, "serve", "--port", str(port), "--founders", "1,2,3", "--clients", "32"]
+        words += ["--endless", "--trace", trace.name, "--sync"] if folder else ["--steps", str(STEPS)]
         server = subprocess.Popen(words, stdout=trace, stderr=subprocess.DEVNULL)
         wait_for(port)
         figures = load(port, clients, operations)
@@ -91,6 +97,7 @@ def main():
     parser.add_argument("--operations", type=int, default=30000)
     parser.add_argument("--runs", type=int, default=5)
     parser.add_argument("--clients", default="1,8,32")
+    parser.add_argument("--sync", metavar="FOLDER")
     told = parser.parse_args()
     program = os.path.abspath(told.program)
     print("| clients | | rambo | redis | ratio | steps an operation |")
@@ -98,8 +105,8 @@ def main():
     for clients in map(int, told.clients.split(",")):
         ours, theirs = [], []
         for _ in range(told.runs):
-            ours.append(rambo(program, clients, told.operations))
-            theirs.append(redis(clients, told.operations))
+            ours.append(rambo(program, clients, told.operations, told.sync))
+            theirs.append(redis(clients, told.operations, told.sync))
         steps = min(run["steps"] for run in ours)
         for name in ("SET", "GET"):
             best, other = max(run[name] for run in ours), max(run[name] for run in theirs)
