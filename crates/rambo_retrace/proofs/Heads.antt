@@ -5,6 +5,8 @@ use Rattle.std.specs.Bool.{MatchBool}
 use Rattle.std.specs.Io.KnownBytes.{IsAtEnd}
 use Rattle.rambo_names.specs.Weights.{Weights}
 use Rattle.rambo_atomic.specs.Unreads.{UnreadState, KnowsEnd, TakesIn, HasFeed, HoldsLine, IsDone}
+use Rattle.rambo_atomic.specs.declared.whole.StreamFault.{StreamFault}
+use Rattle.rambo_atomic.specs.declared.whole.StreamFault.TheVariants as stream
 use Rattle.rambo_text.specs.declared.fault.Fault.{Fault}
 use Rattle.rambo_text.specs.declared.fault.ScriptFault.{ScriptFault}
 use Rattle.rambo_text.specs.declared.version.Version.TheVariants.{Two}
@@ -14,9 +16,15 @@ use Rattle.rambo_lines.specs.Scripts.{founders_line}
 use Rattle.rambo_trace.specs.Traces.{trace_text}
 use Rattle.rambo_retrace.specs.declared.fault.RetraceFault.{RetraceFault}
 use Rattle.rambo_retrace.specs.declared.fault.RetraceFault.TheVariants.{Script}
-use Rattle.rambo_retrace.specs.Retraces.{IsWholeLine, IsUsed, FoundsNone}
+use Rattle.rambo_retrace.specs.Retraces.{IsUnrefused, IsWholeLine, IsUsed, FoundsNone, of_stream}
 use Rattle.rambo_retrace.proofs.StepByStep.{takes_more}
 use Rattle.rambo_retrace.proofs.WholeLines.{behind_used}
+
+-- a stream refuses no step
+pub stream_unrefused : (e : StreamFault) → IsUnrefused (of_stream e)
+stream_unrefused stream.Read = tt
+stream_unrefused stream.Write = tt
+stream_unrefused stream.Memory = tt
 
 -- what is so is so of each fault of a line
 pub so_of_each : {T : Type 0} (r : Result T RetraceFault) (P : Type 0) → P → IfErr r (λ f. (g : ScriptFault) → f ≡ Script g → P)

@@ -1,5 +1,5 @@
 -- A trace that is read back
-use Rattle.std.specs.Prelude.{◌≡◌, ◌≢◌, ◌⊎◌, ℕ, ◌+◌, List, [], ◌∷◌, ◌++◌, length, Option}
+use Rattle.std.specs.Prelude.{◌≡◌, ◌≢◌, ◌⊎◌, ⊤, ℕ, ◌+◌, List, [], ◌∷◌, ◌++◌, length, Option}
 use Rattle.std.specs.List.{AllByRecursion}
 use Rattle.rambo_names.specs.Weights.{Weights}
 use Rattle.rambo_names.specs.declared.refusal.Refusal.{Refusal}
@@ -33,6 +33,13 @@ reads_failed Read n = counted n
 reads_failed Memory n = n
 reads_failed (Script g) n = n
 reads_failed (Refused line r) n = n
+
+-- it isn't that a step was refused
+abbrev pub IsUnrefused : RetraceFault → Type 0
+IsUnrefused Read = ⊤
+IsUnrefused Memory = ⊤
+IsUnrefused (Script g) = ⊤
+IsUnrefused (Refused line r) = ⊥
 
 -- a text begins with this line, which has its line feed, and the rest is that of the lines after it
 pub record IsWholeLine (text line rest : List ℕ) : Type 0 where

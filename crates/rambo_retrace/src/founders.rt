@@ -7,7 +7,7 @@ ghost use Rattle.rambo_text.specs.declared.version.Version.TheVariants.{Two};
 ghost use Rattle.rambo_text.specs.Versions.{head_text};
 ghost use Rattle.rambo_lines.specs.Scripts.{AreFounders, founders_line};
 ghost use Rattle.rambo_trace.specs.Traces.{trace_text};
-ghost use Rattle.rambo_retrace.specs.Retraces.{TellsNoHead, TellsNone, FoundsNone, reads_failed};
+ghost use Rattle.rambo_retrace.specs.Retraces.{IsUnrefused, TellsNoHead, TellsNone, FoundsNone, reads_failed};
 ghost use Rattle.rambo_retrace.specs.declared.fault.RetraceFault.TheVariants as fault;
 
 use crate::fault::RetraceFault;
@@ -41,6 +41,7 @@ pub fn retrace_founders<S: Source>(
     ensures fine { OnOk result (S.failures reader.new ≡ S.failures reader.old) }
     ensures script { IfErr result (λ f. (g : ScriptFault) → f ≡ fault.Script g → TellsNone (S.left reader.old) (S.left reader.new) unread.old.held unread.new.held g) }
     ensures whole { IfErr result (λ f. (g : ScriptFault) → f ≡ fault.Script g → HasFeed unread.new.held ⊎ IsAtEnd (S.left reader.new)) }
+    ensures unrefused { IfErr result IsUnrefused }
     ensures reads { IfErr result (λ f. S.failures reader.new ≡ reads_failed f (S.failures reader.old)) }
 {
     unread.find_line(reader)?;

@@ -1,5 +1,5 @@
 //! The steps of a trace.
-ghost use Rattle.std.specs.Prelude.{◌≡◌, ◌+◌, ◌∷◌, ◌++◌, [], length, IfOk, IfErr, OnOk, OnErr, MatchOption};
+ghost use Rattle.std.specs.Prelude.{◌≡◌, ◌+◌, ◌<◌, ◌^◌, ◌∷◌, ◌++◌, [], length, IfOk, IfErr, OnOk, OnErr, MatchOption};
 ghost use Rattle.std.specs.Io.KnownBytes.{IsAtEnd};
 ghost use Rattle.rambo_atomic.specs.Unreads.{KnowsEnd};
 ghost use Rattle.rambo_text.specs.Words.{Lacks};
@@ -53,6 +53,7 @@ pub fn retrace<S: Source, T: Taker>(
     ensures torn { OnOk result (Lacks 10 unread.new.held) }
     ensures end { OnOk result (IsAtEnd (S.left reader.new)) }
     ensures fine { OnOk result (S.failures reader.new ≡ S.failures reader.old) }
+    ensures few { IfOk result (λ r. r.steps + 3 < 2 ^ 64) }
     ensures err { IfErr result (λ f. (on : Retraces (T.steps taker.old) (T.steps taker.new) (S.left reader.old) (S.left reader.new) unread.old.held unread.new.held)
         × StopsAt (RefusedBy T.steps T.refuses (T.steps taker.new)) (length on.steps + 3) unread.new.held f) }
     ensures reads { IfErr result (λ f. S.failures reader.new ≡ reads_failed f (S.failures reader.old)) }

@@ -6,9 +6,21 @@ use Rattle.rambo_text.specs.declared.version.Version.TheVariants.{Two}
 use Rattle.rambo_text.specs.Versions.{head_text}
 use Rattle.rambo_retrace.specs.declared.fault.RetraceFault.{RetraceFault}
 use Rattle.rambo_retrace.specs.declared.fault.RetraceFault.TheVariants.{Script}
-use Rattle.rambo_retrace.specs.Retraces.{FoundsNone, TellsNone}
-use Rattle.rambo_retrace.proofs.Heads.{so_of_each, so_of_one, whole_or_end, version_read, founders_read}
+use Rattle.rambo_retrace.specs.Retraces.{FoundsNone, IsUnrefused, TellsNone}
+use Rattle.rambo_retrace.proofs.Heads.{stream_unrefused, so_of_each, so_of_one, whole_or_end, version_read, founders_read}
 use Rattle.rambo_retrace.proofs.founders.retrace_founders.Goals as goal
+
+pub returns-in_err-find_line-clause-unrefused : goal.returns-in_err-find_line-clause-unrefused
+returns-in_err-find_line-clause-unrefused g c = err_kept c.from_residual.result IsUnrefused _ c.from_residual.ensures.1 (stream_unrefused c.in_err-find_line.field-0.0)
+
+pub returns-in_err-head-clause-unrefused : goal.returns-in_err-head-clause-unrefused
+returns-in_err-head-clause-unrefused g c = err_kept c.from_residual-in_err-head.result IsUnrefused _ c.from_residual-in_err-head.ensures.1 tt
+
+pub returns-in_err-find_line-2-clause-unrefused : goal.returns-in_err-find_line-2-clause-unrefused
+returns-in_err-find_line-2-clause-unrefused g c = err_kept c.from_residual-in_err-find_line-2.result IsUnrefused _ c.from_residual-in_err-find_line-2.ensures.1 (stream_unrefused c.in_err-find_line-2.field-0.0)
+
+pub returns-in_err-founders-clause-unrefused : goal.returns-in_err-founders-clause-unrefused
+returns-in_err-founders-clause-unrefused g c = err_kept c.from_residual-in_err-founders.result IsUnrefused _ c.from_residual-in_err-founders.ensures.1 tt
 
 pub returns-in_err-head-clause-whole : goal.returns-in_err-head-clause-whole
 returns-in_err-head-clause-whole g c =

@@ -9,7 +9,7 @@ use Rattle.rambo_retrace.proofs.Stopping.{Stops, stream_stops, first_stops, stil
 use Rattle.rambo_retrace.proofs.retracing.retrace.Goals as goal
 
 pub loop-unread-init : goal.loop-unread-init
-loop-unread-init g c = record { counts = counts_none _ _ _; knows = c.requires; fine = refl }
+loop-unread-init g c = record { counts = counts_none _ _ _; knows = c.requires; few = omega (arith); fine = refl }
 
 pub loop-unread-preserved : goal.loop-unread-preserved
 loop-unread-preserved g c =
@@ -19,9 +19,11 @@ loop-unread-preserved g c =
     let now = counts_more _ _ _ _ _ _ _ _ _ _ c.loop-unread.invariant.counts found.bytes in
     let lines = c.as_slice.result.now in
     let takes = subst (λ h. TakesFirst h c.in-Some.used old new) c.as_slice.ensures.held (some_taken c.in_ok-used.field-0 c.in-Some.used (Lacks 10 lines × (new ≡ old)) (λ used. TakesFirst lines used old new) c.in-Some.is c.in_ok-used.ensures.taken) in
+    let less = few _ _ _ _ _ _ _ _ c.loop-unread.invariant.counts in
     record {
       counts = counts_next _ _ _ _ _ _ _ _ _ _ _ _ _ now takes (ap (λ (u : UnreadState). u.held) c.forget.ensures) refl refl;
       knows = λ e. found.knows (sym (ap (λ (u : UnreadState). u.ended) c.forget.ensures) ∙ e);
+      few = grind (arith, common_steps, less, c.if-bytes-ge-BYTE_LIMIT.false);
       fine = found.fine ∙ c.loop-unread.invariant.fine;
     }
 
