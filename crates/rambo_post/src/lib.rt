@@ -2,6 +2,7 @@
 //! server share.
 //!
 //! - `Post`: a lock for each keeper and each outbox, and one for the book; what threads call.
+//! - `Recovery`, of `rambo_recovery`: what takes the steps of a trace again, before a post goes on.
 //! - `Gate`: test hooks inside turns and visits.
 //!
 //! A function that takes a lock lends what is behind it to another one (`commit`, `act_in`, `take_in`, ..), whose
@@ -21,6 +22,7 @@ pub use rambo_book::{
 };
 pub use rambo_outbox::Waiter;
 pub use rambo_pass::{Closed, Ended, Entry, Left, Pass};
+pub use rambo_recovery::Recovery;
 pub use rambo_roll::{Drawn, Front, Opened};
 pub use rambo_turn::{Turn, pick};
 pub use rambo_visit::Visited;

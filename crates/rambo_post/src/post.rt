@@ -31,6 +31,7 @@ use rambo_pass::{
     Closed, Ended, Pass, act_in, act_ready_in, call_in, close_in, end_in, give_up_in, meet_in,
     named, take_given, take_in,
 };
+use rambo_recovery::{Recovered, Recovery};
 use rambo_roll::{Drawn, Opened};
 use rambo_run::{Step, may_found};
 use rambo_tag::Replica;
@@ -184,6 +185,54 @@ impl<J: Terms<Q>, Q: Quorums, S: Replica> Post<J, Q, S> {
             keepers,
             outboxes,
             book: Mutex::new(Book::new(alloc, founders, capacity, ahead, keeps_all, roll, mails)),
+            spare: None,
+        })
+    }
+
+    /// A post that goes on where a recovery ended, and what is known of its steps that were drawn: these are all that the
+    /// recovery took.
+    ///
+    /// `OutOfMemory` where there is no room for it.
+    pub fn recovered(
+        alloc: Global,
+        recovery: Recovery<J, Q, S>,
+    ) -> Result<(Post<J, Q, S>, Drawn<J, Step<Q>>, Shown<J, Q>), Refusal>
+        ensures endless { J.endless ≡ true }
+        ensures drawn { IfOk result (λ p. p.1 ≡ recovery) }
+        ensures shown { IfOk result (λ p. p.2 ≡ recovery) }
+        ensures refused { IfErr result (λ r. r ≡ Refusal.OutOfMemory) }
+    {
+        let Recovered {
+            keepers,
+            mut book,
+            drawn,
+        } = recovery.into_parts();
+        let shown = Shown::all(&mut book);
+        let outboxes = outboxes_of(alloc)?;
+        let post = Post::with_keepers(alloc, keepers, book, outboxes)?;
+        Ok((post, drawn, shown))
+    }
+
+    // A post of these keepers, those of the 64 names in their order, and of this book and these outboxes.
+    fn with_keepers(
+        alloc: Global,
+        keepers: Vec<Keeper<J, Q, S>>,
+        book: Book<J, Q>,
+        outboxes: Vec<Mutex<Outbox>>,
+    ) -> Result<Post<J, Q, S>, Refusal>
+        requires many { length keepers.items ≡ 64 }
+        requires boxes { vec_len outboxes ≡ 64 }
+        ensures refused { IfErr result (λ r. r ≡ Refusal.OutOfMemory) }
+    {
+        let mut locked = Vec::new(alloc);
+        locked.reserve(64)?;
+        for keeper in keepers {
+            locked.push(Mutex::new(keeper))?;
+        }
+        Ok(Post {
+            keepers: locked,
+            outboxes,
+            book: Mutex::new(book),
             spare: None,
         })
     }

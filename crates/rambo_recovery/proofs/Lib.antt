@@ -1,0 +1,6 @@
+mod Holding
+mod Naming
+mod Owning
+mod Sending
+mod Stopping
+mod Trays
