@@ -10,7 +10,7 @@ words_of Missing = codes "fault trace: no such folder"
 words_of Denied = codes "fault trace: permission denied"
 words_of Directory = codes "fault trace: it is a folder"
 words_of InUse = codes "fault trace: another server writes to it"
-words_of NotEmpty = codes "fault trace: it isn't empty"
+words_of NotEmpty = codes "fault trace: it isn't empty, and --resume isn't given"
 words_of Unlocked = codes "fault trace: it can't be locked"
 words_of Other = codes "fault trace: it can't be opened"
 

@@ -38,7 +38,7 @@ impl OpenFault {
             OpenFault::Denied => "fault trace: permission denied",
             OpenFault::Directory => "fault trace: it is a folder",
             OpenFault::InUse => "fault trace: another server writes to it",
-            OpenFault::NotEmpty => "fault trace: it isn't empty",
+            OpenFault::NotEmpty => "fault trace: it isn't empty, and --resume isn't given",
             OpenFault::Unlocked => "fault trace: it can't be locked",
             OpenFault::Other => "fault trace: it can't be opened",
         }

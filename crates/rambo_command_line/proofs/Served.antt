@@ -26,8 +26,8 @@ options = (built_leaf (inherited (with_leaf_noted (marked_built rambo.top)) with
 
 are_options : AreOptions options
 are_options = record {
-  options = (inl (refl, refl), (inl (refl, refl), (inl (refl, refl), (inl (refl, refl), (inl (refl, refl), (inl (refl, refl), (inl (refl, refl), (inr (inl (refl, refl)), (inr (inl (refl, refl)), (inl (refl, refl), (inr (inl (refl, refl)), (inr (inr refl), tt))))))))))));
-  defaults = (inl refl, (inl refl, (inl refl, (inl refl, (inl refl, (inl refl, (inl refl, (inr (refl, refl), (inr (refl, refl), (inl refl, (inr (refl, refl), (inl refl, tt))))))))))));
+  options = (inl (refl, refl), (inl (refl, refl), (inl (refl, refl), (inl (refl, refl), (inl (refl, refl), (inl (refl, refl), (inl (refl, refl), (inr (inl (refl, refl)), (inr (inl (refl, refl)), (inl (refl, refl), (inr (inl (refl, refl)), (inr (inl (refl, refl)), (inr (inr refl), tt)))))))))))));
+  defaults = (inl refl, (inl refl, (inl refl, (inl refl, (inl refl, (inl refl, (inl refl, (inr (refl, refl), (inr (refl, refl), (inl refl, (inr (refl, refl), (inr (refl, refl), (inl refl, tt)))))))))))));
 }
 
 other_name : (name : Text) → bytes_eq name serve_name ≡ false → name ≡ serve_name → ⊥

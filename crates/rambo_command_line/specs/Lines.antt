@@ -90,7 +90,7 @@ with_endless = with_rule (with_rule with_letters (flag_rule (codes "endless"))) 
 -- and with those about the file of its trace
 abbrev pub with_options : Shape
 with_options =
-    (with_rule (with_rule with_endless (word_rule (codes "trace"))) (flag_rule (codes "sync"))).top
+    (with_rule (with_rule (with_rule with_endless (word_rule (codes "trace"))) (flag_rule (codes "sync"))) (flag_rule (codes "resume"))).top
 
 -- a command that has these, and no argument that others share
 abbrev pub IsServe : Command → Type 0
@@ -152,6 +152,8 @@ pub record IsServing (words : List (List ℕ)) (s : Serving) : Type 0 where
   pub counted : s.counted ≡ is_some (word_behind (codes "steps") words)
   pub trace : option_map string_bytes s.trace ≡ word_behind (codes "trace") words
   pub synced : IsFlag (codes "sync") words s.synced
+  pub resumed : IsFlag (codes "resume") words s.resumed
+  pub founded : s.founded ≡ is_some (word_behind (codes "founders") words)
 
 -- words that ask for a task by its name alone, which the mark of the last option may follow
 abbrev pub AsksByName : List (List ℕ) → List ℕ → Type 0

@@ -15,6 +15,8 @@ pub enum Clash {
     TraceAndNone,
     /// `--sync` stands without `--trace`.
     Sync,
+    /// `--resume` stands without `--trace`.
+    Resume,
 }
 
 impl Clash {
@@ -28,6 +30,7 @@ impl Clash {
             Clash::Trace => "bad options: --trace needs --endless",
             Clash::TraceAndNone => "bad options: --trace excludes --no-trace",
             Clash::Sync => "bad options: --sync needs --trace",
+            Clash::Resume => "bad options: --resume needs --trace",
         }
     }
 }

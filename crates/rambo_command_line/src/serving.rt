@@ -56,9 +56,16 @@ output as they are done, at most some hundredths of a second later; where it
 can't be written, the server ends with fault write. With --no-trace nothing is
 written.
 
-With --trace it goes to FILE, which is made where it is missing, and is empty
-at first. One server at a time has FILE. With --sync a reply waits until the
-disk was told to keep the steps that it tells of.
+With --trace it goes to FILE, which is made where it is missing. FILE is empty
+at first, and else --resume is needed: the steps in it are taken first, and new
+ones follow them. The founders are then those in FILE. A last line that lacks
+its line feed is cut off. One server at a time has FILE. With --sync a reply
+waits for the steps that it tells of, until they are on the disk.
+
+Standard error has these lines:
+  listening 7379           the port
+  resumed 1200 steps       so many were in FILE, and were taken
+  cut 13 bytes at line 18  what was cut off at the end of FILE
 
 A connection beyond --connections is refused. RAMBO SHUTDOWN is heard on each
 other one.
@@ -76,8 +83,9 @@ Exit statuses:
   0  done
   1  a socket or stream failed, memory ran out, or the trace can't be opened
      (fault socket, fault read, fault write, fault memory, fault trace)
-  2  the command line is faulty, options don't go together (bad options), or
-     the founders are invalid (bad founders)";
+  2  the command line is faulty, options don't go together (bad options), the
+     founders are invalid (bad founders), or the trace in FILE is faulty
+     (script fault)";
 
 /// The founders of a server where none are given.
 const FOUNDERS: &str = "1,2,3";
@@ -109,6 +117,10 @@ pub struct Serving {
     pub trace: Option<String>,
     /// Whether a reply waits until the steps that it tells of are on the disk.
     pub synced: bool,
+    /// Whether the steps that the file has are taken first.
+    pub resumed: bool,
+    /// Whether `--founders` was given.
+    pub founded: bool,
 }
 
 impl Serving {
@@ -130,6 +142,9 @@ impl Serving {
         }
         if self.synced && self.trace.is_none() {
             return Some(Clash::Sync);
+        }
+        if self.resumed && self.trace.is_none() {
+            return Some(Clash::Resume);
         }
         None
     }
@@ -155,6 +170,8 @@ pub(crate) fn serving_in(alloc: Global, matches: &ArgMatches<'_>) -> Result<Serv
         counted: matches.get_str("steps").is_some(),
         trace,
         synced: matches.get_flag("sync"),
+        resumed: matches.get_flag("resume"),
+        founded: matches.get_str("founders").is_some(),
     })
 }
 
@@ -204,7 +221,12 @@ pub(crate) fn serve_command<'a>(alloc: Global) -> Result<Command<'a>, AllocError
         .arg(flag(
             alloc,
             "sync",
-            "Replies only once the disk was told to keep what a reply tells of; needs --trace",
+            "Replies only once the steps that a reply tells of are on the disk; needs --trace",
+        ))?
+        .arg(flag(
+            alloc,
+            "resume",
+            "Goes on from the trace in FILE; needs --trace",
         ))
 }
 

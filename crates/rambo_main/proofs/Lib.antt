@@ -1,3 +1,4 @@
 mod Answered
 mod Checked
 mod Endings
+mod Filed

@@ -12,7 +12,7 @@ use Rattle.rambo_scribe.specs.declared.fault.TraceFault.{TraceFault}
 use Rattle.rambo_scribe.specs.Traced.{HasWritten, Taken}
 use Rattle.rambo_cluster.specs.declared.fault.ServeFault.{ServeFault}
 use Rattle.rambo_main.specs.Endings.{Ends, ListensOn, server_line}
-use Rattle.rambo_main.specs.Files.{OpensTo}
+use Rattle.rambo_main.specs.Files.{LastsTo}
 
 -- nothing was written, since the server failed
 abbrev pub Unserved : Ending → Stream → Stream → Type 0
@@ -59,7 +59,7 @@ WritesTo taken failures s founders e write old new =
 
 -- how serving ends, by whether a file is named for the trace: nothing is written then, but to the file
 abbrev pub ServesBy : {E : Type 0} → (E → Option (List ℕ)) → (E → ℕ) → Serving → Bool → Weights → Ending → Stream → E → E → Type 0
-ServesBy taken failures s true founders e write old new = Takes [] write × OpensTo taken failures s founders e old new
+ServesBy taken failures s true founders e write old new = Takes [] write × LastsTo taken failures s founders e old new
 ServesBy taken failures s false founders e write old new = WritesTo taken failures s founders e write old new
 
 abbrev pub ServesTo : {E : Type 0} → (E → Option (List ℕ)) → (E → ℕ) → Serving → Weights → Ending → Stream → E → E → Type 0

@@ -39,4 +39,11 @@ returns c words asks is =
         absent = λ e. c.get_flag-3.ensures.other (sym (flag_is words sub asks.0 is (codes "sync")) ∙ e);
         untold = λ e. c.get_flag-3.ensures.none (sym (flag_is words sub asks.0 is (codes "sync")) ∙ e);
       };
+      resumed = record {
+        there = λ e. c.get_flag-4.ensures.value (sym (flag_is words sub asks.0 is (codes "resume")) ∙ e);
+        absent = λ e. c.get_flag-4.ensures.other (sym (flag_is words sub asks.0 is (codes "resume")) ∙ e);
+        untold = λ e. c.get_flag-4.ensures.none (sym (flag_is words sub asks.0 is (codes "resume")) ∙ e);
+      };
+      founded = c.is_some-2.ensures ∙ some_now c.get_str-3.result
+          ∙ ap is_some (c.get_str-3.ensures ∙ first_value-rows (found_of sub) (codes "founders") ∙ sym (behind words sub asks.0 is (codes "founders")));
     }
