@@ -1,0 +1,3 @@
+pub mod InPlaces
+pub mod Told
+pub mod Written

@@ -1,0 +1,3 @@
+pub mod Placings
+pub mod Tables
+pub mod Values
