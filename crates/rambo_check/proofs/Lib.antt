@@ -6,6 +6,7 @@ pub mod ItemShapes
 pub mod LineWords
 pub mod Judged
 pub mod LineFaults
+pub mod OutcomeTexts
 pub mod PlacedOrders
 pub mod Rows
 pub mod TextLaws

@@ -4,6 +4,7 @@ pub mod Items
 pub mod Judgings
 pub mod Laws
 pub mod Lines
+pub mod Placings
 pub mod Plans
 pub mod Readings
 pub mod Reasons

@@ -77,8 +77,10 @@ fn judged_text<R: Source>(
     }
 }
 
-// The lines for what was told, and whether each is yes.
-fn judged_lines(
+/// The lines for what was told, and whether each is yes.
+///
+/// `OutOfMemory` where there is no room for them, or for what judging takes.
+pub(crate) fn judged_lines(
     alloc: Global,
     why: bool,
     version: Version,

@@ -4,18 +4,21 @@ ghost use Rattle.std.specs.Map.{lookup};
 ghost use Rattle.std.specs.Option.{option_copied};
 ghost use Rattle.std.specs.Str.{bytes_eq};
 ghost use Rattle.rambo_history.specs.Faults.{fault_of};
+ghost use Rattle.rambo_placing.specs.Placings.{with_gets};
 ghost use Rattle.rambo_text.specs.declared.fault.Fault.TheVariants as fault;
 ghost use Rattle.rambo_text.specs.declared.version.Version.TheVariants as versions;
 ghost use Rattle.rambo_text.specs.Versions.{head_lines};
 ghost use Rattle.rambo_check.specs.declared.order.Placed.{Placed as AnyPlaced};
 ghost use Rattle.rambo_check.specs.EvidenceStates.{no_evidence, passed, with_item};
 ghost use Rattle.rambo_check.specs.Lines.{Happened, Ordered, OrderedAll};
+ghost use Rattle.rambo_check.specs.Placings.{with_gets_placed};
 ghost use Rattle.rambo_check.specs.Verdicts.{order_of, store_order_of, event_line_of, order_line_of};
 
 use crate::order::{Order, Placed};
 use indexmap::IndexMap;
 use rambo_history::{CallId, Event, History, HistoryFault};
-use rambo_names::Bytes;
+use rambo_names::{Bytes, Refusal};
+use rambo_placing::Placing;
 use rambo_text::{Fault, Version};
 use std::alloc::Global;
 use std::marker::Model;
@@ -148,6 +151,18 @@ impl Evidence {
         Ok(())
     }
 
+    /// Puts the gets of each key that has an order in their places there.
+    ///
+    /// `OutOfMemory` where there is no room for these orders, or for what places the gets.
+    pub(crate) fn place_gets(&mut self) -> Result<(), Refusal>
+        ensures placed { OnOk result (self.new ≡ with_gets_placed self.old) }
+        ensures refused { IfErr result (λ r. r ≡ Refusal.OutOfMemory) }
+    {
+        let placing = Placing::new(&self.history)?;
+        place_each(&placing, &mut self.orders)?;
+        Ok(())
+    }
+
     /// The history.
     pub(crate) fn history(&self) -> &History
         ensures { result.now.events ≡ self.now.events }
@@ -160,6 +175,20 @@ impl Evidence {
         ensures { result.now ≡ map (λ o. o.0) self.now.orders }
     {
         self.orders.keys().as_slice()
+    }
+
+    /// The keys that have an order, each with it.
+    pub(crate) fn orders(&self) -> &IndexMap<Bytes, Placed>
+        ensures { map (λ o. (o.0, o.1.order)) result.now.entries ≡ self.now.orders }
+    {
+        &self.orders
+    }
+
+    /// The order of all keys, if there is one.
+    pub(crate) fn told_order(&self) -> Option<&Placed>
+        ensures { option_map (λ (p : AnyPlaced). p.order) (option_copied result) ≡ self.now.order }
+    {
+        self.order.as_ref()
     }
 
     /// The order of a key: the empty one where it has none.
@@ -198,6 +227,19 @@ impl Evidence {
             None => 0,
         }
     }
+}
+
+// Puts the gets of each key in their places in its order.
+fn place_each(placing: &Placing<'_>, orders: &mut IndexMap<Bytes, Placed>) -> Result<(), Refusal>
+    ensures placed { OnOk result (orders.new.entries ≡ map (λ e. (e.0, record e.1 { order = with_gets placing.now e.0 e.1.order })) orders.old.entries) }
+    ensures refused { IfErr result (λ r. r ≡ Refusal.OutOfMemory) }
+{
+    for place in 0..orders.len() {
+        let (key, placed) = orders.pair_mut(place);
+        let calls = placing.with_gets(key, placed.order.calls.as_slice())?;
+        placed.order = Order { calls };
+    }
+    Ok(())
 }
 
 // The line that tells an order, if there is one.

@@ -278,13 +278,13 @@ not_both words a b apart is also =
 
 pub task_faultless : (words : List Text) (t : AnyTask) → lines.Asks words t → fault_of rambo words ≡ []
 task_faultless words line.Replay asks = asks_faultless words Replay asks
-task_faultless words (line.Check why) asks = asks.0.0
+task_faultless words (line.Check checking) asks = asks.0.0
 task_faultless words (line.Local founders) asks = asks.0.0
 task_faultless words (line.Serve serving) asks = asks.0.0
 
 pub task_named : (words : List Text) (t : AnyTask) → lines.Asks words t → named words ≡ Some (lines.name_of t)
 task_named words line.Replay asks = asks_named words Replay asks
-task_named words (line.Check why) asks = asks.0.1
+task_named words (line.Check checking) asks = asks.0.1
 task_named words (line.Local founders) asks = asks.0.1
 task_named words (line.Serve serving) asks = asks.0.1
 

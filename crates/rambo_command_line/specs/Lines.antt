@@ -11,6 +11,7 @@ use Rattle.clap.specs.Words.{App, Rule, Shape, fault_of, first_of, one_of, new_a
 use Rattle.rambo_names.specs.Names.{count_of}
 use Rattle.rambo_names.specs.Weights.{Weights, members_of}
 use Rattle.rambo_names.specs.Signs.{conf_text}
+use Rattle.rambo_command_line.specs.declared.line.Checking.{Checking}
 use Rattle.rambo_command_line.specs.declared.line.Task.{Task}
 use Rattle.rambo_command_line.specs.declared.line.Task.TheVariants.{Replay, Check, Local, Serve}
 use Rattle.rambo_command_line.specs.declared.serving.Serving.{Serving}
@@ -18,7 +19,7 @@ use Rattle.rambo_command_line.specs.declared.serving.Serving.{Serving}
 -- the word for a task
 abbrev pub name_of : Task → List ℕ
 name_of Replay = codes "replay"
-name_of (Check why) = codes "check"
+name_of (Check checking) = codes "check"
 name_of (Local founders) = codes "local"
 name_of (Serve serving) = codes "serve"
 
@@ -29,7 +30,7 @@ abbrev pub serve_name : List ℕ
 serve_name = codes "serve"
 
 -- the program as clap reads it: four commands, one of which is required, and no program name before them. One has no
--- arguments, one has a flag, and two have options with values
+-- arguments, one has flags, and two have options with values
 abbrev pub program : App
 program = record {
   top = record (new_app (codes "rambo")).top { has_version = true; no_binary_name = true; subcommand_required = true };
@@ -43,12 +44,17 @@ plain name = (new_app name).top
 abbrev pub flag_rule : List ℕ → Rule
 flag_rule name = record (new_rule name) { long = Some name; action = Some SetTrue }
 
-abbrev pub with_why : Shape
-with_why = (with_rule (new_app check_name) (flag_rule (codes "why"))).top
+-- the command that checks, with the flag that says whether each no is explained
+abbrev pub with_why : App
+with_why = with_rule (new_app check_name) (flag_rule (codes "why"))
 
--- a command that has it, and no argument that others share
+-- and with those that say whether the gets are placed, and whether the outcome is written
+abbrev pub with_placing : Shape
+with_placing = (with_rule (with_rule with_why (flag_rule (codes "place"))) (flag_rule (codes "print"))).top
+
+-- a command that has these, and no argument that others share
 abbrev pub IsCheck : Command → Type 0
-IsCheck c = (shape_of c ≡ with_why) × ((out-Command c).has_globals ≡ false)
+IsCheck c = (shape_of c ≡ with_placing) × ((out-Command c).has_globals ≡ false)
 
 -- the option of any word
 abbrev pub word_rule : List ℕ → Rule
@@ -98,7 +104,7 @@ IsServe c = (shape_of c ≡ with_options) × ((out-Command c).has_globals ≡ fa
 
 abbrev pub rambo : App
 rambo =
-    with_subcommand (with_subcommand (with_subcommand (with_subcommand program (plain (codes "replay"))) with_why) with_founders)
+    with_subcommand (with_subcommand (with_subcommand (with_subcommand program (plain (codes "replay"))) with_placing) with_founders)
     with_options
 
 -- the name of the command that the words are taken for
@@ -155,6 +161,12 @@ pub record IsServing (words : List (List ℕ)) (s : Serving) : Type 0 where
   pub resumed : IsFlag (codes "resume") words s.resumed
   pub founded : s.founded ≡ is_some (word_behind (codes "founders") words)
 
+-- what words ask of a check
+pub record IsChecking (words : List (List ℕ)) (c : Checking) : Type 0 where
+  pub why : IsFlag (codes "why") words c.why
+  pub place : IsFlag (codes "place") words c.place
+  pub print : IsFlag (codes "print") words c.print
+
 -- words that ask for a task by its name alone, which the mark of the last option may follow
 abbrev pub AsksByName : List (List ℕ) → List ℕ → Type 0
 AsksByName words name = (words ≡ name ∷ []) ⊎ (words ≡ name ∷ codes "--" ∷ [])
@@ -178,6 +190,6 @@ AsksServe = AsksFor serve_name
 -- the words ask for a task
 abbrev pub Asks : List (List ℕ) → Task → Type 0
 Asks words Replay = AsksByName words (codes "replay")
-Asks words (Check why) = AsksCheck words × IsFlag (codes "why") words why
+Asks words (Check checking) = AsksCheck words × IsChecking words checking
 Asks words (Local founders) = AsksLocal words × IsFounders (founders_or (codes "1") words) founders
 Asks words (Serve serving) = AsksServe words × IsServing words serving

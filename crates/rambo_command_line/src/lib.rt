@@ -7,5 +7,5 @@ mod parts;
 mod serving;
 
 pub use clash::Clash;
-pub use line::{Task, task_of};
+pub use line::{Checking, Task, task_of};
 pub use serving::Serving;

@@ -1,5 +1,6 @@
 //! The command line.
-ghost use Rattle.std.specs.Prelude.{◌≡◌, ℕ, List, [], map, IfOk, IfErr};
+ghost use Rattle.std.specs.Prelude.{◌≡◌, ℕ, List, [], false, map, IfOk, IfErr};
+ghost use Rattle.clap.specs.declared.builder.command.Command.TheViews.{out-Command as fields_of};
 ghost use Rattle.clap.specs.Words.{HasKind, HasMatchesOf, app_of, fault_of, with_subcommand};
 ghost use Rattle.rambo_command_line.specs.Lines.{
   Asks,
@@ -9,6 +10,7 @@ ghost use Rattle.rambo_command_line.specs.Lines.{
   rambo,
   with_founders,
   with_options,
+  with_why as why_app,
 };
 
 use crate::parts::{bare_command, flag, founders_of, founders_option};
@@ -100,6 +102,12 @@ the lines of the input where it is found, as
 Keys and values that are printable ASCII without a space or a quote are written
 in quotes too, as 6b \"k\".
 
+With --place the sequences need the sets alone, in their order. Before all sets
+of its key come the gets that answered nil, and behind each set those that
+answered its value, in the order of their calls; a get of another value has no
+place, which breaks rule 1. Gets that a sequence has are placed anew. With
+--print the outcome is written that has these sequences, for another check.
+
 The first faulty line is reported by its number, as script fault S2 at line 3:
   S2  the first word of a line is none of these, or the third of a call or answer
   S3  a line has another number of words than its kind has
@@ -107,10 +115,11 @@ The first faulty line is reported by its number, as script fault S2 at line 3:
   S5  a word is not the HEX that belongs there
   S7  memory ran out while the line was read
   S8  a call is made twice, an answer has no open call or is not of its kind, or
-      a key has a second sequence, or all keys a second order
+      a key has a second sequence, or all keys a second order; with --place also
+      where a key is set to a value for the second time
 
 Exit statuses:
-  0  yes for all keys, and for their order
+  0  yes for all keys, and for their order, or the outcome was written
   1  a stream failed or memory ran out (fault read, fault write, fault memory)
   2  the command line or the outcome text is faulty
   3  no for some key, or for the order of all keys";
@@ -144,13 +153,24 @@ Exit statuses:
 /// The founders of a store where none are given.
 const FOUNDERS: &str = "1";
 
+/// How an outcome text is checked, and what is written of it.
+#[derive(Clone, Copy, PartialEq, Eq, Debug)]
+pub struct Checking {
+    /// Whether each no is explained.
+    pub why: bool,
+    /// Whether the gets are put in their places first.
+    pub place: bool,
+    /// Whether they are, and the outcome is written that has them there, and no verdict.
+    pub print: bool,
+}
+
 /// What a command line asks for.
 #[derive(Debug, Drop)]
 pub enum Task {
     /// A script is run, and its outcome written.
     Replay,
-    /// An outcome text is read, and a verdict on each key written; and if so, why each no is one.
-    Check(bool),
+    /// An outcome text is read, and a verdict on each key written.
+    Check(Checking),
     /// One client is served by a store of these founders, at least one. None where the word isn't the sign of such a
     /// configuration.
     Local(Option<Weighted>),
@@ -183,7 +203,11 @@ fn task_in(alloc: Global, matches: &ArgMatches<'_>) -> Result<Task, AllocError>
         return Ok(Task::Serve(serving_in(alloc, serve)?));
     }
     if let Some(check) = matches.subcommand_matches("check") {
-        return Ok(Task::Check(check.get_flag("why")));
+        return Ok(Task::Check(Checking {
+            why: check.get_flag("why"),
+            place: check.get_flag("place"),
+            print: check.get_flag("print"),
+        }));
     }
     Ok(Task::Replay)
 }
@@ -214,6 +238,24 @@ fn text_commands<'a>(alloc: Global) -> Result<Command<'a>, AllocError>
 // The command that checks an outcome text.
 fn check_command<'a>(alloc: Global) -> Result<Command<'a>, AllocError>
     ensures { IfOk result IsCheck }
+{
+    why_command(alloc)?
+        .arg(flag(
+            alloc,
+            "place",
+            "Places each get behind the set whose value it answered, and judges that order",
+        ))?
+        .arg(flag(
+            alloc,
+            "print",
+            "Places the gets, and writes the outcome with them instead of verdicts",
+        ))
+}
+
+// The same, still without what places gets.
+fn why_command<'a>(alloc: Global) -> Result<Command<'a>, AllocError>
+    ensures app { IfOk result (λ c. app_of c ≡ why_app) }
+    ensures local { IfOk result (λ c. (fields_of c).has_globals ≡ false) }
 {
     bare_command(
         alloc,

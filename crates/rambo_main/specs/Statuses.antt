@@ -8,13 +8,17 @@ use Rattle.rambo_text.specs.declared.fault.ScriptFault.{ScriptFault}
 use Rattle.rambo_text.specs.declared.fault.ReplayFault.{ReplayFault}
 use Rattle.rambo_text.specs.declared.fault.ReplayFault.TheVariants.{Script, Read, Write, Memory}
 use Rattle.rambo_check.specs.Checks.{IsLeft, IsChecked}
+use Rattle.rambo_check.specs.Placings.{IsPlaced, IsRepeatedIn}
+use Rattle.rambo_check.specs.declared.placing.Telling.{Telling}
+use Rattle.rambo_check.specs.declared.placing.Telling.TheVariants.{Verdicts, Reasons, Outcome}
 use Rattle.rambo_check.specs.Texts.{IsFaultIn}
 use Rattle.rambo_steps.specs.Replays.{Replays, Leaves, reads_failed, writes_failed}
 use Rattle.rambo_names.specs.Weights.{Weights}
 use Rattle.rambo_client.specs.declared.fault.LocalFault.{LocalFault}
 use Rattle.rambo_client.specs.declared.fault.LocalFault.TheVariants as local
 use Rattle.rambo_client.specs.Talks.{Served, Stopped}
-use Rattle.rambo_command_line.specs.Lines.{rambo, founders_or, IsFlag, IsFounders, IsServing}
+use Rattle.rambo_command_line.specs.Lines.{rambo, founders_or, IsChecking, IsFounders, IsServing}
+use Rattle.rambo_command_line.specs.declared.line.Checking.{Checking}
 use Rattle.rambo_command_line.specs.declared.serving.Serving.{Serving}
 use Rattle.rambo_command_line.specs.declared.clash.Clash.{Clash}
 use Rattle.rambo_command_line.specs.Clashes.{clash_of, words_of}
@@ -49,50 +53,71 @@ ReplaysTo status read write told =
 abbrev pub verdict_status : Bool → ℕ
 verdict_status all = if all then 0 else 3
 
--- a check that is done
-pub record IsCheckedTo (why : Bool) (status : ℕ) (read write : Stream) : Type 0 where
+-- a check that is done, where this is what it writes of a text
+pub record IsCheckedTo (IsTold : List ℕ → List ℕ → Bool → Type 0) (status : ℕ) (read write : Stream) : Type 0 where
   pub text : List ℕ
   pub lines : List ℕ
   pub all : Bool
   pub done : status ≡ verdict_status all
   pub left : IsLeft read.old text
-  pub checked : IsChecked why text lines all
+  pub checked : IsTold text lines all
   pub end : IsAtEnd read.new
   pub reads : IsFine read
   pub writes : IsFine write
   pub written : Appends write.old write.new lines
 
 -- a prefix of the lines of a check was written
-pub record StopsCheck (why : Bool) (input old new : Option (List ℕ)) : Type 0 where
+pub record StopsCheck (IsTold : List ℕ → List ℕ → Bool → Type 0) (input old new : Option (List ℕ)) : Type 0 where
   pub text : List ℕ
   pub lines : List ℕ
   pub all : Bool
   pub left : IsLeft input text
-  pub checked : IsChecked why text lines all
+  pub checked : IsTold text lines all
   pub written : Begins old new lines
 
 -- the text that was read has this fault
-abbrev pub HasTextFault : Option (List ℕ) → ScriptFault → Type 0
-HasTextFault input f = (text : List ℕ) × IsLeft input text × IsFaultIn text f
+abbrev pub HasTextFault : (List ℕ → ScriptFault → Type 0) → Option (List ℕ) → ScriptFault → Type 0
+HasTextFault IsFault input f = (text : List ℕ) × IsLeft input text × IsFault text f
 
 -- what was written by a check that met a fault
-abbrev pub LeavesCheck : Bool → ReplayFault → Option (List ℕ) → Option (List ℕ) → Option (List ℕ) → Type 0
-LeavesCheck why (Script f) input old new = HasTextFault input f × Keeps old new
-LeavesCheck why Read input old new = Keeps old new
-LeavesCheck why Write input old new = StopsCheck why input old new
-LeavesCheck why Memory input old new = Keeps old new
+abbrev pub LeavesCheck : (List ℕ → List ℕ → Bool → Type 0) → (List ℕ → ScriptFault → Type 0) → ReplayFault → Option (List ℕ) → Option (List ℕ) → Option (List ℕ)
+    → Type 0
+LeavesCheck IsTold IsFault (Script f) input old new = HasTextFault IsFault input f × Keeps old new
+LeavesCheck IsTold IsFault Read input old new = Keeps old new
+LeavesCheck IsTold IsFault Write input old new = StopsCheck IsTold input old new
+LeavesCheck IsTold IsFault Memory input old new = Keeps old new
 
--- how a check ends that is asked, or isn't, to tell why: done, or by a fault
+-- how a check ends by which a text has this told of it, or these faults: done, or by a fault
+abbrev pub EndsCheck : (List ℕ → List ℕ → Bool → Type 0) → (List ℕ → ScriptFault → Type 0) → ℕ → Stream → Stream → Stream → Type 0
+EndsCheck IsTold IsFault status read write told =
+    IsCheckedTo IsTold status read write
+    ⊎ ((f : ReplayFault) × EndsBy f status read write told × LeavesCheck IsTold IsFault f read.old write.old write.new)
+
+-- how a check ends that is asked, or isn't, to tell why
 abbrev pub ChecksTo : Bool → ℕ → Stream → Stream → Stream → Type 0
-ChecksTo why status read write told =
-    IsCheckedTo why status read write
-    ⊎ ((f : ReplayFault) × EndsBy f status read write told × LeavesCheck why f read.old write.old write.new)
+ChecksTo why = EndsCheck (IsChecked why) IsFaultIn
+
+-- how one ends that puts the gets in their places first
+abbrev pub PlacesTo : Telling → ℕ → Stream → Stream → Stream → Type 0
+PlacesTo telling = EndsCheck (IsPlaced telling) (λ text f. IsFaultIn text f ⊎ IsRepeatedIn text f)
+
+-- what is asked for once the gets are in their places, if they are put there
+abbrev pub telling_of : Checking → Option Telling
+telling_of c = if c.print then Some Outcome else if c.place then Some (if c.why then Reasons else Verdicts) else None
+
+-- how a check ends, by that
+abbrev pub JudgesBy : Option Telling → Bool → ℕ → Stream → Stream → Stream → Type 0
+JudgesBy None why = ChecksTo why
+JudgesBy (Some telling) why = PlacesTo telling
+
+abbrev pub JudgesTo : Checking → ℕ → Stream → Stream → Stream → Type 0
+JudgesTo c = JudgesBy (telling_of c) c.why
 
 -- how words end that ask for a check, unless there was no room to read them
 abbrev pub CheckTo : List Text → ℕ → Stream → Stream → Stream → Type 0
 CheckTo words status read write told =
     (EndsBy Memory status read write told × Keeps write.old write.new)
-    ⊎ ((why : Bool) × IsFlag (codes "why") words why × ChecksTo why status read write told)
+    ⊎ ((checking : Checking) × IsChecking words checking × JudgesTo checking status read write told)
 
 -- the same fault, in the words of a replay
 abbrev pub of_local : LocalFault → ReplayFault

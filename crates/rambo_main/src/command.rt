@@ -10,13 +10,17 @@ ghost use Rattle.rambo_main.specs.Statuses.{
   AnswersTo,
   CheckTo,
   ChecksTo,
+  JudgesTo,
   LocalTo,
+  PlacesTo,
   ReplaysTo,
   ServeEnds,
   ServeTo,
   ServesTo,
   bad_founders,
   of_local,
+  telling_of,
+  verdict_status,
 };
 ghost use Rattle.rambo_command_line.specs.declared.line.Task.{Task as AnyTask};
 
@@ -24,8 +28,9 @@ use crate::loopback::serve_clients;
 use clap::Error;
 use clap::error::ErrorKind;
 use rambo_atomic::{Sink, Source};
+use rambo_check::{Telling, place_text};
 use rambo_client::LocalFault;
-use rambo_command_line::{Clash, Serving, Task, task_of};
+use rambo_command_line::{Checking, Clash, Serving, Task, task_of};
 use rambo_direct::local;
 use rambo_names::Weighted;
 use rambo_outcome::check_text;
@@ -96,7 +101,9 @@ where
 {
     match task_of(alloc, words) {
         Ok(Task::Replay) => (replayed(alloc, reader, &mut writer, errors), writer),
-        Ok(Task::Check(why)) => { (checked(alloc, why, reader, &mut writer, errors), writer) }
+        Ok(Task::Check(checking)) => {
+            (judged(alloc, checking, reader, &mut writer, errors), writer)
+        }
         Ok(Task::Local(Some(founders))) => {
             (served(alloc, founders, reader, &mut writer, errors), writer)
         }
@@ -186,6 +193,63 @@ fn replayed<R: Source, W: Sink, E: Sink>(
     }
 }
 
+// From an outcome text to what is asked for.
+fn judged<R: Source, W: Sink, E: Sink>(
+    alloc: Global,
+    checking: Checking,
+    reader: &mut R,
+    writer: &mut W,
+    errors: &mut E,
+) -> Ending
+    ensures ends { JudgesTo checking result.status (stream R.left R.failures reader.old reader.new)
+        (stream W.taken W.failures writer.old writer.new)
+        (stream E.taken E.failures errors.old errors.new) }
+    ensures quiet { (result.status ≡ 0) ⊎ (result.status ≡ 3) → errors.new ≡ errors.old }
+    ensures untraced { result.trace ≡ None }
+{
+    match telling_of(checking) {
+        Some(telling) => placed(alloc, telling, reader, writer, errors),
+        None => checked(alloc, checking.why, reader, writer, errors),
+    }
+}
+
+// What is asked for once the gets are in their places, if they are put there.
+fn telling_of(checking: Checking) -> Option<Telling>
+    ensures { result ≡ telling_of checking }
+{
+    if checking.print {
+        return Some(Telling::Outcome);
+    }
+    if !checking.place {
+        return None;
+    }
+    if checking.why {
+        Some(Telling::Reasons)
+    } else {
+        Some(Telling::Verdicts)
+    }
+}
+
+// From an outcome text to what is asked for once the gets are in their places.
+fn placed<R: Source, W: Sink, E: Sink>(
+    alloc: Global,
+    telling: Telling,
+    reader: &mut R,
+    writer: &mut W,
+    errors: &mut E,
+) -> Ending
+    ensures ends { PlacesTo telling result.status (stream R.left R.failures reader.old reader.new)
+        (stream W.taken W.failures writer.old writer.new)
+        (stream E.taken E.failures errors.old errors.new) }
+    ensures quiet { (result.status ≡ 0) ⊎ (result.status ≡ 3) → errors.new ≡ errors.old }
+    ensures untraced { result.trace ≡ None }
+{
+    match place_text(alloc, telling, reader, writer) {
+        Ok(all) => said(all),
+        Err(fault) => Ending::of(tell(fault, errors)),
+    }
+}
+
 // From an outcome text to a verdict on each key, and if it is asked for, why.
 fn checked<R: Source, W: Sink, E: Sink>(
     alloc: Global,
@@ -201,9 +265,20 @@ fn checked<R: Source, W: Sink, E: Sink>(
     ensures untraced { result.trace ≡ None }
 {
     match check_text(alloc, why, reader, writer) {
-        Ok(true) => Ending::of(DONE),
-        Ok(false) => Ending::of(SAID_NO),
+        Ok(all) => said(all),
         Err(fault) => Ending::of(tell(fault, errors)),
+    }
+}
+
+// How a check ends of which each verdict is yes, or some is no.
+fn said(all: bool) -> Ending
+    ensures status { result.status ≡ verdict_status all }
+    ensures untraced { result.trace ≡ None }
+{
+    if all {
+        Ending::of(DONE)
+    } else {
+        Ending::of(SAID_NO)
     }
 }
 

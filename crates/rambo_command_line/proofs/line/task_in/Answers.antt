@@ -17,12 +17,28 @@ returns-in-Some c words faultless matches =
 
 pub returns-in-Some-subcommand_matches-2 : goal.returns-in-Some-subcommand_matches-2
 returns-in-Some-subcommand_matches-2 c words faultless matches =
-    let told = flag_is words _ faultless matches (codes "why") c.in-Some-subcommand_matches-2.check.now c.in-Some-subcommand_matches-2.ensures.rows in (
+    let sub = c.in-Some-subcommand_matches-2.check.now in
+    let rows = c.in-Some-subcommand_matches-2.ensures.rows in
+    let why = flag_is words _ faultless matches (codes "why") sub rows in
+    let place = flag_is words _ faultless matches (codes "place") sub rows in
+    let print = flag_is words _ faultless matches (codes "print") sub rows in (
       met_named words _ faultless matches (codes "check") (c.in-Some-subcommand_matches-2.ensures.found.0 refl),
       record {
-        there = λ e. c.get_flag.ensures.value (sym told ∙ e);
-        absent = λ e. c.get_flag.ensures.other (sym told ∙ e);
-        untold = λ e. c.get_flag.ensures.none (sym told ∙ e);
+        why = record {
+          there = λ e. c.get_flag.ensures.value (sym why ∙ e);
+          absent = λ e. c.get_flag.ensures.other (sym why ∙ e);
+          untold = λ e. c.get_flag.ensures.none (sym why ∙ e);
+        };
+        place = record {
+          there = λ e. c.get_flag-in-Some-subcommand_matches-2.ensures.value (sym place ∙ e);
+          absent = λ e. c.get_flag-in-Some-subcommand_matches-2.ensures.other (sym place ∙ e);
+          untold = λ e. c.get_flag-in-Some-subcommand_matches-2.ensures.none (sym place ∙ e);
+        };
+        print = record {
+          there = λ e. c.get_flag-in-Some-subcommand_matches-2-2.ensures.value (sym print ∙ e);
+          absent = λ e. c.get_flag-in-Some-subcommand_matches-2-2.ensures.other (sym print ∙ e);
+          untold = λ e. c.get_flag-in-Some-subcommand_matches-2-2.ensures.none (sym print ∙ e);
+        };
       },
     )
 

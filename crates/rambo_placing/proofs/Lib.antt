@@ -1,0 +1,4 @@
+pub mod InPlaces
+pub mod Orders
+pub mod Told
+pub mod Written

@@ -1,0 +1,4 @@
+pub mod Laws
+pub mod Placings
+pub mod Tables
+pub mod Values
