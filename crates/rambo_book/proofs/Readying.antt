@@ -50,14 +50,7 @@ letter_coming none c = none
 
 never : {Q : Type 0} (q : Quick Q) → comes (quick_change q) ≡ false
 never (quick.Join contacts) = refl
-never (quick.Send to) = refl
-never (quick.Again id) = refl
-never quick.Collect = refl
-never quick.AdvanceCollect = refl
-never (quick.Recon wish) = refl
-never quick.Rebid = refl
-never quick.AdvanceRecon = refl
-never quick.Stop = refl
+never _ = refl
 
 module _ {Q : Type 0} (s : QuorumSystem Q) (v : RoomyNode Q) where
   -- what may be heard of a letter may be heard of the one for which it stands
@@ -190,17 +183,7 @@ tray_alike s w name x tray here all (step.Deliver n) own there =
       subst (λ o. Alike s x (delivery o) (delivery (letter_at w.letters n))) (sym t.there)
           (subst (λ o. Alike s x (delivery (Some l)) (delivery o)) (sym at) (coming s x l whole (short_here w name x here l whole t.sent.2 to))),
     )
-tray_alike s w name x tray here all (step.Join n contacts) own there = (own, itself s x _)
-tray_alike s w name x tray here all (step.Call n o) own there = (own, itself s x _)
-tray_alike s w name x tray here all (step.Send n to) own there = (own, itself s x _)
-tray_alike s w name x tray here all (step.Advance id) own there = (own, itself s x _)
-tray_alike s w name x tray here all (step.Again id) own there = (own, itself s x _)
-tray_alike s w name x tray here all (step.Collect n) own there = (own, itself s x _)
-tray_alike s w name x tray here all (step.AdvanceCollect n) own there = (own, itself s x _)
-tray_alike s w name x tray here all (step.Recon n wish) own there = (own, itself s x _)
-tray_alike s w name x tray here all (step.Rebid n) own there = (own, itself s x _)
-tray_alike s w name x tray here all (step.AdvanceRecon n) own there = (own, itself s x _)
-tray_alike s w name x tray here all (step.Stop n) own there = (own, itself s x _)
+tray_alike s w name x tray here all _ own there = (own, itself s x _)
 
 -- and the letter that it lets come tells there what that of the tray does, besides copies
 tray_outline : {Q : Type 0} (w : WorldState Q) (name : ℕ) (tray : List (Mail Q)) → All (IsMailOf w name) tray → (st : Step Q) → ((n : ℕ) → st ≡ step.Deliver n → IsIn tray n)
@@ -208,17 +191,7 @@ tray_outline : {Q : Type 0} (w : WorldState Q) (name : ℕ) (tray : List (Mail Q
 tray_outline w name tray all (step.Deliver n) there =
     let t = find_in w name tray n (all_at (IsMailOf w name) tray all) (there n refl) in
     ap outline_of t.there ∙ ap Some (outline_alike t.letter t.sent.0 _ t.sent.2) ∙ sym (ap outline_of t.sent.1)
-tray_outline w name tray all (step.Join n contacts) there = refl
-tray_outline w name tray all (step.Call n o) there = refl
-tray_outline w name tray all (step.Send n to) there = refl
-tray_outline w name tray all (step.Advance id) there = refl
-tray_outline w name tray all (step.Again id) there = refl
-tray_outline w name tray all (step.Collect n) there = refl
-tray_outline w name tray all (step.AdvanceCollect n) there = refl
-tray_outline w name tray all (step.Recon n wish) there = refl
-tray_outline w name tray all (step.Rebid n) there = refl
-tray_outline w name tray all (step.AdvanceRecon n) there = refl
-tray_outline w name tray all (step.Stop n) there = refl
+tray_outline w name tray all _ there = refl
 
 -- so the tray's judgement is the run's
 pub tray_verdict : {Q : Type 0} (s : QuorumSystem Q) (w : WorldState Q) (name : ℕ) (x : NodeState Q) (tray : List (Mail Q)) → node_at w name ≡ Some x → All (IsMailOf w name) tray → (st : Step Q)
@@ -231,17 +204,7 @@ tray_verdict s w name x tray here all st own there =
 -- a step means what it does by the letter that it lets come
 meant_is : {Q : Type 0} (w : WorldState Q) (st : Step Q) → meant w st ≡ meant_by (letter_in w.letters st) st
 meant_is w (step.Deliver n) = refl
-meant_is w (step.Join n contacts) = refl
-meant_is w (step.Call n o) = refl
-meant_is w (step.Send n to) = refl
-meant_is w (step.Advance id) = refl
-meant_is w (step.Again id) = refl
-meant_is w (step.Collect n) = refl
-meant_is w (step.AdvanceCollect n) = refl
-meant_is w (step.Recon n wish) = refl
-meant_is w (step.Rebid n) = refl
-meant_is w (step.AdvanceRecon n) = refl
-meant_is w (step.Stop n) = refl
+meant_is w _ = refl
 
 -- what is ready in the run of what a keeper has seen is so in a longer one, where nothing more is its own
 module _ {Q : Type 0} (s : QuorumSystem Q) (f : Q) (xs ys : List (Step Q)) (p : IsPrefix xs ys) where
@@ -252,17 +215,7 @@ module _ {Q : Type 0} (s : QuorumSystem Q) (f : Q) (xs ys : List (Step Q)) (p : 
 
   letters_longer : (st : Step Q) (m : Meant Q) → meant (run s f xs) st ≡ Some m → letter_in (run s f xs).letters st ≡ letter_in (run s f ys).letters st
   letters_longer (step.Deliver n) m e = letter_longer n m (letter_at (run s f xs).letters n) refl e
-  letters_longer (step.Join n contacts) m e = refl
-  letters_longer (step.Call n o) m e = refl
-  letters_longer (step.Send n to) m e = refl
-  letters_longer (step.Advance id) m e = refl
-  letters_longer (step.Again id) m e = refl
-  letters_longer (step.Collect n) m e = refl
-  letters_longer (step.AdvanceCollect n) m e = refl
-  letters_longer (step.Recon n wish) m e = refl
-  letters_longer (step.Rebid n) m e = refl
-  letters_longer (step.AdvanceRecon n) m e = refl
-  letters_longer (step.Stop n) m e = refl
+  letters_longer _ m e = refl
 
   means_longer : (st : Step Q) (m : Meant Q) → meant (run s f xs) st ≡ Some m → meant (run s f ys) st ≡ Some m
   means_longer st m e = meant_is (run s f ys) st ∙ ap (λ o. meant_by o st) (sym (letters_longer st m e)) ∙ sym (meant_is (run s f xs) st) ∙ e

@@ -131,17 +131,7 @@ module _ {Q : Type 0} (s : QuorumSystem Q) (w : WorldState Q) (letters : List (L
 pub alike : {Q : Type 0} (s : QuorumSystem Q) (w : WorldState Q) (letters : List (Letter Q)) (name : ℕ) (x : NodeState Q) (st : Step Q) → AreSent w letters → node_at w name ≡ Some x → IsServedBy w st name
     → Alike s x (meant_in letters st) (meant w st)
 alike s w letters name x (step.Deliver n) sent here served = delivered_alike s w letters name x here n sent served
-alike s w letters name x (step.Join n contacts) sent here served = itself s x _
-alike s w letters name x (step.Call n o) sent here served = itself s x _
-alike s w letters name x (step.Send n to) sent here served = itself s x _
-alike s w letters name x (step.Advance id) sent here served = itself s x _
-alike s w letters name x (step.Again id) sent here served = itself s x _
-alike s w letters name x (step.Collect n) sent here served = itself s x _
-alike s w letters name x (step.AdvanceCollect n) sent here served = itself s x _
-alike s w letters name x (step.Recon n wish) sent here served = itself s x _
-alike s w letters name x (step.Rebid n) sent here served = itself s x _
-alike s w letters name x (step.AdvanceRecon n) sent here served = itself s x _
-alike s w letters name x (step.Stop n) sent here served = itself s x _
+alike s w letters name x _ sent here served = itself s x _
 
 -- the letter of the book that a step lets come tells what the one that was sent does, besides copies
 outline_at : {Q : Type 0} (w : WorldState Q) (letters : List (Letter Q)) (n : ℕ) → AreSent w letters → outline_of (letter_at letters n) ≡ outline_of (letter_at w.letters n)
@@ -167,17 +157,7 @@ names_alike w letters n sent = elim (letters_paired w letters sent n) [
 
 pub same_name : {Q : Type 0} (w : WorldState Q) (letters : List (Letter Q)) (st : Step Q) → AreSent w letters → name_in (meant_in letters st) ≡ name_in (meant w st)
 same_name w letters (step.Deliver n) sent = names_alike w letters n sent
-same_name w letters (step.Join n contacts) sent = refl
-same_name w letters (step.Call n o) sent = refl
-same_name w letters (step.Send n to) sent = refl
-same_name w letters (step.Advance id) sent = refl
-same_name w letters (step.Again id) sent = refl
-same_name w letters (step.Collect n) sent = refl
-same_name w letters (step.AdvanceCollect n) sent = refl
-same_name w letters (step.Recon n wish) sent = refl
-same_name w letters (step.Rebid n) sent = refl
-same_name w letters (step.AdvanceRecon n) sent = refl
-same_name w letters (step.Stop n) sent = refl
+same_name w letters _ sent = refl
 
 -- what is told counts the letters alone
 effect_counts : {Q : Type 0} (ls ms : List (Letter Q)) (e : Effect Q) (o : Option (Letter Q)) → length ls ≡ length ms → effect_in ls e o ≡ effect_in ms e o
@@ -211,17 +191,7 @@ unfolding made_by
 its_letter x (change.Send to) whole e =
     let is : letter_for x to ≡ whole = some_inj (letter_for x to) whole e in
     sym is ∙ ap (λ (l : Letter _). letter_for x l.addressee) is
-its_letter x (change.Join contacts) whole e = absurd (none-some whole e)
-its_letter x (change.Call o) whole e = absurd (none-some whole e)
-its_letter x (change.Deliver l) whole e = absurd (none-some whole e)
-its_letter x (change.Advance id) whole e = absurd (none-some whole (sym (quiet_made x (change.Advance id) refl) ∙ e))
-its_letter x (change.Again id) whole e = absurd (none-some whole (sym (quiet_made x (change.Again id) refl) ∙ e))
-its_letter x change.Collect whole e = absurd (none-some whole e)
-its_letter x change.AdvanceCollect whole e = absurd (none-some whole (sym (quiet_made x change.AdvanceCollect refl) ∙ e))
-its_letter x (change.Recon wish) whole e = absurd (none-some whole e)
-its_letter x change.Rebid whole e = absurd (none-some whole (sym (quiet_made x change.Rebid refl) ∙ e))
-its_letter x change.AdvanceRecon whole e = absurd (none-some whole (sym (quiet_made x change.AdvanceRecon refl) ∙ e))
-its_letter x change.Stop whole e = absurd (none-some whole e)
+its_letter x c whole e = absurd (none-some whole (sym (quiet_made x c refl) ∙ e))
 
 module _ {Q : Type 0} (s : QuorumSystem Q) (f : Q) (xs ys : List (Step Q)) (p : IsPrefix xs ys) where
   -- what a node tells another that may be new to it stands for all that it has, then and later

@@ -102,32 +102,12 @@ refused_gone s endless most w st e = ap (λ b. if b then Some LetterGone else re
 pub named_there : {Q : Type 0} (gone name : ℕ) (st : Step Q) → name_in (meant_in [] st) ≡ Some name → delivers_gone gone st ≡ false
 named_there gone name (step.Deliver zero) e = refl
 named_there gone name (step.Deliver (suc i)) e = absurd (none-some name e)
-named_there gone name (step.Join n contacts) e = refl
-named_there gone name (step.Call n o) e = refl
-named_there gone name (step.Send n to) e = refl
-named_there gone name (step.Advance id) e = refl
-named_there gone name (step.Again id) e = refl
-named_there gone name (step.Collect n) e = refl
-named_there gone name (step.AdvanceCollect n) e = refl
-named_there gone name (step.Recon n wish) e = refl
-named_there gone name (step.Rebid n) e = refl
-named_there gone name (step.AdvanceRecon n) e = refl
-named_there gone name (step.Stop n) e = refl
+named_there gone name _ e = refl
 
 -- a step means what it does by the letter that it lets come
 pub meant_by_letters : {Q : Type 0} (ls : List (Letter Q)) (st : Step Q) → meant_by (letter_in ls st) st ≡ meant_in ls st
 meant_by_letters ls (step.Deliver n) = refl
-meant_by_letters ls (step.Join n contacts) = refl
-meant_by_letters ls (step.Call n o) = refl
-meant_by_letters ls (step.Send n to) = refl
-meant_by_letters ls (step.Advance id) = refl
-meant_by_letters ls (step.Again id) = refl
-meant_by_letters ls (step.Collect n) = refl
-meant_by_letters ls (step.AdvanceCollect n) = refl
-meant_by_letters ls (step.Recon n wish) = refl
-meant_by_letters ls (step.Rebid n) = refl
-meant_by_letters ls (step.AdvanceRecon n) = refl
-meant_by_letters ls (step.Stop n) = refl
+meant_by_letters ls _ = refl
 
 -- what is gone isn't kept
 pub at_gone : {Q : Type 0} (v : LettersView Q) (n : ℕ) → is_gone v.gone n ≡ true → kept_at v n ≡ None
@@ -139,17 +119,7 @@ at_gone v (suc i) e =
 
 pub gone_unnamed : {Q : Type 0} (v : LettersView Q) (st : Step Q) → delivers_gone v.gone st ≡ true → name_in (meant_by (kept_in v st) st) ≡ None
 gone_unnamed v (step.Deliver n) e = ap (λ o. name_in (Rattle.rambo_run.specs.Steps.delivery o)) (at_gone v n e)
-gone_unnamed v (step.Join n contacts) e = absurd (true≢false (sym e))
-gone_unnamed v (step.Call n o) e = absurd (true≢false (sym e))
-gone_unnamed v (step.Send n to) e = absurd (true≢false (sym e))
-gone_unnamed v (step.Advance id) e = absurd (true≢false (sym e))
-gone_unnamed v (step.Again id) e = absurd (true≢false (sym e))
-gone_unnamed v (step.Collect n) e = absurd (true≢false (sym e))
-gone_unnamed v (step.AdvanceCollect n) e = absurd (true≢false (sym e))
-gone_unnamed v (step.Recon n wish) e = absurd (true≢false (sym e))
-gone_unnamed v (step.Rebid n) e = absurd (true≢false (sym e))
-gone_unnamed v (step.AdvanceRecon n) e = absurd (true≢false (sym e))
-gone_unnamed v (step.Stop n) e = absurd (true≢false (sym e))
+gone_unnamed v _ e = absurd (true≢false (sym e))
 
 module _ {Q : Type 0} (w : WorldState Q) (v : LettersView Q) (within : v.gone ≤ length w.letters) where
   -- one that isn't gone is the one that is kept

@@ -60,21 +60,15 @@ IsHalf s v outline c (half.Quick q) = c ≡ quick_change q
 -- what it has: an event, a mark, a letter
 abbrev pub event_of : {Q : Type 0} → Half Q → Option Event
 event_of (half.Call p) = p.value.event
-event_of (half.Send l) = None
-event_of (half.Hear h) = None
-event_of (half.Quick q) = None
+event_of _ = None
 
 abbrev pub mark_of : {Q : Type 0} → Half Q → Option Mark
 mark_of (half.Call p) = p.value.mark
-mark_of (half.Send l) = None
-mark_of (half.Hear h) = None
-mark_of (half.Quick q) = None
+mark_of _ = None
 
 abbrev pub letter_of : {Q : Type 0} → Half Q → Option (Letter Q)
 letter_of (half.Send l) = Some l
-letter_of (half.Call p) = None
-letter_of (half.Hear h) = None
-letter_of (half.Quick q) = None
+letter_of _ = None
 
 -- the letter that goes out, where the change sends this whole one to a name: it with those copies that its addressee may lack
 abbrev pub SendsFor : {Q : Type 0} → RoomyNode Q → Option (Letter Q) → Option (Letter Q) → Type 0

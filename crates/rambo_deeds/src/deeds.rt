@@ -40,18 +40,14 @@ pub fn named_by<Q: Quorums>(letters: &[SharedLetter<Q>], step: &Step<Q>) -> Opti
     ensures { result ≡ name_in (meant_in letters.now step.now) }
 {
     match step {
-        Step::Join(name, _) => Some(*name),
         Step::Call(name, _) => Some(*name),
         Step::Send(name, _) => Some(*name),
         Step::Deliver(number) => addressee(letters, *number),
         Step::Advance(id) => Some(id.name),
-        Step::Again(id) => Some(id.name),
-        Step::Collect(name) => Some(*name),
-        Step::AdvanceCollect(name) => Some(*name),
-        Step::Recon(name, _) => Some(*name),
-        Step::Rebid(name) => Some(*name),
-        Step::AdvanceRecon(name) => Some(*name),
-        Step::Stop(name) => Some(*name),
+        _ => match quick_of(step) {
+            Some(meant) => Some(meant.0),
+            None => unreachable!(),
+        },
     }
 }
 

@@ -38,21 +38,11 @@ base_some j (c ∷ cs) a h = elim (cases_lt a (brought_by j c)) [
 
 -- it was a letter of j
 letter_of : {Q : Type 0} (j : ℕ) (c : Change Q) (a : ℕ) → a < brought_by j c → (l : Letter Q) × (c ≡ change.Deliver l) × (l.sender ≡ j) × (a < heard_in l.kind)
-letter_of j (change.Join contacts) a h = absurd (omega arith)
-letter_of j (change.Call o) a h = absurd (omega arith)
-letter_of j (change.Send to) a h = absurd (omega arith)
 letter_of j (change.Deliver l) a h = elim (pick (nat_eq l.sender j) (heard_in l.kind) 0) [
   | inl p ↦ (l, refl, eqb-true l.sender j p.0, omega (arith, h, p.1))
   | inr p ↦ absurd (omega (arith, h, p.1))
 ]
-letter_of j (change.Advance id) a h = absurd (omega arith)
-letter_of j (change.Again id) a h = absurd (omega arith)
-letter_of j change.Collect a h = absurd (omega arith)
-letter_of j change.AdvanceCollect a h = absurd (omega arith)
-letter_of j (change.Recon wish) a h = absurd (omega arith)
-letter_of j change.Rebid a h = absurd (omega arith)
-letter_of j change.AdvanceRecon a h = absurd (omega arith)
-letter_of j change.Stop a h = absurd (omega arith)
+letter_of j _ a h = absurd (omega arith)
 
 -- what a letter carries, its sender had heard
 carried : {Q : Type 0} (x : NodeState Q) (n a : ℕ) → a < heard_in (letter_for x n).kind → a < heard_from x.heard n

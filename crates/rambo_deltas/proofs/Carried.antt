@@ -34,33 +34,13 @@ abbrev HaveSenders : {Q : Type 0} → List (Change Q) → Type 0
 HaveSenders {Q} cs = (l : Letter Q) → Member (change.Deliver l) cs → 1 ≤ l.sender
 
 brought : {Q : Type 0} (b : List ℕ) (c : Change Q) (j : ℕ) → 1 ≤ j → j ≤ length b → ((l : Letter Q) → c ≡ change.Deliver l → 1 ≤ l.sender) → heard_from (bases_after b c) j ≡ max (heard_from b j) (brought_by j c)
-brought b (change.Join contacts) j one there f = omega arith
-brought b (change.Call o) j one there f = omega arith
-brought b (change.Send to) j one there f = omega arith
 brought b (change.Deliver l) j one there f = raised_to b l.sender j (heard_in l.kind) (f l refl) one there
-brought b (change.Advance id) j one there f = omega arith
-brought b (change.Again id) j one there f = omega arith
-brought b change.Collect j one there f = omega arith
-brought b change.AdvanceCollect j one there f = omega arith
-brought b (change.Recon wish) j one there f = omega arith
-brought b change.Rebid j one there f = omega arith
-brought b change.AdvanceRecon j one there f = omega arith
-brought b change.Stop j one there f = omega arith
+brought b _ j one there f = omega arith
 
 -- there are as many bases as before
 as_many : {Q : Type 0} (b : List ℕ) (c : Change Q) → length (bases_after b c) ≡ length b
-as_many b (change.Join contacts) = refl
-as_many b (change.Call o) = refl
-as_many b (change.Send to) = refl
 as_many b (change.Deliver l) = length-set b (l.sender - 1) _
-as_many b (change.Advance id) = refl
-as_many b (change.Again id) = refl
-as_many b change.Collect = refl
-as_many b change.AdvanceCollect = refl
-as_many b (change.Recon wish) = refl
-as_many b change.Rebid = refl
-as_many b change.AdvanceRecon = refl
-as_many b change.Stop = refl
+as_many b _ = refl
 
 replayed_bases : {Q : Type 0} (cs : List (Change Q)) (v : FullNode Q) (j : ℕ) → 1 ≤ j → j ≤ length v.bases → HaveSenders cs → heard_from (fully_replayed v cs).bases j ≡ max (heard_from v.bases j) (base_in j cs)
 unfolding full_after

@@ -20,18 +20,8 @@ use Rattle.rambo_deltas.proofs.Journaled.{of_node, made_at}
 
 -- the letter that a change brings
 letter_of : {Q : Type 0} → Change Q → Option (Letter Q)
-letter_of (change.Join contacts) = None
-letter_of (change.Call o) = None
-letter_of (change.Send to) = None
 letter_of (change.Deliver l) = Some l
-letter_of (change.Advance id) = None
-letter_of (change.Again id) = None
-letter_of change.Collect = None
-letter_of change.AdvanceCollect = None
-letter_of (change.Recon wish) = None
-letter_of change.Rebid = None
-letter_of change.AdvanceRecon = None
-letter_of change.Stop = None
+letter_of _ = None
 
 -- it was sent to node n
 unfoldable WasSent : {Q : Type 0} → WorldState Q → ℕ → Letter Q → Type 0
@@ -51,18 +41,8 @@ delivered_letter w i n l (Some k) e d =
 
 was_sent : {Q : Type 0} (w : WorldState Q) (st : Step Q) (n : ℕ) (l : Letter Q) → meant w st ≡ of_node n (change.Deliver l) → WasSent w n l
 unfolding letter_of
-was_sent w (step.Join k contacts) n l e = none_brought w k n (change.Join contacts) l refl e
-was_sent w (step.Call k o) n l e = none_brought w k n (change.Call o) l refl e
-was_sent w (step.Send k to) n l e = none_brought w k n (change.Send to) l refl e
 was_sent w (step.Deliver i) n l e = delivered_letter w i n l (letter_at w.letters i) refl e
-was_sent w (step.Advance id) n l e = none_brought w id.name n (change.Advance id) l refl e
-was_sent w (step.Again id) n l e = none_brought w id.name n (change.Again id) l refl e
-was_sent w (step.Collect k) n l e = none_brought w k n change.Collect l refl e
-was_sent w (step.AdvanceCollect k) n l e = none_brought w k n change.AdvanceCollect l refl e
-was_sent w (step.Recon k wish) n l e = none_brought w k n (change.Recon wish) l refl e
-was_sent w (step.Rebid k) n l e = none_brought w k n change.Rebid l refl e
-was_sent w (step.AdvanceRecon k) n l e = none_brought w k n change.AdvanceRecon l refl e
-was_sent w (step.Stop k) n l e = none_brought w k n change.Stop l refl e
+was_sent w st n l e = none_brought w _ n _ l refl e
 
 -- who told a letter, and to whom
 teller : {Q : Type 0} (x : NodeState Q) (k to : ℕ) (l : Letter Q) → x.name ≡ k → letter_for x to ≡ l → k ≡ l.sender

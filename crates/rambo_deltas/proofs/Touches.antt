@@ -133,15 +133,10 @@ attempt_same x (Some a) = if_same (nat_lt a.place (end_of x.map)) _ _ x.register
 
 pub touches : {Q : Type 0} (x : NodeState Q) (s : Stamps) (c : Change Q) (key : List ℕ) → Touches x s (made_by x c).node (stamps_after x s c) key
 unfolding made_by joined_by called stopped collection_opened attempt_opened
-touches x s (change.Join contacts) key = untouched x (made_by x (change.Join contacts)).node s s key refl refl
-touches x s (change.Call o) key = untouched x (made_by x (change.Call o)).node s s key refl refl
-touches x s (change.Send to) key = untouched x (made_by x (change.Send to)).node s s key refl refl
 touches x s (change.Deliver l) key = hearing x s l.sender l.kind key
 touches x s (change.Advance id) key = advancing x s id (open_call x id) key
 touches x s (change.Again id) key = untouched x (made_by x (change.Again id)).node s s key (again_same x (open_call x id)) refl
-touches x s change.Collect key = untouched x (made_by x change.Collect).node s s key refl refl
 touches x s change.AdvanceCollect key = untouched x (made_by x change.AdvanceCollect).node s s key (collect_same x x.collection) refl
-touches x s (change.Recon wish) key = untouched x (made_by x (change.Recon wish)).node s s key refl refl
 touches x s change.Rebid key = untouched x (made_by x change.Rebid).node s s key (rebid_same x x.attempt) refl
 touches x s change.AdvanceRecon key = untouched x (made_by x change.AdvanceRecon).node s s key (attempt_same x x.attempt) refl
-touches x s change.Stop key = untouched x (made_by x change.Stop).node s s key refl refl
+touches x s c key = untouched x (made_by x c).node s s key refl refl

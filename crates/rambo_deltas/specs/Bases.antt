@@ -15,18 +15,8 @@ use Rattle.rambo_node.specs.FullNodes.{heard_in}
 
 -- the heard number that a change brings from j: that of a letter of j that comes
 abbrev pub brought_by : {Q : Type 0} → ℕ → Change Q → ℕ
-brought_by j (change.Join contacts) = 0
-brought_by j (change.Call o) = 0
-brought_by j (change.Send to) = 0
 brought_by j (change.Deliver l) = if nat_eq l.sender j then heard_in l.kind else 0
-brought_by j (change.Advance id) = 0
-brought_by j (change.Again id) = 0
-brought_by j change.Collect = 0
-brought_by j change.AdvanceCollect = 0
-brought_by j (change.Recon wish) = 0
-brought_by j change.Rebid = 0
-brought_by j change.AdvanceRecon = 0
-brought_by j change.Stop = 0
+brought_by j _ = 0
 
 -- a node's base for j: the greatest heard number that letters of j carried to it, 0 where none came
 abbrev pub base_in : {Q : Type 0} → ℕ → List (Change Q) → ℕ

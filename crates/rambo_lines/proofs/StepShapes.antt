@@ -51,19 +51,9 @@ parts_of (step.AdvanceRecon n) = decimal n ∷ []
 parts_of (step.Stop n) = decimal n ∷ []
 
 pub words_are : (st : Step Weights) → step_words st ≡ word_of (kind_of st) ∷ parts_of st
-words_are (step.Join n contacts) = refl
 words_are (step.Call n (op.Get key)) = refl
 words_are (step.Call n (op.Set key value)) = refl
-words_are (step.Send n to) = refl
-words_are (step.Deliver l) = refl
-words_are (step.Advance c) = refl
-words_are (step.Again c) = refl
-words_are (step.Collect n) = refl
-words_are (step.AdvanceCollect n) = refl
-words_are (step.Recon n wish) = refl
-words_are (step.Rebid n) = refl
-words_are (step.AdvanceRecon n) = refl
-words_are (step.Stop n) = refl
+words_are _ = refl
 
 -- the parts of a step are in the forms of its kind
 pub spelt : (st : Step Weights) → IsStep st → AreSpelt (forms_of (kind_of st)) (parts_of st)
@@ -71,15 +61,8 @@ spelt (step.Join n contacts) is = ((n, is.0, refl), ((contacts, refl), tt))
 spelt (step.Call n (op.Get key)) is = ((n, is.0, refl), ((key, is.1, refl), tt))
 spelt (step.Call n (op.Set key value)) is = ((n, is.0, refl), ((key, is.1.0, refl), ((value, is.1.1, refl), tt)))
 spelt (step.Send n to) is = ((n, is.0, refl), ((to, is.1, refl), tt))
-spelt (step.Deliver l) is = ((l, is, refl), tt)
-spelt (step.Advance c) is = ((c, is, refl), tt)
-spelt (step.Again c) is = ((c, is, refl), tt)
-spelt (step.Collect n) is = ((n, is, refl), tt)
-spelt (step.AdvanceCollect n) is = ((n, is, refl), tt)
 spelt (step.Recon n wish) is = ((n, is.0, refl), ((wish, refl), tt))
-spelt (step.Rebid n) is = ((n, is, refl), tt)
-spelt (step.AdvanceRecon n) is = ((n, is, refl), tt)
-spelt (step.Stop n) is = ((n, is, refl), tt)
+spelt _ is = ((_, is, refl), tt)
 
 -- a kind is known by its word
 decode : List ℕ → StepKind
@@ -100,36 +83,14 @@ decode w =
 decode-word : (k : StepKind) → decode (word_of k) ≡ k
 unfolding decode
 decode-word kind.Join = refl
-decode-word kind.Get = refl
-decode-word kind.Set = refl
-decode-word kind.Send = refl
-decode-word kind.Deliver = refl
-decode-word kind.Advance = refl
-decode-word kind.Again = refl
-decode-word kind.Collect = refl
-decode-word kind.AdvanceCollect = refl
-decode-word kind.Recon = refl
-decode-word kind.Rebid = refl
-decode-word kind.AdvanceRecon = refl
-decode-word kind.Stop = refl
+decode-word _ = refl
 
 pub same_kind : (j k : StepKind) → word_of j ≡ word_of k → j ≡ k
 same_kind j k e = sym (decode-word j) ∙ ap decode e ∙ decode-word k
 
 lacks-word : (b : ℕ) (k : StepKind) → b < 44 → Lacks b (word_of k)
 lacks-word b kind.Join low = lacks-tested b (codes "join") low refl
-lacks-word b kind.Get low = lacks-tested b (codes "get") low refl
-lacks-word b kind.Set low = lacks-tested b (codes "set") low refl
-lacks-word b kind.Send low = lacks-tested b (codes "send") low refl
-lacks-word b kind.Deliver low = lacks-tested b (codes "deliver") low refl
-lacks-word b kind.Advance low = lacks-tested b (codes "advance") low refl
-lacks-word b kind.Again low = lacks-tested b (codes "again") low refl
-lacks-word b kind.Collect low = lacks-tested b (codes "collect") low refl
-lacks-word b kind.AdvanceCollect low = lacks-tested b (codes "advance-collect") low refl
-lacks-word b kind.Recon low = lacks-tested b (codes "recon") low refl
-lacks-word b kind.Rebid low = lacks-tested b (codes "rebid") low refl
-lacks-word b kind.AdvanceRecon low = lacks-tested b (codes "advance-recon") low refl
-lacks-word b kind.Stop low = lacks-tested b (codes "stop") low refl
+lacks-word b k low = lacks-tested b (word_of k) low refl
 
 lacks-parts : (b : ℕ) (st : Step Weights) → b < 44 → IsStep st → AllByRecursion (Lacks b) (parts_of st)
 lacks-parts b (step.Join n contacts) low is = (lacks-name b n low is.0, (lacks-set b contacts low, tt))
@@ -139,12 +100,8 @@ lacks-parts b (step.Send n to) low is = (lacks-name b n low is.0, (lacks-name b 
 lacks-parts b (step.Deliver l) low is = (lacks-decimal b l (omega arith) is, tt)
 lacks-parts b (step.Advance c) low is = (lacks-call b c low is, tt)
 lacks-parts b (step.Again c) low is = (lacks-call b c low is, tt)
-lacks-parts b (step.Collect n) low is = (lacks-name b n low is, tt)
-lacks-parts b (step.AdvanceCollect n) low is = (lacks-name b n low is, tt)
 lacks-parts b (step.Recon n wish) low is = (lacks-name b n low is.0, (lacks-conf b wish low, tt))
-lacks-parts b (step.Rebid n) low is = (lacks-name b n low is, tt)
-lacks-parts b (step.AdvanceRecon n) low is = (lacks-name b n low is, tt)
-lacks-parts b (step.Stop n) low is = (lacks-name b n low is, tt)
+lacks-parts b _ low is = (lacks-name b _ low is, tt)
 
 lacks-step : (b : ℕ) (st : Step Weights) → b < 44 → IsStep st → AllByRecursion (Lacks b) (step_words st)
 lacks-step b st low is = rw (words_are st) (lacks-word b (kind_of st) low, lacks-parts b st low is)

@@ -39,18 +39,7 @@ same_steps (x ∷ xs) (y ∷ ys) a b e =
 
 word_there : (k : StepKind) → word_of k ≡ [] → ⊥
 word_there kind.Join e = cc
-word_there kind.Get e = cc
-word_there kind.Set e = cc
-word_there kind.Send e = cc
-word_there kind.Deliver e = cc
-word_there kind.Advance e = cc
-word_there kind.Again e = cc
-word_there kind.Collect e = cc
-word_there kind.AdvanceCollect e = cc
-word_there kind.Recon e = cc
-word_there kind.Rebid e = cc
-word_there kind.AdvanceRecon e = cc
-word_there kind.Stop e = cc
+word_there _ e = cc
 
 -- a line of a step isn't empty
 not_empty : (y : Step Weights) → IsStep y → [] ≡ step_line y → ⊥

@@ -38,12 +38,8 @@ forms_of kind.Send = Name ∷ Name ∷ []
 forms_of kind.Deliver = Num ∷ []
 forms_of kind.Advance = Call ∷ []
 forms_of kind.Again = Call ∷ []
-forms_of kind.Collect = Name ∷ []
-forms_of kind.AdvanceCollect = Name ∷ []
 forms_of kind.Recon = Name ∷ Conf ∷ []
-forms_of kind.Rebid = Name ∷ []
-forms_of kind.AdvanceRecon = Name ∷ []
-forms_of kind.Stop = Name ∷ []
+forms_of _ = Name ∷ []
 
 -- the steps of a kind hold bytes: a key, and of a set a value
 abbrev pub HoldsBytes : StepKind → Type 0

@@ -39,14 +39,7 @@ join_beside x b j = λ i. record { stamps = b.stamps; bases = raised_zero b.base
 -- what needs no memory leaves it
 pub quick_beside : {Q : Type 0} (x : NodeState Q) (b : Beside) (q : Quick Q) → beside_after x b (quick_change q) ≡ b
 quick_beside x b (quick.Join contacts) = refl
-quick_beside x b (quick.Send to) = refl
-quick_beside x b (quick.Again id) = refl
-quick_beside x b quick.Collect = refl
-quick_beside x b quick.AdvanceCollect = refl
-quick_beside x b (quick.Recon wish) = refl
-quick_beside x b quick.Rebid = refl
-quick_beside x b quick.AdvanceRecon = refl
-quick_beside x b quick.Stop = refl
+quick_beside x b _ = refl
 
 -- copies that are stamped alike
 pub alike_beside : {Q : Type 0} (x : NodeState Q) (b : Beside) (j : ℕ) (k : Kind Q) (other : Copies) → AreStampedAlike x.registers other (copies_in k)

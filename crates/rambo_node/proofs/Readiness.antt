@@ -225,15 +225,11 @@ of_attempt x (Some a) = of_known x a (nat_lt a.place (end_of x.map))
 
 of_quick : {Q : Type 0} (x : NodeState Q) (q : Quick Q) → TellsNothing (made_by x (quick_change q)).deed
 unfolding made_by
-of_quick x (quick.Join contacts) = (refl, refl, refl)
-of_quick x (quick.Send to) = (refl, refl, refl)
 of_quick x (quick.Again id) = of_again x (open_call x id)
-of_quick x quick.Collect = (refl, refl, refl)
 of_quick x quick.AdvanceCollect = of_collection x x.collection
-of_quick x (quick.Recon wish) = (refl, refl, refl)
 of_quick x quick.Rebid = of_rebid x x.attempt
 of_quick x quick.AdvanceRecon = of_attempt x x.attempt
-of_quick x quick.Stop = (refl, refl, refl)
+of_quick x _ = (refl, refl, refl)
 
 -- what is prepared for a change of each kind
 module _ {Q : Type 0} (s : QuorumSystem Q) (v : RoomyNode Q) where

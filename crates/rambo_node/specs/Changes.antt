@@ -111,32 +111,17 @@ advanced x id (Some c) = stage_met x id c c.stage
 -- the answer that a call got
 abbrev pub answer_in : {Q : Type 0} → Effect Q → Option Answer
 answer_in (effect.Answered id answer) = Some answer
-answer_in effect.Done = None
-answer_in (effect.Called id) = None
-answer_in (effect.Sent number) = None
-answer_in effect.Moved = None
-answer_in (effect.Collected n place) = None
-answer_in (effect.Decided n d) = None
+answer_in _ = None
 
 -- the place whose collection ended
 abbrev pub collected_in : {Q : Type 0} → Effect Q → Option ℕ
 collected_in (effect.Collected n place) = Some place
-collected_in effect.Done = None
-collected_in (effect.Called id) = None
-collected_in (effect.Sent number) = None
-collected_in effect.Moved = None
-collected_in (effect.Answered id answer) = None
-collected_in (effect.Decided n d) = None
+collected_in _ = None
 
 -- what an attempt that ended came to
 abbrev pub decided_in : {Q : Type 0} → Effect Q → Option (Decided Q)
 decided_in (effect.Decided n d) = Some d
-decided_in effect.Done = None
-decided_in (effect.Called id) = None
-decided_in (effect.Sent number) = None
-decided_in effect.Moved = None
-decided_in (effect.Answered id answer) = None
-decided_in (effect.Collected n place) = None
+decided_in _ = None
 
 abbrev pub begun_again : {Q : Type 0} → NodeState Q → Option (CallState Q) → Made Q
 begun_again x None = quiet x

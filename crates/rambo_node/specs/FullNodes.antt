@@ -39,33 +39,14 @@ stamps_heard x s (kind.Gossip g) = stamps_merged x.number x.registers s g.copies
 
 -- the stamps after a change: what it puts or merges anew has the phase number before it
 abbrev pub stamps_after : {Q : Type 0} → NodeState Q → Stamps → Change Q → Stamps
-stamps_after x s (change.Join contacts) = s
-stamps_after x s (change.Call o) = s
-stamps_after x s (change.Send to) = s
 stamps_after x s (change.Deliver l) = stamps_heard x s l.kind
 stamps_after x s (change.Advance id) = stamp_put x.number s (advanced x id (open_call x id)).deed.copy
-stamps_after x s (change.Again id) = s
-stamps_after x s change.Collect = s
-stamps_after x s change.AdvanceCollect = s
-stamps_after x s (change.Recon wish) = s
-stamps_after x s change.Rebid = s
-stamps_after x s change.AdvanceRecon = s
-stamps_after x s change.Stop = s
+stamps_after x s _ = s
 
 -- the bases after a change: a letter raises that of its sender to the heard number that it carries
 abbrev pub bases_after : {Q : Type 0} → List ℕ → Change Q → List ℕ
-bases_after b (change.Join contacts) = b
-bases_after b (change.Call o) = b
-bases_after b (change.Send to) = b
 bases_after b (change.Deliver l) = raised b l.sender (heard_in l.kind)
-bases_after b (change.Advance id) = b
-bases_after b (change.Again id) = b
-bases_after b change.Collect = b
-bases_after b change.AdvanceCollect = b
-bases_after b (change.Recon wish) = b
-bases_after b change.Rebid = b
-bases_after b change.AdvanceRecon = b
-bases_after b change.Stop = b
+bases_after b _ = b
 
 -- stamps and bases after a change
 abbrev pub beside_after : {Q : Type 0} → NodeState Q → Beside → Change Q → Beside

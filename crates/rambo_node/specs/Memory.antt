@@ -12,15 +12,7 @@ is_gossip (kind.Gossip g) = true
 
 -- whether a change may allocate: a call, the advance of one, and gossip that comes
 abbrev pub needs_memory : {Q : Type 0} → Change Q → Bool
-needs_memory (change.Join contacts) = false
 needs_memory (change.Call o) = true
-needs_memory (change.Send to) = false
 needs_memory (change.Deliver l) = is_gossip l.kind
 needs_memory (change.Advance id) = true
-needs_memory (change.Again id) = false
-needs_memory change.Collect = false
-needs_memory change.AdvanceCollect = false
-needs_memory (change.Recon wish) = false
-needs_memory change.Rebid = false
-needs_memory change.AdvanceRecon = false
-needs_memory change.Stop = false
+needs_memory _ = false

@@ -5,7 +5,6 @@ use Rattle.rambo_names.specs.declared.refusal.Refusal.TheVariants.{OutOfMemory}
 use Rattle.rambo_names.specs.Quorums.{QuorumSystem}
 use Rattle.rambo_names.specs.Refusals.{least, IsRefusal}
 use Rattle.rambo_node.specs.declared.change.Change.{Change}
-use Rattle.rambo_node.specs.declared.change.Change.TheVariants as change
 use Rattle.rambo_node.specs.Changes.{refusal_of}
 use Rattle.rambo_node.specs.Nodes.{NodeState}
 use Rattle.rambo_run.specs.declared.step.Step.{Step}
@@ -30,17 +29,7 @@ IsOf {Q} name st = (c : Change Q) × ((w : WorldState Q) → meant w st ≡ Some
 own_of : {Q : Type 0} (st : Step Q) → IfSome (name_in (meant_in [] st)) (λ name. IsOf name st)
 own_of (step.Deliver zero) = tt
 own_of (step.Deliver (suc i)) = tt
-own_of (step.Join n contacts) = (change.Join contacts, λ w. refl)
-own_of (step.Call n o) = (change.Call o, λ w. refl)
-own_of (step.Send n to) = (change.Send to, λ w. refl)
-own_of (step.Advance id) = (change.Advance id, λ w. refl)
-own_of (step.Again id) = (change.Again id, λ w. refl)
-own_of (step.Collect n) = (change.Collect, λ w. refl)
-own_of (step.AdvanceCollect n) = (change.AdvanceCollect, λ w. refl)
-own_of (step.Recon n wish) = (change.Recon wish, λ w. refl)
-own_of (step.Rebid n) = (change.Rebid, λ w. refl)
-own_of (step.AdvanceRecon n) = (change.AdvanceRecon, λ w. refl)
-own_of (step.Stop n) = (change.Stop, λ w. refl)
+own_of st = (_, λ w. refl)
 
 is_of : {Q : Type 0} (o : Option ℕ) (name : ℕ) (st : Step Q) → o ≡ Some name → IfSome o (λ name. IsOf name st) → IsOf name st
 is_of o name st e h = subst (λ o. IfSome o (λ name. IsOf name st)) e h

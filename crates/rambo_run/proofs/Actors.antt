@@ -50,17 +50,7 @@ pub acts : {Q : Type 0} (log : List (Step Q)) (w : WorldState Q) (st : Step Q) (
 acts log w (step.Deliver l) m same e =
     let d = delivered w.letters (letter_at w.letters l) m e in
     ap (λ ns. addressee_at ns l) (sym same) ∙ numbered w.letters l d.0 d.1 ∙ d.2
-acts log w (step.Join n contacts) m same e = named _ m e
-acts log w (step.Call n o) m same e = named _ m e
-acts log w (step.Send n to) m same e = named _ m e
-acts log w (step.Advance id) m same e = named _ m e
-acts log w (step.Again id) m same e = named _ m e
-acts log w (step.Collect n) m same e = named _ m e
-acts log w (step.AdvanceCollect n) m same e = named _ m e
-acts log w (step.Recon n wish) m same e = named _ m e
-acts log w (step.Rebid n) m same e = named _ m e
-acts log w (step.AdvanceRecon n) m same e = named _ m e
-acts log w (step.Stop n) m same e = named _ m e
+acts log w _ m same e = named _ m e
 
 sent-more : {Q : Type 0} (log : List (Step Q)) (st : Step Q) → sent (log ++ st ∷ []) ≡ sent log ++ sent_by st
 sent-more [] st = append-nil (sent_by st)
@@ -85,17 +75,8 @@ send_causes s w n a e = e
 lettered : {Q : Type 0} (s : QuorumSystem Q) (w : WorldState Q) (st : Step Q) → refusal s w st ≡ None → Lettered w st (turn w st).world
 unfolding turn
 lettered s w (step.Send n a) e = sending s w n a (node_at w n) (send_causes s w n a e)
-lettered s w (step.Join n contacts) e = quiet _ _ (letters_at w n (change.Join contacts) refl (node_at w n))
-lettered s w (step.Call n o) e = quiet _ _ (letters_at w n (change.Call o) refl (node_at w n))
 lettered s w (step.Deliver i) e = quiet _ _ (letters_delivered w (letter_at w.letters i))
-lettered s w (step.Advance id) e = quiet _ _ (letters_at w id.name (change.Advance id) refl (node_at w id.name))
-lettered s w (step.Again id) e = quiet _ _ (letters_at w id.name (change.Again id) refl (node_at w id.name))
-lettered s w (step.Collect n) e = quiet _ _ (letters_at w n change.Collect refl (node_at w n))
-lettered s w (step.AdvanceCollect n) e = quiet _ _ (letters_at w n change.AdvanceCollect refl (node_at w n))
-lettered s w (step.Recon n wish) e = quiet _ _ (letters_at w n (change.Recon wish) refl (node_at w n))
-lettered s w (step.Rebid n) e = quiet _ _ (letters_at w n change.Rebid refl (node_at w n))
-lettered s w (step.AdvanceRecon n) e = quiet _ _ (letters_at w n change.AdvanceRecon refl (node_at w n))
-lettered s w (step.Stop n) e = quiet _ _ (letters_at w n change.Stop refl (node_at w n))
+lettered s w st e = quiet _ _ (letters_at w _ _ refl (node_at w _))
 
 -- after a step that isn't refused
 pub addressees_next : {Q : Type 0} (s : QuorumSystem Q) (log : List (Step Q)) (w : WorldState Q) (st : Step Q) → refusal s w st ≡ None → map to w.letters ≡ sent log → map to (after s w st).letters ≡ sent (log ++ st ∷ [])

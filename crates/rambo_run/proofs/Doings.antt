@@ -185,17 +185,7 @@ module _ {Q : Type 0} (s : QuorumSystem Q) (founders : Q) (world : ℕ → World
   -- a letter that is delivered to n was told so
   abbrev Delivers : ℕ → ℕ → Change Q → Type 0
   Delivers m n (change.Deliver l) = (g : Gossip Q) → l.kind ≡ kind.Gossip g → Told m n l.sender g
-  Delivers m n (change.Join contacts) = Unit {0}
-  Delivers m n (change.Call o) = Unit {0}
-  Delivers m n (change.Send to) = Unit {0}
-  Delivers m n (change.Advance id) = Unit {0}
-  Delivers m n (change.Again id) = Unit {0}
-  Delivers m n change.Collect = Unit {0}
-  Delivers m n change.AdvanceCollect = Unit {0}
-  Delivers m n (change.Recon wish) = Unit {0}
-  Delivers m n change.Rebid = Unit {0}
-  Delivers m n change.AdvanceRecon = Unit {0}
-  Delivers m n change.Stop = Unit {0}
+  Delivers m n _ = Unit {0}
 
   -- a change of a node that isn't refused
   change_done : (m n : ℕ) (x : NodeState Q) (c : Change Q) → Sound m → node_at (world m) n ≡ Some x → Delivers m n c → AllClear (node.causes s x c) → To m (turn_by (world m) n (made_by x c)).world
@@ -244,18 +234,8 @@ module _ {Q : Type 0} (s : QuorumSystem Q) (founders : Q) (world : ℕ → World
   delivery_means m i f h (Some l) e = letter_told m i l e (f.letters i l e) h
 
   step_means : (m : ℕ) → Sound m → (st : Step Q) → Happens m st → Means m (meant (world m) st)
-  step_means m f (step.Join n contacts) h = tt
-  step_means m f (step.Call n o) h = tt
-  step_means m f (step.Send n to) h = tt
   step_means m f (step.Deliver i) h = delivery_means m i f h (letter_at (world m).letters i) refl
-  step_means m f (step.Advance id) h = tt
-  step_means m f (step.Again id) h = tt
-  step_means m f (step.Collect n) h = tt
-  step_means m f (step.AdvanceCollect n) h = tt
-  step_means m f (step.Recon n wish) h = tt
-  step_means m f (step.Rebid n) h = tt
-  step_means m f (step.AdvanceRecon n) h = tt
-  step_means m f (step.Stop n) h = tt
+  step_means m f _ h = tt
 
   -- each step that isn't refused is a turn
   turn_seen : (m : ℕ) → Sound m → (st : Step Q) → Happens m st → AllClear (causes s (world m) st) → To m (turn (world m) st).world

@@ -187,18 +187,13 @@ module _ {Q : Type 0} (s : QuorumSystem Q) (founders : Q) (world : ℕ → World
 
   step_cause : (m n : ℕ) (st : Step Q) → Happens s founders world all m st → RemovedIn (turn (world m) st).world n → Cause m
   unfolding turn made_by joined_by called collection_opened attempt_opened stopped
-  step_cause m n (step.Join k contacts) d h = quiet_at m n k (change.Join contacts) (λ x. refl) (node_at (world m) k) refl h
-  step_cause m n (step.Call k o) d h = quiet_at m n k (change.Call o) (λ x. refl) (node_at (world m) k) refl h
-  step_cause m n (step.Send k to) d h = quiet_at m n k (change.Send to) (λ x. refl) (node_at (world m) k) refl h
   step_cause m n (step.Deliver i) d h = delivered m n i (letter_at (world m).letters i) refl h
   step_cause m n (step.Advance id) d h = quiet_at m n id.name (change.Advance id) (λ x. advance_floor x id (open_call x id)) (node_at (world m) id.name) refl h
   step_cause m n (step.Again id) d h = quiet_at m n id.name (change.Again id) (λ x. again_floor x (open_call x id)) (node_at (world m) id.name) refl h
-  step_cause m n (step.Collect k) d h = quiet_at m n k change.Collect (λ x. refl) (node_at (world m) k) refl h
   step_cause m n (step.AdvanceCollect k) d h = collect_at m n k d (node_at (world m) k) refl h
-  step_cause m n (step.Recon k wish) d h = quiet_at m n k (change.Recon wish) (λ x. refl) (node_at (world m) k) refl h
   step_cause m n (step.Rebid k) d h = quiet_at m n k change.Rebid (λ x. rebid_floor x x.attempt) (node_at (world m) k) refl h
   step_cause m n (step.AdvanceRecon k) d h = quiet_at m n k change.AdvanceRecon (λ x. attempt_floor x x.attempt) (node_at (world m) k) refl h
-  step_cause m n (step.Stop k) d h = quiet_at m n k change.Stop (λ x. refl) (node_at (world m) k) refl h
+  step_cause m n _ d h = quiet_at m n _ _ (λ x. refl) (node_at (world m) _) refl h
 
   none_removed : (n : ℕ) → Removed 0 n → ⊥
   unfolding first_node

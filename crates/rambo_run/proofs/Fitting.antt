@@ -109,18 +109,13 @@ module _ {Q : Type 0} (s : QuorumSystem Q) (founders : Q) (ss : List (Step Q)) w
   -- a change of a node adds no event, or one that fits
   change_fits : (n : ℕ) (x : NodeState Q) (c : Change Q) → node_at w n ≡ Some x → Grows (turn_by w n (made_by x c))
   unfolding made_by
-  change_fits n x (change.Join contacts) e = inl refl
   change_fits n x (change.Call o) e = inr (record { event = event.Call (id_of x.name (x.made + 1)) o; history = refl; fault = own_call_fits n x o e })
-  change_fits n x (change.Send to) e = inl refl
-  change_fits n x (change.Deliver l) e = inl refl
   change_fits n x (change.Advance id) e = advance_fits n x id (open_call x id) e refl
   change_fits n x (change.Again id) e = again_fits n x (open_call x id)
-  change_fits n x change.Collect e = inl refl
   change_fits n x change.AdvanceCollect e = inl (ap (with_event w.history) (collection_silent x x.collection).event)
-  change_fits n x (change.Recon wish) e = inl refl
   change_fits n x change.Rebid e = inl (ap (with_event w.history) (rebid_silent x x.attempt).event)
   change_fits n x change.AdvanceRecon e = inl (ap (with_event w.history) (attempt_silent x x.attempt).event)
-  change_fits n x change.Stop e = inl refl
+  change_fits n x _ e = inl refl
 
   at_fits : (n : ℕ) (c : Change Q) (o : Option (NodeState Q)) → node_at w n ≡ o → Grows (turn_at w n o c)
   at_fits n c None e = inl refl

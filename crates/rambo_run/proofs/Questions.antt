@@ -150,18 +150,14 @@ module _ {Q : Type 0} (s : QuorumSystem Q) (founders : Q) (world : ℕ → World
 
   step_asks : (m n : ℕ) (st : Step Q) → Happens s founders world all m st → AsksIn m n (turn (world m) st).world
   unfolding turn made_by joined_by called attempt_opened stopped
-  step_asks m n (step.Join k contacts) d = leaves_at m n k (change.Join contacts) (λ x. refl)
-  step_asks m n (step.Call k o) d = leaves_at m n k (change.Call o) (λ x. refl)
-  step_asks m n (step.Send k to) d = leaves_at m n k (change.Send to) (λ x. refl)
   step_asks m n (step.Deliver i) d = delivered m n (letter_at (world m).letters i)
   step_asks m n (step.Advance id) d = leaves_at m n id.name (change.Advance id) (λ x. advance_leaves x id (open_call x id))
   step_asks m n (step.Again id) d = leaves_at m n id.name (change.Again id) (λ x. again_leaves x (open_call x id))
   step_asks m n (step.Collect k) d = collect_at m n k d (node_at (world m) k) refl
   step_asks m n (step.AdvanceCollect k) d = advance_at m n k d (node_at (world m) k) refl
-  step_asks m n (step.Recon k wish) d = leaves_at m n k (change.Recon wish) (λ x. refl)
   step_asks m n (step.Rebid k) d = leaves_at m n k change.Rebid (λ x. rebid_leaves x x.attempt)
   step_asks m n (step.AdvanceRecon k) d = leaves_at m n k change.AdvanceRecon (λ x. attempt_leaves x x.attempt)
-  step_asks m n (step.Stop k) d = leaves_at m n k change.Stop (λ x. refl)
+  step_asks m n _ d = leaves_at m n _ _ (λ x. refl)
 
   asks : (m n : ℕ) → AsksIn m n (world (suc m))
   asks m n = elim (all.next m) [

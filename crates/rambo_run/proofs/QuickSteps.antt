@@ -3,7 +3,6 @@ use Rattle.std.proofs.Common.{◌≡◌, ℕ, false, None, Some, refl, sym, subs
 use Rattle.rambo_history.specs.declared.event.CallId.{CallId}
 use Rattle.rambo_history.specs.declared.operation.Op.{Op}
 use Rattle.rambo_node.specs.declared.prepared.Quick.{Quick}
-use Rattle.rambo_node.specs.declared.prepared.Quick.TheVariants as quick
 use Rattle.rambo_node.specs.Prepared.{quick_change}
 use Rattle.rambo_run.specs.declared.step.Step.{Step}
 use Rattle.rambo_run.specs.declared.step.Step.TheVariants as step
@@ -23,31 +22,17 @@ here : {Q : Type 0} (w : WorldState Q) (st : Step Q) (p r : ℕ × Quick Q) → 
 here w st p r e means silent stays = subst (IsQuick w st) (some_inj p r e) (record { means = means; silent = silent; stays = stays })
 
 pub quick_means : {Q : Type 0} (w : WorldState Q) (st : Step Q) (p : ℕ × Quick Q) → quick_of st ≡ Some p → IsQuick w st p
-quick_means w (step.Join n contacts) p e = here w (step.Join n contacts) (n, quick.Join contacts) p e refl refl refl
 quick_means w (step.Call n o) p e = absurd (none-some p e)
 quick_means w (step.Send n to) p e = absurd (none-some p e)
 quick_means w (step.Deliver l) p e = absurd (none-some p e)
 quick_means w (step.Advance id) p e = absurd (none-some p e)
-quick_means w (step.Again id) p e = here w (step.Again id) (id.name, quick.Again id) p e refl refl refl
-quick_means w (step.Collect n) p e = here w (step.Collect n) (n, quick.Collect) p e refl refl refl
-quick_means w (step.AdvanceCollect n) p e = here w (step.AdvanceCollect n) (n, quick.AdvanceCollect) p e refl refl refl
-quick_means w (step.Recon n wish) p e = here w (step.Recon n wish) (n, quick.Recon wish) p e refl refl refl
-quick_means w (step.Rebid n) p e = here w (step.Rebid n) (n, quick.Rebid) p e refl refl refl
-quick_means w (step.AdvanceRecon n) p e = here w (step.AdvanceRecon n) (n, quick.AdvanceRecon) p e refl refl refl
-quick_means w (step.Stop n) p e = here w (step.Stop n) (n, quick.Stop) p e refl refl refl
+quick_means w st p e = here w st _ p e refl refl refl
 
 -- every step but a call, its advance, a letter that is sent, and one that comes, means one
 pub quick_else : {Q A : Type 0} (st : Step Q) → quick_of st ≡ None → ((n : ℕ) (o : Op) → st ≡ step.Call n o → ⊥) → ((n to : ℕ) → st ≡ step.Send n to → ⊥)
     → ((l : ℕ) → st ≡ step.Deliver l → ⊥) → ((id : CallId) → st ≡ step.Advance id → ⊥) → A
-quick_else (step.Join n contacts) e call send deliver advance = absurd (none-some _ (sym e))
 quick_else (step.Call n o) e call send deliver advance = absurd (call n o refl)
 quick_else (step.Send n to) e call send deliver advance = absurd (send n to refl)
 quick_else (step.Deliver l) e call send deliver advance = absurd (deliver l refl)
 quick_else (step.Advance id) e call send deliver advance = absurd (advance id refl)
-quick_else (step.Again id) e call send deliver advance = absurd (none-some _ (sym e))
-quick_else (step.Collect n) e call send deliver advance = absurd (none-some _ (sym e))
-quick_else (step.AdvanceCollect n) e call send deliver advance = absurd (none-some _ (sym e))
-quick_else (step.Recon n wish) e call send deliver advance = absurd (none-some _ (sym e))
-quick_else (step.Rebid n) e call send deliver advance = absurd (none-some _ (sym e))
-quick_else (step.AdvanceRecon n) e call send deliver advance = absurd (none-some _ (sym e))
-quick_else (step.Stop n) e call send deliver advance = absurd (none-some _ (sym e))
+quick_else _ e call send deliver advance = absurd (none-some _ (sym e))

@@ -10,15 +10,10 @@ use Rattle.rambo_run.specs.Steps.{sends}
 
 pub quiet_made : {Q : Type 0} (x : NodeState Q) (c : Change Q) → sends c ≡ false → (made_by x c).letter ≡ None
 unfolding made_by
-quiet_made x (change.Join contacts) e = refl
-quiet_made x (change.Call o) e = refl
 quiet_made x (change.Send to) e = absurd (true≢false e)
-quiet_made x (change.Deliver l) e = refl
 quiet_made x (change.Advance id) e = advanced_letter x id (open_call x id)
 quiet_made x (change.Again id) e = again_letter x (open_call x id)
-quiet_made x change.Collect e = refl
 quiet_made x change.AdvanceCollect e = (collection_silent x x.collection).letter
-quiet_made x (change.Recon wish) e = refl
 quiet_made x change.Rebid e = (rebid_silent x x.attempt).letter
 quiet_made x change.AdvanceRecon e = (attempt_silent x x.attempt).letter
-quiet_made x change.Stop e = refl
+quiet_made x _ e = refl

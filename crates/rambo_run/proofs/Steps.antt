@@ -13,15 +13,15 @@ use Rattle.rambo_gossip.specs.declared.letter.Kind.TheVariants as kind
 use Rattle.rambo_node.specs.declared.change.Change.{Change}
 use Rattle.rambo_node.specs.declared.change.Change.TheVariants as change
 use Rattle.rambo_node.specs.Changes.{made_by}
-use Rattle.rambo_node.specs.Nodes.{NodeState, open_call}
+use Rattle.rambo_node.specs.Nodes.{NodeState}
 use Rattle.rambo_node.specs.Letters.{letter_for}
 use Rattle.rambo_node.specs.Reconfigurations.{collection_move}
 use Rattle.rambo_run.specs.declared.step.Step.{Step}
 use Rattle.rambo_run.specs.declared.step.Step.TheVariants as step
 use Rattle.rambo_run.specs.Worlds.{WorldState, node_at, letter_at}
-use Rattle.rambo_run.specs.Steps.{delivery, with_letter, turn_by, turn_at, turn_of, turn}
+use Rattle.rambo_run.specs.Steps.{delivery, sends, with_letter, turn_by, turn_at, turn_of, turn}
 use Rattle.rambo_run.proofs.Lists.{pick, some_inj, none-some, get_more}
-use Rattle.rambo_run.proofs.Deeds.{advanced_letter, again_letter, collection_silent, rebid_silent, attempt_silent}
+use Rattle.rambo_run.proofs.Quiet.{quiet_made}
 
 -- no cause holds
 abbrev pub AllClear : List Cause → Type 0
@@ -49,34 +49,8 @@ is_gossip (kind.Gossip g) = true
 abbrev pub OneMore : {Q : Type 0} → WorldState Q → Step Q → WorldState Q → Type 0
 OneMore {Q} w st z = (z.letters ≡ w.letters) ⊎ ((n : ℕ) × (to : ℕ) × (x : NodeState Q) × (node_at w n ≡ Some x) × (st ≡ step.Send n to) × (z.letters ≡ w.letters ++ letter_for x to ∷ []))
 
-abbrev pub sends : {Q : Type 0} → Change Q → Bool
-sends (change.Send to) = true
-sends (change.Join contacts) = false
-sends (change.Call o) = false
-sends (change.Deliver l) = false
-sends (change.Advance id) = false
-sends (change.Again id) = false
-sends change.Collect = false
-sends change.AdvanceCollect = false
-sends (change.Recon wish) = false
-sends change.Rebid = false
-sends change.AdvanceRecon = false
-sends change.Stop = false
-
 pub letters_by : {Q : Type 0} (w : WorldState Q) (n : ℕ) (x : NodeState Q) (c : Change Q) → sends c ≡ false → (turn_by w n (made_by x c)).world.letters ≡ w.letters
-unfolding made_by
-letters_by w n x (change.Join contacts) h = refl
-letters_by w n x (change.Call o) h = refl
-letters_by w n x (change.Send to) h = absurd (true≢false h)
-letters_by w n x (change.Deliver l) h = refl
-letters_by w n x (change.Advance id) h = ap (with_letter w.letters) (advanced_letter x id (open_call x id))
-letters_by w n x (change.Again id) h = ap (with_letter w.letters) (again_letter x (open_call x id))
-letters_by w n x change.Collect h = refl
-letters_by w n x change.AdvanceCollect h = ap (with_letter w.letters) (collection_silent x x.collection).letter
-letters_by w n x (change.Recon wish) h = refl
-letters_by w n x change.Rebid h = ap (with_letter w.letters) (rebid_silent x x.attempt).letter
-letters_by w n x change.AdvanceRecon h = ap (with_letter w.letters) (attempt_silent x x.attempt).letter
-letters_by w n x change.Stop h = refl
+letters_by w n x c h = ap (with_letter w.letters) (quiet_made x c h)
 
 pub letters_at : {Q : Type 0} (w : WorldState Q) (n : ℕ) (c : Change Q) → sends c ≡ false → (o : Option (NodeState Q)) → (turn_at w n o c).world.letters ≡ w.letters
 letters_at w n c h None = refl
@@ -93,18 +67,9 @@ letters_sent w n to (Some x) h = inr (n, to, x, h, refl, refl)
 
 pub letters_after : {Q : Type 0} (w : WorldState Q) (st : Step Q) → OneMore w st (turn w st).world
 unfolding turn
-letters_after w (step.Join n contacts) = inl (letters_at w n (change.Join contacts) refl (node_at w n))
-letters_after w (step.Call n o) = inl (letters_at w n (change.Call o) refl (node_at w n))
 letters_after w (step.Send n to) = letters_sent w n to (node_at w n) refl
 letters_after w (step.Deliver i) = inl (letters_delivered w (letter_at w.letters i))
-letters_after w (step.Advance id) = inl (letters_at w id.name (change.Advance id) refl (node_at w id.name))
-letters_after w (step.Again id) = inl (letters_at w id.name (change.Again id) refl (node_at w id.name))
-letters_after w (step.Collect n) = inl (letters_at w n change.Collect refl (node_at w n))
-letters_after w (step.AdvanceCollect n) = inl (letters_at w n change.AdvanceCollect refl (node_at w n))
-letters_after w (step.Recon n wish) = inl (letters_at w n (change.Recon wish) refl (node_at w n))
-letters_after w (step.Rebid n) = inl (letters_at w n change.Rebid refl (node_at w n))
-letters_after w (step.AdvanceRecon n) = inl (letters_at w n change.AdvanceRecon refl (node_at w n))
-letters_after w (step.Stop n) = inl (letters_at w n change.Stop refl (node_at w n))
+letters_after w st = inl (letters_at w _ _ refl (node_at w _))
 
 pub some_there : {A : Type 0} (o : Option A) → is_none o ≡ false → (a : A) × (o ≡ Some a)
 some_there None e = absurd (true≢false e)

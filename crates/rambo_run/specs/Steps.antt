@@ -1,5 +1,6 @@
 -- What a step does, and why it is refused: it is a change of one node, from which letters, history and marks follow
 use Rattle.std.specs.Prelude.{ℕ, ◌+◌, ◌-◌, Bool, true, false, List, [], ◌∷◌, ◌++◌, length, Option, None, Some, slice_set}
+use Rattle.std.specs.Option.{option_map}
 use Rattle.rambo_names.specs.declared.refusal.Refusal.{Refusal}
 use Rattle.rambo_names.specs.declared.refusal.Refusal.TheVariants.{NotActive, NoSuchLetter}
 use Rattle.rambo_names.specs.Quorums.{QuorumSystem}
@@ -13,9 +14,11 @@ use Rattle.rambo_node.specs.declared.effect.Effect.TheVariants as effect
 use Rattle.rambo_node.specs.Changes as node
 use Rattle.rambo_node.specs.Changes.{Made, made_by}
 use Rattle.rambo_node.specs.Nodes.{NodeState}
+use Rattle.rambo_node.specs.Prepared.{quick_change}
 use Rattle.rambo_sequence.specs.declared.mark.Mark.{Mark}
 use Rattle.rambo_run.specs.declared.step.Step.{Step}
 use Rattle.rambo_run.specs.declared.step.Step.TheVariants as step
+use Rattle.rambo_run.specs.Kinds.{quick_of}
 use Rattle.rambo_run.specs.Worlds.{WorldState, node_at, letter_at}
 
 -- a node, by its name, and a change of it
@@ -29,18 +32,11 @@ delivery (Some l) = Some (record { name = l.addressee; change = change.Deliver l
 
 -- which node and change a step means, if the letter that it names was sent
 abbrev pub meant : {Q : Type 0} → WorldState Q → Step Q → Option (Meant Q)
-meant w (step.Join n contacts) = Some (record { name = n; change = change.Join contacts })
 meant w (step.Call n o) = Some (record { name = n; change = change.Call o })
 meant w (step.Send n to) = Some (record { name = n; change = change.Send to })
 meant w (step.Deliver l) = delivery (letter_at w.letters l)
 meant w (step.Advance id) = Some (record { name = id.name; change = change.Advance id })
-meant w (step.Again id) = Some (record { name = id.name; change = change.Again id })
-meant w (step.Collect n) = Some (record { name = n; change = change.Collect })
-meant w (step.AdvanceCollect n) = Some (record { name = n; change = change.AdvanceCollect })
-meant w (step.Recon n wish) = Some (record { name = n; change = change.Recon wish })
-meant w (step.Rebid n) = Some (record { name = n; change = change.Rebid })
-meant w (step.AdvanceRecon n) = Some (record { name = n; change = change.AdvanceRecon })
-meant w (step.Stop n) = Some (record { name = n; change = change.Stop })
+meant w st = option_map (λ p. record { name = p.0; change = quick_change p.1 }) (quick_of st)
 
 -- the same where these letters were sent: nothing else of a world decides what a step means
 abbrev pub meant_in : {Q : Type 0} → List (Letter Q) → Step Q → Option (Meant Q)
@@ -48,18 +44,8 @@ meant_in ls st = meant (record { nodes = []; letters = ls; history = []; marks =
 
 -- whether a change sends a letter
 abbrev pub sends : {Q : Type 0} → Change Q → Bool
-sends (change.Join contacts) = false
-sends (change.Call o) = false
 sends (change.Send to) = true
-sends (change.Deliver l) = false
-sends (change.Advance id) = false
-sends (change.Again id) = false
-sends change.Collect = false
-sends change.AdvanceCollect = false
-sends (change.Recon wish) = false
-sends change.Rebid = false
-sends change.AdvanceRecon = false
-sends change.Stop = false
+sends _ = false
 
 -- there are 64 nodes, so that each name has one
 abbrev pub causes_at : {Q : Type 0} → QuorumSystem Q → Option (NodeState Q) → Change Q → List Cause

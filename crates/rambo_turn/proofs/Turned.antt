@@ -19,17 +19,7 @@ use Rattle.rambo_turn.proofs.Picks.{each_candidate, picked_each}
 -- a step that delivers no letter leaves a tray as it is
 pub cleared_other : {Q : Type 0} (tray : List (Mail Q)) (st : Step Q) → ((number : ℕ) → st ≡ step.Deliver number → ⊥) → cleared tray st ≡ tray
 cleared_other tray (step.Deliver number) not = absurd (not number refl)
-cleared_other tray (step.Join n contacts) not = refl
-cleared_other tray (step.Call n o) not = refl
-cleared_other tray (step.Send n to) not = refl
-cleared_other tray (step.Advance id) not = refl
-cleared_other tray (step.Again id) not = refl
-cleared_other tray (step.Collect n) not = refl
-cleared_other tray (step.AdvanceCollect n) not = refl
-cleared_other tray (step.Recon n wish) not = refl
-cleared_other tray (step.Rebid n) not = refl
-cleared_other tray (step.AdvanceRecon n) not = refl
-cleared_other tray (step.Stop n) not = refl
+cleared_other tray _ not = refl
 
 -- where no letter was sent none comes
 no_letter : {Q A : Type 0} (number : ℕ) (m : Meant Q) → meant_in [] (step.Deliver number) ≡ Some m → A
@@ -38,17 +28,7 @@ no_letter (suc i) m e = absurd cc
 
 abbrev number_of : {Q : Type 0} → Step Q → ℕ
 number_of (step.Deliver number) = number
-number_of (step.Join n contacts) = 0
-number_of (step.Call n o) = 0
-number_of (step.Send n to) = 0
-number_of (step.Advance id) = 0
-number_of (step.Again id) = 0
-number_of (step.Collect n) = 0
-number_of (step.AdvanceCollect n) = 0
-number_of (step.Recon n wish) = 0
-number_of (step.Rebid n) = 0
-number_of (step.AdvanceRecon n) = 0
-number_of (step.Stop n) = 0
+number_of _ = 0
 
 -- what a node picks is quiet
 pub picked_quiet : {Q : Type 0} (s : QuorumSystem Q) (x : NodeState Q) (tray : List (Mail Q)) → IfSome (pick.first_of s x (candidates x tray)) IsQuiet

@@ -29,17 +29,7 @@ longer b st = record b { steps = b.steps ++ st ∷ [] }
 -- a tray after a step: a letter that came has left it
 abbrev pub cleared : {Q : Type 0} → List (Mail Q) → Step Q → List (Mail Q)
 cleared tray (step.Deliver number) = without tray number
-cleared tray (step.Join n contacts) = tray
-cleared tray (step.Call n o) = tray
-cleared tray (step.Send n to) = tray
-cleared tray (step.Advance id) = tray
-cleared tray (step.Again id) = tray
-cleared tray (step.Collect n) = tray
-cleared tray (step.AdvanceCollect n) = tray
-cleared tray (step.Recon n wish) = tray
-cleared tray (step.Rebid n) = tray
-cleared tray (step.AdvanceRecon n) = tray
-cleared tray (step.Stop n) = tray
+cleared tray _ = tray
 
 -- what a keeper does next by what it has seen, if there is something to do
 abbrev pub next_of : {Q : Type 0} → QuorumSystem Q → Q → KeeperView Q → Option (Step Q)

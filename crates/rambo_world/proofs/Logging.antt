@@ -84,9 +84,6 @@ module _ {Q : Type 0} (x : NodeState Q) where
   -- a node keeps its name
   pub made_name : (c : Change Q) → (made_by x c).node.name ≡ x.name
   unfolding made_by joined_by called stopped
-  made_name (change.Join contacts) = refl
-  made_name (change.Call o) = refl
-  made_name (change.Send to) = refl
   made_name (change.Deliver l) = heard_name l.sender l.kind
   made_name (change.Advance id) = advanced_name id (open_call x id)
   made_name (change.Again id) = again_name (open_call x id)
@@ -95,7 +92,7 @@ module _ {Q : Type 0} (x : NodeState Q) where
   made_name (change.Recon wish) = (wish_keeps x wish).name
   made_name change.Rebid = (rebid_keeps x x.attempt).name
   made_name change.AdvanceRecon = (attempt_keeps x x.attempt).name
-  made_name change.Stop = refl
+  made_name _ = refl
 
   -- a change that keeps its copies and puts none
   kept_registers : (m : Made Q) → Keeps x m → m.node.registers ≡ greatest_after (joined x.registers copies.empty) (listed m.deed.copy)
@@ -104,9 +101,6 @@ module _ {Q : Type 0} (x : NodeState Q) where
   -- it takes on the copies that are brought to it, and the one that it puts
   pub made_registers : (c : Change Q) → (made_by x c).node.registers ≡ greatest_after (joined x.registers (copies_brought c)) (listed (made_by x c).deed.copy)
   unfolding made_by joined_by called stopped
-  made_registers (change.Join contacts) = sym (joined-empty x.registers)
-  made_registers (change.Call o) = sym (joined-empty x.registers)
-  made_registers (change.Send to) = sym (joined-empty x.registers)
   made_registers (change.Deliver l) = heard_joined l.sender l.kind
   made_registers (change.Advance id) =
       advanced_logged id (open_call x id) ∙ ap (λ r. greatest_after r (listed (advanced x id (open_call x id)).deed.copy)) (sym (joined-empty x.registers))
@@ -117,7 +111,7 @@ module _ {Q : Type 0} (x : NodeState Q) where
   made_registers (change.Recon wish) = kept_registers (quiet (attempt_opened x wish)) (wish_keeps x wish)
   made_registers change.Rebid = kept_registers (rebid_made x x.attempt) (rebid_keeps x x.attempt)
   made_registers change.AdvanceRecon = kept_registers (attempt_advanced x x.attempt) (attempt_keeps x x.attempt)
-  made_registers change.Stop = sym (joined-empty x.registers)
+  made_registers _ = sym (joined-empty x.registers)
 
 greatest_of-more : (log more : List KeyedVersion) → greatest_of (log ++ more) ≡ greatest_after (greatest_of log) more
 greatest_of-more log more = greatest_of-append log more ∙ joined-greatest_of (greatest_of log) more

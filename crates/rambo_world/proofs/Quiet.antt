@@ -30,7 +30,6 @@ again_keeps x (Some c) = record { name = refl; registers = refl; copy = refl; ev
 -- such a change leaves the node's name and copies, and does nothing else
 pub quick_keeps : {Q : Type 0} (x : NodeState Q) (q : Quick Q) → sends (quick_change q) ≡ false → Keeps x (made_by x (quick_change q))
 unfolding made_by joined_by stopped
-quick_keeps x (quick.Join contacts) e = record { name = refl; registers = refl; copy = refl; event = refl; mark = refl; letter = refl }
 quick_keeps x (quick.Send to) e = absurd (true≢false e)
 quick_keeps x (quick.Again id) e = again_keeps x (open_call x id)
 quick_keeps x quick.Collect e = opened_keeps x
@@ -38,7 +37,7 @@ quick_keeps x quick.AdvanceCollect e = collection_keeps x x.collection
 quick_keeps x (quick.Recon wish) e = wish_keeps x wish
 quick_keeps x quick.Rebid e = rebid_keeps x x.attempt
 quick_keeps x quick.AdvanceRecon e = attempt_keeps x x.attempt
-quick_keeps x quick.Stop e = record { name = refl; registers = refl; copy = refl; event = refl; mark = refl; letter = refl }
+quick_keeps x _ e = record { name = refl; registers = refl; copy = refl; event = refl; mark = refl; letter = refl }
 
 -- what is told of it, and the world after it
 module _ {Q : Type 0} (s : QuorumSystem Q) (w new : WorldState Q) (st : Step Q) (n : ℕ) (c : Change Q) (means : meant w st ≡ Some (record { name = n; change = c })) where

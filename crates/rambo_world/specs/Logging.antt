@@ -15,18 +15,8 @@ copies_in (kind.Gossip g) = g.copies
 
 -- no change but a letter brings any
 abbrev pub copies_brought : {Q : Type 0} → Change Q → Copies
-copies_brought (change.Join contacts) = copies.empty
-copies_brought (change.Call o) = copies.empty
-copies_brought (change.Send to) = copies.empty
 copies_brought (change.Deliver l) = copies_in l.kind
-copies_brought (change.Advance id) = copies.empty
-copies_brought (change.Again id) = copies.empty
-copies_brought change.Collect = copies.empty
-copies_brought change.AdvanceCollect = copies.empty
-copies_brought (change.Recon wish) = copies.empty
-copies_brought change.Rebid = copies.empty
-copies_brought change.AdvanceRecon = copies.empty
-copies_brought change.Stop = copies.empty
+copies_brought _ = copies.empty
 
 -- a copy, if there is one, as a list
 abbrev pub listed : Option KeyedVersion → List KeyedVersion
