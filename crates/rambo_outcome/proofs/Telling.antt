@@ -125,20 +125,15 @@ module _ {Q : Type 0} (w : WorldState Q) where
 
   change_true : (n : ℕ) (x : NodeState Q) (c : Change Q) → TellsTrue (turn_by w n (made_by x c))
   unfolding made_by
-  change_true n x (change.Join contacts) = (tt, grows-refl w.history)
   change_true n x (change.Call o) =
       let id : CallId = record { name = x.name; number = x.made + 1 } in
       (called_there w.history id o, event_grows w.history (Some (event.Call id o)))
-  change_true n x (change.Send to) = (tt, grows-refl w.history)
-  change_true n x (change.Deliver l) = (tt, grows-refl w.history)
   change_true n x (change.Advance id) = advanced_true n x id (open_call x id)
   change_true n x (change.Again id) = again_true n x (open_call x id)
-  change_true n x change.Collect = (tt, grows-refl w.history)
   change_true n x change.AdvanceCollect = collection_true n x x.collection
-  change_true n x (change.Recon wish) = (tt, grows-refl w.history)
   change_true n x change.Rebid = rebid_true n x x.attempt
   change_true n x change.AdvanceRecon = attempt_true n x x.attempt
-  change_true n x change.Stop = (tt, grows-refl w.history)
+  change_true n x _ = (tt, grows-refl w.history)
 
   at_true : (n : ℕ) (c : Change Q) (o : Option (NodeState Q)) → TellsTrue (turn_at w n o c)
   at_true n c None = (tt, grows-refl w.history)
