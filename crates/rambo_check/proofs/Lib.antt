@@ -1,6 +1,7 @@
 pub mod ItemTexts
 pub mod Counts
 pub mod Explained
+pub mod Fronts
 pub mod Grown
 pub mod ItemShapes
 pub mod LineWords

@@ -1,5 +1,5 @@
 -- Rows of words of one form
-use Rattle.std.proofs.Common.{◌≡◌, ℕ, suc, List, [], ◌∷◌, ◌++◌, length, map, ◌+◌, Option, None, Some, inl, inr, refl, sym, ap, subst, append-nil}
+use Rattle.std.proofs.Common.{◌≡◌, ℕ, suc, List, [], ◌∷◌, ◌++◌, length, map, ◌+◌, Option, None, Some, inl, inr, refl, sym, ap, subst, ◌∙◌, append-nil}
 use Rattle.std.specs.Borrow.{Bor}
 use Rattle.std.specs.Option.{option_copied}
 use Rattle.std.specs.List.{AllByRecursion, All}
@@ -9,8 +9,8 @@ use Rattle.rambo_names.specs.Signs.{conf_text}
 use Rattle.rambo_history.specs.declared.event.CallId.{CallId}
 use Rattle.rambo_text.specs.Forms.{Form, Conf, Call, IsSpelt, form_fault, IsBadWord}
 use Rattle.rambo_text.specs.Signs.{call_text, IsCall}
-use Rattle.rambo_text.specs.Words.{AreMore, IsFirstWord}
-use Rattle.rambo_text.proofs.WordsThere.{more_has_words}
+use Rattle.rambo_text.specs.Words.{AreMore, AreWords, IsFirstWord, words_text}
+use Rattle.rambo_text.proofs.WordsThere.{has_words, more_has_words}
 use Rattle.rambo_check.proofs.LineWords.{some_joined}
 use Rattle.rambo_check.specs.Plans.{Forms, each, BeginWithCall, IsFaulty}
 
@@ -73,6 +73,27 @@ row_fault m good start more rest word others some first all bad words =
     let behind = more_has_words others in
     let whole = row_on good start more rest word word others some first refl words behind.0 behind.1 in
     inr (good ++ word ∷ behind.0, whole, inr (length-each m (good ++ word ∷ behind.0), bad_behind m good word behind.0 all bad))
+
+-- the first of a line's words
+first_of_words : (line word : List ℕ) (words : List (List ℕ)) → AreWords line (word ∷ words) → (more : Option (List ℕ)) × IsFirstWord line word more
+first_of_words line word [] all = (None, record { no_space = all.no_space.0; whole = all.whole ∙ append-nil word })
+first_of_words line word (v ∷ vs) all = (Some (words_text (v ∷ vs)), record { no_space = all.no_space.0; whole = all.whole })
+
+-- a row goes on with no call
+no_call : (good : List (List ℕ)) (start : Option (List ℕ)) (more : Option (Bor (List ℕ))) (rest : Bor (List ℕ)) (words : List (List ℕ)) → AreWords rest.now words
+    → more ≡ Some rest → AllSpelt Call good → ((c : CallId) (others : Option (List ℕ)) → IsCall c → ¬ (IsFirstWord rest.now (call_text c) others))
+    → ((ws : List (List ℕ)) → AreMore (option_copied more) ws → AreMore start (good ++ ws))
+    → IsFaulty (λ ws. Forms (each Call ws) ws) start (form_fault Call)
+no_call good start more rest [] are some all none on = absurd (are.some refl)
+no_call good start more rest (w ∷ ws) are some all none on =
+    let first = first_of_words rest.now w ws are in
+    row_fault Call good start more rest w first.0 some first.1 all (λ s. none s.0 first.0 s.1 (subst (λ u. IsFirstWord rest.now u first.0) s.2 first.1)) on
+
+pub call_fault : (good : List (List ℕ)) (start : Option (List ℕ)) (more : Option (Bor (List ℕ))) (rest : Bor (List ℕ))
+    → more ≡ Some rest → AllSpelt Call good → ((c : CallId) (others : Option (List ℕ)) → IsCall c → ¬ (IsFirstWord rest.now (call_text c) others))
+    → ((ws : List (List ℕ)) → AreMore (option_copied more) ws → AreMore start (good ++ ws))
+    → IsFaulty (λ ws. Forms (each Call ws) ws) start (form_fault Call)
+call_fault good start more rest = let all = has_words rest.now in no_call good start more rest all.0 all.1
 
 -- one configuration more
 pub confs_on : (confs : List Weights) (s : Weights) (ws : List (List ℕ)) → map conf_text confs ++ conf_text s ∷ ws ≡ map conf_text (confs ++ s ∷ []) ++ ws

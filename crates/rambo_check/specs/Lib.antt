@@ -1,5 +1,6 @@
 pub mod Checks
 pub mod EvidenceStates
+pub mod Fronts
 pub mod Items
 pub mod Judgings
 pub mod Laws

@@ -9,6 +9,7 @@
 mod checking;
 mod evidence;
 mod explaining;
+mod front;
 mod item;
 mod judging;
 mod kept;

@@ -1,17 +1,18 @@
 //! Reading the words that follow the first of a line.
-ghost use Rattle.std.specs.Prelude.{◌≡◌, ◌⊎◌, ℕ, ◌<◌, [], ◌∷◌, List, map, All, length, IfOk, IfErr, IfSome, IfNone, OnOk};
+ghost use Rattle.std.specs.Prelude.{◌≡◌, ◌≢◌, ◌⊎◌, ℕ, ◌<◌, [], ◌∷◌, List, Option, MatchOption, map, All, length, IfOk, IfErr, IfSome, IfNone, OnOk};
 ghost use Rattle.std.specs.Option.{option_copied};
 ghost use Rattle.rambo_names.specs.Weights.{Weights};
 ghost use Rattle.rambo_names.specs.Signs.{conf_text};
+ghost use Rattle.rambo_history.specs.declared.event.CallId.{CallId};
 ghost use Rattle.rambo_text.specs.declared.fault.Fault.TheVariants as fault;
 ghost use Rattle.rambo_text.specs.Forms.{Num, Name, Conf, Call, Hex};
 ghost use Rattle.rambo_text.specs.Signs.{call_text, hex_text, IsCall, AreBytes};
-ghost use Rattle.rambo_text.specs.Words.{AreMore};
+ghost use Rattle.rambo_text.specs.Words.{AreMore, IsFirstWord};
 ghost use Rattle.rambo_check.specs.Plans.{Forms, each, FollowCalls, IsFaulty};
 
 use rambo_history::CallId;
 use rambo_names::{Bytes, read_conf};
-use rambo_text::{Fault, next_word, one_word, read_call, read_hex, two_words};
+use rambo_text::{Fault, leading_call, next_word, one_word, read_call, read_hex, two_words};
 use std::alloc::Global;
 
 /// The first two words that follow, and what follows them.
@@ -96,14 +97,43 @@ pub(crate) fn read_calls(alloc: Global, more: Option<&[u8]>) -> Result<Vec<CallI
     let mut calls = Vec::new(alloc);
     let mut more = more;
     while let Some(rest) = more {
-        let (word, others) = next_word(rest);
-        let Some(id) = read_call(word) else {
+        let Some((id, others)) = next_call(rest) else {
             return Err(Fault::BadNumber);
         };
         calls.push(id)?;
         more = others;
     }
     Ok(calls)
+}
+
+// The call that is the first word of a line, and what follows the space after it.
+//
+// None where the first word is no call.
+#[inline(always)]
+fn next_call(line: &[u8]) -> Option<(CallId, Option<&[u8]>)>
+    ensures found { IfSome result (λ r. IsCall r.0 × IsFirstWord line.now (call_text r.0) (option_copied r.1)) }
+    ensures none { IfNone result ((c : CallId) (more : Option (List ℕ)) → IsCall c → ¬ (IsFirstWord line.now (call_text c) more)) }
+{
+    let Some((id, behind)) = leading_call(line) else {
+        return None;
+    };
+    let more = behind_word(behind)?;
+    Some((id, more))
+}
+
+// What follows a word and the space after it, where the word ends where this text begins: none at the end of the text.
+//
+// None where the word doesn't end there.
+#[inline(always)]
+fn behind_word(text: &[u8]) -> Option<Option<&[u8]>>
+    ensures found { IfSome result (λ more. MatchOption (option_copied more) (text.now ≡ []) (λ rest. text.now ≡ 32 ∷ rest)) }
+    ensures none { IfNone result ((text.now ≢ []) × ((rest : List ℕ) → text.now ≢ 32 ∷ rest)) }
+{
+    match text {
+        [] => Some(None),
+        [b' ', rest @ ..] => Some(Some(rest)),
+        _ => None,
+    }
 }
 
 /// Any number of configurations.

@@ -16,6 +16,7 @@ ghost use Rattle.rambo_check.specs.Readings.{IsMore, TakesHead, TakesLine};
 ghost use Rattle.rambo_check.specs.Texts.{IsTold, IsToldIn, IsFaultBehind, IsTextFault, IsHeadFault, IsFaultIn};
 
 use crate::evidence::Evidence;
+use crate::front::frequent_event;
 use crate::item::read_line;
 use crate::kept::Kept;
 use rambo_atomic::{Source, Unread};
@@ -141,11 +142,31 @@ fn take_first(
     ensures fault { IfErr result (λ f. (line : List ℕ) × (rest : List ℕ) × IsFirstLine unread.old.held line rest × IsFaultBehind version evidence.old line f) }
 {
     let held = unread.as_slice();
-    let (line, rest) = next_line(held);
-    take_line(alloc, version, line, evidence)?;
+    let rest = take_front(alloc, version, held, evidence)?;
     let used = held.len() - rest.len();
     unread.forget(used);
     Ok(())
+}
+
+// Takes up what the first line of a text tells, and returns the text after its line feed.
+#[inline(always)]
+fn take_front<'a>(
+    alloc: Global,
+    version: Version,
+    text: &'a [u8],
+    evidence: &mut Evidence,
+) -> Result<&'a [u8], Fault>
+    requires fits { evidence.old.lines + 1 < 2 ^ 64 }
+    ensures taken { IfOk result (λ rest. TakesLine version text.now rest.now evidence.old evidence.new) }
+    ensures fault { IfErr result (λ f. (line : List ℕ) × (rest : List ℕ) × IsFirstLine text.now line rest × IsFaultBehind version evidence.old line f) }
+{
+    if let Some((event, rest)) = frequent_event(text) {
+        evidence.push(event)?;
+        return Ok(rest);
+    }
+    let (line, rest) = next_line(text);
+    take_line(alloc, version, line, evidence)?;
+    Ok(rest)
 }
 
 // Takes up what a line tells.
