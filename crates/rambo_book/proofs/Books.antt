@@ -11,13 +11,13 @@ use Rattle.rambo_sequence.specs.declared.mark.Mark.{Mark}
 use Rattle.rambo_run.specs.declared.step.Step.{Step}
 use Rattle.rambo_run.specs.declared.step.Step.TheVariants as step
 use Rattle.rambo_run.specs.Runs.{run}
-use Rattle.rambo_run.specs.Steps.{meant_in, with_letter, with_event, with_mark}
+use Rattle.rambo_run.specs.Steps.{meant_in, with_letter, with_event, with_mark, letter_in, meant_by}
 use Rattle.rambo_run.specs.Actors.{actor}
 use Rattle.rambo_run.proofs.WellFormed.{run_well_formed}
 use Rattle.rambo_roll.specs.Rolls.{Idle}
 use Rattle.rambo_roll.specs.Stocks.{StockView}
 use Rattle.rambo_deeds.specs.declared.mail.Mail.{Mail}
-use Rattle.rambo_deeds.specs.Deeds.{Done, letter_in, meant_by}
+use Rattle.rambo_deeds.specs.Deeds.{Done}
 use Rattle.rambo_run.proofs.Lists.{none-some}
 use Rattle.rambo_book.specs.Kept.{AreSent, BookView, IsKeeper, IsBook, lightened, state}
 use Rattle.rambo_book.specs.Windows.{LettersView, among, beyond, completed, delivers_gone, gone_of, kept_in, window_of}

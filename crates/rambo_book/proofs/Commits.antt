@@ -14,7 +14,7 @@ use Rattle.rambo_node.specs.Nodes.{Room, RoomyNode}
 use Rattle.rambo_node.proofs.Besides.{full_after_is}
 use Rattle.rambo_run.specs.declared.step.Step.{Step}
 use Rattle.rambo_run.specs.declared.step.Step.TheVariants as step
-use Rattle.rambo_run.specs.Steps.{Meant, meant, effect_in, refusal, with_letter, with_event, with_mark}
+use Rattle.rambo_run.specs.Steps.{Meant, meant, effect_in, refusal, with_letter, with_event, with_mark, letter_in, meant_by}
 use Rattle.rambo_run.specs.Runs.{run}
 use Rattle.rambo_roll.specs.Rolls.{Idle}
 use Rattle.rambo_sequence.specs.declared.mark.Mark.{Mark}
@@ -23,7 +23,7 @@ use Rattle.rambo_deeds.specs.declared.mail.Mail.{Mail}
 use Rattle.rambo_run.specs.Legal.{IsLegal}
 use Rattle.rambo_run.specs.Actors.{actor}
 use Rattle.rambo_run.specs.Steps.{meant_in}
-use Rattle.rambo_deeds.specs.Deeds.{Done, IsReadyStep, done, event_of, judged, letter_in, letter_of, mark_of, meant_by, outline_of}
+use Rattle.rambo_deeds.specs.Deeds.{Done, IsReadyStep, done, event_of, judged, letter_of, mark_of, outline_of}
 use Rattle.rambo_book.specs.Kept.{BookView, KeeperView, AreSent, IsKeeper, IsServedBy, Told, lightened, state}
 use Rattle.rambo_book.proofs.Whole.{IsWhole}
 use Rattle.rambo_book.specs.declared.readied.Ready.{Ready}
@@ -90,7 +90,7 @@ module _ {Q : Type 0} {s : QuorumSystem Q} {agreed : Option Q} {most : ℕ} {rol
 
   -- where it isn't refused, what is ready by the letter of the book is ready
   pub ready_here : (o : Option (Letter Q)) (half : Half Q) (v : RoomyNode Q) (held : List (Mail Q)) (looked : List (Step Q)) → v.state ≡ node.state → o ≡ letter_in letters st → meant_by o st ≡ meant_in letters st
-      → refusal s (run s f steps) st ≡ None → ((m : Meant Q) → meant_by o st ≡ Some m → IsReadyStep s v (outline_of o) m.change half)
+      → refusal s (run s f steps) st ≡ None → ((m : Meant Q) → meant_by o st ≡ Some m → IsReadyStep s v (outline_of o) m.act half)
       → IsReadyIn s (run s f steps) (record { name = name; node = v.state; room = v.room; beside = v.beside; tray = held; seen = looked }) (record { step = st; half = half; letter = o; asks = false })
   ready_here o half v held looked same letter named none ready =
       let w = run s f steps in
@@ -112,16 +112,16 @@ module _ {Q : Type 0} {s : QuorumSystem Q} {agreed : Option Q} {most : ℕ} {rol
 
     module _ {asks : Bool} {letter : Option (Letter Q)} (ready : IsReadyIn s (run s f steps) (record { name = name; node = node.state; room = room; beside = kept.beside; tray = held; seen = looked }) (record { step = st; half = half; letter = letter; asks = asks })) (came : Option (Letter Q)) (brought : came ≡ letter) where
       -- a step whose first half is made, which the letter that it brings along tells
-      pub half_here : IsReadyStep s kept (outline_of came) ready.change half
-      half_here = subst (λ o. IsReadyStep s kept o ready.change half) (sym ready.brings ∙ sym (ap outline_of brought)) ready.ready
+      pub half_here : IsReadyStep s kept (outline_of came) ready.act half
+      half_here = subst (λ o. IsReadyStep s kept o ready.act half) (sym ready.brings ∙ sym (ap outline_of brought)) ready.ready
 
       -- and then the second
-      pub finished_here : (new : RoomyNode Q) (effect : Effect Q) → new.state ≡ (made_by node.state ready.change).node → new.beside ≡ beside_after node.state kept.beside ready.change
-          → effect ≡ effect_in letters (made_by node.state ready.change).deed.effect (made_by node.state ready.change).letter
+      pub finished_here : (new : RoomyNode Q) (effect : Effect Q) → new.state ≡ (made_by node.state ready.act).node → new.beside ≡ beside_after node.state kept.beside ready.act
+          → effect ≡ effect_in letters (made_by node.state ready.act).deed.effect (made_by node.state ready.act).letter
           → Finished s f steps st name letters history marks (full new) (record { effect = effect; event = event_of half; mark = mark_of half; letter = letter_of half })
       finished_here new effect after beside did =
           let w = run s f steps in
-          let made = made_by node.state ready.change in
+          let made = made_by node.state ready.act in
           let here = still s agreed most rolled f steps letters history marks capacity holds name node tray seen b k idle in
           let whole = still_full s agreed most rolled f steps letters history marks capacity holds name node tray seen b k idle in
           let d : Done Q = record { effect = effect; event = event_of half; mark = mark_of half; letter = letter_of half } in
@@ -132,8 +132,8 @@ module _ {Q : Type 0} {s : QuorumSystem Q} {agreed : Option Q} {most : ℕ} {rol
             letter = d.letter;
           } in
           let named = is_named w name node.state (nodes_count s f steps) here in
-          finished s f steps st name node letters history marks (full new) d here whole ready.change ready.means ready.accepted b.legal b.sent b.told b.marked (full_after_is kept new ready.change after beside) told
-          (letter_goes s f steps (steps ++ st ∷ []) (st ∷ [], refl) name named kept whole ready.change (letter_of half) ready.ready.letter)
+          finished s f steps st name node letters history marks (full new) d here whole ready.act ready.means ready.accepted b.legal b.sent b.told b.marked (full_after_is kept new ready.act after beside) told
+          (letter_goes s f steps (steps ++ st ∷ []) (st ∷ [], refl) name named kept whole ready.act (letter_of half) ready.ready.letter)
 
   module _ {new : FullNode Q} {d : Done Q} (h : Finished s f steps st name letters history marks new d) where
     pub book_after : (rolled' steps' : List (Step Q)) (letters' : List (Letter Q)) (history' : List Event) (marks' : List Mark) → length steps < capacity

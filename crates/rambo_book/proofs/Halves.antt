@@ -5,8 +5,7 @@ use Rattle.rambo_names.specs.Quorums.{QuorumSystem}
 use Rattle.rambo_gossip.specs.declared.letter.Letter.{Letter}
 use Rattle.rambo_gossip.specs.Letters.{letter_with}
 use Rattle.rambo_gossip.specs.Short.{copies_in}
-use Rattle.rambo_node.specs.declared.change.Change.{Change}
-use Rattle.rambo_node.specs.declared.change.Change.TheVariants as change
+use Rattle.rambo_node.specs.Acts.{Act}
 use Rattle.rambo_node.specs.declared.effect.Effect.{Effect}
 use Rattle.rambo_node.specs.declared.effect.Effect.TheVariants as effect
 use Rattle.rambo_node.specs.declared.prepared.Hearing.{Hearing}
@@ -15,8 +14,9 @@ use Rattle.rambo_node.specs.Changes.{Made, made_by}
 use Rattle.rambo_node.specs.FullNodes.{beside_after}
 use Rattle.rambo_node.specs.Hearing.{heard_letter}
 use Rattle.rambo_node.specs.Nodes.{RoomyNode}
-use Rattle.rambo_node.specs.Prepared.{IsReadyKind, change_of}
+use Rattle.rambo_node.specs.Prepared.{IsReadyKind, act_in}
 use Rattle.rambo_node.proofs.Readiness.{hearing_beside, hearing_ends, hearing_ready, ready_apart}
+use Rattle.rambo_node.specs.Acts as act
 use Rattle.rambo_run.specs.Steps.{effect_in}
 use Rattle.rambo_run.proofs.Lists.{some_inj}
 use Rattle.rambo_deeds.specs.declared.half.Half.TheVariants as half
@@ -33,7 +33,7 @@ one_tells : {Q : Type 0} (v : RoomyNode Q) (ls : List (Letter Q)) (l : Letter Q)
 one_tells v ls l e None sends = absurd sends
 one_tells v ls l e (Some whole) sends = refl
 
-module _ {Q : Type 0} (v : RoomyNode Q) (o : Option (Letter Q)) (c : Change Q) where
+module _ {Q : Type 0} (v : RoomyNode Q) (o : Option (Letter Q)) (c : Act Q) where
   -- a letter goes out: its node stays, and its number is told
   module _ (s : QuorumSystem Q) (l : Letter Q) (ready : IsReadyStep s v o c (half.Send l)) where
     pub send_stays : v.state ≡ (made_by v.state c).node
@@ -56,20 +56,20 @@ module _ {Q : Type 0} (v : RoomyNode Q) (o : Option (Letter Q)) (c : Change Q) w
 
   -- a call does what it was prepared for
   module _ (s : QuorumSystem Q) (b : Box (Prepared Q) Global) (p : Prepared Q) (is : p ≡ b.value) (ready : IsReadyStep s v o c (half.Call b)) where
-    prepared_made : made_by v.state (change_of p) ≡ made_by v.state c
-    prepared_made = ap (λ p. made_by v.state (change_of p)) is ∙ ready.half.same
+    prepared_made : made_by v.state (act_in p) ≡ made_by v.state c
+    prepared_made = ap (λ p. made_by v.state (act_in p)) is ∙ ready.half.same
 
-    pub call_moves : (made_by v.state (change_of p)).node ≡ (made_by v.state c).node
+    pub call_moves : (made_by v.state (act_in p)).node ≡ (made_by v.state c).node
     call_moves = ap (λ (m : Made Q). m.node) prepared_made
 
-    pub call_keeps : beside_after v.state v.beside (change_of p) ≡ beside_after v.state v.beside c
-    call_keeps = ap (λ p. beside_after v.state v.beside (change_of p)) is ∙ ready.half.beside
+    pub call_keeps : beside_after v.state v.beside (act_in p) ≡ beside_after v.state v.beside c
+    call_keeps = ap (λ p. beside_after v.state v.beside (act_in p)) is ∙ ready.half.beside
 
-    pub call_tells : (made_by v.state (change_of p)).deed.effect ≡ (made_by v.state c).deed.effect
+    pub call_tells : (made_by v.state (act_in p)).deed.effect ≡ (made_by v.state c).deed.effect
     call_tells = ap (λ (m : Made Q). m.deed.effect) prepared_made
 
 -- a letter comes, which is told by this one, but for its copies
-module _ {Q : Type 0} (v : RoomyNode Q) (l : Letter Q) (c : Change Q) (h : Hearing) (ready : IsReadyDelivery v (outline_of (Some l)) c h) where
+module _ {Q : Type 0} (v : RoomyNode Q) (l : Letter Q) (c : Act Q) (h : Hearing) (ready : IsReadyDelivery v (outline_of (Some l)) c h) where
   same_outline : letter_with l map.empty ≡ letter_with ready.letter map.empty
   same_outline = some_inj _ _ ready.told
 
@@ -86,8 +86,8 @@ module _ {Q : Type 0} (v : RoomyNode Q) (l : Letter Q) (c : Change Q) (h : Heari
       ∙ hearing_ends v ready.letter (letter_with l map.empty) h same_outline ready.hearing
       ∙ sym (ap (λ c. (made_by v.state c).node) ready.delivers)
 
-  pub hear_keeps : beside_after v.state v.beside (change.Deliver (letter_with l h.copies)) ≡ beside_after v.state v.beside c
+  pub hear_keeps : beside_after v.state v.beside (act.Hear (letter_with l h.copies)) ≡ beside_after v.state v.beside c
   hear_keeps =
-      sym (ap (λ l. beside_after v.state v.beside (change.Deliver l)) (letter_twice l map.empty h.copies))
+      sym (ap (λ l. beside_after v.state v.beside (act.Hear l)) (letter_twice l map.empty h.copies))
       ∙ hearing_beside v ready.letter (letter_with l map.empty) h same_outline ready.hearing
       ∙ sym (ap (beside_after v.state v.beside) ready.delivers)

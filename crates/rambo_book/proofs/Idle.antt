@@ -3,7 +3,7 @@ use Rattle.std.proofs.Common.{◌≡◌, ℕ, if◌then◌else◌, List, [], ◌
 use Rattle.std.proofs.lemmas.Bool.{ne_eqb}
 use Rattle.rambo_names.specs.declared.refusal.Refusal.{Refusal}
 use Rattle.rambo_names.specs.Quorums.{QuorumSystem}
-use Rattle.rambo_node.specs.declared.change.Change.{Change}
+use Rattle.rambo_node.specs.Acts.{Act}
 use Rattle.rambo_node.specs.FullNodes.{full_after, fully_replayed, first_full}
 use Rattle.rambo_run.specs.declared.step.Step.{Step}
 use Rattle.rambo_run.specs.Worlds.{WorldState, node_at, first_world}
@@ -41,7 +41,7 @@ idle_node s founders n seen log legal idle =
 not_entered : {Q : Type 0} (r : Option Refusal) (n : ℕ) (o : Option (Meant Q)) → ((m : Meant Q) → o ≡ Some m → m.name ≡ n → ⊥) → entered_unless r n o [] ≡ []
 not_entered (Some f) n o other = refl
 not_entered None n None other = refl
-not_entered None n (Some m) other = ap (λ b. if b then m.change ∷ [] else []) (ne_eqb m.name n (other m refl))
+not_entered None n (Some m) other = ap (λ b. if b then m.act ∷ [] else []) (ne_eqb m.name n (other m refl))
 
 none_entered : {Q : Type 0} (s : QuorumSystem Q) (n : ℕ) (rest log : List (Step Q)) (w : WorldState Q) → map to w.letters ≡ sent log → legal_from s w rest → NoneBy actor n log rest → journal_from s w n rest ≡ []
 unfolding journal_from legal_from
@@ -75,7 +75,7 @@ idle_full s founders n seen log legal idle =
     ∙ ap (fully_replayed (full_at s founders seen n)) (none_entered s n idle.0 seen (run_from s w seen) (addressees_from s seen [] w parts.0 (first_letters s founders)) parts.1 idle.2)
 
 -- and after a step of its own it is what that makes of it
-pub full-more : {Q : Type 0} (s : QuorumSystem Q) (founders : Q) (steps : List (Step Q)) (st : Step Q) (n : ℕ) (c : Change Q) → meant (run s founders steps) st ≡ Some (record { name = n; change = c }) → refusal s (run s founders steps) st ≡ None
+pub full-more : {Q : Type 0} (s : QuorumSystem Q) (founders : Q) (steps : List (Step Q)) (st : Step Q) (n : ℕ) (c : Act Q) → meant (run s founders steps) st ≡ Some (record { name = n; act = c }) → refusal s (run s founders steps) st ≡ None
     → full_at s founders (steps ++ st ∷ []) n ≡ full_after (full_at s founders steps n) c
 unfolding journal_from
 full-more s founders steps st n c means accepted =

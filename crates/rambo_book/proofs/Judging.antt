@@ -12,12 +12,12 @@ use Rattle.rambo_gossip.specs.declared.letter.Kind.TheVariants as kind
 use Rattle.rambo_gossip.specs.Short.{copies_in}
 use Rattle.rambo_tag.specs.Copies.{joined}
 use Rattle.rambo_tag.proofs.Joins.{joined-empty, joined-again}
-use Rattle.rambo_node.specs.declared.change.Change.{Change}
-use Rattle.rambo_node.specs.declared.change.Change.TheVariants as change
+use Rattle.rambo_node.specs.Acts.{Act}
 use Rattle.rambo_node.specs.Changes.{made_by}
 use Rattle.rambo_node.specs.Hearing.{heard_kind, heard_join, heard_gossip}
 use Rattle.rambo_node.specs.FullNodes.{FullNode, full_after}
 use Rattle.rambo_node.specs.Nodes.{NodeState}
+use Rattle.rambo_node.specs.Acts as act
 use Rattle.rambo_run.specs.declared.step.Step.{Step}
 use Rattle.rambo_run.specs.declared.step.Step.TheVariants as step
 use Rattle.rambo_run.specs.Worlds.{WorldState, node_at, copies_of, held_by, letter_at}
@@ -43,7 +43,7 @@ use Rattle.rambo_book.proofs.Standing.{Alike, GoesFor, alike, sent_more, done_co
 pub judge_of : {Q : Type 0} (s : QuorumSystem Q) (w : WorldState Q) (x : NodeState Q) (name : ℕ) (o : Option (Meant Q)) → node_at w name ≡ Some x → ((m : Meant Q) → o ≡ Some m → m.name ≡ name)
     → least (causes_of s w o) ≡ judged s x o
 judge_of s w x name None here served = refl
-judge_of s w x name (Some m) here served = ap (λ o. least (causes_at s o m.change)) (ap (node_at w) (served m refl) ∙ here)
+judge_of s w x name (Some m) here served = ap (λ o. least (causes_at s o m.act)) (ap (node_at w) (served m refl) ∙ here)
 
 pub refusal_is : {Q : Type 0} (s : QuorumSystem Q) (w : WorldState Q) (st : Step Q) → refusal s w st ≡ least (causes_of s w (meant w st))
 unfolding refusal causes
@@ -110,7 +110,7 @@ pub record Finished {Q : Type 0} (s : QuorumSystem Q) (f : Q) (steps : List (Ste
   pub heard : (n : ℕ) (whole : Letter Q) → st ≡ step.Deliver n → letter_at (run s f (steps ++ st ∷ [])).letters n ≡ Some whole → IsHeard (run s f (steps ++ st ∷ [])) whole
 
 -- what is delivered is a letter that was sent
-delivered_letter : {Q : Type 0} (o : Option (Letter Q)) (m : Meant Q) → delivery o ≡ Some m → (l : Letter Q) × (o ≡ Some l) × (record { name = l.addressee; change = change.Deliver l } ≡ m)
+delivered_letter : {Q : Type 0} (o : Option (Letter Q)) (m : Meant Q) → delivery o ≡ Some m → (l : Letter Q) × (o ≡ Some l) × (record { name = l.addressee; act = act.Hear l } ≡ m)
 delivered_letter None m e = absurd (true≢false (sym (ap is_some e)))
 delivered_letter (Some l) m e = (l, refl, some_inj _ m e)
 
@@ -120,31 +120,31 @@ unfolding heard_join heard_gossip
 heard_joined x j kind.Join = sym (joined-empty x.registers)
 heard_joined x j (kind.Gossip g) = refl
 
-pub made_joined : {Q : Type 0} (x : NodeState Q) (l : Letter Q) → (made_by x (change.Deliver l)).node.registers ≡ joined x.registers (copies_in l.kind)
+pub made_joined : {Q : Type 0} (x : NodeState Q) (l : Letter Q) → (made_by x (act.Hear l)).node.registers ≡ joined x.registers (copies_in l.kind)
 unfolding made_by
 made_joined x l = heard_joined x l.sender l.kind
 
-holds_heard : {Q : Type 0} (x new : NodeState Q) (l : Letter Q) → new ≡ (made_by x (change.Deliver l)).node → joined new.registers (copies_in l.kind) ≡ new.registers
+holds_heard : {Q : Type 0} (x new : NodeState Q) (l : Letter Q) → new ≡ (made_by x (act.Hear l)).node → joined new.registers (copies_in l.kind) ≡ new.registers
 holds_heard x new l is =
     let e : new.registers ≡ joined x.registers (copies_in l.kind) = ap (λ x. x.registers) is ∙ made_joined x l in
     ap (λ r. joined r (copies_in l.kind)) e ∙ joined-again x.registers (copies_in l.kind) ∙ sym e
 
-turn_is : {Q : Type 0} (w : WorldState Q) (st : Step Q) (m : Meant Q) (x : NodeState Q) → meant w st ≡ Some m → node_at w m.name ≡ Some x → turn w st ≡ turn_by w m.name (made_by x m.change)
+turn_is : {Q : Type 0} (w : WorldState Q) (st : Step Q) (m : Meant Q) (x : NodeState Q) → meant w st ≡ Some m → node_at w m.name ≡ Some x → turn w st ≡ turn_by w m.name (made_by x m.act)
 unfolding turn
-turn_is w st m x means there = ap (turn_of w) means ∙ ap (λ o. turn_at w m.name o m.change) there
+turn_is w st m x means there = ap (turn_of w) means ∙ ap (λ o. turn_at w m.name o m.act) there
 
-state_after : {Q : Type 0} (v : FullNode Q) (c : Change Q) → (full_after v c).state ≡ (made_by v.state c).node
+state_after : {Q : Type 0} (v : FullNode Q) (c : Act Q) → (full_after v c).state ≡ (made_by v.state c).node
 unfolding full_after
 state_after v c = refl
 
 module _ {Q : Type 0} (s : QuorumSystem Q) (f : Q) (steps : List (Step Q)) (st : Step Q) (name : ℕ) (node : FullNode Q) (letters : List (Letter Q)) (history : List Event) (marks : List Mark) (new : FullNode Q) (d : Done Q) where
-  pub finished : node_at (run s f steps) name ≡ Some node.state → full_at s f steps name ≡ node → (c : Change Q) → meant (run s f steps) st ≡ Some (record { name = name; change = c }) → refusal s (run s f steps) st ≡ None → IsLegal s f steps
+  pub finished : node_at (run s f steps) name ≡ Some node.state → full_at s f steps name ≡ node → (c : Act Q) → meant (run s f steps) st ≡ Some (record { name = name; act = c }) → refusal s (run s f steps) st ≡ None → IsLegal s f steps
       → AreSent (run s f steps) letters → history ≡ (run s f steps).history → marks ≡ (run s f steps).marks
       → new ≡ full_after node c → d ≡ record (done letters (made_by node.state c)) { letter = d.letter } → GoesFor (run s f (steps ++ st ∷ [])) d.letter (made_by node.state c).letter
       → Finished s f steps st name letters history marks new d
   finished here whole c means accepted legal sent told marked after did goes =
       let w = run s f steps in
-      let m : Meant Q = record { name = name; change = c } in
+      let m : Meant Q = record { name = name; act = c } in
       let x = node.state in
       let made = made_by x c in
       let state : new.state ≡ made.node = ap (λ (v : FullNode Q). v.state) after ∙ state_after node c in
@@ -172,8 +172,8 @@ module _ {Q : Type 0} (s : QuorumSystem Q) (f : Q) (steps : List (Step Q)) (st :
             let it = delivered_letter (letter_at w.letters n) m (ap (meant w) (sym is) ∙ means) in
             let same : it.0 ≡ whole = some_inj it.0 whole (sym (letter-left s f steps (steps ++ st ∷ []) (st ∷ [], refl) n it.0 it.1) ∙ there) in
             let to : whole.addressee ≡ name = ap (λ (l : Letter _). l.addressee) (sym same) ∙ ap (λ (m : Meant _). m.name) it.2 in
-            let after_it : new.state ≡ (made_by x (change.Deliver whole)).node =
-            state ∙ ap (λ (m : Meant _). (made_by x m.change).node) (sym it.2) ∙ ap (λ l. (made_by x (change.Deliver l)).node) same in
+            let after_it : new.state ≡ (made_by x (act.Hear whole)).node =
+            state ∙ ap (λ (m : Meant _). (made_by x m.act).node) (sym it.2) ∙ ap (λ l. (made_by x (act.Hear l)).node) same in
             let held : held_by (run s f (steps ++ st ∷ [])) whole.addressee ≡ new.state.registers = ap (held_by (run s f (steps ++ st ∷ []))) to ∙ ap copies_of there_after in
             subst (λ r. joined r (copies_in whole.kind) ≡ r) (sym held) (holds_heard x new.state whole after_it);
       }

@@ -8,20 +8,18 @@ use Rattle.rambo_gossip.specs.declared.letter.Letter.{Letter}
 use Rattle.rambo_gossip.specs.Short.{copies_in, IsShort}
 use Rattle.rambo_tag.specs.Copies.{joined}
 use Rattle.rambo_tag.proofs.StampLaws.{stamped_alike}
-use Rattle.rambo_node.specs.declared.change.Change.{Change}
-use Rattle.rambo_node.specs.declared.change.Change.TheVariants as change
+use Rattle.rambo_node.specs.Acts.{Act}
 use Rattle.rambo_node.specs.declared.prepared.Hearing.{Hearing}
-use Rattle.rambo_node.specs.declared.prepared.Quick.{Quick}
-use Rattle.rambo_node.specs.declared.prepared.Quick.TheVariants as quick
 use Rattle.rambo_node.specs.Changes.{Made, made_by, refusal_of}
 use Rattle.rambo_node.specs.FullNodes.{FullNode, beside_after, full, full_after}
 use Rattle.rambo_node.specs.Nodes.{NodeState, RoomyNode}
-use Rattle.rambo_node.specs.Prepared.{IsHearing, IsReadyKind, quick_change}
+use Rattle.rambo_node.specs.Prepared.{IsHearing, IsReadyKind}
 use Rattle.rambo_node.proofs.Readiness.{ready_apart}
+use Rattle.rambo_node.specs.Acts as act
 use Rattle.rambo_run.specs.declared.step.Step.{Step}
 use Rattle.rambo_run.specs.declared.step.Step.TheVariants as step
 use Rattle.rambo_run.specs.Worlds.{WorldState, node_at, letter_at}
-use Rattle.rambo_run.specs.Steps.{Meant, meant, meant_in, delivery, causes_at, causes_of, refusal}
+use Rattle.rambo_run.specs.Steps.{Meant, meant, meant_in, delivery, causes_at, causes_of, refusal, letter_in, meant_by}
 use Rattle.rambo_run.specs.Runs.{run}
 use Rattle.rambo_run.specs.Legal.{IsLegal}
 use Rattle.rambo_run.specs.Actors.{actor}
@@ -31,7 +29,7 @@ use Rattle.rambo_roll.specs.Rolls.{Idle}
 use Rattle.rambo_deeds.specs.declared.half.Half.{Half}
 use Rattle.rambo_deeds.specs.declared.half.Half.TheVariants as half
 use Rattle.rambo_deeds.specs.declared.mail.Mail.{Mail}
-use Rattle.rambo_deeds.specs.Deeds.{IsHalf, IsReadyDelivery, IsReadyStep, SendsFor, judged, letter_in, letter_of, meant_by, outline_of}
+use Rattle.rambo_deeds.specs.Deeds.{IsHalf, IsReadyDelivery, IsReadyStep, SendsFor, judged, letter_of, outline_of}
 use Rattle.rambo_book.specs.declared.readied.Ready.{Ready}
 use Rattle.rambo_book.specs.Kept.{KeeperView, IsKeeper, IsMailOf, IsServedBy}
 use Rattle.rambo_book.specs.Readying.{IsIn, mail_in, came_in, roomy, IsReadyIn, IsReadyFor}
@@ -40,17 +38,13 @@ use Rattle.rambo_book.proofs.Judging.{some_meant, judge_of, refusal_is, made_joi
 use Rattle.rambo_book.proofs.Standing.{Alike, IsShortDelivery, itself, coming, made_alike, outline_alike, short_here, letter-left}
 
 -- whether a change delivers a letter, and which
-abbrev comes : {Q : Type 0} → Change Q → Bool
-comes (change.Deliver l) = true
+abbrev comes : {Q : Type 0} → Act Q → Bool
+comes (act.Hear l) = true
 comes c = false
 
-abbrev letter_coming : {Q : Type 0} → Letter Q → Change Q → Letter Q
-letter_coming none (change.Deliver l) = l
+abbrev letter_coming : {Q : Type 0} → Letter Q → Act Q → Letter Q
+letter_coming none (act.Hear l) = l
 letter_coming none c = none
-
-never : {Q : Type 0} (q : Quick Q) → comes (quick_change q) ≡ false
-never (quick.Join contacts) = refl
-never _ = refl
 
 module _ {Q : Type 0} (s : QuorumSystem Q) (v : RoomyNode Q) where
   -- what may be heard of a letter may be heard of the one for which it stands
@@ -65,11 +59,11 @@ module _ {Q : Type 0} (s : QuorumSystem Q) (v : RoomyNode Q) where
       }
 
   -- what is kept beside after a letter is what is kept after the one for which it stands
-  short_beside : (l whole : Letter Q) → IsShort l whole v.state.registers → beside_after v.state v.beside (change.Deliver l) ≡ beside_after v.state v.beside (change.Deliver whole)
+  short_beside : (l whole : Letter Q) → IsShort l whole v.state.registers → beside_after v.state v.beside (act.Hear l) ≡ beside_after v.state v.beside (act.Hear whole)
   unfolding full_after
   short_beside l whole short = ap (λ (x : FullNode Q). record { stamps = x.stamps; bases = x.bases }) (short_letters_are_replayed_alike (full v) l whole short)
 
-  module _ (o : Option (Letter Q)) (c d : Change Q) (short : IsShortDelivery v.state c d) where
+  module _ (o : Option (Letter Q)) (c d : Act Q) (short : IsShortDelivery v.state c d) where
     delivery_as : (h : Hearing) → IsReadyDelivery v o c h → IsReadyDelivery v o d h
     delivery_as h e =
         let same : short.letter ≡ e.letter = ap (letter_coming short.letter) (sym short.delivers ∙ e.delivers) in
@@ -98,10 +92,10 @@ module _ {Q : Type 0} (s : QuorumSystem Q) (v : RoomyNode Q) where
       mark = e.mark ∙ ap (λ (m : Made Q). m.deed.mark) made_as;
       copy = e.copy ∙ ap (λ (m : Made Q). m.deed.copy) made_as;
     }
-    half_as (half.Quick q) e = absurd (true≢false (sym (ap comes short.delivers) ∙ ap comes e ∙ never q))
+    half_as (half.Quiet q) e = absurd (true≢false (sym (ap comes short.delivers) ∙ ap comes e))
 
   -- of two changes that come to the same both are ready
-  ready_as : (o : Option (Letter Q)) (c d : Change Q) (h : Half Q) → refusal_of s v.state d ≡ None → (c ≡ d) ⊎ IsShortDelivery v.state c d → IsReadyStep s v o c h → IsReadyStep s v o d h
+  ready_as : (o : Option (Letter Q)) (c d : Act Q) (h : Half Q) → refusal_of s v.state d ≡ None → (c ≡ d) ⊎ IsShortDelivery v.state c d → IsReadyStep s v o c h → IsReadyStep s v o d h
   ready_as o c d h ok (inl same) e = subst (λ c. IsReadyStep s v o c h) same e
   ready_as o c d h ok (inr short) e =
       let made = made_as o c d short in
@@ -115,7 +109,7 @@ module _ {Q : Type 0} (s : QuorumSystem Q) (v : RoomyNode Q) where
 
 -- so what is ready as it is seen is ready in a world, where it comes to what the step means there
 pub ready_alike : {Q : Type 0} (s : QuorumSystem Q) (w : WorldState Q) (st : Step Q) (k : KeeperView Q) (p : Option (Meant Q)) (came : Option (Letter Q)) (half : Half Q) → Alike s k.node p (meant w st)
-    → outline_of came ≡ outline_of (letter_in w.letters st) → IsServedBy w st k.name → refusal s w st ≡ None → judged s k.node p ≡ None → ((m : Meant Q) → p ≡ Some m → IsReadyStep s (roomy k) (outline_of came) m.change half)
+    → outline_of came ≡ outline_of (letter_in w.letters st) → IsServedBy w st k.name → refusal s w st ≡ None → judged s k.node p ≡ None → ((m : Meant Q) → p ≡ Some m → IsReadyStep s (roomy k) (outline_of came) m.act half)
     → IsReadyIn s w k (record { step = st; half = half; letter = came; asks = false })
 ready_alike s w st k p came half same outline served accepted none ready =
     let kept = some_meant s k.node p none in
@@ -123,10 +117,10 @@ ready_alike s w st k p came half same outline served accepted none ready =
     let own : found.0.name ≡ k.name = served found.0 found.1 in
     let ok : judged s k.node (Some found.0) ≡ None = ap (judged s k.node) (sym found.1) ∙ sym same.judges ∙ none in
     record {
-      change = found.0.change;
-      means = found.1 ∙ (λ i. Some (record { name = own i; change = found.0.change }));
+      act = found.0.act;
+      means = found.1 ∙ (λ i. Some (record { name = own i; act = found.0.act }));
       accepted = accepted;
-      ready = subst (λ o. IsReadyStep s (roomy k) o found.0.change half) outline (ready_as s (roomy k) (outline_of came) kept.0.change found.0.change half ok (same.changes kept.0 found.0 kept.1 found.1) (ready kept.0 kept.1));
+      ready = subst (λ o. IsReadyStep s (roomy k) o found.0.act half) outline (ready_as s (roomy k) (outline_of came) kept.0.act found.0.act half ok (same.changes kept.0 found.0 kept.1 found.1) (ready kept.0 kept.1));
       brings = outline;
     }
 
@@ -223,19 +217,19 @@ module _ {Q : Type 0} (s : QuorumSystem Q) (f : Q) (xs ys : List (Step Q)) (p : 
 pub ready_longer : {Q : Type 0} (s : QuorumSystem Q) (f : Q) (steps : List (Step Q)) (k : KeeperView Q) (r : Ready Q) → IsLegal s f steps → Idle actor k.name k.seen steps → IsReadyIn s (run s f k.seen) k r → IsReadyIn s (run s f steps) k r
 ready_longer s f steps k r legal idle h =
     let p : IsPrefix k.seen steps = (idle.0, idle.1) in
-    let m : Meant _ = record { name = k.name; change = h.change } in
+    let m : Meant _ = record { name = k.name; act = h.act } in
     let there = means_longer s f k.seen steps p r.step m h.means in
     let same : refusal s (run s f steps) r.step ≡ refusal s (run s f k.seen) r.step =
     refusal_is s (run s f steps) r.step
     ∙ ap (λ o. least (causes_of s (run s f steps) o)) there
-    ∙ ap (λ o. least (causes_at s o h.change)) (idle_node s f k.name k.seen steps legal idle)
+    ∙ ap (λ o. least (causes_at s o h.act)) (idle_node s f k.name k.seen steps legal idle)
     ∙ sym (ap (λ o. least (causes_of s (run s f k.seen) o)) h.means)
     ∙ sym (refusal_is s (run s f k.seen) r.step) in
     record {
-      change = h.change;
+      act = h.act;
       means = there;
       accepted = same ∙ h.accepted;
-      ready = subst (λ o. IsReadyStep s (roomy k) (outline_of o) h.change r.half) (letters_longer s f k.seen steps p r.step m h.means) h.ready;
+      ready = subst (λ o. IsReadyStep s (roomy k) (outline_of o) h.act r.half) (letters_longer s f k.seen steps p r.step m h.means) h.ready;
       brings = h.brings ∙ ap outline_of (letters_longer s f k.seen steps p r.step m h.means);
     }
 
@@ -254,7 +248,7 @@ module _ {Q : Type 0} {s : QuorumSystem Q} {agreed : Option Q} {most holds name 
   tray_judged o is f e = tray_verdict s (run s f seen) name node.state tray (k.replays f e) (k.mail f e) st (own f e) there ∙ ap (λ o. judged s node.state (meant_by o st)) (sym is)
 
   pub tray_ready : (o : Option (Letter Q)) → o ≡ came_in tray st → (half : Half Q) (v : RoomyNode Q) → v.state ≡ node.state → judged s node.state (meant_by o st) ≡ None
-      → ((m : Meant Q) → meant_by o st ≡ Some m → IsReadyStep s v (outline_of o) m.change half)
+      → ((m : Meant Q) → meant_by o st ≡ Some m → IsReadyStep s v (outline_of o) m.act half)
       → IsReadyFor s agreed (record { name = name; node = v.state; room = v.room; beside = v.beside; tray = tray; seen = seen }) (record { step = st; half = half; letter = o; asks = false })
   tray_ready o is half v same none ready = λ f e.
       let w = run s f seen in

@@ -13,7 +13,7 @@ use Rattle.rambo_book.specs.Kept.{Told}
 
 pub refused_never_memory : {Q : Type 0} (s : QuorumSystem Q) (x : NodeState Q) (o : Option (Meant Q)) (r : Refusal) → judged s x o ≡ Some r → r ≢ OutOfMemory
 refused_never_memory s x None r e = subst (λ r. r ≢ OutOfMemory) (some_inj NoSuchLetter r e) no_letter_differs
-refused_never_memory s x (Some m) r e = never_memory s x m.change r e
+refused_never_memory s x (Some m) r e = never_memory s x m.act r e
 
 -- so where a step may be refused for it, its rules refuse nothing
 pub none_for_memory : {Q : Type 0} (s : QuorumSystem Q) (x : NodeState Q) (o : Option (Meant Q)) (r : Refusal) → r ≡ OutOfMemory → IsRefusal (judged s x o) r → judged s x o ≡ None

@@ -17,48 +17,48 @@ use Rattle.rambo_gossip.specs.declared.letter.Kind.{Kind}
 use Rattle.rambo_gossip.specs.declared.letter.Kind.TheVariants as kind
 use Rattle.rambo_gossip.specs.Letters.{kind_with, letter_with}
 use Rattle.rambo_gossip.specs.Short.{copies_in, IsShort}
-use Rattle.rambo_node.specs.declared.change.Change.{Change}
-use Rattle.rambo_node.specs.declared.change.Change.TheVariants as change
+use Rattle.rambo_node.specs.Acts.{Act}
 use Rattle.rambo_node.specs.declared.effect.Effect.{Effect}
 use Rattle.rambo_node.specs.Changes.{Made, made_by, refusal_of}
 use Rattle.rambo_node.specs.FullNodes.{FullNode, IsDelta, delta_letter, full}
 use Rattle.rambo_node.specs.Letters.{letter_for}
 use Rattle.rambo_node.specs.Nodes.{NodeState, RoomyNode}
 use Rattle.rambo_node.proofs.Short.{heard_as_whole}
+use Rattle.rambo_node.specs.Acts as act
 use Rattle.rambo_run.specs.Kinds.{delivered_by}
 use Rattle.rambo_run.specs.declared.step.Step.{Step}
 use Rattle.rambo_run.specs.declared.step.Step.TheVariants as step
 use Rattle.rambo_run.specs.Worlds.{WorldState, node_at, copies_of, held_by, letter_at}
-use Rattle.rambo_run.specs.Steps.{Meant, meant, meant_in, delivery, with_letter, effect_in}
+use Rattle.rambo_run.specs.Steps.{Meant, meant, meant_in, delivery, with_letter, effect_in, letter_in}
 use Rattle.rambo_run.specs.Runs.{run}
 use Rattle.rambo_run.proofs.Lists.{none-some, some_inj, get_more}
 use Rattle.rambo_run.proofs.Growing.{copies_are_kept}
 use Rattle.rambo_run.proofs.Legal.{get-left, run-grows}
-use Rattle.rambo_run.proofs.Quiet.{quiet_made}
+use Rattle.rambo_run.proofs.Unsent.{unsent}
 use Rattle.rambo_deltas.specs.Deltas.{full_at}
 use Rattle.rambo_deltas.proofs.Short.{later_too}
 use Rattle.rambo_deeds.specs.declared.mail.Mail.{Mail}
-use Rattle.rambo_deeds.specs.Deeds.{SendsFor, judged, done, letter_in, name_in, outline_of}
+use Rattle.rambo_deeds.specs.Deeds.{SendsFor, judged, done, name_in, outline_of}
 use Rattle.rambo_deeds.proofs.Outlines.{letter_twice}
 use Rattle.rambo_sequence.proofs.Members.{set_here, set_there}
 use Rattle.rambo_book.specs.Kept.{StandsFor, AreSent, IsMailOf, IsServedBy, lightened_at, lightened}
 
 -- a change delivers a letter, and another one that for which the letter stands at a node
-pub record IsShortDelivery {Q : Type 0} (x : NodeState Q) (c d : Change Q) : Type 0 where
+pub record IsShortDelivery {Q : Type 0} (x : NodeState Q) (c d : Act Q) : Type 0 where
   pub letter : Letter Q
   pub whole : Letter Q
-  pub delivers : c ≡ change.Deliver letter
-  pub delivered : d ≡ change.Deliver whole
+  pub delivers : c ≡ act.Hear letter
+  pub delivered : d ≡ act.Hear whole
   pub short : IsShort letter whole x.registers
 
 -- two changes that a step may mean come to the same for a node: they are one, or the first delivers what stands for the
 -- letter of the second
 pub record Alike {Q : Type 0} (s : QuorumSystem Q) (x : NodeState Q) (o p : Option (Meant Q)) : Type 0 where
   pub judges : judged s x o ≡ judged s x p
-  pub changes : (m k : Meant Q) → o ≡ Some m → p ≡ Some k → (m.change ≡ k.change) ⊎ IsShortDelivery x m.change k.change
+  pub changes : (m k : Meant Q) → o ≡ Some m → p ≡ Some k → (m.act ≡ k.act) ⊎ IsShortDelivery x m.act k.act
 
 pub itself : {Q : Type 0} (s : QuorumSystem Q) (x : NodeState Q) (o : Option (Meant Q)) → Alike s x o o
-itself s x o = record { judges = refl; changes = λ m k e f. inl (ap (λ (m : Meant _). m.change) (some_inj m k (sym e ∙ f))) }
+itself s x o = record { judges = refl; changes = λ m k e f. inl (ap (λ (m : Meant _). m.act) (some_inj m k (sym e ∙ f))) }
 
 -- lists of one length have items at the same places
 pub paired : {A B : Type 0} (xs : List A) (ys : List B) → length xs ≡ length ys → (i : ℕ)
@@ -92,15 +92,15 @@ pub comes_alike : {Q : Type 0} (l whole : Letter Q) (held : Copies) → IsShort 
 comes_alike l whole held short = ap (λ (l : Letter _). l.sender) short.rest
 
 module _ {Q : Type 0} (s : QuorumSystem Q) (x : NodeState Q) where
-  pub verdict_alike : (l whole : Letter Q) → IsShort l whole x.registers → refusal_of s x (change.Deliver l) ≡ refusal_of s x (change.Deliver whole)
+  pub verdict_alike : (l whole : Letter Q) → IsShort l whole x.registers → refusal_of s x (act.Hear l) ≡ refusal_of s x (act.Hear whole)
   verdict_alike l whole short = ap least (heard_as_whole x l whole short).1
 
-  pub made_alike : (l whole : Letter Q) → IsShort l whole x.registers → made_by x (change.Deliver l) ≡ made_by x (change.Deliver whole)
+  pub made_alike : (l whole : Letter Q) → IsShort l whole x.registers → made_by x (act.Hear l) ≡ made_by x (act.Hear whole)
   unfolding made_by
-  made_alike l whole short = ap Rattle.rambo_node.specs.Changes.quiet (heard_as_whole x l whole short).0
+  made_alike l whole short = ap Rattle.rambo_node.specs.Changes.alone (heard_as_whole x l whole short).0
 
   pub coming : (l whole : Letter Q) → IsShort l whole x.registers
-      → Alike s x (Some (record { name = l.addressee; change = change.Deliver l })) (Some (record { name = whole.addressee; change = change.Deliver whole }))
+      → Alike s x (Some (record { name = l.addressee; act = act.Hear l })) (Some (record { name = whole.addressee; act = act.Hear whole }))
   coming l whole short = record {
     judges = verdict_alike l whole short;
     changes = λ m k e f.
@@ -108,8 +108,8 @@ module _ {Q : Type 0} (s : QuorumSystem Q) (x : NodeState Q) where
         (record {
           letter = l;
           whole = whole;
-          delivers = sym (ap (λ (m : Meant _). m.change) (some_inj _ m e));
-          delivered = sym (ap (λ (m : Meant _). m.change) (some_inj _ k f));
+          delivers = sym (ap (λ (m : Meant _). m.act) (some_inj _ m e));
+          delivered = sym (ap (λ (m : Meant _). m.act) (some_inj _ k f));
           short = short;
         });
   }
@@ -123,7 +123,7 @@ module _ {Q : Type 0} (s : QuorumSystem Q) (w : WorldState Q) (letters : List (L
       → Alike s x (delivery (letter_at letters n)) (delivery (letter_at w.letters n))
   delivered_alike n sent served = elim (letters_paired w letters sent n) [
     | inl e ↦ subst (λ o. Alike s x (delivery (letter_at letters n)) (delivery o)) (e.0 ∙ sym e.1) (itself s x (delivery (letter_at letters n)))
-    | inr p ↦ (let own : p.1.addressee ≡ name = served (record { name = p.1.addressee; change = change.Deliver p.1 }) (ap delivery p.3) in
+    | inr p ↦ (let own : p.1.addressee ≡ name = served (record { name = p.1.addressee; act = act.Hear p.1 }) (ap delivery p.3) in
         subst (λ o. Alike s x (delivery o) (delivery (letter_at w.letters n))) (sym p.2)
         (subst (λ o. Alike s x (delivery (Some p.0)) (delivery o)) (sym p.3) (coming s x p.0 p.1 (short_here w name x here p.0 p.1 p.4 own))))
   ]
@@ -186,12 +186,12 @@ GoesFor w (Some l) None = ⊥
 GoesFor w (Some l) (Some whole) = StandsFor w l whole
 
 -- the letter that a change sends is the node's
-its_letter : {Q : Type 0} (x : NodeState Q) (c : Change Q) (whole : Letter Q) → (made_by x c).letter ≡ Some whole → whole ≡ letter_for x whole.addressee
+its_letter : {Q : Type 0} (x : NodeState Q) (c : Act Q) (whole : Letter Q) → (made_by x c).letter ≡ Some whole → whole ≡ letter_for x whole.addressee
 unfolding made_by
-its_letter x (change.Send to) whole e =
+its_letter x (act.Send to) whole e =
     let is : letter_for x to ≡ whole = some_inj (letter_for x to) whole e in
     sym is ∙ ap (λ (l : Letter _). letter_for x l.addressee) is
-its_letter x c whole e = absurd (none-some whole (sym (quiet_made x c refl) ∙ e))
+its_letter x c whole e = absurd (none-some whole (sym (unsent x c refl) ∙ e))
 
 module _ {Q : Type 0} (s : QuorumSystem Q) (f : Q) (xs ys : List (Step Q)) (p : IsPrefix xs ys) where
   -- what a node tells another that may be new to it stands for all that it has, then and later
@@ -211,7 +211,7 @@ module _ {Q : Type 0} (s : QuorumSystem Q) (f : Q) (xs ys : List (Step Q)) (p : 
         subst (λ l. IsShort l whole (held_by (run s f ys) j)) (sym sends.1.2)
         (subst (λ whole. IsShort (delta_letter (full v) j copies) whole (held_by (run s f ys) j)) (sym (own whole refl)) (short_stands j copies sends.0 sends.1.1))
 
-    pub letter_goes : (c : Change Q) (o : Option (Letter Q)) → SendsFor v o (made_by v.state c).letter → GoesFor (run s f ys) o (made_by v.state c).letter
+    pub letter_goes : (c : Act Q) (o : Option (Letter Q)) → SendsFor v o (made_by v.state c).letter → GoesFor (run s f ys) o (made_by v.state c).letter
     letter_goes c o = goes_for o (made_by v.state c).letter (its_letter v.state c)
 
   pub stands_longer : (l whole : Letter Q) → StandsFor (run s f xs) l whole → StandsFor (run s f ys) l whole

@@ -12,18 +12,18 @@ use Rattle.rambo_gossip.specs.declared.letter.Letter.{Letter}
 use Rattle.rambo_gossip.specs.Letters.{letter_with}
 use Rattle.rambo_node.specs.Changes.{made_by}
 use Rattle.rambo_node.specs.Nodes.{NodeState}
-use Rattle.rambo_node.specs.declared.change.Change.{Change}
+use Rattle.rambo_node.specs.Acts.{Act}
 use Rattle.rambo_node.proofs.Short.{whole_is_short}
 use Rattle.rambo_run.specs.declared.step.Step.{Step}
 use Rattle.rambo_run.specs.declared.step.Step.TheVariants as step
 use Rattle.rambo_run.specs.Kinds.{delivered_by}
 use Rattle.rambo_run.specs.Runs.{after, run, run_from, unless_refused}
-use Rattle.rambo_run.specs.Steps.{Meant, meant_in, refusal, turn, turn_at, turn_of, meant, with_letter}
+use Rattle.rambo_run.specs.Steps.{Meant, meant_in, refusal, turn, turn_at, turn_of, meant, with_letter, letter_in, meant_by}
 use Rattle.rambo_run.specs.Worlds.{WorldState, first_world, held_by, letter_at, node_at}
 use Rattle.rambo_run.proofs.GoingOn.{run_is}
 use Rattle.rambo_run.proofs.Legal.{run-grows}
 use Rattle.rambo_run.proofs.Lists.{none-some, some_inj}
-use Rattle.rambo_deeds.specs.Deeds.{letter_in, meant_by, name_in}
+use Rattle.rambo_deeds.specs.Deeds.{name_in}
 use Rattle.rambo_book.specs.Kept.{AreSent, IsLetterOf, IsServedBy, StandsFor, lightened, lightened_at}
 use Rattle.rambo_book.specs.Windows.{LettersView, completed, delivers_gone, gone_of, is_gone, kept_at, kept_in, refused_in, window_of}
 use Rattle.rambo_book.proofs.Firsts.{none_named, served_own}
@@ -229,13 +229,13 @@ with_count : {Q : Type 0} (ls : List (Letter Q)) (o : Option (Letter Q)) → len
 with_count ls None = omega arith
 with_count ls (Some l) = (let e = length-append ls (l ∷ []) in omega (arith, e))
 
-at_count : {Q : Type 0} (w : WorldState Q) (n : ℕ) (o : Option (NodeState Q)) (c : Change Q) → length (turn_at w n o c).world.letters ≤ length w.letters + 1
+at_count : {Q : Type 0} (w : WorldState Q) (n : ℕ) (o : Option (NodeState Q)) (c : Act Q) → length (turn_at w n o c).world.letters ≤ length w.letters + 1
 at_count w n None c = omega arith
 at_count w n (Some x) c = with_count w.letters (made_by x c).letter
 
 of_count : {Q : Type 0} (w : WorldState Q) (o : Option (Meant Q)) → length (turn_of w o).world.letters ≤ length w.letters + 1
 of_count w None = omega arith
-of_count w (Some m) = at_count w m.name (node_at w m.name) m.change
+of_count w (Some m) = at_count w m.name (node_at w m.name) m.act
 
 turn_count : {Q : Type 0} (w : WorldState Q) (st : Step Q) → length (turn w st).world.letters ≤ length w.letters + 1
 unfolding turn

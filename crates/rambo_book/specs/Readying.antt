@@ -3,15 +3,15 @@ use Rattle.std.specs.Prelude.{◌≡◌, ℕ, nat_eq, if◌then◌else◌, List,
 use Rattle.std.specs.Option.{option_and_then}
 use Rattle.rambo_names.specs.Quorums.{QuorumSystem}
 use Rattle.rambo_gossip.specs.declared.letter.Letter.{Letter}
-use Rattle.rambo_node.specs.declared.change.Change.{Change}
+use Rattle.rambo_node.specs.Acts.{Act}
 use Rattle.rambo_node.specs.Nodes.{RoomyNode}
 use Rattle.rambo_run.specs.declared.step.Step.{Step}
 use Rattle.rambo_run.specs.Kinds.{delivered_by}
 use Rattle.rambo_run.specs.Worlds.{WorldState}
-use Rattle.rambo_run.specs.Steps.{meant, refusal}
+use Rattle.rambo_run.specs.Steps.{meant, refusal, letter_in}
 use Rattle.rambo_run.specs.Runs.{run}
 use Rattle.rambo_deeds.specs.declared.mail.Mail.{Mail}
-use Rattle.rambo_deeds.specs.Deeds.{IsReadyStep, letter_in, outline_of}
+use Rattle.rambo_deeds.specs.Deeds.{IsReadyStep, outline_of}
 use Rattle.rambo_book.specs.declared.readied.Ready.{Ready}
 use Rattle.rambo_book.specs.Kept.{KeeperView}
 
@@ -35,10 +35,10 @@ roomy k = record { state = k.node; room = k.room; beside = k.beside }
 -- in this world a step is one of the keeper's node, and isn't refused; and its first half is made, by the letter that
 -- it delivers, if it delivers one, which it brings along
 pub record IsReadyIn {Q : Type 0} (s : QuorumSystem Q) (w : WorldState Q) (k : KeeperView Q) (r : Ready Q) : Type 0 where
-  pub change : Change Q
-  pub means : meant w r.step ≡ Some (record { name = k.name; change = change })
+  pub act : Act Q
+  pub means : meant w r.step ≡ Some (record { name = k.name; act = act })
   pub accepted : refusal s w r.step ≡ None
-  pub ready : IsReadyStep s (roomy k) (outline_of (letter_in w.letters r.step)) change r.half
+  pub ready : IsReadyStep s (roomy k) (outline_of (letter_in w.letters r.step)) act r.half
   pub brings : outline_of r.letter ≡ outline_of (letter_in w.letters r.step)
 
 -- that holds in the run of what the keeper has seen

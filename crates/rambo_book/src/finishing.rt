@@ -7,8 +7,8 @@ ghost use Rattle.rambo_gossip.specs.declared.letter.Letter.{Letter};
 ghost use Rattle.rambo_history.specs.Faults.{fault_of};
 ghost use Rattle.rambo_node.specs.Changes.{made_by};
 ghost use Rattle.rambo_node.specs.FullNodes.{beside_after};
-ghost use Rattle.rambo_node.specs.Prepared.{IsPrepared, change_of};
-ghost use Rattle.rambo_node.specs.declared.change.Change.{Change};
+ghost use Rattle.rambo_node.specs.Prepared.{IsPrepared, act_in};
+ghost use Rattle.rambo_node.specs.Acts.{Act};
 ghost use Rattle.rambo_run.specs.Steps.{effect_in, with_letter};
 ghost use Rattle.rambo_book.specs.Records.{ChronicleView, Recorded};
 ghost use Rattle.rambo_deeds.specs.Deeds.{IsReadyDelivery, IsReadyStep, event_of, letter_of, mark_of, outline_of};
@@ -29,13 +29,13 @@ pub(crate) fn finish<Q: Quorums, S: Replica>(
     letter: Option<&SharedLetter<Q>>,
     half: Half<Q>,
 ) -> Effect<Q>
-    requires ready { (c : Change Q) × IsReadyStep Q.system worker.old (outline_of (option_copied letter)) c half }
+    requires ready { (c : Act Q) × IsReadyStep Q.system worker.old (outline_of (option_copied letter)) c half }
     requires few { letters.old.gone + length letters.old.kept + 1 < 2 ^ 64 }
     requires room { (0 < letters.old.room) × (0 < kept.old.room) }
     requires fits { (c : ChronicleView) (e : Event) → kept.old.all ≡ Some c → event_of half ≡ Some e → fault_of c.events e ≡ None }
-    ensures node { (c : Change Q) → IsReadyStep Q.system worker.old (outline_of (option_copied letter.entry)) c half → worker.new.state ≡ (made_by worker.old.state c).node }
-    ensures beside { (c : Change Q) → IsReadyStep Q.system worker.old (outline_of (option_copied letter.entry)) c half → worker.new.beside ≡ beside_after worker.old.state worker.old.beside c }
-    ensures effect { (c : Change Q) (ls : List (Letter Q)) → IsReadyStep Q.system worker.old (outline_of (option_copied letter.entry)) c half → length ls ≡ letters.old.gone + length letters.old.kept → result ≡ effect_in ls (made_by worker.old.state c).deed.effect (made_by worker.old.state c).letter }
+    ensures node { (c : Act Q) → IsReadyStep Q.system worker.old (outline_of (option_copied letter.entry)) c half → worker.new.state ≡ (made_by worker.old.state c).node }
+    ensures beside { (c : Act Q) → IsReadyStep Q.system worker.old (outline_of (option_copied letter.entry)) c half → worker.new.beside ≡ beside_after worker.old.state worker.old.beside c }
+    ensures effect { (c : Act Q) (ls : List (Letter Q)) → IsReadyStep Q.system worker.old (outline_of (option_copied letter.entry)) c half → length ls ≡ letters.old.gone + length letters.old.kept → result ≡ effect_in ls (made_by worker.old.state c).deed.effect (made_by worker.old.state c).letter }
     ensures letters { letters.new.kept ≡ with_letter letters.old.kept (letter_of half) }
     ensures window { (letters.new.gone ≡ letters.old.gone) × (letters.new.window ≡ letters.old.window) }
     ensures kept { Recorded (event_of half) (mark_of half) kept.old kept.new }
@@ -47,7 +47,7 @@ pub(crate) fn finish<Q: Quorums, S: Replica>(
             Effect::Done
         }
         Half::Call(prepared) => finish_call(kept, worker, Box::into_inner(prepared)),
-        Half::Quick(quick) => worker.finish_quick(quick),
+        Half::Quiet(quiet) => worker.do_quiet(quiet),
     }
 }
 
@@ -70,9 +70,9 @@ fn hear<Q: Quorums, S: Replica>(
     letter: Option<&SharedLetter<Q>>,
     hearing: Hearing,
 )
-    requires { (c : Change Q) × IsReadyDelivery worker.old (outline_of (option_copied letter)) c hearing }
-    ensures node { (c : Change Q) → IsReadyDelivery worker.old (outline_of (option_copied letter.entry)) c hearing → worker.new.state ≡ (made_by worker.old.state c).node }
-    ensures beside { (c : Change Q) → IsReadyDelivery worker.old (outline_of (option_copied letter.entry)) c hearing → worker.new.beside ≡ beside_after worker.old.state worker.old.beside c }
+    requires { (c : Act Q) × IsReadyDelivery worker.old (outline_of (option_copied letter)) c hearing }
+    ensures node { (c : Act Q) → IsReadyDelivery worker.old (outline_of (option_copied letter.entry)) c hearing → worker.new.state ≡ (made_by worker.old.state c).node }
+    ensures beside { (c : Act Q) → IsReadyDelivery worker.old (outline_of (option_copied letter.entry)) c hearing → worker.new.beside ≡ beside_after worker.old.state worker.old.beside c }
 {
     let Some(letter) = letter else {
         return;
@@ -91,9 +91,9 @@ fn finish_call<Q: Quorums, S: Replica>(
     requires prepared { IsPrepared Q.system worker.old prepared }
     requires room { 0 < kept.old.room }
     requires fits { (c : ChronicleView) (e : Event) → kept.old.all ≡ Some c → prepared.event ≡ Some e → fault_of c.events e ≡ None }
-    ensures node { worker.new.state ≡ (made_by worker.old.state (change_of prepared)).node }
-    ensures beside { worker.new.beside ≡ beside_after worker.old.state worker.old.beside (change_of prepared) }
-    ensures effect { result ≡ (made_by worker.old.state (change_of prepared)).deed.effect }
+    ensures node { worker.new.state ≡ (made_by worker.old.state (act_in prepared)).node }
+    ensures beside { worker.new.beside ≡ beside_after worker.old.state worker.old.beside (act_in prepared) }
+    ensures effect { result ≡ (made_by worker.old.state (act_in prepared)).deed.effect }
     ensures kept { Recorded prepared.event prepared.mark kept.old kept.new }
 {
     let mut prepared = prepared;

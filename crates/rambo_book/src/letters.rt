@@ -1,7 +1,8 @@
 //! The letters that were sent last.
 ghost use Rattle.std.specs.Prelude.{◌≡◌, ◌+◌, ◌≤◌, ◌<◌, ◌^◌, ◌++◌, ◌∷◌, [], drop, length, not, OnOk, IfErr};
 ghost use Rattle.std.specs.Option.{option_copied};
-ghost use Rattle.rambo_deeds.specs.Deeds.{meant_by, name_in};
+ghost use Rattle.rambo_run.specs.Steps.{meant_by};
+ghost use Rattle.rambo_deeds.specs.Deeds.{name_in};
 ghost use Rattle.rambo_book.specs.Kept.{lightened};
 ghost use Rattle.rambo_book.specs.Windows.{among, beyond, delivers_gone, is_gone, kept_at, kept_in, window_of};
 

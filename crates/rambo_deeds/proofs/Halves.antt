@@ -6,57 +6,55 @@ use Rattle.rambo_names.specs.Quorums.{QuorumSystem}
 use Rattle.rambo_tag.specs.Copies.{Copies}
 use Rattle.rambo_gossip.specs.declared.letter.Letter.{Letter}
 use Rattle.rambo_gossip.specs.Letters.{letter_with}
-use Rattle.rambo_node.specs.declared.change.Change.{Change}
-use Rattle.rambo_node.specs.declared.change.Change.TheVariants as change
+use Rattle.rambo_node.specs.Acts.{Act}
 use Rattle.rambo_node.specs.declared.prepared.Hearing.{Hearing}
 use Rattle.rambo_node.specs.declared.prepared.Prepared.{Prepared}
-use Rattle.rambo_node.specs.declared.prepared.Quick.{Quick}
+use Rattle.rambo_node.specs.declared.prepared.Quiet.{Quiet}
 use Rattle.rambo_node.specs.Changes.{refusal_of, made_by}
 use Rattle.rambo_node.specs.FullNodes.{IsDelta, full}
 use Rattle.rambo_node.specs.Letters.{letter_for}
 use Rattle.rambo_node.specs.Nodes.{RoomyNode}
-use Rattle.rambo_node.specs.Prepared.{IsHearing, Prepares, quick_change}
-use Rattle.rambo_node.proofs.Readiness.{quick_prepares}
+use Rattle.rambo_node.specs.Prepared.{IsHearing, Prepares}
+use Rattle.rambo_node.specs.Acts as act
 use Rattle.rambo_run.specs.Steps.{sends}
 use Rattle.rambo_run.proofs.Lists.{none-some}
-use Rattle.rambo_run.proofs.Quiet.{quiet_made}
+use Rattle.rambo_run.proofs.Unsent.{unsent}
 use Rattle.rambo_deeds.specs.declared.half.Half.{Half}
 use Rattle.rambo_deeds.specs.declared.half.Half.TheVariants as half
 use Rattle.rambo_deeds.specs.Deeds.{IsHalf, IsReadyStep, SendsFor}
 use Rattle.rambo_deeds.proofs.Outlines.{letter_twice}
 
 module _ {Q : Type 0} (s : QuorumSystem Q) (v : RoomyNode Q) where
-  -- a change that sends no letter has none go out
+  -- an act that sends no letter has none go out
   no_letter : (o : Option (Letter Q)) → o ≡ None → SendsFor v None o
   no_letter o none = subst (SendsFor v None) (sym none) _
 
-  pub send_ready : (to : ℕ) (l o : Letter Q) (copies : Copies) → IsName to → refusal_of s v.state (change.Send to) ≡ None → l ≡ letter_with o copies → o ≡ letter_with (letter_for v.state to) map.empty → IsDelta (full v) to copies
-      → IsReadyStep s v None (change.Send to) (half.Send l)
+  pub send_ready : (to : ℕ) (l o : Letter Q) (copies : Copies) → IsName to → refusal_of s v.state (act.Send to) ≡ None → l ≡ letter_with o copies → o ≡ letter_with (letter_for v.state to) map.empty → IsDelta (full v) to copies
+      → IsReadyStep s v None (act.Send to) (half.Send l)
   unfolding made_by
   send_ready to l o copies named ok is outline since =
       let sent : l ≡ letter_with (letter_for v.state to) copies = is ∙ ap (λ o. letter_with o copies) outline ∙ letter_twice (letter_for v.state to) map.empty copies in
       record { accepted = ok; half = (to, refl); event = refl; mark = refl; letter = (named, (copies, since, sent)) }
 
-  pub hear_ready : (l : Letter Q) (h : Hearing) → refusal_of s v.state (change.Deliver l) ≡ None → IsHearing v l h → IsReadyStep s v (Some (letter_with l map.empty)) (change.Deliver l) (half.Hear h)
+  pub hear_ready : (l : Letter Q) (h : Hearing) → refusal_of s v.state (act.Hear l) ≡ None → IsHearing v l h → IsReadyStep s v (Some (letter_with l map.empty)) (act.Hear l) (half.Hear h)
   unfolding made_by
   hear_ready l h ok hearing = record { accepted = ok; half = record { letter = l; delivers = refl; told = refl; hearing = hearing }; event = refl; mark = refl; letter = _ }
 
-  pub call_ready : (c : Change Q) (p : Prepared Q) (b : Box (Prepared Q) Global) → refusal_of s v.state c ≡ None → sends c ≡ false → Prepares s v c p → b.value ≡ p → IsReadyStep s v None c (half.Call b)
+  pub call_ready : (c : Act Q) (p : Prepared Q) (b : Box (Prepared Q) Global) → refusal_of s v.state c ≡ None → sends c ≡ false → Prepares s v c p → b.value ≡ p → IsReadyStep s v None c (half.Call b)
   call_ready c p b ok silent h is =
       let there = subst (Prepares s v c) (sym is) h in
-      record { accepted = ok; half = there; event = there.event; mark = there.mark; letter = no_letter _ (quiet_made v.state c silent) }
+      record { accepted = ok; half = there; event = there.event; mark = there.mark; letter = no_letter _ (unsent v.state c silent) }
 
-  pub quick_ready : (q : Quick Q) → refusal_of s v.state (quick_change q) ≡ None → sends (quick_change q) ≡ false → IsReadyStep s v None (quick_change q) (half.Quick q)
-  quick_ready q ok silent =
-      let tells = quick_prepares s v q ok in
-      record { accepted = ok; half = refl; event = tells.event; mark = tells.mark; letter = no_letter _ (quiet_made v.state (quick_change q) silent) }
+  pub quiet_ready : (q : Quiet Q) → refusal_of s v.state (act.Quietly q) ≡ None → IsReadyStep s v None (act.Quietly q) (half.Quiet q)
+  unfolding made_by
+  quiet_ready q ok = record { accepted = ok; half = refl; event = refl; mark = refl; letter = _ }
 
   -- what is ready where no letter comes is so whatever letter would come
-  half_apart : (o : Option (Letter Q)) (c : Change Q) (h : Half Q) → IsHalf s v None c h → IsHalf s v o c h
+  half_apart : (o : Option (Letter Q)) (c : Act Q) (h : Half Q) → IsHalf s v None c h → IsHalf s v o c h
   half_apart o c (half.Send l) e = e
   half_apart o c (half.Hear h) e = absurd (none-some _ e.told)
   half_apart o c (half.Call p) e = e
-  half_apart o c (half.Quick q) e = e
+  half_apart o c (half.Quiet q) e = e
 
-  pub ready_apart : (o : Option (Letter Q)) (c : Change Q) (h : Half Q) → IsReadyStep s v None c h → IsReadyStep s v o c h
+  pub ready_apart : (o : Option (Letter Q)) (c : Act Q) (h : Half Q) → IsReadyStep s v None c h → IsReadyStep s v o c h
   ready_apart o c h e = record { accepted = e.accepted; half = half_apart o c h e.half; event = e.event; mark = e.mark; letter = e.letter }

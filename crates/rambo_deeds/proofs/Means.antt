@@ -1,52 +1,50 @@
--- What is said of a change holds of the step that means it
-use Rattle.std.proofs.Common.{◌≡◌, ℕ, false, [], Option, None, Some, Result, Ok, Err, OnOk, IfOk, IfErr, sym, ap, ◌∙◌, subst}
-use Rattle.std.specs.Option.{option_map_or}
+-- What is said of an act holds of the step that means it
+use Rattle.std.proofs.Common.{◌≡◌, ℕ, Option, None, Some, Result, Ok, Err, OnOk, IfOk, IfErr, sym, ap, ◌∙◌, subst}
 use Rattle.rambo_names.specs.declared.refusal.Refusal.{Refusal}
 use Rattle.rambo_names.specs.Quorums.{QuorumSystem}
 use Rattle.rambo_names.specs.Refusals.{IsRefusal}
 use Rattle.rambo_gossip.specs.declared.letter.Letter.{Letter}
-use Rattle.rambo_node.specs.declared.change.Change.{Change}
-use Rattle.rambo_node.specs.declared.prepared.Quick.{Quick}
+use Rattle.rambo_node.specs.Acts.{Act}
+use Rattle.rambo_node.specs.declared.prepared.Quiet.{Quiet}
 use Rattle.rambo_node.specs.Changes.{refusal_of}
 use Rattle.rambo_node.specs.Nodes.{NodeState, RoomyNode}
-use Rattle.rambo_node.specs.Prepared.{quick_change}
+use Rattle.rambo_node.specs.Acts as act
 use Rattle.rambo_run.specs.declared.step.Step.{Step}
-use Rattle.rambo_run.specs.Kinds.{quick_of}
-use Rattle.rambo_run.specs.Steps.{Meant, delivery, meant_in, sends}
-use Rattle.rambo_run.specs.Worlds.{WorldState}
+use Rattle.rambo_run.specs.Kinds.{quiet_of}
+use Rattle.rambo_run.specs.Steps.{Meant, meant_by}
 use Rattle.rambo_run.proofs.Lists.{some_inj}
-use Rattle.rambo_run.proofs.QuickSteps.{quick_means}
+use Rattle.rambo_run.proofs.QuietSteps.{quiet_means}
 use Rattle.rambo_deeds.specs.declared.half.Half.{Half}
-use Rattle.rambo_deeds.specs.Deeds.{judged, meant_by, outline_of, IsReadyStep}
+use Rattle.rambo_deeds.specs.Deeds.{judged, outline_of, IsReadyStep}
 use Rattle.rambo_deeds.proofs.Halves.{ready_apart}
 
--- the step means this change of some node
-abbrev pub Means : {Q : Type 0} → Option (Letter Q) → Step Q → Change Q → Type 0
-Means o st c = (n : ℕ) × (meant_by o st ≡ Some (record { name = n; change = c }))
+-- the step means this act of some node
+abbrev pub Means : {Q : Type 0} → Option (Letter Q) → Step Q → Act Q → Type 0
+Means o st c = (n : ℕ) × (meant_by o st ≡ Some (record { name = n; act = c }))
 
 -- x is how the node is kept, and y how it is seen
 module _ {Q : Type 0} (s : QuorumSystem Q) (x y : NodeState Q) (same : x ≡ y) (o : Option (Letter Q)) (st : Step Q) where
-  pub verdict : (c : Change Q) → Means o st c → judged s y (meant_by o st) ≡ refusal_of s x c
+  pub verdict : (c : Act Q) → Means o st c → judged s y (meant_by o st) ≡ refusal_of s x c
   verdict c m = ap (judged s y) m.1 ∙ ap (λ x. refusal_of s x c) (sym same)
 
-  pub cleared : {A B : Type 0} (c : Change Q) (r : Result A B) → Means o st c → OnOk r (refusal_of s x c ≡ None) → OnOk r (judged s y (meant_by o st) ≡ None)
+  pub cleared : {A B : Type 0} (c : Act Q) (r : Result A B) → Means o st c → OnOk r (refusal_of s x c ≡ None) → OnOk r (judged s y (meant_by o st) ≡ None)
   cleared c r m h = subst (λ o. OnOk r (o ≡ None)) (sym (verdict c m)) h
 
-  pub refused : {A : Type 0} (c : Change Q) (r : Result A Refusal) → Means o st c → IfErr r (λ f. refusal_of s x c ≡ Some f) → IfErr r (λ f. judged s y (meant_by o st) ≡ Some f)
+  pub refused : {A : Type 0} (c : Act Q) (r : Result A Refusal) → Means o st c → IfErr r (λ f. refusal_of s x c ≡ Some f) → IfErr r (λ f. judged s y (meant_by o st) ≡ Some f)
   refused c r m h = subst (λ o. IfErr r (λ f. o ≡ Some f)) (sym (verdict c m)) h
 
-  pub told : {A : Type 0} (c : Change Q) (r : Result A Refusal) → Means o st c → IfErr r (IsRefusal (refusal_of s x c)) → IfErr r (IsRefusal (judged s y (meant_by o st)))
+  pub told : {A : Type 0} (c : Act Q) (r : Result A Refusal) → Means o st c → IfErr r (IsRefusal (refusal_of s x c)) → IfErr r (IsRefusal (judged s y (meant_by o st)))
   told c r m h = subst (λ o. IfErr r (IsRefusal o)) (sym (verdict c m)) h
 
 -- of one that is ready
 module _ {Q : Type 0} (s : QuorumSystem Q) (v : RoomyNode Q) (o : Option (Letter Q)) (st : Step Q) where
-  changed : (c : Change Q) → Means o st c → (m : Meant Q) → meant_by o st ≡ Some m → c ≡ m.change
-  changed c m other e = ap (λ (m : Meant _). m.change) (some_inj _ other (sym m.1 ∙ e))
+  changed : (c : Act Q) → Means o st c → (m : Meant Q) → meant_by o st ≡ Some m → c ≡ m.act
+  changed c m other e = ap (λ (m : Meant _). m.act) (some_inj _ other (sym m.1 ∙ e))
 
-  pub ready_by : (c : Change Q) (h : Half Q) → Means o st c → IsReadyStep s v None c h → (m : Meant Q) → meant_by o st ≡ Some m → IsReadyStep s v (outline_of o) m.change h
-  ready_by c h m e other is = ready_apart s v (outline_of o) other.change h (subst (λ c. IsReadyStep s v None c h) (changed c m other is) e)
+  pub ready_by : (c : Act Q) (h : Half Q) → Means o st c → IsReadyStep s v None c h → (m : Meant Q) → meant_by o st ≡ Some m → IsReadyStep s v (outline_of o) m.act h
+  ready_by c h m e other is = ready_apart s v (outline_of o) other.act h (subst (λ c. IsReadyStep s v None c h) (changed c m other is) e)
 
-  pub ready_after : {B : Type 0} (c : Change Q) (r : Result (Half Q) B) → Means o st c → IfOk r (IsReadyStep s v None c) → IfOk r (λ h. (m : Meant Q) → meant_by o st ≡ Some m → IsReadyStep s v (outline_of o) m.change h)
+  pub ready_after : {B : Type 0} (c : Act Q) (r : Result (Half Q) B) → Means o st c → IfOk r (IsReadyStep s v None c) → IfOk r (λ h. (m : Meant Q) → meant_by o st ≡ Some m → IsReadyStep s v (outline_of o) m.act h)
   ready_after c (Ok h) m e = ready_by c h m e
   ready_after c (Err b) m e = e
 
@@ -62,22 +60,12 @@ module _ {Q : Type 0} (s : QuorumSystem Q) (x y : NodeState Q) (same : x ≡ y) 
   told_as r h = subst (λ x. IfErr r (IsRefusal (judged s x (meant_by o st)))) same (subst (λ st. IfErr r (IsRefusal (judged s x (meant_by o st)))) (sym is) h)
 
 pub ready_as : {Q B : Type 0} (s : QuorumSystem Q) (v : RoomyNode Q) (o : Option (Letter Q)) (st new : Step Q) (r : Result (Half Q) B) → st ≡ new
-    → IfOk r (λ h. (m : Meant Q) → meant_by o new ≡ Some m → IsReadyStep s v (outline_of o) m.change h) → IfOk r (λ h. (m : Meant Q) → meant_by o st ≡ Some m → IsReadyStep s v (outline_of o) m.change h)
-ready_as s v o st new r is e = subst (λ st. IfOk r (λ h. (m : Meant _) → meant_by o st ≡ Some m → IsReadyStep s v (outline_of o) m.change h)) (sym is) e
+    → IfOk r (λ h. (m : Meant Q) → meant_by o new ≡ Some m → IsReadyStep s v (outline_of o) m.act h) → IfOk r (λ h. (m : Meant Q) → meant_by o st ≡ Some m → IsReadyStep s v (outline_of o) m.act h)
+ready_as s v o st new r is e = subst (λ st. IfOk r (λ h. (m : Meant _) → meant_by o st ≡ Some m → IsReadyStep s v (outline_of o) m.act h)) (sym is) e
 
--- no letter was sent
-abbrev lone : {Q : Type 0} → WorldState Q
-lone = record { nodes = []; letters = []; history = []; marks = [] }
-
--- a step that means a quick change means it whichever letter comes
-pub quick_by : {Q : Type 0} (o : Option (Letter Q)) (st : Step Q) (p : ℕ × Quick Q) → quick_of st ≡ Some p → Means o st (quick_change p.1)
-quick_by o st p e =
-    let is = quick_means lone st p e in
-    (p.0, ap (λ n. option_map_or (λ number. delivery o) n (meant_in [] st)) is.stays ∙ is.means)
-
--- sends no letter
-pub quick_silent : {Q : Type 0} (st : Step Q) (p : ℕ × Quick Q) → quick_of st ≡ Some p → sends (quick_change p.1) ≡ false
-quick_silent st p e = (quick_means lone st p e).silent
+-- a step of a quiet act means it whichever letter comes
+pub quiet_by : {Q : Type 0} (o : Option (Letter Q)) (st : Step Q) (p : ℕ × Quiet Q) → quiet_of st ≡ Some p → Means o st (act.Quietly p.1)
+quiet_by o st p e = (p.0, quiet_means o st p e)
 
 -- which refusal is told
 pub refused_alike : (o p : Option Refusal) (r : Refusal) → o ≡ p → IsRefusal p r → IsRefusal o r

@@ -1,6 +1,5 @@
 -- What a step that a node takes does, where this is the letter that it delivers
-use Rattle.std.specs.Prelude.{◌≡◌, ℕ, Option, None, Some, List, []}
-use Rattle.std.specs.Option.{option_and_then, option_map_or}
+use Rattle.std.specs.Prelude.{◌≡◌, ℕ, Option, None, Some, List}
 use Rattle.rambo_names.specs.declared.refusal.Refusal.{Refusal}
 use Rattle.rambo_names.specs.declared.refusal.Refusal.TheVariants.{NoSuchLetter}
 use Rattle.rambo_names.specs.Names.{IsName}
@@ -9,34 +8,23 @@ use Rattle.rambo_history.specs.declared.event.Event.{Event}
 use Rattle.std.specs.FinMap as copies
 use Rattle.rambo_gossip.specs.declared.letter.Letter.{Letter}
 use Rattle.rambo_gossip.specs.Letters.{letter_with}
-use Rattle.rambo_node.specs.declared.change.Change.{Change}
-use Rattle.rambo_node.specs.declared.change.Change.TheVariants as change
+use Rattle.rambo_node.specs.Acts.{Act}
+use Rattle.rambo_node.specs.Acts as act
 use Rattle.rambo_node.specs.declared.prepared.Hearing.{Hearing}
 use Rattle.rambo_node.specs.declared.effect.Effect.{Effect}
 use Rattle.rambo_node.specs.Changes.{Made, refusal_of, made_by}
 use Rattle.rambo_node.specs.FullNodes.{IsDeltaLetter, full}
 use Rattle.rambo_node.specs.Nodes.{NodeState, RoomyNode}
-use Rattle.rambo_node.specs.Prepared.{IsHearing, Prepares, quick_change}
-use Rattle.rambo_run.specs.declared.step.Step.{Step}
-use Rattle.rambo_run.specs.Kinds.{delivered_by}
-use Rattle.rambo_run.specs.Worlds.{letter_at}
-use Rattle.rambo_run.specs.Steps.{Meant, meant_in, delivery, effect_in}
+use Rattle.rambo_node.specs.Prepared.{IsHearing, Prepares}
+use Rattle.rambo_run.specs.Steps.{Meant, effect_in}
 use Rattle.rambo_sequence.specs.declared.mark.Mark.{Mark}
 use Rattle.rambo_deeds.specs.declared.half.Half.{Half}
 use Rattle.rambo_deeds.specs.declared.half.Half.TheVariants as half
 
--- what a step means where this is the letter that it delivers, if it was sent
-abbrev pub meant_by : {Q : Type 0} → Option (Letter Q) → Step Q → Option (Meant Q)
-meant_by o st = option_map_or (λ number. delivery o) (delivered_by st) (meant_in [] st)
-
 -- why the node that is meant refuses it
 abbrev pub judged : {Q : Type 0} → QuorumSystem Q → NodeState Q → Option (Meant Q) → Option Refusal
 judged s x None = Some NoSuchLetter
-judged s x (Some m) = refusal_of s x m.change
-
--- the letter that a step delivers, if it delivers one that was sent
-abbrev pub letter_in : {Q : Type 0} → List (Letter Q) → Step Q → Option (Letter Q)
-letter_in ls st = option_and_then (letter_at ls) (delivered_by st)
+judged s x (Some m) = refusal_of s x m.act
 
 -- a letter without its copies, if there is one
 abbrev pub outline_of : {Q : Type 0} → Option (Letter Q) → Option (Letter Q)
@@ -44,18 +32,18 @@ outline_of None = None
 outline_of (Some l) = Some (letter_with l copies.empty)
 
 -- a letter with this outline comes to the node, and may be heard so
-pub record IsReadyDelivery {Q : Type 0} (v : RoomyNode Q) (outline : Option (Letter Q)) (c : Change Q) (h : Hearing) : Type 0 where
+pub record IsReadyDelivery {Q : Type 0} (v : RoomyNode Q) (outline : Option (Letter Q)) (a : Act Q) (h : Hearing) : Type 0 where
   pub letter : Letter Q
-  pub delivers : c ≡ change.Deliver letter
+  pub delivers : a ≡ act.Hear letter
   pub told : outline ≡ Some (letter_with letter copies.empty)
   pub hearing : IsHearing v letter h
 
--- the first half of a change is made, where a letter that comes has this outline
-abbrev pub IsHalf : {Q : Type 0} → QuorumSystem Q → RoomyNode Q → Option (Letter Q) → Change Q → Half Q → Type 0
-IsHalf {Q} s v outline c (half.Send l) = (to : ℕ) × (c ≡ change.Send to)
-IsHalf s v outline c (half.Hear h) = IsReadyDelivery v outline c h
-IsHalf s v outline c (half.Call p) = Prepares s v c p.value
-IsHalf s v outline c (half.Quick q) = c ≡ quick_change q
+-- the first half of an act is made, where a letter that comes has this outline
+abbrev pub IsHalf : {Q : Type 0} → QuorumSystem Q → RoomyNode Q → Option (Letter Q) → Act Q → Half Q → Type 0
+IsHalf {Q} s v outline a (half.Send l) = (to : ℕ) × (a ≡ act.Send to)
+IsHalf s v outline a (half.Hear h) = IsReadyDelivery v outline a h
+IsHalf s v outline a (half.Call p) = Prepares s v a p.value
+IsHalf s v outline a (half.Quiet q) = a ≡ act.Quietly q
 
 -- what it has: an event, a mark, a letter
 abbrev pub event_of : {Q : Type 0} → Half Q → Option Event
@@ -70,20 +58,20 @@ abbrev pub letter_of : {Q : Type 0} → Half Q → Option (Letter Q)
 letter_of (half.Send l) = Some l
 letter_of _ = None
 
--- the letter that goes out, where the change sends this whole one to a name: it with those copies that its addressee may lack
+-- the letter that goes out, where the act sends this whole one to a name: it with those copies that its addressee may lack
 abbrev pub SendsFor : {Q : Type 0} → RoomyNode Q → Option (Letter Q) → Option (Letter Q) → Type 0
 SendsFor v None None = Unit {0}
 SendsFor v None (Some whole) = ⊥
 SendsFor v (Some l) None = ⊥
 SendsFor v (Some l) (Some whole) = IsName whole.addressee × IsDeltaLetter (full v) whole.addressee l
 
--- and what it has is what the change does, which isn't refused
-pub record IsReadyStep {Q : Type 0} (s : QuorumSystem Q) (v : RoomyNode Q) (outline : Option (Letter Q)) (c : Change Q) (h : Half Q) : Type 0 where
-  pub accepted : refusal_of s v.state c ≡ None
-  pub half : IsHalf s v outline c h
-  pub event : event_of h ≡ (made_by v.state c).deed.event
-  pub mark : mark_of h ≡ (made_by v.state c).deed.mark
-  pub letter : SendsFor v (letter_of h) (made_by v.state c).letter
+-- and what it has is what the act does, which isn't refused
+pub record IsReadyStep {Q : Type 0} (s : QuorumSystem Q) (v : RoomyNode Q) (outline : Option (Letter Q)) (a : Act Q) (h : Half Q) : Type 0 where
+  pub accepted : refusal_of s v.state a ≡ None
+  pub half : IsHalf s v outline a h
+  pub event : event_of h ≡ (made_by v.state a).deed.event
+  pub mark : mark_of h ≡ (made_by v.state a).deed.mark
+  pub letter : SendsFor v (letter_of h) (made_by v.state a).letter
 
 -- what a step did
 pub record Done (Q : Type 0) : Type 0 where

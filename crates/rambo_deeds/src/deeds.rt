@@ -1,16 +1,16 @@
 //! What the node that a step means makes of it.
-ghost use Rattle.std.specs.Prelude.{◌≡◌, None, Some, false, OnOk, IfOk, IfErr};
+ghost use Rattle.std.specs.Prelude.{◌≡◌, None, Some, OnOk, IfOk, IfErr};
 ghost use Rattle.std.specs.Option.{option_copied};
 ghost use Rattle.rambo_names.specs.Refusals.{IsRefusal};
 ghost use Rattle.rambo_node.specs.Changes.{refusal_of, made_by};
 ghost use Rattle.rambo_gossip.specs.Letters.{letter_with};
 ghost use Rattle.rambo_node.specs.FullNodes.{beside_after};
 ghost use Rattle.rambo_node.specs.Hearing.{heard_letter};
-ghost use Rattle.rambo_node.specs.Prepared.{IsPrepared, IsReadyKind, change_of, quick_change};
-ghost use Rattle.rambo_run.specs.Steps.{Meant, meant_in, delivery, sends};
+ghost use Rattle.rambo_node.specs.Prepared.{IsPrepared, IsReadyKind, act_in};
+ghost use Rattle.rambo_node.specs.Acts as act;
+ghost use Rattle.rambo_run.specs.Steps.{Meant, meant_by, meant_in, letter_in, delivery};
 ghost use Rattle.rambo_run.specs.Worlds.{letter_at};
-ghost use Rattle.rambo_node.specs.declared.change.Change.TheVariants as change;
-ghost use Rattle.rambo_deeds.specs.Deeds.{judged, letter_in, meant_by, name_in, outline_of, IsReadyStep};
+ghost use Rattle.rambo_deeds.specs.Deeds.{judged, name_in, outline_of, IsReadyStep};
 
 use crate::carried::Carried;
 use crate::half::Half;
@@ -19,8 +19,8 @@ use crate::worker::Worker;
 use rambo_history::{CallId, Op};
 use rambo_letters::{SharedLetter, Standing};
 use rambo_names::{Name, Quorums, Refusal};
-use rambo_node::{Effect, Hearing, Node, Prepared, Quick};
-use rambo_run::{Step, quick_of};
+use rambo_node::{Effect, Hearing, Node, Prepared, Quiet};
+use rambo_run::{Step, quiet_of};
 use rambo_tag::Replica;
 use std::alloc::Global;
 use std::sync::Arc;
@@ -44,7 +44,7 @@ pub fn named_by<Q: Quorums>(letters: &[SharedLetter<Q>], step: &Step<Q>) -> Opti
         Step::Send(name, _) => Some(*name),
         Step::Deliver(number) => addressee(letters, *number),
         Step::Advance(id) => Some(id.name),
-        _ => match quick_of(step) {
+        _ => match quiet_of(step) {
             Some(meant) => Some(meant.0),
             None => unreachable!(),
         },
@@ -85,11 +85,11 @@ impl<Q: Quorums, S: Replica> Worker<Q, S> {
     {
         match step {
             Step::Call(_, op) => self.node.may_call(op),
-            Step::Send(_, to) => self.node.judge_quick(&Quick::Send(*to)),
+            Step::Send(_, to) => self.node.may_send(*to),
             Step::Advance(id) => may_advance(&self.node, id),
             Step::Deliver(_) => may_deliver(&self.node, letter),
-            _ => match quick_of(step) {
-                Some(meant) => self.node.judge_quick(&meant.1),
+            _ => match quiet_of(step) {
+                Some(meant) => self.node.may_quiet(&meant.1),
                 None => unreachable!(),
             },
         }
@@ -108,7 +108,7 @@ impl<Q: Quorums, S: Replica> Worker<Q, S> {
         ensures judged { OnOk result (judged Q.system self.old.state (meant_by (option_copied letter.entry) step.now) ≡ None) }
         ensures same { self.new.state ≡ self.old.state }
         ensures beside { self.new.beside ≡ self.old.beside }
-        ensures ready { IfOk result (λ h. (m : Meant _) → meant_by (option_copied letter.entry) step.now ≡ Some m → IsReadyStep Q.system self.new (outline_of (option_copied letter.entry)) m.change h) }
+        ensures ready { IfOk result (λ h. (m : Meant _) → meant_by (option_copied letter.entry) step.now ≡ Some m → IsReadyStep Q.system self.new (outline_of (option_copied letter.entry)) m.act h) }
         ensures refused { IfErr result (IsRefusal (judged Q.system self.old.state (meant_by (option_copied letter.entry) step.now))) }
     {
         match step {
@@ -118,8 +118,8 @@ impl<Q: Quorums, S: Replica> Worker<Q, S> {
             }
             Step::Advance(id) => ready_advance(alloc, &mut self.node, id),
             Step::Deliver(_) => ready_delivery(alloc, &mut self.node, letter),
-            _ => match quick_of(step) {
-                Some(meant) => ready_quick(&self.node, meant.1),
+            _ => match quiet_of(step) {
+                Some(meant) => ready_quiet(&self.node, meant.1),
                 None => unreachable!(),
             },
         }
@@ -130,9 +130,9 @@ impl<Q: Quorums, S: Replica> Worker<Q, S> {
     /// It allocates nothing and can't fail.
     pub fn finish(&mut self, prepared: Prepared<Q>) -> Effect<Q>
         requires { IsPrepared Q.system self.old prepared }
-        ensures node { self.new.state ≡ (made_by self.old.state (change_of prepared)).node }
-        ensures beside { self.new.beside ≡ beside_after self.old.state self.old.beside (change_of prepared) }
-        ensures effect { result ≡ (made_by self.old.state (change_of prepared)).deed.effect }
+        ensures node { self.new.state ≡ (made_by self.old.state (act_in prepared)).node }
+        ensures beside { self.new.beside ≡ beside_after self.old.state self.old.beside (act_in prepared) }
+        ensures effect { result ≡ (made_by self.old.state (act_in prepared)).deed.effect }
     {
         self.node.finish(prepared)
     }
@@ -143,26 +143,26 @@ impl<Q: Quorums, S: Replica> Worker<Q, S> {
     pub fn finish_delivery(&mut self, letter: &SharedLetter<Q>, hearing: Hearing)
         requires { IsReadyKind self.old letter.now.kind hearing.copies hearing.number }
         ensures node { self.new.state ≡ heard_letter self.old.state (letter_with letter.now hearing.copies) }
-        ensures beside { self.new.beside ≡ beside_after self.old.state self.old.beside (change.Deliver (letter_with letter.now hearing.copies)) }
+        ensures beside { self.new.beside ≡ beside_after self.old.state self.old.beside (act.Hear (letter_with letter.now hearing.copies)) }
     {
         self.node.finish_outlined(&letter.outline(), hearing);
     }
 
-    /// The second half of a change that allocates nothing and isn't refused.
-    pub fn finish_quick(&mut self, quick: Quick<Q>) -> Effect<Q>
-        requires { refusal_of Q.system self.old.state (quick_change quick) ≡ None }
-        ensures node { self.new.state ≡ (made_by self.old.state (quick_change quick)).node }
-        ensures beside { self.new.beside ≡ beside_after self.old.state self.old.beside (quick_change quick) }
-        ensures effect { result ≡ (made_by self.old.state (quick_change quick)).deed.effect }
+    /// The second half of a change that is quiet and isn't refused.
+    pub fn do_quiet(&mut self, quiet: Quiet<Q>) -> Effect<Q>
+        requires { refusal_of Q.system self.old.state (act.Quietly quiet) ≡ None }
+        ensures node { self.new.state ≡ (made_by self.old.state (act.Quietly quiet)).node }
+        ensures beside { self.new.beside ≡ self.old.beside }
+        ensures effect { result ≡ (made_by self.old.state (act.Quietly quiet)).deed.effect }
     {
-        self.node.finish_quick(quick)
+        self.node.do_quiet(quiet)
     }
 }
 
 // Why a call of the node may not go on, if it may not.
 fn may_advance<Q: Quorums, S: Replica>(node: &Node<Q, S>, id: &CallId) -> Result<(), Refusal>
-    ensures ok { OnOk result (refusal_of Q.system node.now.state (change.Advance id.now) ≡ None) }
-    ensures refused { IfErr result (λ r. refusal_of Q.system node.now.state (change.Advance id.now) ≡ Some r) }
+    ensures ok { OnOk result (refusal_of Q.system node.now.state (act.Advance id.now) ≡ None) }
+    ensures refused { IfErr result (λ r. refusal_of Q.system node.now.state (act.Advance id.now) ≡ Some r) }
 {
     let _found = node.may_advance(id)?;
     Ok(())
@@ -188,11 +188,11 @@ fn ready_call<Q: Quorums, S: Replica>(
     node: &mut Node<Q, S>,
     op: &Op,
 ) -> Result<Half<Q>, Refusal>
-    ensures judged { OnOk result (refusal_of Q.system node.old.state (change.Call op.now) ≡ None) }
+    ensures judged { OnOk result (refusal_of Q.system node.old.state (act.Call op.now) ≡ None) }
     ensures same { node.new.state ≡ node.old.state }
     ensures beside { node.new.beside ≡ node.old.beside }
-    ensures ready { IfOk result (IsReadyStep Q.system node.new None (change.Call op.now)) }
-    ensures refused { IfErr result (IsRefusal (refusal_of Q.system node.old.state (change.Call op.now))) }
+    ensures ready { IfOk result (IsReadyStep Q.system node.new None (act.Call op.now)) }
+    ensures refused { IfErr result (IsRefusal (refusal_of Q.system node.old.state (act.Call op.now))) }
 {
     node.may_call(op)?;
     let prepared = node.prepare_call(op)?;
@@ -205,11 +205,11 @@ fn ready_advance<Q: Quorums, S: Replica>(
     node: &mut Node<Q, S>,
     id: &CallId,
 ) -> Result<Half<Q>, Refusal>
-    ensures judged { OnOk result (refusal_of Q.system node.old.state (change.Advance id.now) ≡ None) }
+    ensures judged { OnOk result (refusal_of Q.system node.old.state (act.Advance id.now) ≡ None) }
     ensures same { node.new.state ≡ node.old.state }
     ensures beside { node.new.beside ≡ node.old.beside }
-    ensures ready { IfOk result (IsReadyStep Q.system node.new None (change.Advance id.now)) }
-    ensures refused { IfErr result (IsRefusal (refusal_of Q.system node.old.state (change.Advance id.now))) }
+    ensures ready { IfOk result (IsReadyStep Q.system node.new None (act.Advance id.now)) }
+    ensures refused { IfErr result (IsRefusal (refusal_of Q.system node.old.state (act.Advance id.now))) }
 {
     let found = node.may_advance(id)?;
     let prepared = node.prepare_advance(*id, found)?;
@@ -225,11 +225,11 @@ fn ready_send<Q: Quorums, S: Replica>(
     carried: &mut Carried,
     to: Name,
 ) -> Result<Half<Q>, Refusal>
-    ensures judged { OnOk result (refusal_of Q.system node.now.state (change.Send to) ≡ None) }
-    ensures ready { IfOk result (IsReadyStep Q.system node.now None (change.Send to)) }
-    ensures refused { IfErr result (IsRefusal (refusal_of Q.system node.now.state (change.Send to))) }
+    ensures judged { OnOk result (refusal_of Q.system node.now.state (act.Send to) ≡ None) }
+    ensures ready { IfOk result (IsReadyStep Q.system node.now None (act.Send to)) }
+    ensures refused { IfErr result (IsRefusal (refusal_of Q.system node.now.state (act.Send to))) }
 {
-    node.judge_quick(&Quick::Send(to))?;
+    node.may_send(to)?;
     // (whom it is for has a number in range)
     let _number = to.number();
     let copies = node.pack_for(to)?;
@@ -248,7 +248,7 @@ fn ready_delivery<Q: Quorums, S: Replica>(
     ensures judged { OnOk result (judged Q.system node.old.state (delivery (option_copied letter.entry)) ≡ None) }
     ensures same { node.new.state ≡ node.old.state }
     ensures beside { node.new.beside ≡ node.old.beside }
-    ensures ready { IfOk result (λ h. (m : Meant _) → delivery (option_copied letter.entry) ≡ Some m → IsReadyStep Q.system node.new (outline_of (option_copied letter.entry)) m.change h) }
+    ensures ready { IfOk result (λ h. (m : Meant _) → delivery (option_copied letter.entry) ≡ Some m → IsReadyStep Q.system node.new (outline_of (option_copied letter.entry)) m.act h) }
     ensures refused { IfErr result (IsRefusal (judged Q.system node.old.state (delivery (option_copied letter.entry)))) }
 {
     let Some(letter) = letter else {
@@ -258,16 +258,15 @@ fn ready_delivery<Q: Quorums, S: Replica>(
     Ok(Half::Hear(hearing))
 }
 
-// That of a change that allocates nothing and sends no letter.
-fn ready_quick<Q: Quorums, S: Replica>(
+// That of a change that is quiet.
+fn ready_quiet<Q: Quorums, S: Replica>(
     node: &Node<Q, S>,
-    quick: Quick<Q>,
+    quiet: Quiet<Q>,
 ) -> Result<Half<Q>, Refusal>
-    requires { sends (quick_change quick) ≡ false }
-    ensures judged { OnOk result (refusal_of Q.system node.now.state (quick_change quick) ≡ None) }
-    ensures ready { IfOk result (IsReadyStep Q.system node.now None (quick_change quick)) }
-    ensures refused { IfErr result (IsRefusal (refusal_of Q.system node.now.state (quick_change quick))) }
+    ensures judged { OnOk result (refusal_of Q.system node.now.state (act.Quietly quiet) ≡ None) }
+    ensures ready { IfOk result (IsReadyStep Q.system node.now None (act.Quietly quiet)) }
+    ensures refused { IfErr result (IsRefusal (refusal_of Q.system node.now.state (act.Quietly quiet))) }
 {
-    node.judge_quick(&quick)?;
-    Ok(Half::Quick(quick))
+    node.may_quiet(&quiet)?;
+    Ok(Half::Quiet(quiet))
 }

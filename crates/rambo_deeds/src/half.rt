@@ -2,7 +2,7 @@
 
 use rambo_letters::SharedLetter;
 use rambo_names::Quorums;
-use rambo_node::{Hearing, Prepared, Quick};
+use rambo_node::{Hearing, Prepared, Quiet};
 
 /// The first half of a step, for which there is room: what its second half needs of it.
 ///
@@ -16,5 +16,5 @@ pub enum Half<Q: Quorums> {
     /// A call is made, or advances.
     Call(Box<Prepared<Q>>),
     /// Any other change.
-    Quick(Quick<Q>),
+    Quiet(Quiet<Q>),
 }

@@ -4,7 +4,7 @@ ghost use Rattle.rambo_gossip.specs.Short.{copies_in};
 ghost use Rattle.rambo_names.specs.Refusals.{IsRefusal};
 ghost use Rattle.rambo_node.specs.Changes.{refusal_of};
 ghost use Rattle.rambo_node.specs.Prepared.{IsHearing};
-ghost use Rattle.rambo_node.specs.declared.change.Change.TheVariants as change;
+ghost use Rattle.rambo_node.specs.Acts as act;
 
 use rambo_letters::SharedLetter;
 use rambo_names::{Quorums, Refusal};
@@ -17,8 +17,8 @@ pub fn may_hear<Q: Quorums, S: Replica>(
     node: &Node<Q, S>,
     letter: &SharedLetter<Q>,
 ) -> Result<(), Refusal>
-    ensures ok { OnOk result (refusal_of Q.system node.now.state (change.Deliver letter.now) ≡ None) }
-    ensures refused { IfErr result (λ r. refusal_of Q.system node.now.state (change.Deliver letter.now) ≡ Some r) }
+    ensures ok { OnOk result (refusal_of Q.system node.now.state (act.Hear letter.now) ≡ None) }
+    ensures refused { IfErr result (λ r. refusal_of Q.system node.now.state (act.Hear letter.now) ≡ Some r) }
 {
     node.may_hear_outlined(&letter.outline())
 }
@@ -30,11 +30,11 @@ pub(crate) fn ready_letter<Q: Quorums, S: Replica>(
     node: &mut Node<Q, S>,
     letter: &SharedLetter<Q>,
 ) -> Result<Hearing, Refusal>
-    ensures judged { OnOk result (refusal_of Q.system node.old.state (change.Deliver letter.now) ≡ None) }
+    ensures judged { OnOk result (refusal_of Q.system node.old.state (act.Hear letter.now) ≡ None) }
     ensures same { node.new.state ≡ node.old.state }
     ensures beside { node.new.beside ≡ node.old.beside }
     ensures hearing { IfOk result (IsHearing node.new letter.now) }
-    ensures refused { IfErr result (IsRefusal (refusal_of Q.system node.old.state (change.Deliver letter.now))) }
+    ensures refused { IfErr result (IsRefusal (refusal_of Q.system node.old.state (act.Hear letter.now))) }
 {
     let outline = letter.outline();
     node.may_hear_outlined(&outline)?;

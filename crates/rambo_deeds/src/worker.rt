@@ -6,7 +6,7 @@ use crate::carried::Carried;
 use rambo_config_map::ConfigMap;
 use rambo_letters::Standing;
 use rambo_names::{Members, Name, Quorums, Refusal};
-use rambo_node::{Node, Quick};
+use rambo_node::{Node, Quiet};
 use rambo_tag::Replica;
 use std::alloc::Global;
 use std::marker::Model;
@@ -77,7 +77,7 @@ impl<Q: Quorums, S: Replica> Worker<Q, S> {
         let mut known = Members::empty();
         for number in 1..65u64 {
             if let Ok(name) = Name::new(number) {
-                if self.node.judge_quick(&Quick::Send(name)).is_ok() {
+                if self.node.may_send(name).is_ok() {
                     known = known.with(name);
                 }
             }
@@ -105,8 +105,8 @@ impl<Q: Quorums, S: Replica> Worker<Q, S> {
             return !status.is_idle();
         }
         !self.node.calls().is_empty()
-            || goes_on(self.node.judge_quick(&Quick::AdvanceCollect))
-            || goes_on(self.node.judge_quick(&Quick::AdvanceRecon))
+            || goes_on(self.node.may_quiet(&Quiet::AdvanceCollect))
+            || goes_on(self.node.may_quiet(&Quiet::AdvanceRecon))
     }
 }
 

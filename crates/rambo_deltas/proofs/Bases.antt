@@ -10,8 +10,7 @@ use Rattle.rambo_tag.proofs.CopyOrder.{is_below, is_below-irrefl, is_below-asymm
 use Rattle.rambo_joiner.specs.Statuses.{is_active}
 use Rattle.rambo_gossip.specs.declared.letter.Letter.{Letter}
 use Rattle.rambo_gossip.specs.declared.letter.Kind.TheVariants as kind
-use Rattle.rambo_node.specs.declared.change.Change.{Change}
-use Rattle.rambo_node.specs.declared.change.Change.TheVariants as change
+use Rattle.rambo_node.specs.Acts.{Act}
 use Rattle.rambo_node.specs.Letters.{letter_for, gossip_for}
 use Rattle.rambo_node.specs.Nodes.{NodeState, heard_from}
 use Rattle.rambo_run.specs.declared.step.Step.{Step}
@@ -26,10 +25,11 @@ use Rattle.rambo_run.proofs.CollectionClaims.{then, runs, is_then}
 use Rattle.rambo_run.proofs.TagClaims.{one_copy}
 use Rattle.rambo_deltas.specs.Bases.{brought_by, base_in, OldCopiesAreHeld}
 use Rattle.rambo_node.specs.FullNodes.{heard_in}
+use Rattle.rambo_node.specs.Acts as act
 use Rattle.rambo_deltas.proofs.Delivered.{delivered}
 
 -- some change brought the base
-base_some : {Q : Type 0} (j : ℕ) (cs : List (Change Q)) (a : ℕ) → a < base_in j cs → (c : Change Q) × Member c cs × (a < brought_by j c)
+base_some : {Q : Type 0} (j : ℕ) (cs : List (Act Q)) (a : ℕ) → a < base_in j cs → (c : Act Q) × Member c cs × (a < brought_by j c)
 base_some j [] a h = absurd (omega arith)
 base_some j (c ∷ cs) a h = elim (cases_lt a (brought_by j c)) [
   | inl lt ↦ (c, inl refl, lt)
@@ -37,8 +37,8 @@ base_some j (c ∷ cs) a h = elim (cases_lt a (brought_by j c)) [
 ]
 
 -- it was a letter of j
-letter_of : {Q : Type 0} (j : ℕ) (c : Change Q) (a : ℕ) → a < brought_by j c → (l : Letter Q) × (c ≡ change.Deliver l) × (l.sender ≡ j) × (a < heard_in l.kind)
-letter_of j (change.Deliver l) a h = elim (pick (nat_eq l.sender j) (heard_in l.kind) 0) [
+letter_of : {Q : Type 0} (j : ℕ) (c : Act Q) (a : ℕ) → a < brought_by j c → (l : Letter Q) × (c ≡ act.Hear l) × (l.sender ≡ j) × (a < heard_in l.kind)
+letter_of j (act.Hear l) a h = elim (pick (nat_eq l.sender j) (heard_in l.kind) 0) [
   | inl p ↦ (l, refl, eqb-true l.sender j p.0, omega (arith, h, p.1))
   | inr p ↦ absurd (omega (arith, h, p.1))
 ]
@@ -89,7 +89,7 @@ module _ {Q : Type 0} (s : QuorumSystem Q) (founders : Q) (steps : List (Step Q)
   told_more n j m low =
       let b = base_some j (journal s founders n steps) (node m n).number low in
       let l = letter_of j b.0 (node m n).number b.2 in
-      let d = delivered s founders steps n l.0 (subst (λ (c : Change Q). Member c (journal s founders n steps)) l.1 b.1) in
+      let d = delivered s founders steps n l.0 (subst (λ (c : Act Q). Member c (journal s founders n steps)) l.1 b.1) in
       let heard : (node m n).number < heard_from (node d.moment l.0.sender).heard n =
       carried (node d.moment l.0.sender) n (node m n).number (subst (λ (l : Letter Q). (node m n).number < heard_in l.kind) (sym d.content) l.3) in
       (d.moment, d.before, subst (λ j. (node m n).number < heard_from (node d.moment j).heard n) l.2 heard)

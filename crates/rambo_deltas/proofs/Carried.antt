@@ -3,8 +3,7 @@ use Rattle.std.proofs.Common.{◌≡◌, ℕ, ◌-◌, ◌≤◌, max, if◌then
 use Rattle.std.proofs.lemmas.List.{length-set, get_or-set_other, get_or-set_same}
 use Rattle.rambo_names.specs.Quorums.{QuorumSystem}
 use Rattle.rambo_gossip.specs.declared.letter.Letter.{Letter}
-use Rattle.rambo_node.specs.declared.change.Change.{Change}
-use Rattle.rambo_node.specs.declared.change.Change.TheVariants as change
+use Rattle.rambo_node.specs.Acts.{Act}
 use Rattle.rambo_node.specs.Nodes.{heard_from, raised}
 use Rattle.rambo_run.specs.Journals.{journal}
 use Rattle.rambo_run.proofs.Held.{get_or-replicate}
@@ -12,6 +11,7 @@ use Rattle.rambo_run.proofs.Lists.{Member, pick}
 use Rattle.rambo_deltas.specs.Bases.{brought_by, base_in}
 use Rattle.rambo_deltas.specs.Deltas.{full_at, BasesAreCarried}
 use Rattle.rambo_node.specs.FullNodes.{FullNode, heard_in, bases_after, full_after, fully_replayed, first_full}
+use Rattle.rambo_node.specs.Acts as act
 use Rattle.rambo_deltas.proofs.Delivered.{delivered}
 
 -- one name's number is raised, and no other's
@@ -30,19 +30,19 @@ raised_to b k j h one named there = elim (pick (nat_eq k j) h 0) [
 ]
 
 -- the letters of a list have senders
-abbrev HaveSenders : {Q : Type 0} → List (Change Q) → Type 0
-HaveSenders {Q} cs = (l : Letter Q) → Member (change.Deliver l) cs → 1 ≤ l.sender
+abbrev HaveSenders : {Q : Type 0} → List (Act Q) → Type 0
+HaveSenders {Q} cs = (l : Letter Q) → Member (act.Hear l) cs → 1 ≤ l.sender
 
-brought : {Q : Type 0} (b : List ℕ) (c : Change Q) (j : ℕ) → 1 ≤ j → j ≤ length b → ((l : Letter Q) → c ≡ change.Deliver l → 1 ≤ l.sender) → heard_from (bases_after b c) j ≡ max (heard_from b j) (brought_by j c)
-brought b (change.Deliver l) j one there f = raised_to b l.sender j (heard_in l.kind) (f l refl) one there
+brought : {Q : Type 0} (b : List ℕ) (c : Act Q) (j : ℕ) → 1 ≤ j → j ≤ length b → ((l : Letter Q) → c ≡ act.Hear l → 1 ≤ l.sender) → heard_from (bases_after b c) j ≡ max (heard_from b j) (brought_by j c)
+brought b (act.Hear l) j one there f = raised_to b l.sender j (heard_in l.kind) (f l refl) one there
 brought b _ j one there f = omega arith
 
 -- there are as many bases as before
-as_many : {Q : Type 0} (b : List ℕ) (c : Change Q) → length (bases_after b c) ≡ length b
-as_many b (change.Deliver l) = length-set b (l.sender - 1) _
+as_many : {Q : Type 0} (b : List ℕ) (c : Act Q) → length (bases_after b c) ≡ length b
+as_many b (act.Hear l) = length-set b (l.sender - 1) _
 as_many b _ = refl
 
-replayed_bases : {Q : Type 0} (cs : List (Change Q)) (v : FullNode Q) (j : ℕ) → 1 ≤ j → j ≤ length v.bases → HaveSenders cs → heard_from (fully_replayed v cs).bases j ≡ max (heard_from v.bases j) (base_in j cs)
+replayed_bases : {Q : Type 0} (cs : List (Act Q)) (v : FullNode Q) (j : ℕ) → 1 ≤ j → j ≤ length v.bases → HaveSenders cs → heard_from (fully_replayed v cs).bases j ≡ max (heard_from v.bases j) (base_in j cs)
 unfolding full_after
 replayed_bases [] v j one there f = omega arith
 replayed_bases (c ∷ cs) v j one there f =

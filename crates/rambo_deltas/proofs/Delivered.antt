@@ -2,10 +2,10 @@
 use Rattle.std.proofs.Common.{◌≡◌, ℕ, ◌<◌, ◌≤◌, List, length, Option, Some, None, refl, sym, ap, ◌∙◌, subst, arith}
 use Rattle.rambo_names.specs.Quorums.{QuorumSystem}
 use Rattle.rambo_gossip.specs.declared.letter.Letter.{Letter}
-use Rattle.rambo_node.specs.declared.change.Change.{Change}
-use Rattle.rambo_node.specs.declared.change.Change.TheVariants as change
+use Rattle.rambo_node.specs.Acts.{Act}
 use Rattle.rambo_node.specs.Letters.{letter_for}
 use Rattle.rambo_node.specs.Nodes.{NodeState}
+use Rattle.rambo_node.specs.Acts as act
 use Rattle.rambo_run.specs.declared.step.Step.{Step}
 use Rattle.rambo_run.specs.declared.step.Step.TheVariants as step
 use Rattle.rambo_run.specs.Worlds.{WorldState, letter_at, first_world}
@@ -19,27 +19,27 @@ use Rattle.rambo_run.proofs.Worlds.{sound}
 use Rattle.rambo_deltas.proofs.Journaled.{of_node, made_at}
 
 -- the letter that a change brings
-letter_of : {Q : Type 0} → Change Q → Option (Letter Q)
-letter_of (change.Deliver l) = Some l
+letter_of : {Q : Type 0} → Act Q → Option (Letter Q)
+letter_of (act.Hear l) = Some l
 letter_of _ = None
 
 -- it was sent to node n
 unfoldable WasSent : {Q : Type 0} → WorldState Q → ℕ → Letter Q → Type 0
 WasSent w n l = (i : ℕ) × (letter_at w.letters i ≡ Some l) × (l.addressee ≡ n)
 
-none_brought : {Q : Type 0} (w : WorldState Q) (k n : ℕ) (c : Change Q) (l : Letter Q) → letter_of c ≡ None → of_node k c ≡ of_node n (change.Deliver l) → WasSent w n l
+none_brought : {Q : Type 0} (w : WorldState Q) (k n : ℕ) (c : Act Q) (l : Letter Q) → letter_of c ≡ None → of_node k c ≡ of_node n (act.Hear l) → WasSent w n l
 unfolding letter_of
-none_brought w k n c l none e = absurd (none-some l (sym none ∙ ap (λ m. letter_of m.change) (some_inj _ _ e)))
+none_brought w k n c l none e = absurd (none-some l (sym none ∙ ap (λ m. letter_of m.act) (some_inj _ _ e)))
 
-delivered_letter : {Q : Type 0} (w : WorldState Q) (i n : ℕ) (l : Letter Q) (o : Option (Letter Q)) → letter_at w.letters i ≡ o → delivery o ≡ of_node n (change.Deliver l) → WasSent w n l
+delivered_letter : {Q : Type 0} (w : WorldState Q) (i n : ℕ) (l : Letter Q) (o : Option (Letter Q)) → letter_at w.letters i ≡ o → delivery o ≡ of_node n (act.Hear l) → WasSent w n l
 unfolding WasSent letter_of
 delivered_letter w i n l None e d = absurd (none-some _ d)
 delivered_letter w i n l (Some k) e d =
     let m = some_inj _ _ d in
-    let same : k ≡ l = some_inj k l (ap (λ m. letter_of m.change) m) in
+    let same : k ≡ l = some_inj k l (ap (λ m. letter_of m.act) m) in
     (i, e ∙ ap Some same, ap (λ k. k.addressee) (sym same) ∙ ap (λ m. m.name) m)
 
-was_sent : {Q : Type 0} (w : WorldState Q) (st : Step Q) (n : ℕ) (l : Letter Q) → meant w st ≡ of_node n (change.Deliver l) → WasSent w n l
+was_sent : {Q : Type 0} (w : WorldState Q) (st : Step Q) (n : ℕ) (l : Letter Q) → meant w st ≡ of_node n (act.Hear l) → WasSent w n l
 unfolding letter_of
 was_sent w (step.Deliver i) n l e = delivered_letter w i n l (letter_at w.letters i) refl e
 was_sent w st n l e = none_brought w _ n _ l refl e
@@ -58,10 +58,10 @@ pub record Delivered {Q : Type 0} (s : QuorumSystem Q) (founders : Q) (steps : L
   pub there : 1 ≤ l.sender
   pub content : letter_for (then s founders steps moment l.sender) n ≡ l
 
-pub delivered : {Q : Type 0} (s : QuorumSystem Q) (founders : Q) (steps : List (Step Q)) (n : ℕ) (l : Letter Q) → Member (change.Deliver l) (journal s founders n steps) → Delivered s founders steps n l
+pub delivered : {Q : Type 0} (s : QuorumSystem Q) (founders : Q) (steps : List (Step Q)) (n : ℕ) (l : Letter Q) → Member (act.Hear l) (journal s founders n steps) → Delivered s founders steps n l
 unfolding journal run WasSent
 delivered s founders steps n l i =
-    let f = made_at s n steps (first_world s founders) (change.Deliver l) i in
+    let f = made_at s n steps (first_world s founders) (act.Hear l) i in
     let g = was_sent (moments.moment s founders steps f.moment) f.step n l f.means in
     let t = (sound s founders (moments.moment s founders steps) (moments.worlds s founders steps) f.moment).letters g.0 l g.1 in
     let sender : t.sender ≡ l.sender = teller (then s founders steps t.moment t.sender) t.sender t.addressee l t.sent.named t.content in

@@ -8,7 +8,7 @@ use Rattle.rambo_names.specs.declared.refusal.Refusal.{Refusal}
 use Rattle.rambo_names.specs.Names.{IsName}
 use Rattle.rambo_names.specs.Quorums.{QuorumSystem}
 use Rattle.rambo_tag.specs.declared.version.Version.{Version}
-use Rattle.rambo_node.specs.declared.change.Change.{Change}
+use Rattle.rambo_node.specs.Acts.{Act}
 use Rattle.rambo_node.specs.Changes.{replayed}
 use Rattle.rambo_node.specs.Nodes.{NodeState, first_node}
 use Rattle.rambo_run.specs.declared.step.Step.{Step}
@@ -24,7 +24,7 @@ use Rattle.rambo_deltas.specs.Deltas.{full_at, FullNodesAreNodes, StampsAreNumbe
 use Rattle.rambo_deltas.proofs.Touches.{Touches, touches}
 
 -- ---- a full node is a node
-state_of : {Q : Type 0} (v : FullNode Q) (cs : List (Change Q)) → (fully_replayed v cs).state ≡ replayed v.state cs
+state_of : {Q : Type 0} (v : FullNode Q) (cs : List (Act Q)) → (fully_replayed v cs).state ≡ replayed v.state cs
 unfolding full_after
 state_of v [] = refl
 state_of v (c ∷ cs) = state_of (full_after v c) cs
@@ -34,16 +34,16 @@ unfolding full_at
 full_nodes_are_nodes s founders steps n h = replays s founders steps n h ∙ ap Some (sym (state_of (first_full s founders n) (journal s founders n steps)))
 
 -- ---- one step more
-pub entered-more : {Q : Type 0} (n : ℕ) (m : Option (Meant Q)) (xs ys : List (Change Q)) → entered n m (xs ++ ys) ≡ entered n m xs ++ ys
+pub entered-more : {Q : Type 0} (n : ℕ) (m : Option (Meant Q)) (xs ys : List (Act Q)) → entered n m (xs ++ ys) ≡ entered n m xs ++ ys
 entered-more n None xs ys = refl
-entered-more n (Some m) xs ys = elim (nat_eq m.name n) as (λ t. (if t then m.change ∷ (xs ++ ys) else xs ++ ys) ≡ (if t then m.change ∷ xs else xs) ++ ys) [ true ↦ refl | false ↦ refl ]
+entered-more n (Some m) xs ys = elim (nat_eq m.name n) as (λ t. (if t then m.act ∷ (xs ++ ys) else xs ++ ys) ≡ (if t then m.act ∷ xs else xs) ++ ys) [ true ↦ refl | false ↦ refl ]
 
-pub unless-more : {Q : Type 0} (r : Option Refusal) (n : ℕ) (m : Option (Meant Q)) (xs ys : List (Change Q)) → entered_unless r n m (xs ++ ys) ≡ entered_unless r n m xs ++ ys
+pub unless-more : {Q : Type 0} (r : Option Refusal) (n : ℕ) (m : Option (Meant Q)) (xs ys : List (Act Q)) → entered_unless r n m (xs ++ ys) ≡ entered_unless r n m xs ++ ys
 unless-more None n m xs ys = entered-more n m xs ys
 unless-more (Some f) n m xs ys = refl
 
 -- what the step after i steps enters
-abbrev entry : {Q : Type 0} → QuorumSystem Q → WorldState Q → ℕ → Step Q → List (Change Q)
+abbrev entry : {Q : Type 0} → QuorumSystem Q → WorldState Q → ℕ → Step Q → List (Act Q)
 entry s w n st = entered_unless (refusal s w st) n (meant w st) []
 
 journal-next : {Q : Type 0} (s : QuorumSystem Q) (n : ℕ) (sts : List (Step Q)) (w : WorldState Q) (i : ℕ) (st : Step Q) → slice_get sts i ≡ Some st
@@ -55,12 +55,12 @@ journal-next s n (t ∷ sts) w (suc i) st e =
     ap (entered_unless (refusal s w t) n (meant w t)) (journal-next s n sts (after s w t) i st e)
     ∙ unless-more (refusal s w t) n (meant w t) (journal_from s (after s w t) n (take i sts)) (entry s (run_from s (after s w t) (take i sts)) n st)
 
-one_or_none : {Q : Type 0} (r : Option Refusal) (n : ℕ) (m : Option (Meant Q)) → (entered_unless r n m [] ≡ []) ⊎ ((c : Change Q) × (entered_unless r n m [] ≡ c ∷ []))
+one_or_none : {Q : Type 0} (r : Option Refusal) (n : ℕ) (m : Option (Meant Q)) → (entered_unless r n m [] ≡ []) ⊎ ((c : Act Q) × (entered_unless r n m [] ≡ c ∷ []))
 one_or_none None n None = inl refl
-one_or_none None n (Some m) = elim (pick (nat_eq m.name n) (m.change ∷ []) []) [ inl p ↦ inr (m.change, p.1) | inr p ↦ inl p.1 ]
+one_or_none None n (Some m) = elim (pick (nat_eq m.name n) (m.act ∷ []) []) [ inl p ↦ inr (m.act, p.1) | inr p ↦ inl p.1 ]
 one_or_none (Some f) n m = inl refl
 
-pub replayed-more : {Q : Type 0} (v : FullNode Q) (xs ys : List (Change Q)) → fully_replayed v (xs ++ ys) ≡ fully_replayed (fully_replayed v xs) ys
+pub replayed-more : {Q : Type 0} (v : FullNode Q) (xs ys : List (Act Q)) → fully_replayed v (xs ++ ys) ≡ fully_replayed (fully_replayed v xs) ys
 replayed-more v [] ys = refl
 replayed-more v (x ∷ xs) ys = replayed-more (full_after v x) xs ys
 
@@ -71,7 +71,7 @@ module _ {Q : Type 0} (s : QuorumSystem Q) (founders : Q) (steps : List (Step Q)
   node_V : (i : ℕ) → node_at (run s founders (take i steps)) n ≡ Some (V i).state
   node_V i = full_nodes_are_nodes s founders (take i steps) n named
 
-  next_V : (i : ℕ) → i < length steps → (V (suc i) ≡ V i) ⊎ ((c : Change Q) × (V (suc i) ≡ full_after (V i) c))
+  next_V : (i : ℕ) → i < length steps → (V (suc i) ≡ V i) ⊎ ((c : Act Q) × (V (suc i) ≡ full_after (V i) c))
   unfolding full_at journal
   next_V i low =
       let st = below_there steps i low in

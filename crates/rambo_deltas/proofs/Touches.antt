@@ -1,12 +1,10 @@
 -- What one change does to a key and its stamp
-use Rattle.std.proofs.Common.{◌≡◌, ◌≢◌, ◌⊎◌, ℕ, Bool, true, false, cond, if◌then◌else◌, List, Option, Some, None, refl, sym, ap, ◌∙◌, subst, inl, inr, arith}
-use Rattle.std.specs.Prelude.{nat_lt}
+use Rattle.std.proofs.Common.{◌≡◌, ◌≢◌, ◌⊎◌, ℕ, true, false, cond, if◌then◌else◌, List, Option, Some, None, refl, sym, ap, ◌∙◌, subst, inl, inr, arith}
 use Rattle.std.specs.FinMap as map
 use Rattle.std.specs.FinMap.{get-insert}
 use Rattle.std.proofs.lemmas.Cmp.{nat_list_cmp_total}
 use Rattle.rambo_tag.specs.declared.version.Version.{Version}
 use Rattle.rambo_tag.specs.Tags.{is_newer, greater}
-use Rattle.rambo_tag.specs.Copies.{Copies}
 use Rattle.rambo_tag.proofs.CopyOrder.{is_newer-from_lt}
 use Rattle.rambo_tag.proofs.Joins.{get-joined, get-put}
 use Rattle.rambo_tag.proofs.Keys.{same_key, same_key-true}
@@ -16,25 +14,18 @@ use Rattle.rambo_history.specs.declared.operation.Op.TheVariants as op
 use Rattle.rambo_calls.specs.declared.stage.Stage.{Stage}
 use Rattle.rambo_calls.specs.declared.stage.Stage.TheVariants.{Query, Propagation}
 use Rattle.rambo_calls.specs.Calls.{CallState}
-use Rattle.rambo_gc.specs.declared.gc_move.GcMove.{GcMove}
-use Rattle.rambo_gc.specs.declared.gc_move.GcMove.TheVariants.{Propagating, Done}
-use Rattle.rambo_gc.specs.Collections.{CollectionState}
 use Rattle.rambo_gossip.specs.declared.letter.Kind.{Kind}
 use Rattle.rambo_gossip.specs.declared.letter.Kind.TheVariants as kind
-use Rattle.rambo_paxos.specs.declared.bid.Bid.{Bid}
-use Rattle.rambo_paxos.specs.declared.bid.Bid.TheVariants as bid
-use Rattle.rambo_paxos.specs.Attempts.{AttemptState, bid_of}
-use Rattle.rambo_config_map.specs.Maps.{end_of}
-use Rattle.rambo_node.specs.declared.change.Change.{Change}
-use Rattle.rambo_node.specs.declared.change.Change.TheVariants as change
-use Rattle.rambo_node.specs.Changes.{Made, made_by, advanced, stage_met, begun_again, collection_advanced, collection_turned, rebid_made, attempt_advanced, bid_made}
+use Rattle.rambo_node.specs.Acts.{Act}
+use Rattle.rambo_node.specs.Changes.{quieted, made_by, advanced, stage_met}
 use Rattle.rambo_node.specs.Hearing.{heard_gossip, heard_join, heard_kind}
 use Rattle.rambo_node.specs.Nodes.{NodeState, open_call}
-use Rattle.rambo_node.specs.Operations.{called, new_copy, query_answered, call_closed, called_again, joined_by, stopped}
-use Rattle.rambo_node.specs.Reconfigurations.{attempt_opened, attempt_rebid, attempt_moved, config_learnt, attempt_ended, collection_opened, collection_moved, collection_ended, collection_move}
+use Rattle.rambo_node.specs.Operations.{called, new_copy, query_answered, call_closed}
 use Rattle.rambo_run.proofs.Lists.{pick}
+use Rattle.rambo_run.proofs.QuietKeeps.{quiet_keeps}
 use Rattle.rambo_tag.specs.Stamps.{Stamps, stamps_merged}
 use Rattle.rambo_node.specs.FullNodes.{stamp_put, stamps_heard, stamps_after}
+use Rattle.rambo_node.specs.Acts as act
 use Rattle.rambo_tag.proofs.StampLaws.{get-merged, changed_at, same_at, stamp_after, newer_differs}
 
 -- ---- what one change does to a key
@@ -98,45 +89,9 @@ advancing : {Q : Type 0} (x : NodeState Q) (s : Stamps) (id : CallId) (o : Optio
 advancing x s id None key = inl (refl, refl)
 advancing x s id (Some c) key = meeting x s id c c.stage key
 
-again_same : {Q : Type 0} (x : NodeState Q) (o : Option (CallState Q)) → (begun_again x o).node.registers ≡ x.registers
-unfolding called_again
-again_same x None = refl
-again_same x (Some c) = refl
-
-turn_same : {Q : Type 0} (x : NodeState Q) (g : CollectionState) (m : GcMove) → (collection_turned x g m).node.registers ≡ x.registers
-unfolding collection_moved collection_ended
-turn_same x g Propagating = refl
-turn_same x g Done = refl
-
-collect_same : {Q : Type 0} (x : NodeState Q) (o : Option CollectionState) → (collection_advanced x o).node.registers ≡ x.registers
-collect_same x None = refl
-collect_same x (Some g) = turn_same x g (collection_move x.map g)
-
-rebid_same : {Q : Type 0} (x : NodeState Q) (o : Option (AttemptState Q)) → (rebid_made x o).node.registers ≡ x.registers
-unfolding attempt_rebid
-rebid_same x None = refl
-rebid_same x (Some a) = refl
-
-bid_same : {Q : Type 0} (x : NodeState Q) (a : AttemptState Q) (b : Bid Q) → (bid_made x a b).node.registers ≡ x.registers
-unfolding attempt_moved config_learnt
-bid_same x a bid.Propose = refl
-bid_same x a (bid.Chosen c) = refl
-
-if_same : {Q : Type 0} (t : Bool) (a b : Made Q) (r : Copies) → a.node.registers ≡ r → b.node.registers ≡ r → (if t then a else b).node.registers ≡ r
-if_same true a b r e f = e
-if_same false a b r e f = f
-
-attempt_same : {Q : Type 0} (x : NodeState Q) (o : Option (AttemptState Q)) → (attempt_advanced x o).node.registers ≡ x.registers
-unfolding attempt_ended
-attempt_same x None = refl
-attempt_same x (Some a) = if_same (nat_lt a.place (end_of x.map)) _ _ x.registers refl (bid_same x a (bid_of a))
-
-pub touches : {Q : Type 0} (x : NodeState Q) (s : Stamps) (c : Change Q) (key : List ℕ) → Touches x s (made_by x c).node (stamps_after x s c) key
-unfolding made_by joined_by called stopped collection_opened attempt_opened
-touches x s (change.Deliver l) key = hearing x s l.sender l.kind key
-touches x s (change.Advance id) key = advancing x s id (open_call x id) key
-touches x s (change.Again id) key = untouched x (made_by x (change.Again id)).node s s key (again_same x (open_call x id)) refl
-touches x s change.AdvanceCollect key = untouched x (made_by x change.AdvanceCollect).node s s key (collect_same x x.collection) refl
-touches x s change.Rebid key = untouched x (made_by x change.Rebid).node s s key (rebid_same x x.attempt) refl
-touches x s change.AdvanceRecon key = untouched x (made_by x change.AdvanceRecon).node s s key (attempt_same x x.attempt) refl
-touches x s c key = untouched x (made_by x c).node s s key refl refl
+pub touches : {Q : Type 0} (x : NodeState Q) (s : Stamps) (a : Act Q) (key : List ℕ) → Touches x s (made_by x a).node (stamps_after x s a) key
+unfolding made_by called
+touches x s (act.Hear l) key = hearing x s l.sender l.kind key
+touches x s (act.Advance id) key = advancing x s id (open_call x id) key
+touches x s (act.Quietly q) key = untouched x (quieted x q).node s s key (quiet_keeps x q).registers refl
+touches x s a key = untouched x (made_by x a).node s s key refl refl

@@ -4,22 +4,22 @@ use Rattle.std.specs.FinMap as map
 use Rattle.rambo_names.specs.Quorums.{QuorumSystem}
 use Rattle.rambo_tag.specs.declared.version.Version.{Version}
 use Rattle.rambo_tag.specs.Tags.{is_newer}
-use Rattle.rambo_node.specs.declared.change.Change.{Change}
-use Rattle.rambo_node.specs.declared.change.Change.TheVariants as change
+use Rattle.rambo_node.specs.Acts.{Act}
 use Rattle.rambo_node.specs.Nodes.{NodeState}
 use Rattle.rambo_run.specs.declared.step.Step.{Step}
 use Rattle.rambo_run.specs.Journals.{journal}
 use Rattle.rambo_run.specs.Runs.{run}
 use Rattle.rambo_run.specs.Worlds.{node_at}
 use Rattle.rambo_node.specs.FullNodes.{heard_in}
+use Rattle.rambo_node.specs.Acts as act
 
 -- the heard number that a change brings from j: that of a letter of j that comes
-abbrev pub brought_by : {Q : Type 0} → ℕ → Change Q → ℕ
-brought_by j (change.Deliver l) = if nat_eq l.sender j then heard_in l.kind else 0
+abbrev pub brought_by : {Q : Type 0} → ℕ → Act Q → ℕ
+brought_by j (act.Hear l) = if nat_eq l.sender j then heard_in l.kind else 0
 brought_by j _ = 0
 
 -- a node's base for j: the greatest heard number that letters of j carried to it, 0 where none came
-abbrev pub base_in : {Q : Type 0} → ℕ → List (Change Q) → ℕ
+abbrev pub base_in : {Q : Type 0} → ℕ → List (Act Q) → ℕ
 base_in j [] = 0
 base_in j (c ∷ cs) = max (brought_by j c) (base_in j cs)
 

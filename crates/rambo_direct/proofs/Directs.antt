@@ -7,10 +7,10 @@ use Rattle.rambo_history.specs.declared.operation.Op.{Op}
 use Rattle.rambo_history.specs.declared.operation.Answer.{Answer}
 use Rattle.rambo_history.specs.declared.event.CallId.{CallId}
 use Rattle.rambo_history.specs.declared.event.Event.TheVariants as event
-use Rattle.rambo_node.specs.declared.change.Change.{Change}
-use Rattle.rambo_node.specs.declared.change.Change.TheVariants as change
+use Rattle.rambo_node.specs.Acts.{Act}
 use Rattle.rambo_node.specs.declared.effect.Effect.{Effect}
 use Rattle.rambo_node.specs.declared.effect.Effect.TheVariants as effect
+use Rattle.rambo_node.specs.Acts as act
 use Rattle.rambo_run.specs.declared.step.Step.{Step}
 use Rattle.rambo_run.specs.declared.step.Step.TheVariants as step
 use Rattle.rambo_run.specs.Worlds.{WorldState, first_world}
@@ -126,7 +126,7 @@ pub took_none : (old new : RunningOf Weights) (c d : Course) → new ≡ old →
 took_none old new c d same took begins = (c, subst (λ x. took_by x c) (sym same) took, begins)
 
 -- a step of a node that sends no letter, if it isn't refused
-module _ (old new : RunningOf Weights) (st : Step Weights) (n : ℕ) (change : Change Weights) (means : (w : WorldState Weights) → meant w st ≡ Some (record { name = n; change = change }))
+module _ (old new : RunningOf Weights) (st : Step Weights) (n : ℕ) (change : Act Weights) (means : (w : WorldState Weights) → meant w st ≡ Some (record { name = n; act = change }))
     (quiet : sends change ≡ false) (is : new ≡ record old { state = after weighted_majorities old.state st }) (c : Course) (took : took_by old c) where
   abbrev before : WorldState Weights
   before = run weighted_majorities c.founders c.steps
@@ -145,13 +145,13 @@ module _ (old new : RunningOf Weights) (st : Step Weights) (n : ℕ) (change : C
 
 module _ (old new : RunningOf Weights) (n : ℕ) (o : Op) (is : new ≡ record old { state = after weighted_majorities old.state (step.Call n o) }) (c : Course) (took : took_by old c) where
   pub took_call : (r : Result CallId Refusal) → called r ≡ result_of (refusal weighted_majorities old.state (step.Call n o)) old.state (step.Call n o) → Ends r (took_by new) (stepped c (step.Call n o))
-  took_call (Ok id) told = took_step old new (step.Call n o) n (change.Call o) (λ w. refl) refl is c took
-  took_call (Err f) told = took_same old new (step.Call n o) n (change.Call o) (λ w. refl) refl is c took (was_refused weighted_majorities old.state (step.Call n o) f told)
+  took_call (Ok id) told = took_step old new (step.Call n o) n (act.Call o) (λ w. refl) refl is c took
+  took_call (Err f) told = took_same old new (step.Call n o) n (act.Call o) (λ w. refl) refl is c took (was_refused weighted_majorities old.state (step.Call n o) f told)
 
 module _ (old new : RunningOf Weights) (id : CallId) (is : new ≡ record old { state = after weighted_majorities old.state (step.Advance id) }) (c : Course) (took : took_by old c) where
   pub took_advance : (r : Result (Option Answer) Refusal) → advanced id r ≡ result_of (refusal weighted_majorities old.state (step.Advance id)) old.state (step.Advance id) → Ends r (took_by new) (stepped c (step.Advance id))
-  took_advance (Ok a) told = took_step old new (step.Advance id) id.name (change.Advance id) (λ w. refl) refl is c took
-  took_advance (Err f) told = took_same old new (step.Advance id) id.name (change.Advance id) (λ w. refl) refl is c took (was_refused weighted_majorities old.state (step.Advance id) f told)
+  took_advance (Ok a) told = took_step old new (step.Advance id) id.name (act.Advance id) (λ w. refl) refl is c took
+  took_advance (Err f) told = took_same old new (step.Advance id) id.name (act.Advance id) (λ w. refl) refl is c took (was_refused weighted_majorities old.state (step.Advance id) f told)
 
 first_none : (o p : Option Refusal) → first_of o p ≡ None → o ≡ None
 first_none None p e = refl

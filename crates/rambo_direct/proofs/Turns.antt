@@ -6,8 +6,7 @@ use Rattle.rambo_history.specs.declared.event.CallId.{CallId}
 use Rattle.rambo_history.specs.declared.event.Event.{Event}
 use Rattle.rambo_history.specs.declared.event.Event.TheVariants as event
 use Rattle.rambo_gossip.specs.declared.letter.Letter.{Letter}
-use Rattle.rambo_node.specs.declared.change.Change.{Change}
-use Rattle.rambo_node.specs.declared.change.Change.TheVariants as change
+use Rattle.rambo_node.specs.Acts.{Act}
 use Rattle.rambo_node.specs.declared.effect.Effect.{Effect}
 use Rattle.rambo_node.specs.declared.effect.Effect.TheVariants as effect
 use Rattle.rambo_calls.specs.declared.stage.Stage.{Stage}
@@ -16,9 +15,10 @@ use Rattle.rambo_calls.specs.Calls.{CallState}
 use Rattle.rambo_node.specs.Changes.{stage_met, advanced, made_by}
 use Rattle.rambo_node.specs.Letters.{letter_for}
 use Rattle.rambo_node.specs.Nodes.{NodeState, open_call}
+use Rattle.rambo_node.specs.Acts as act
 use Rattle.rambo_run.specs.declared.step.Step.TheVariants as step
 use Rattle.rambo_run.specs.Worlds.{WorldState, node_at, letter_at}
-use Rattle.rambo_run.proofs.Quiet.{quiet_made}
+use Rattle.rambo_run.proofs.Unsent.{unsent}
 use Rattle.rambo_run.specs.Steps.{delivery, sends, with_letter, turn_by, turn_at, turn_of, turn}
 use Rattle.rambo_client.specs.Calls.{id_at}
 
@@ -33,7 +33,7 @@ answered_by id (effect.Collected n place) = []
 answered_by id (effect.Decided n d) = []
 
 module _ {Q : Type 0} (w : WorldState Q) where
-  sent_by : (n to : ℕ) (x : Option (NodeState Q)) → (turn_at w n x (change.Send to)).world.history ≡ w.history
+  sent_by : (n to : ℕ) (x : Option (NodeState Q)) → (turn_at w n x (act.Send to)).world.history ≡ w.history
   unfolding made_by
   sent_by n to None = refl
   sent_by n to (Some x) = refl
@@ -43,7 +43,7 @@ module _ {Q : Type 0} (w : WorldState Q) where
   unfolding turn
   send_quiet n to = sent_by n to (node_at w n)
 
-  heard_by : (n : ℕ) (l : Letter Q) (x : Option (NodeState Q)) → (turn_at w n x (change.Deliver l)).world.history ≡ w.history
+  heard_by : (n : ℕ) (l : Letter Q) (x : Option (NodeState Q)) → (turn_at w n x (act.Hear l)).world.history ≡ w.history
   unfolding made_by
   heard_by n l None = refl
   heard_by n l (Some x) = refl
@@ -58,8 +58,8 @@ module _ {Q : Type 0} (w : WorldState Q) where
   deliver_quiet number = came (letter_at w.letters number)
 
   called_by : (n : ℕ) (o : Op) (id : CallId) (x : Option (NodeState Q)) → node_at w n ≡ x → ((y : NodeState Q) → node_at w n ≡ Some y → y.name ≡ n)
-      → (turn_at w n x (change.Call o)).effect ≡ effect.Called id
-      → ((turn_at w n x (change.Call o)).world.history ≡ w.history ++ event.Call id o ∷ []) × (id ≡ id_at n id.number)
+      → (turn_at w n x (act.Call o)).effect ≡ effect.Called id
+      → ((turn_at w n x (act.Call o)).world.history ≡ w.history ++ event.Call id o ∷ []) × (id ≡ id_at n id.number)
   unfolding made_by
   called_by n o id None at named e = cc
   called_by n o id (Some x) at named e =
@@ -72,8 +72,8 @@ module _ {Q : Type 0} (w : WorldState Q) where
   unfolding turn
   call_told n o id named e = called_by n o id (node_at w n) refl named e
 
-  made_call : (n : ℕ) (o : Op) (id : CallId) (x : Option (NodeState Q)) → (turn_at w n x (change.Call o)).effect ≡ effect.Called id
-      → (turn_at w n x (change.Call o)).world.history ≡ w.history ++ event.Call id o ∷ []
+  made_call : (n : ℕ) (o : Op) (id : CallId) (x : Option (NodeState Q)) → (turn_at w n x (act.Call o)).effect ≡ effect.Called id
+      → (turn_at w n x (act.Call o)).world.history ≡ w.history ++ event.Call id o ∷ []
   unfolding made_by
   made_call n o id None e = cc
   made_call n o id (Some x) e =
@@ -85,8 +85,8 @@ module _ {Q : Type 0} (w : WorldState Q) where
   unfolding turn
   call_made n o id e = made_call n o id (node_at w n) e
 
-  uncalled_by : (n : ℕ) (o : Op) (x : Option (NodeState Q)) → ((id : CallId) → (turn_at w n x (change.Call o)).effect ≡ effect.Called id → ⊥)
-      → (turn_at w n x (change.Call o)).world.history ≡ w.history
+  uncalled_by : (n : ℕ) (o : Op) (x : Option (NodeState Q)) → ((id : CallId) → (turn_at w n x (act.Call o)).effect ≡ effect.Called id → ⊥)
+      → (turn_at w n x (act.Call o)).world.history ≡ w.history
   unfolding made_by
   uncalled_by n o None none = refl
   uncalled_by n o (Some x) none = absurd (none (id_at x.name (x.made + 1)) refl)
@@ -107,7 +107,7 @@ module _ {Q : Type 0} (w : WorldState Q) where
   open_told n x id (Some c) = stage_told n x id c c.stage
 
   advanced_by : (id : CallId) (x : Option (NodeState Q))
-      → (turn_at w id.name x (change.Advance id)).world.history ≡ w.history ++ answered_by id (turn_at w id.name x (change.Advance id)).effect
+      → (turn_at w id.name x (act.Advance id)).world.history ≡ w.history ++ answered_by id (turn_at w id.name x (act.Advance id)).effect
   unfolding made_by
   advanced_by id None = sym (append-nil w.history)
   advanced_by id (Some x) = open_told id.name x id (open_call x id)
@@ -117,31 +117,31 @@ module _ {Q : Type 0} (w : WorldState Q) where
   unfolding turn
   advance_told id = advanced_by id (node_at w id.name)
 
-  silent_at : (n : ℕ) (c : Change Q) (x : Option (NodeState Q)) → sends c ≡ false → (turn_at w n x c).world.letters ≡ w.letters
+  silent_at : (n : ℕ) (c : Act Q) (x : Option (NodeState Q)) → sends c ≡ false → (turn_at w n x c).world.letters ≡ w.letters
   silent_at n c None quiet = refl
-  silent_at n c (Some x) quiet = ap (with_letter w.letters) (quiet_made x c quiet)
+  silent_at n c (Some x) quiet = ap (with_letter w.letters) (unsent x c quiet)
 
   came_silent : (l : Option (Letter Q)) → (turn_of w (delivery l)).world.letters ≡ w.letters
   came_silent None = refl
-  came_silent (Some l) = silent_at l.addressee (change.Deliver l) (node_at w l.addressee) refl
+  came_silent (Some l) = silent_at l.addressee (act.Hear l) (node_at w l.addressee) refl
 
   -- a call sends no letter
   pub call_silent : (n : ℕ) (o : Op) → (turn w (step.Call n o)).world.letters ≡ w.letters
   unfolding turn
-  call_silent n o = silent_at n (change.Call o) (node_at w n) refl
+  call_silent n o = silent_at n (act.Call o) (node_at w n) refl
 
   -- nor does one that goes on
   pub advance_silent : (id : CallId) → (turn w (step.Advance id)).world.letters ≡ w.letters
   unfolding turn
-  advance_silent id = silent_at id.name (change.Advance id) (node_at w id.name) refl
+  advance_silent id = silent_at id.name (act.Advance id) (node_at w id.name) refl
 
   -- nor a letter that comes
   pub deliver_silent : (number : ℕ) → (turn w (step.Deliver number)).world.letters ≡ w.letters
   unfolding turn
   deliver_silent number = came_silent (letter_at w.letters number)
 
-  numbered_by : (n to number : ℕ) (x : Option (NodeState Q)) → (turn_at w n x (change.Send to)).effect ≡ effect.Sent number
-      → (number ≡ length w.letters + 1) × (length (turn_at w n x (change.Send to)).world.letters ≡ length w.letters + 1)
+  numbered_by : (n to number : ℕ) (x : Option (NodeState Q)) → (turn_at w n x (act.Send to)).effect ≡ effect.Sent number
+      → (number ≡ length w.letters + 1) × (length (turn_at w n x (act.Send to)).world.letters ≡ length w.letters + 1)
   unfolding made_by
   numbered_by n to number None e = cc
   numbered_by n to number (Some x) e =

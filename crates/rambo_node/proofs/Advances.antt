@@ -11,7 +11,8 @@ use Rattle.rambo_phase.specs.Phases.{started}
 use Rattle.rambo_calls.specs.declared.stage.Stage.{Stage}
 use Rattle.rambo_calls.specs.declared.stage.Stage.TheVariants.{Query, Propagation}
 use Rattle.rambo_calls.specs.Calls.{CallState, place_of, find_call, query_in, asked_in, is_missing}
-use Rattle.rambo_node.specs.Changes.{quiet_deed, advanced, stage_met, begun_again, rebid_made}
+use Rattle.rambo_node.specs.declared.effect.Effect.TheVariants as effect
+use Rattle.rambo_node.specs.Changes.{advanced, stage_met, begun_again, rebid_made}
 use Rattle.rambo_calls.specs.Hearing.{restarted}
 use Rattle.rambo_calls.specs.Kept.{with_call, propagating}
 use Rattle.rambo_node.specs.Kept.{propagation_begun, move_deed, answered_in, answered_from}
@@ -45,14 +46,14 @@ told p Query e = absurd (none-some p (sym e))
 told p (Propagation kept) e = (kept, refl)
 
 -- to begin a phase anew is told as nothing else
-pub quiet_again : {Q : Type 0} (x : NodeState Q) (found : Option (CallState Q)) → quiet_deed ≡ (begun_again x found).deed
-quiet_again x None = refl
-quiet_again x (Some c) = refl
+pub again_done : {Q : Type 0} (x : NodeState Q) (found : Option (CallState Q)) → effect.Done ≡ (begun_again x found).effect
+again_done x None = refl
+again_done x (Some c) = refl
 
 -- nor is to begin an attempt again
-pub quiet_rebid : {Q : Type 0} (x : NodeState Q) (o : Option (AttemptState Q)) → quiet_deed ≡ (rebid_made x o).deed
-quiet_rebid x None = refl
-quiet_rebid x (Some a) = refl
+pub rebid_done : {Q : Type 0} (x : NodeState Q) (o : Option (AttemptState Q)) → effect.Done ≡ (rebid_made x o).effect
+rebid_done x None = refl
+rebid_done x (Some a) = refl
 
 -- a node with these calls, and with the next number
 abbrev pub with_calls : {Q : Type 0} → List (CallState Q) → NodeState Q → NodeState Q

@@ -6,6 +6,7 @@ pub mod Late
 pub mod Memory
 pub mod Fitting
 pub mod Readiness
+mod QuietActs
 pub mod Sizes
 mod Own
 pub mod Telling

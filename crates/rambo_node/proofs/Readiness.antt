@@ -1,5 +1,5 @@
 -- What is ready tells what the change will do
-use Rattle.std.proofs.Common.{◌≡◌, ℕ, ◌+◌, ◌<◌, Bool, true, false, nat_lt, Option, None, Some, slice_get, refl, sym, ap, ◌∙◌, subst}
+use Rattle.std.proofs.Common.{◌≡◌, ℕ, ◌+◌, ◌<◌, false, Option, None, Some, slice_get, refl, sym, ap, ◌∙◌, subst}
 use Rattle.std.specs.Prelude.{if◌then◌else◌}
 use Rattle.std.specs.FinMap as map
 use Rattle.std.specs.List.{remove}
@@ -13,43 +13,34 @@ use Rattle.rambo_history.specs.declared.event.CallId.{CallId}
 use Rattle.rambo_history.specs.declared.event.Event.TheVariants as event
 use Rattle.rambo_history.specs.declared.operation.Op.{Op}
 use Rattle.rambo_history.specs.declared.operation.Op.TheVariants as op
-use Rattle.rambo_config_map.specs.Maps.{end_of, active_at}
-use Rattle.rambo_gc.specs.declared.gc_move.GcMove.{GcMove}
-use Rattle.rambo_gc.specs.declared.gc_move.GcMove.TheVariants as move
-use Rattle.rambo_gc.specs.Collections.{CollectionState}
 use Rattle.rambo_gossip.specs.declared.letter.Gossip.{Gossip}
 use Rattle.rambo_gossip.specs.declared.letter.Kind.{Kind}
 use Rattle.rambo_gossip.specs.declared.letter.Kind.TheVariants as kind
 use Rattle.rambo_gossip.specs.declared.letter.Letter.{Letter}
 use Rattle.rambo_gossip.specs.Letters.{gossip_with, kind_with, letter_with}
 use Rattle.rambo_gossip.specs.Short.{copies_in}
-use Rattle.rambo_paxos.specs.declared.bid.Bid.{Bid}
-use Rattle.rambo_paxos.specs.declared.bid.Bid.TheVariants as bid
-use Rattle.rambo_paxos.specs.Attempts.{AttemptState, bid_of}
-use Rattle.rambo_calls.specs.Calls.{CallState, place_of, find_call, query_in, is_missing}
-use Rattle.rambo_node.specs.declared.change.Change.TheVariants as change
+use Rattle.rambo_calls.specs.Calls.{place_of, find_call, query_in, is_missing}
 use Rattle.rambo_node.specs.declared.deed.Deed.{Deed}
 use Rattle.rambo_node.specs.declared.prepared.Turn.TheVariants as turn
-use Rattle.rambo_node.specs.declared.prepared.Quick.{Quick}
-use Rattle.rambo_node.specs.declared.prepared.Quick.TheVariants as quick
+use Rattle.rambo_node.specs.declared.prepared.Quiet.{Quiet}
 use Rattle.rambo_node.specs.declared.prepared.HearTurn.{HearTurn}
 use Rattle.rambo_node.specs.declared.prepared.Hearing.{Hearing}
 use Rattle.rambo_node.specs.declared.prepared.Found.{Found}
 use Rattle.rambo_node.specs.declared.prepared.Moving.{Moving}
 use Rattle.rambo_node.specs.FullNodes.{beside_after, beside_heard}
-use Rattle.rambo_node.specs.Changes.{refusal_of, made_by, told, quiet, bid_made, decided, collection_turned, collection_advanced, attempt_advanced, rebid_made, begun_again}
+use Rattle.rambo_node.specs.Changes.{refusal_of, made_by, alone}
 use Rattle.rambo_node.specs.Hearing.{heard_letter, heard_kind, heard_gossip, heard_rest}
 use Rattle.rambo_node.specs.Kept.{answered_from, move_deed, propagation_begun}
 use Rattle.rambo_node.specs.Nodes.{NodeState, Beside, RoomyNode, open_call}
 use Rattle.rambo_node.specs.Operations.{taken, with_copy}
-use Rattle.rambo_node.specs.Prepared.{quick_change, kept_by, put_by, with_put, query_done, sequence_before, HasRoomFor, IsAlone, IsFound, IsMoving, IsHearing, IsReadyGossip, IsReadyKind, Prepares, heard_by}
-use Rattle.rambo_node.specs.Reconfigurations.{collection_move, attempt_ended}
+use Rattle.rambo_node.specs.Prepared.{kept_by, put_by, with_put, query_done, sequence_before, HasRoomFor, IsAlone, IsFound, IsMoving, IsHearing, IsReadyGossip, IsReadyKind, Prepares, heard_by}
 use Rattle.rambo_node.specs.Refusals.{hear_causes, is_last, query_spent, tags_spent}
 use Rattle.rambo_node.proofs.Advances.{query_moves, call_closes}
 use Rattle.rambo_node.proofs.Besides.{alike_beside}
 use Rattle.rambo_node.proofs.Judged.{advance_next, asked_next}
 use Rattle.rambo_node.proofs.Short.{own_copies}
 use Rattle.rambo_node.proofs.Telling.{heard_alike, kind_twice}
+use Rattle.rambo_node.specs.Acts as act
 
 -- the copy that is put is that of the set, if there is one
 put_is : {Q : Type 0} (x : NodeState Q) (o : Op) → with_put x.registers (put_by x (Some o)) ≡ with_copy x.registers o (taken x o)
@@ -59,24 +50,24 @@ put_is x (op.Set key value) = refl
 -- a met query, with what was found for it
 module _ {Q : Type 0} (x : NodeState Q) (id : CallId) (o : Op) (asked : query_in (open_call x id) ≡ Some o) where
   pub query_ends : (place : ℕ) (kept : Option Version) (put : Option KeyedVersion) → place ≡ place_of id.number x.calls → kept ≡ taken x o → put ≡ put_by x (Some o)
-      → query_done x place kept put ≡ (made_by x (change.Advance id)).node
+      → query_done x place kept put ≡ (made_by x (act.Advance id)).node
   unfolding made_by
   query_ends place kept put own sent held =
       (λ i. query_done x (own i) (sent i) (held i))
       ∙ ap (λ r. propagation_begun (record x { registers = r }) (place_of id.number x.calls) (taken x o)) (put_is x o)
       ∙ (query_moves x id o asked).0
 
-  pub query_tells : move_deed id o (taken x o) ≡ (made_by x (change.Advance id)).deed
+  pub query_tells : move_deed id o (taken x o) ≡ (made_by x (act.Advance id)).deed
   unfolding made_by
   query_tells = (query_moves x id o asked).1
 
 -- a met propagation
 module _ {Q : Type 0} (x : NodeState Q) (id : CallId) (there : is_missing (open_call x id) ≡ false) (round : query_in (open_call x id) ≡ None) where
-  pub answer_ends : (place : ℕ) → place ≡ place_of id.number x.calls → record x { calls = remove x.calls place } ≡ (made_by x (change.Advance id)).node
+  pub answer_ends : (place : ℕ) → place ≡ place_of id.number x.calls → record x { calls = remove x.calls place } ≡ (made_by x (act.Advance id)).node
   unfolding made_by
   answer_ends place own = ap (λ p. record x { calls = remove x.calls p }) own ∙ (call_closes x id there round).0
 
-  pub answer_tells : answered_from id (find_call id.number x.calls) ≡ (made_by x (change.Advance id)).deed
+  pub answer_tells : answered_from id (find_call id.number x.calls) ≡ (made_by x (act.Advance id)).deed
   unfolding made_by
   answer_tells = (call_closes x id there round).1
 
@@ -135,13 +126,13 @@ module _ {Q : Type 0} (x : NodeState Q) (l : Letter Q) (other : Copies) (same : 
   short_is : letter_with (letter_with l map.empty) other ≡ letter_with l other
   short_is = λ i. record l { kind = kind_twice l.kind map.empty other i }
 
-  pub short_ends : made_by x (change.Deliver (letter_with (letter_with l map.empty) other)) ≡ made_by x (change.Deliver l)
+  pub short_ends : made_by x (act.Hear (letter_with (letter_with l map.empty) other)) ≡ made_by x (act.Hear l)
   unfolding made_by
   short_ends =
-      ap (λ (n : Letter Q). quiet (heard_letter x n)) short_is
-      ∙ ap quiet ((heard_alike x l other (copies_in l.kind) same).0 ∙ ap (heard_letter x) (own_copies l))
+      ap (λ (n : Letter Q). alone (heard_letter x n)) short_is
+      ∙ ap alone ((heard_alike x l other (copies_in l.kind) same).0 ∙ ap (heard_letter x) (own_copies l))
 
-  pub short_judged : (s : QuorumSystem Q) → refusal_of s x (change.Deliver (letter_with (letter_with l map.empty) other)) ≡ refusal_of s x (change.Deliver l)
+  pub short_judged : (s : QuorumSystem Q) → refusal_of s x (act.Hear (letter_with (letter_with l map.empty) other)) ≡ refusal_of s x (act.Hear l)
   short_judged s =
       ap (λ (n : Letter Q). least (hear_causes x n.kind)) short_is
       ∙ ap least ((heard_alike x l other (copies_in l.kind) same).1 ∙ ap (λ (n : Letter Q). hear_causes x n.kind) (own_copies l))
@@ -155,9 +146,9 @@ hearing_ends v l o h is e =
 
 -- and leaves beside what the whole letter would
 pub hearing_beside : {Q : Type 0} (v : RoomyNode Q) (l o : Letter Q) (h : Hearing) → o ≡ letter_with l map.empty → IsHearing v l h
-    → beside_after v.state v.beside (change.Deliver (letter_with o h.copies)) ≡ beside_after v.state v.beside (change.Deliver l)
+    → beside_after v.state v.beside (act.Hear (letter_with o h.copies)) ≡ beside_after v.state v.beside (act.Hear l)
 hearing_beside v l o h is e =
-    ap (λ (n : Letter _). beside_after v.state v.beside (change.Deliver (letter_with n h.copies))) is
+    ap (λ (n : Letter _). beside_after v.state v.beside (act.Hear (letter_with n h.copies))) is
     ∙ alike_beside v.state v.beside l.sender l.kind h.copies e.stamped
 
 pub hearing_ready : {Q : Type 0} (v : RoomyNode Q) (l o : Letter Q) (h : Hearing) → o ≡ letter_with l map.empty → IsHearing v l h → IsReadyKind v o.kind h.copies h.number
@@ -179,93 +170,52 @@ module _ {Q : Type 0} (x : NodeState Q) (l : Letter Q) (o : Gossip Q) (copies : 
   pub gossip_heard : heard_gossip x l.sender (gossip_with o copies) ≡ heard_letter x l
   gossip_heard = sym (ap (heard_kind x l.sender) is)
 
-  pub gossip_beside : (b : Beside) → beside_heard x b l.sender (kind.Gossip (gossip_with o copies)) ≡ beside_after x b (change.Deliver l)
+  pub gossip_beside : (b : Beside) → beside_heard x b l.sender (kind.Gossip (gossip_with o copies)) ≡ beside_after x b (act.Hear l)
   gossip_beside b = sym (ap (beside_heard x b l.sender) is)
 
 -- other copies are refused alike
-pub copies_judged : {Q : Type 0} (s : QuorumSystem Q) (x : NodeState Q) (l : Letter Q) (copies : Copies) → refusal_of s x (change.Deliver (letter_with l copies)) ≡ refusal_of s x (change.Deliver l)
+pub copies_judged : {Q : Type 0} (s : QuorumSystem Q) (x : NodeState Q) (l : Letter Q) (copies : Copies) → refusal_of s x (act.Hear (letter_with l copies)) ≡ refusal_of s x (act.Hear l)
 copies_judged s x l copies = ap least (causes_alike x l.kind copies)
   where
     causes_alike : {Q : Type 0} (x : NodeState Q) (k : Kind Q) (copies : Copies) → hear_causes x (kind_with k copies) ≡ hear_causes x k
     causes_alike x kind.Join copies = refl
     causes_alike x (kind.Gossip g) copies = refl
 
--- of what needs no memory an effect is told, and nothing else
-abbrev TellsNothing : {Q : Type 0} → Deed Q → Type 0
-TellsNothing {Q} d = (None ≡ d.event) × (None ≡ d.mark) × (None ≡ d.copy)
-
-of_again : {Q : Type 0} (x : NodeState Q) (o : Option (CallState Q)) → TellsNothing (begun_again x o).deed
-of_again x None = (refl, refl, refl)
-of_again x (Some c) = (refl, refl, refl)
-
-of_rebid : {Q : Type 0} (x : NodeState Q) (o : Option (AttemptState Q)) → TellsNothing (rebid_made x o).deed
-of_rebid x None = (refl, refl, refl)
-of_rebid x (Some a) = (refl, refl, refl)
-
-of_turn : {Q : Type 0} (x : NodeState Q) (g : CollectionState) (m : GcMove) → TellsNothing (collection_turned x g m).deed
-of_turn x g move.Propagating = (refl, refl, refl)
-of_turn x g move.Done = (refl, refl, refl)
-
-of_collection : {Q : Type 0} (x : NodeState Q) (o : Option CollectionState) → TellsNothing (collection_advanced x o).deed
-of_collection x None = (refl, refl, refl)
-of_collection x (Some g) = of_turn x g (collection_move x.map g)
-
-of_bid : {Q : Type 0} (x : NodeState Q) (a : AttemptState Q) (b : Bid Q) → TellsNothing (bid_made x a b).deed
-of_bid x a bid.Propose = (refl, refl, refl)
-of_bid x a (bid.Chosen c) = (refl, refl, refl)
-
-of_known : {Q : Type 0} (x : NodeState Q) (a : AttemptState Q) (b : Bool)
-    → TellsNothing (if b then record { node = attempt_ended x; deed = told (decided x a (active_at x.map a.place)); letter = None } else bid_made x a (bid_of a)).deed
-of_known x a true = (refl, refl, refl)
-of_known x a false = of_bid x a (bid_of a)
-
-of_attempt : {Q : Type 0} (x : NodeState Q) (o : Option (AttemptState Q)) → TellsNothing (attempt_advanced x o).deed
-of_attempt x None = (refl, refl, refl)
-of_attempt x (Some a) = of_known x a (nat_lt a.place (end_of x.map))
-
-of_quick : {Q : Type 0} (x : NodeState Q) (q : Quick Q) → TellsNothing (made_by x (quick_change q)).deed
-unfolding made_by
-of_quick x (quick.Again id) = of_again x (open_call x id)
-of_quick x quick.AdvanceCollect = of_collection x x.collection
-of_quick x quick.Rebid = of_rebid x x.attempt
-of_quick x quick.AdvanceRecon = of_attempt x x.attempt
-of_quick x _ = (refl, refl, refl)
-
--- what is prepared for a change of each kind
+-- what is prepared for an act of each kind
 module _ {Q : Type 0} (s : QuorumSystem Q) (v : RoomyNode Q) where
-  pub call_prepares : (o asked named : Op) (id : CallId) → refusal_of s v.state (change.Call o) ≡ None → asked ≡ o → named ≡ o
+  pub call_prepares : (o asked named : Op) (id : CallId) → refusal_of s v.state (act.Call o) ≡ None → asked ≡ o → named ≡ o
       → id ≡ record { name = v.state.name; number = v.state.made + 1 } → 0 < v.room.calls.room
-      → Prepares s v (change.Call o) (record { event = Some (event.Call id named); mark = None; copy = None; turn = turn.Call asked })
+      → Prepares s v (act.Call o) (record { event = Some (event.Call id named); mark = None; copy = None; turn = turn.Call asked })
   unfolding made_by
   call_prepares o asked named id ok same told own room = record {
-    prepared = record { accepted = ap (λ p. refusal_of s v.state (change.Call p)) same ∙ ok; ready = room };
-    same = ap (λ p. made_by v.state (change.Call p)) same;
+    prepared = record { accepted = ap (λ p. refusal_of s v.state (act.Call p)) same ∙ ok; ready = room };
+    same = ap (λ p. made_by v.state (act.Call p)) same;
     beside = refl;
     event = λ i. Some (event.Call (own i) (told i));
     mark = refl;
     copy = refl;
   }
 
-  pub advance_prepares : (id : CallId) (m : Moving) (d : Deed Q) → m.id ≡ id → IsMoving s v m → d ≡ (made_by v.state (change.Advance id)).deed
-      → Prepares s v (change.Advance id) (record { event = d.event; mark = d.mark; copy = d.copy; turn = turn.Advance (record { moving = m; effect = d.effect }) })
+  pub advance_prepares : (id : CallId) (m : Moving) (d : Deed Q) → m.id ≡ id → IsMoving s v m → d ≡ (made_by v.state (act.Advance id)).deed
+      → Prepares s v (act.Advance id) (record { event = d.event; mark = d.mark; copy = d.copy; turn = turn.Advance (record { moving = m; effect = d.effect }) })
   advance_prepares id m d named moving told = record {
     prepared = record {
       accepted = moving.found.accepted;
-      ready = (moving, ap (λ e. e.effect) told ∙ sym (ap (λ n. (made_by v.state (change.Advance n)).deed.effect) named));
+      ready = (moving, ap (λ e. e.effect) told ∙ sym (ap (λ n. (made_by v.state (act.Advance n)).deed.effect) named));
     };
-    same = ap (λ n. made_by v.state (change.Advance n)) named;
-    beside = ap (λ n. beside_after v.state v.beside (change.Advance n)) named;
+    same = ap (λ n. made_by v.state (act.Advance n)) named;
+    beside = ap (λ n. beside_after v.state v.beside (act.Advance n)) named;
     event = ap (λ e. e.event) told;
     mark = ap (λ e. e.mark) told;
     copy = ap (λ e. e.copy) told;
   }
 
-  pub hear_prepares : (l : Letter Q) (t : HearTurn Q) → refusal_of s v.state (change.Deliver l) ≡ None → heard_by t ≡ letter_with l map.empty → IsHearing v l t.hearing
-      → Prepares s v (change.Deliver l) (record { event = None; mark = None; copy = None; turn = turn.Hear t })
+  pub hear_prepares : (l : Letter Q) (t : HearTurn Q) → refusal_of s v.state (act.Hear l) ≡ None → heard_by t ≡ letter_with l map.empty → IsHearing v l t.hearing
+      → Prepares s v (act.Hear l) (record { event = None; mark = None; copy = None; turn = turn.Hear t })
   unfolding made_by
   hear_prepares l t ok is h =
       let own = t.hearing.copies in
-      let alike = ap (λ (n : Letter Q). change.Deliver (letter_with n own)) is in
+      let alike = ap (λ (n : Letter Q). act.Hear (letter_with n own)) is in
       record {
         prepared = record {
           accepted = ap (refusal_of s v.state) alike ∙ short_judged v.state l own h.alike s ∙ ok;
@@ -278,14 +228,10 @@ module _ {Q : Type 0} (s : QuorumSystem Q) (v : RoomyNode Q) where
         copy = refl;
       }
 
-  pub quick_prepares : (q : Quick Q) → refusal_of s v.state (quick_change q) ≡ None → Prepares s v (quick_change q) (record { event = None; mark = None; copy = None; turn = turn.Quick q })
-  quick_prepares q ok =
-      let nothing = of_quick v.state q in
-      record {
-        prepared = record { accepted = ok; ready = _ };
-        same = refl;
-        beside = refl;
-        event = nothing.0;
-        mark = nothing.1;
-        copy = nothing.2;
-      }
+  pub send_prepares : (to : ℕ) → refusal_of s v.state (act.Send to) ≡ None → Prepares s v (act.Send to) (record { event = None; mark = None; copy = None; turn = turn.Send to })
+  unfolding made_by
+  send_prepares to ok = record { prepared = record { accepted = ok; ready = _ }; same = refl; beside = refl; event = refl; mark = refl; copy = refl }
+
+  pub quiet_prepares : (q : Quiet Q) → refusal_of s v.state (act.Quietly q) ≡ None → Prepares s v (act.Quietly q) (record { event = None; mark = None; copy = None; turn = turn.Quiet q })
+  unfolding made_by
+  quiet_prepares q ok = record { prepared = record { accepted = ok; ready = _ }; same = refl; beside = refl; event = refl; mark = refl; copy = refl }

@@ -1,4 +1,4 @@
--- What holds of every change
+-- What holds of every act
 use Rattle.std.specs.Prelude.{◌≡◌, ℕ, ◌≤◌, List, [], ◌∷◌, Some, true, All}
 use Rattle.std.specs.FinMap.{get}
 use Rattle.rambo_names.specs.declared.refusal.Refusal.{Refusal}
@@ -9,7 +9,7 @@ use Rattle.rambo_tag.specs.Tags.{greater}
 use Rattle.rambo_gossip.specs.declared.letter.Letter.{Letter}
 use Rattle.rambo_gossip.specs.Letters.{letter_with}
 use Rattle.rambo_gossip.specs.Short.{IsShort}
-use Rattle.rambo_node.specs.declared.change.Change.{Change}
+use Rattle.rambo_node.specs.Acts.{Act}
 use Rattle.rambo_node.specs.Changes.{causes}
 use Rattle.rambo_node.specs.Hearing.{heard_letter}
 use Rattle.rambo_node.specs.Nodes.{NodeState}
@@ -25,7 +25,7 @@ abbrev pub IsRising : List Cause → Type 0
 IsRising cs = RisesFrom 0 cs
 
 abbrev pub CausesRise : Type 0 → Type 0
-CausesRise Q = (s : QuorumSystem Q) (x : NodeState Q) (c : Change Q) → IsRising (causes s x c)
+CausesRise Q = (s : QuorumSystem Q) (x : NodeState Q) (a : Act Q) → IsRising (causes s x a)
 
 -- so the first cause that holds has the least number of those that hold
 abbrev pub FirstIsLeast : Type 0

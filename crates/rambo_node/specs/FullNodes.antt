@@ -9,11 +9,11 @@ use Rattle.rambo_gossip.specs.declared.letter.Letter.{Letter}
 use Rattle.rambo_gossip.specs.declared.letter.Kind.{Kind}
 use Rattle.rambo_gossip.specs.declared.letter.Kind.TheVariants as kind
 use Rattle.rambo_gossip.specs.Letters.{letter_with}
-use Rattle.rambo_node.specs.declared.change.Change.{Change}
-use Rattle.rambo_node.specs.declared.change.Change.TheVariants as change
+use Rattle.rambo_node.specs.Acts.{Act}
 use Rattle.rambo_node.specs.Changes.{made_by, advanced}
 use Rattle.rambo_node.specs.Letters.{letter_for}
 use Rattle.rambo_node.specs.Nodes.{NodeState, Beside, RoomyNode, first_node, open_call, heard_from, raised}
+use Rattle.rambo_node.specs.Acts as act
 
 -- stamps: of each key the phase number before the step that last changed its copy; bases: of the names 1, 2, .. the
 -- greatest heard number that their letters carried
@@ -37,20 +37,20 @@ abbrev pub stamps_heard : {Q : Type 0} → NodeState Q → Stamps → Kind Q →
 stamps_heard x s kind.Join = s
 stamps_heard x s (kind.Gossip g) = stamps_merged x.number x.registers s g.copies
 
--- the stamps after a change: what it puts or merges anew has the phase number before it
-abbrev pub stamps_after : {Q : Type 0} → NodeState Q → Stamps → Change Q → Stamps
-stamps_after x s (change.Deliver l) = stamps_heard x s l.kind
-stamps_after x s (change.Advance id) = stamp_put x.number s (advanced x id (open_call x id)).deed.copy
+-- the stamps after an act: what it puts or merges anew has the phase number before it
+abbrev pub stamps_after : {Q : Type 0} → NodeState Q → Stamps → Act Q → Stamps
+stamps_after x s (act.Hear l) = stamps_heard x s l.kind
+stamps_after x s (act.Advance id) = stamp_put x.number s (advanced x id (open_call x id)).deed.copy
 stamps_after x s _ = s
 
--- the bases after a change: a letter raises that of its sender to the heard number that it carries
-abbrev pub bases_after : {Q : Type 0} → List ℕ → Change Q → List ℕ
-bases_after b (change.Deliver l) = raised b l.sender (heard_in l.kind)
+-- the bases after an act: a letter raises that of its sender to the heard number that it carries
+abbrev pub bases_after : {Q : Type 0} → List ℕ → Act Q → List ℕ
+bases_after b (act.Hear l) = raised b l.sender (heard_in l.kind)
 bases_after b _ = b
 
--- stamps and bases after a change
-abbrev pub beside_after : {Q : Type 0} → NodeState Q → Beside → Change Q → Beside
-beside_after x b c = record { stamps = stamps_after x b.stamps c; bases = bases_after b.bases c }
+-- stamps and bases after an act
+abbrev pub beside_after : {Q : Type 0} → NodeState Q → Beside → Act Q → Beside
+beside_after x b a = record { stamps = stamps_after x b.stamps a; bases = bases_after b.bases a }
 
 -- and after a letter of j that says this
 abbrev pub beside_heard : {Q : Type 0} → NodeState Q → Beside → ℕ → Kind Q → Beside
@@ -64,14 +64,14 @@ first_beside = record { stamps = map.empty; bases = replicate 64 0 }
 abbrev pub full : {Q : Type 0} → RoomyNode Q → FullNode Q
 full v = record { state = v.state; stamps = v.beside.stamps; bases = v.beside.bases }
 
--- what a change makes that isn't refused
-unfoldable pub full_after : {Q : Type 0} → FullNode Q → Change Q → FullNode Q
-full_after v c = record { state = (made_by v.state c).node; stamps = stamps_after v.state v.stamps c; bases = bases_after v.bases c }
+-- what an act makes that isn't refused
+unfoldable pub full_after : {Q : Type 0} → FullNode Q → Act Q → FullNode Q
+full_after v a = record { state = (made_by v.state a).node; stamps = stamps_after v.state v.stamps a; bases = bases_after v.bases a }
 
--- a node after a list of changes, none of which was refused
-abbrev pub fully_replayed : {Q : Type 0} → FullNode Q → List (Change Q) → FullNode Q
+-- a node after a list of acts, none of which was refused
+abbrev pub fully_replayed : {Q : Type 0} → FullNode Q → List (Act Q) → FullNode Q
 fully_replayed v [] = v
-fully_replayed v (c ∷ cs) = fully_replayed (full_after v c) cs
+fully_replayed v (a ∷ later) = fully_replayed (full_after v a) later
 
 -- a node of a store at first
 abbrev pub first_full : {Q : Type 0} → QuorumSystem Q → Q → ℕ → FullNode Q

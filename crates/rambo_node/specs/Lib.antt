@@ -1,3 +1,4 @@
+pub mod Acts
 pub mod Kept
 pub mod Nodes
 pub mod Letters

@@ -1,4 +1,4 @@
--- A change that is ready: there is room for what it makes new, and what its second half needs of it is found
+-- An act that is ready: there is room for what it makes new, and what its second half needs of it is found
 use Rattle.std.specs.Prelude.{◌≡◌, ℕ, ◌<◌, Box, Option, None, Some, slice_get}
 use Rattle.std.specs.FinMap as map
 use Rattle.rambo_names.specs.Quorums.{QuorumSystem}
@@ -18,13 +18,10 @@ use Rattle.rambo_gossip.specs.declared.letter.Kind.{Kind}
 use Rattle.rambo_gossip.specs.declared.letter.Kind.TheVariants as kind
 use Rattle.rambo_gossip.specs.Letters.{letter_with}
 use Rattle.rambo_gossip.specs.Short.{copies_in}
-use Rattle.rambo_node.specs.declared.change.Change.{Change}
-use Rattle.rambo_node.specs.declared.change.Change.TheVariants as change
+use Rattle.rambo_node.specs.Acts.{Act}
 use Rattle.rambo_node.specs.declared.prepared.Prepared.{Prepared}
 use Rattle.rambo_node.specs.declared.prepared.Turn.{Turn}
 use Rattle.rambo_node.specs.declared.prepared.Turn.TheVariants as turn
-use Rattle.rambo_node.specs.declared.prepared.Quick.{Quick}
-use Rattle.rambo_node.specs.declared.prepared.Quick.TheVariants as quick
 use Rattle.rambo_node.specs.declared.prepared.HearTurn.{HearTurn}
 use Rattle.rambo_node.specs.declared.prepared.Hearing.{Hearing}
 use Rattle.rambo_node.specs.declared.prepared.Found.{Found}
@@ -35,18 +32,7 @@ use Rattle.rambo_node.specs.Hearing.{number_after}
 use Rattle.rambo_node.specs.Kept.{propagation_begun}
 use Rattle.rambo_node.specs.Nodes.{NodeState, Room, RoomyNode, open_call}
 use Rattle.rambo_node.specs.Operations.{taken}
-
--- the change that a turn is: of a letter, with the copies that it is heard with
-abbrev pub quick_change : {Q : Type 0} → Quick Q → Change Q
-quick_change (quick.Join contacts) = change.Join contacts
-quick_change (quick.Send to) = change.Send to
-quick_change (quick.Again id) = change.Again id
-quick_change quick.Collect = change.Collect
-quick_change quick.AdvanceCollect = change.AdvanceCollect
-quick_change (quick.Recon wish) = change.Recon wish
-quick_change quick.Rebid = change.Rebid
-quick_change quick.AdvanceRecon = change.AdvanceRecon
-quick_change quick.Stop = change.Stop
+use Rattle.rambo_node.specs.Acts as act
 
 -- a letter that may be heard, without its copies
 abbrev pub kind_of : {Q Z : Type 0} → Option (Box (Gossip Q) Z) → Kind Q
@@ -56,14 +42,16 @@ kind_of (Some b) = kind.Gossip b.value
 abbrev pub heard_by : {Q : Type 0} → HearTurn Q → Letter Q
 heard_by t = record { sender = t.sender; addressee = t.addressee; kind = kind_of t.gossip }
 
-abbrev pub turn_change : {Q : Type 0} → Turn Q → Change Q
-turn_change (turn.Call o) = change.Call o
-turn_change (turn.Advance t) = change.Advance t.moving.id
-turn_change (turn.Hear t) = change.Deliver (letter_with (heard_by t) t.hearing.copies)
-turn_change (turn.Quick q) = quick_change q
+-- what a turn does: of a letter, with the copies that it is heard with
+abbrev pub turn_act : {Q : Type 0} → Turn Q → Act Q
+turn_act (turn.Call o) = act.Call o
+turn_act (turn.Send to) = act.Send to
+turn_act (turn.Advance t) = act.Advance t.moving.id
+turn_act (turn.Hear t) = act.Hear (letter_with (heard_by t) t.hearing.copies)
+turn_act (turn.Quiet q) = act.Quietly q
 
-abbrev pub change_of : {Q : Type 0} → Prepared Q → Change Q
-change_of p = turn_change p.turn
+abbrev pub act_in : {Q : Type 0} → Prepared Q → Act Q
+act_in p = turn_act p.turn
 
 -- the copy that the call puts whose query, if it is in it, is met
 abbrev pub put_by : {Q : Type 0} → NodeState Q → Option Op → Option KeyedVersion
@@ -91,7 +79,7 @@ sequence_before x (Some (op.Set key value)) = (tag_of (map.get x.registers key))
 
 -- an open call that may advance was found here
 pub record IsFound {Q : Type 0} (s : QuorumSystem Q) (x : NodeState Q) (id : CallId) (f : Found) : Type 0 where
-  pub accepted : refusal_of s x (change.Advance id) ≡ None
+  pub accepted : refusal_of s x (act.Advance id) ≡ None
   pub own : f.place ≡ place_of id.number x.calls
   pub at : slice_get x.calls f.place ≡ open_call x id
   pub before : f.sequence ≡ sequence_before x (query_in (open_call x id))
@@ -133,24 +121,24 @@ pub record IsHearing {Q : Type 0} (v : RoomyNode Q) (l : Letter Q) (h : Hearing)
 -- there is room for a turn, and what it has prepared is right
 abbrev pub IsReady : {Q : Type 0} → QuorumSystem Q → RoomyNode Q → Turn Q → Type 0
 IsReady s v (turn.Call o) = 0 < v.room.calls.room
-IsReady s v (turn.Advance t) = IsMoving s v t.moving × (t.effect ≡ (made_by v.state (change.Advance t.moving.id)).deed.effect)
+IsReady s v (turn.Advance t) = IsMoving s v t.moving × (t.effect ≡ (made_by v.state (act.Advance t.moving.id)).deed.effect)
 IsReady s v (turn.Hear t) = IsReadyKind v (heard_by t).kind t.hearing.copies t.hearing.number
-IsReady s v (turn.Quick q) = Unit {0}
+IsReady s v _ = Unit {0}
 
--- and its change isn't refused
+-- and it isn't refused
 pub record IsReadyTurn {Q : Type 0} (s : QuorumSystem Q) (v : RoomyNode Q) (t : Turn Q) : Type 0 where
-  pub accepted : refusal_of s v.state (turn_change t) ≡ None
+  pub accepted : refusal_of s v.state (turn_act t) ≡ None
   pub ready : IsReady s v t
 
--- a change is prepared, whatever became of what it will report
+-- an act is prepared, whatever became of what it will report
 abbrev pub IsPrepared : {Q : Type 0} → QuorumSystem Q → RoomyNode Q → Prepared Q → Type 0
 IsPrepared s v p = IsReadyTurn s v p.turn
 
--- it comes to this change, and it has what that will do besides changing the node
-pub record Prepares {Q : Type 0} (s : QuorumSystem Q) (v : RoomyNode Q) (c : Change Q) (p : Prepared Q) : Type 0 where
+-- it comes to this act, and it has what that will do besides changing the node
+pub record Prepares {Q : Type 0} (s : QuorumSystem Q) (v : RoomyNode Q) (a : Act Q) (p : Prepared Q) : Type 0 where
   pub prepared : IsPrepared s v p
-  pub same : made_by v.state (change_of p) ≡ made_by v.state c
-  pub beside : beside_after v.state v.beside (change_of p) ≡ beside_after v.state v.beside c
-  pub event : p.event ≡ (made_by v.state c).deed.event
-  pub mark : p.mark ≡ (made_by v.state c).deed.mark
-  pub copy : p.copy ≡ (made_by v.state c).deed.copy
+  pub same : made_by v.state (act_in p) ≡ made_by v.state a
+  pub beside : beside_after v.state v.beside (act_in p) ≡ beside_after v.state v.beside a
+  pub event : p.event ≡ (made_by v.state a).deed.event
+  pub mark : p.mark ≡ (made_by v.state a).deed.mark
+  pub copy : p.copy ≡ (made_by v.state a).deed.copy

@@ -1,4 +1,4 @@
--- Why a node refuses a change of each kind: of the causes that hold, the least number is answered
+-- Why a node refuses an act of each kind: of the causes that hold, the least number is answered
 use Rattle.std.specs.Prelude.{ℕ, ◌^◌, ◌-◌, Bool, true, false, not, ◌&&◌, ◌||◌, nat_eq, nat_le, nat_lt, List, [], ◌∷◌, length, Option, None, Some, is_none}
 use Rattle.std.specs.FinSet as set
 use Rattle.std.specs.FinMap as map

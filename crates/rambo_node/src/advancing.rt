@@ -4,13 +4,15 @@ ghost use Rattle.std.specs.Prelude.{◌≡◌, ◌+◌, ◌<◌, None, Some, fal
 ghost use Rattle.std.specs.FinMap.{get};
 ghost use Rattle.rambo_tag.specs.Tags.{tag_of};
 ghost use Rattle.rambo_history.specs.declared.operation.Op.TheVariants as asked;
-ghost use Rattle.rambo_node.specs.Changes.{refusal_of, made_by, quiet_deed};
+ghost use Rattle.rambo_node.specs.Changes.{refusal_of, made_by, quiet_deed, begun_again};
+ghost use Rattle.rambo_node.specs.Nodes.{open_call};
 ghost use Rattle.rambo_node.specs.Kept.{answered_from, move_deed};
 ghost use Rattle.rambo_calls.specs.Calls.{query_in};
 ghost use Rattle.rambo_node.specs.Operations.{new_copy, taken};
 ghost use Rattle.rambo_node.specs.Prepared.{IsAlone, IsFound, IsMoving, HasRoomFor, put_by, sequence_before};
 ghost use Rattle.rambo_node.specs.Refusals.{is_last, tags_spent};
-ghost use Rattle.rambo_node.specs.declared.change.Change.TheVariants as change;
+ghost use Rattle.rambo_node.specs.Acts as act;
+ghost use Rattle.rambo_node.specs.declared.prepared.Quiet.TheVariants as quiet;
 
 use crate::deed::{Deed, clone_of, tell_answered};
 use crate::effect::Effect;
@@ -46,10 +48,10 @@ impl<Q: Quorums, S: Replica> Node<Q, S> {
     }
 
     // A phase that isn't refused restarts.
-    #[tactic(auto, unfolding(crate::specs::Changes::made_by, crate::specs::Operations::called_again))]
+    #[tactic(auto, unfolding(crate::specs::Operations::called_again))]
     pub(crate) fn do_again(&mut self, id: CallId)
-        requires { refusal_of Q.system self.old.state (change.Again id) ≡ None }
-        ensures state { self.new.state ≡ (made_by self.old.state (change.Again id)).node }
+        requires { refusal_of Q.system self.old.state (act.Quietly (quiet.Again id)) ≡ None }
+        ensures state { self.new.state ≡ (begun_again self.old.state (open_call self.old.state id)).node }
         ensures beside { self.new.beside ≡ self.old.beside }
     {
         let place = self.place_of(&id);
@@ -71,7 +73,7 @@ impl<Q: Quorums, S: Replica> Node<Q, S> {
         ensures beside { self.new.beside ≡ self.old.beside }
         ensures id { OnOk result (moving.new.id ≡ moving.old.id) }
         ensures moving { OnOk result (IsMoving Q.system self.new moving.new) }
-        ensures deed { OnOk result (deed.new ≡ (made_by self.old.state (change.Advance moving.old.id)).deed) }
+        ensures deed { OnOk result (deed.new ≡ (made_by self.old.state (act.Advance moving.old.id)).deed) }
         ensures refused { IfErr result (λ r. r ≡ Refusal.OutOfMemory) }
         ensures err { OnErr result (deed.new ≡ deed.old) }
         ensures kept { OnErr result (moving.new ≡ moving.old) }

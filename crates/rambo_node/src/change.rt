@@ -1,5 +1,8 @@
 //! Changes of a node.
+ghost use Rattle.std.specs.Prelude.{◌≡◌};
+ghost use Rattle.rambo_node.specs.Acts.{act_of, quiet_in};
 
+use crate::prepared::Quiet;
 use rambo_gossip::Letter;
 use rambo_history::{CallId, Op};
 use rambo_names::{Members, Name, Quorums};
@@ -31,4 +34,23 @@ pub enum Change<Q: Quorums> {
     AdvanceRecon,
     /// It stops for ever.
     Stop,
+}
+
+impl<Q: Quorums> Change<Q> {
+    // What it is if it allocates nothing, and nothing of it goes into the history or to other nodes.
+    pub(crate) fn quiet(&self) -> Option<Quiet<Q>>
+        ensures { result ≡ quiet_in (act_of self.now) }
+    {
+        match self {
+            Change::Join(contacts) => Some(Quiet::Join(*contacts)),
+            Change::Again(id) => Some(Quiet::Again(*id)),
+            Change::Collect => Some(Quiet::Collect),
+            Change::AdvanceCollect => Some(Quiet::AdvanceCollect),
+            Change::Recon(wish) => Some(Quiet::Recon(*wish)),
+            Change::Rebid => Some(Quiet::Rebid),
+            Change::AdvanceRecon => Some(Quiet::AdvanceRecon),
+            Change::Stop => Some(Quiet::Stop),
+            _ => None,
+        }
+    }
 }

@@ -5,9 +5,9 @@ ghost use Rattle.std.specs.Prelude.{◌≡◌, ◌+◌, ◌<◌, None, false, re
 ghost use Rattle.rambo_node.specs.Changes.{refusal_of, made_by};
 ghost use Rattle.rambo_node.specs.FullNodes.{beside_after, stamp_put};
 ghost use Rattle.rambo_node.specs.Kept.{propagation_begun};
-ghost use Rattle.rambo_node.specs.Prepared.{HasRoomFor, IsMoving, with_put, query_done};
+ghost use Rattle.rambo_node.specs.Prepared.{HasRoomFor, IsMoving, with_put};
 ghost use Rattle.rambo_node.specs.Refusals.{is_last};
-ghost use Rattle.rambo_node.specs.declared.change.Change.TheVariants as change;
+ghost use Rattle.rambo_node.specs.Acts as act;
 
 use crate::node::Node;
 use crate::prepared::Moving;
@@ -21,10 +21,10 @@ impl<Q: Quorums, S: Replica> Node<Q, S> {
     /// It allocates nothing and can't fail.
     #[tactic(auto, unfolding(crate::specs::Changes::made_by, crate::specs::Operations::called))]
     pub fn finish_call(&mut self, op: Op) -> CallId
-        requires accepted { refusal_of Q.system self.old.state (change.Call op) ≡ None }
+        requires accepted { refusal_of Q.system self.old.state (act.Call op) ≡ None }
         requires room { 0 < self.old.room.calls.room }
-        ensures node { self.new.state ≡ (made_by self.old.state (change.Call op)).node }
-        ensures beside { self.new.beside ≡ beside_after self.old.state self.old.beside (change.Call op) }
+        ensures node { self.new.state ≡ (made_by self.old.state (act.Call op)).node }
+        ensures beside { self.new.beside ≡ beside_after self.old.state self.old.beside (act.Call op) }
         ensures id { result ≡ record { name = self.old.state.name; number = self.old.state.made + 1 } }
     {
         let id = self.next_id();
@@ -41,8 +41,8 @@ impl<Q: Quorums, S: Replica> Node<Q, S> {
     /// It allocates nothing and can't fail. What the call took along is no longer in `moving`.
     pub fn finish_advance(&mut self, moving: &mut Moving)
         requires { IsMoving Q.system self.old moving.old }
-        ensures node { self.new.state ≡ (made_by self.old.state (change.Advance moving.old.id)).node }
-        ensures beside { self.new.beside ≡ beside_after self.old.state self.old.beside (change.Advance moving.old.id) }
+        ensures node { self.new.state ≡ (made_by self.old.state (act.Advance moving.old.id)).node }
+        ensures beside { self.new.beside ≡ beside_after self.old.state self.old.beside (act.Advance moving.old.id) }
         ensures taken { moving.new ≡ record moving.old { kept = None; put = None } }
     {
         let place = moving.found.place;

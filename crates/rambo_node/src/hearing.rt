@@ -13,7 +13,7 @@ ghost use Rattle.rambo_node.specs.Nodes.{raised};
 ghost use Rattle.rambo_node.specs.Letters.{letter_for};
 ghost use Rattle.rambo_node.specs.Prepared.{IsHearing, IsReadyGossip, IsReadyKind, heard_by};
 ghost use Rattle.rambo_node.specs.Refusals.{is_last};
-ghost use Rattle.rambo_node.specs.declared.change.Change.TheVariants as change;
+ghost use Rattle.rambo_node.specs.Acts as act;
 
 use crate::node::Node;
 use crate::prepared::{HearTurn, Hearing};
@@ -31,9 +31,9 @@ impl<Q: Quorums, S: Replica> Node<Q, S> {
     /// it doesn't know. Else with 22 where there is no room for the list of its copies.
     #[tactic(auto, unfolding(crate::specs::Changes::made_by))]
     pub fn letter_for(&self, to: Name) -> Result<Letter<Q>, Refusal>
-        ensures judged { OnOk result (refusal_of Q.system self.now.state (change.Send to) ≡ None) }
-        ensures letter { IfOk result (λ l. (made_by self.now.state (change.Send to)).letter ≡ Some l) }
-        ensures refused { IfErr result (IsRefusal (refusal_of Q.system self.now.state (change.Send to))) }
+        ensures judged { OnOk result (refusal_of Q.system self.now.state (act.Send to) ≡ None) }
+        ensures letter { IfOk result (λ l. (made_by self.now.state (act.Send to)).letter ≡ Some l) }
+        ensures refused { IfErr result (IsRefusal (refusal_of Q.system self.now.state (act.Send to))) }
     {
         self.may_send(to)?;
         let copies = self.registers.pack()?;
@@ -47,9 +47,9 @@ impl<Q: Quorums, S: Replica> Node<Q, S> {
     /// it doesn't know. Else with 22 where there is no room for the list of its copies.
     #[tactic(auto, unfolding(crate::specs::Changes::made_by))]
     pub fn delta_for(&self, to: Name) -> Result<Letter<Q>, Refusal>
-        ensures judged { OnOk result (refusal_of Q.system self.now.state (change.Send to) ≡ None) }
+        ensures judged { OnOk result (refusal_of Q.system self.now.state (act.Send to) ≡ None) }
         ensures letter { IfOk result (IsDeltaLetter (full self.now) to) }
-        ensures refused { IfErr result (IsRefusal (refusal_of Q.system self.now.state (change.Send to))) }
+        ensures refused { IfErr result (IsRefusal (refusal_of Q.system self.now.state (act.Send to))) }
     {
         self.may_send(to)?;
         let copies = self.pack_for(to)?;
@@ -93,11 +93,11 @@ impl<Q: Quorums, S: Replica> Node<Q, S> {
     /// join needs none.
     #[tactic(auto, unfolding(crate::specs::Changes::made_by))]
     pub fn hear(&mut self, letter: &Letter<Q>) -> Result<(), Refusal>
-        ensures judged { OnOk result (refusal_of Q.system self.old.state (change.Deliver letter.now) ≡ None) }
-        ensures node { OnOk result (self.new.state ≡ (made_by self.old.state (change.Deliver letter.now)).node) }
-        ensures beside { OnOk result (self.new.beside ≡ beside_after self.old.state self.old.beside (change.Deliver letter.now)) }
-        ensures refused { IfErr result (IsRefusal (refusal_of Q.system self.old.state (change.Deliver letter.now))) }
-        ensures join { letter.now.kind ≡ Kind.Join → IfErr result (λ r. refusal_of Q.system self.old.state (change.Deliver letter.now) ≡ Some r) }
+        ensures judged { OnOk result (refusal_of Q.system self.old.state (act.Hear letter.now) ≡ None) }
+        ensures node { OnOk result (self.new.state ≡ (made_by self.old.state (act.Hear letter.now)).node) }
+        ensures beside { OnOk result (self.new.beside ≡ beside_after self.old.state self.old.beside (act.Hear letter.now)) }
+        ensures refused { IfErr result (IsRefusal (refusal_of Q.system self.old.state (act.Hear letter.now))) }
+        ensures join { letter.now.kind ≡ Kind.Join → IfErr result (λ r. refusal_of Q.system self.old.state (act.Hear letter.now) ≡ Some r) }
         ensures err { OnErr result (self.new.state ≡ self.old.state) }
         ensures kept { OnErr result (self.new.beside ≡ self.old.beside) }
     {
@@ -187,7 +187,7 @@ impl<Q: Quorums, S: Replica> Node<Q, S> {
 impl<Q: Quorums, S: Replica> Node<Q, S> {
     // Of a letter that is given whole.
     pub(crate) fn ready_letter(&mut self, letter: &Letter<Q>) -> Result<HearTurn<Q>, Refusal>
-        requires { refusal_of Q.system self.old.state (change.Deliver letter.now) ≡ None }
+        requires { refusal_of Q.system self.old.state (act.Hear letter.now) ≡ None }
         ensures same { self.new.state ≡ self.old.state }
         ensures beside { self.new.beside ≡ self.old.beside }
         ensures letter { IfOk result (λ t. heard_by t ≡ letter_with letter.now map.empty) }
@@ -233,7 +233,7 @@ impl<Q: Quorums, S: Replica> Node<Q, S> {
         outline: &LetterOutline<'_, Q>,
         copies: Pack,
     ) -> Result<Hearing, Refusal>
-        requires { refusal_of Q.system self.old.state (change.Deliver outline.now) ≡ None }
+        requires { refusal_of Q.system self.old.state (act.Hear outline.now) ≡ None }
         ensures same { self.new.state ≡ self.old.state }
         ensures beside { self.new.beside ≡ self.old.beside }
         ensures hearing { IfOk result (IsHearing self.new (letter_with outline.now copies)) }
@@ -282,7 +282,7 @@ impl<Q: Quorums, S: Replica> Node<Q, S> {
     pub(crate) fn finish_hear(&mut self, turn: HearTurn<Q>)
         requires { IsReadyKind self.old (heard_by turn).kind turn.hearing.copies turn.hearing.number }
         ensures state { self.new.state ≡ heard_letter self.old.state (letter_with (heard_by turn) turn.hearing.copies) }
-        ensures beside { self.new.beside ≡ beside_after self.old.state self.old.beside (change.Deliver (letter_with (heard_by turn) turn.hearing.copies)) }
+        ensures beside { self.new.beside ≡ beside_after self.old.state self.old.beside (act.Hear (letter_with (heard_by turn) turn.hearing.copies)) }
     {
         let HearTurn {
             sender,
@@ -302,7 +302,7 @@ impl<Q: Quorums, S: Replica> Node<Q, S> {
     pub fn finish_outlined(&mut self, outline: &LetterOutline<'_, Q>, hearing: Hearing)
         requires { IsReadyKind self.old outline.now.kind hearing.copies hearing.number }
         ensures state { self.new.state ≡ heard_letter self.old.state (letter_with outline.now hearing.copies) }
-        ensures beside { self.new.beside ≡ beside_after self.old.state self.old.beside (change.Deliver (letter_with outline.now hearing.copies)) }
+        ensures beside { self.new.beside ≡ beside_after self.old.state self.old.beside (act.Hear (letter_with outline.now hearing.copies)) }
     {
         match &outline.gossip {
             None => self.meet(outline.sender),

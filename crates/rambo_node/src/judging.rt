@@ -11,11 +11,11 @@ ghost use Rattle.std.specs.Option.{option_copied};
 ghost use Rattle.rambo_calls.specs.Calls.{is_missing, is_unmet};
 ghost use Rattle.rambo_calls.specs.Kept.{call_found};
 ghost use Rattle.rambo_node.specs.Changes.{refusal_of};
-ghost use Rattle.rambo_node.specs.Prepared.{IsFound, quick_change, sequence_before};
-ghost use Rattle.rambo_node.specs.declared.change.Change.TheVariants as change;
+ghost use Rattle.rambo_node.specs.Prepared.{IsFound, sequence_before};
+ghost use Rattle.rambo_node.specs.Acts as act;
 
 use crate::node::{Node, query_of};
-use crate::prepared::{Found, Quick};
+use crate::prepared::{Found, Quiet};
 use rambo_calls::OpenCall;
 use rambo_gossip::{GossipOutline, Kind, Letter, LetterOutline};
 use rambo_history::{CallId, Op};
@@ -33,30 +33,27 @@ const CALL_LIMIT: usize = 64;
 
 impl<Q: Quorums, S: Replica> Node<Q, S> {
     /// Why a change that allocates nothing is refused, if it is: what `ready` says of it.
-    // (who knows the kind asks for that one alone then, as of each letter that is sent)
-    #[inline(always)]
-    pub fn judge_quick(&self, quick: &Quick<Q>) -> Result<(), Refusal>
-        ensures ok { OnOk result (refusal_of Q.system self.now.state (quick_change quick.now) ≡ None) }
-        ensures refused { IfErr result (λ r. refusal_of Q.system self.now.state (quick_change quick.now) ≡ Some r) }
+    pub fn may_quiet(&self, quiet: &Quiet<Q>) -> Result<(), Refusal>
+        ensures ok { OnOk result (refusal_of Q.system self.now.state (act.Quietly quiet.now) ≡ None) }
+        ensures refused { IfErr result (λ r. refusal_of Q.system self.now.state (act.Quietly quiet.now) ≡ Some r) }
     {
-        match quick {
-            Quick::Join(contacts) => self.may_join(*contacts),
-            Quick::Send(to) => self.may_send(*to),
-            Quick::Again(id) => self.may_restart(id),
-            Quick::Collect => self.may_collect(),
-            Quick::AdvanceCollect => self.may_advance_collect(),
-            Quick::Recon(wish) => self.may_recon(wish),
-            Quick::Rebid => self.may_rebid(),
-            Quick::AdvanceRecon => self.may_advance_recon(),
-            Quick::Stop => self.may_stop(),
+        match quiet {
+            Quiet::Join(contacts) => self.may_join(*contacts),
+            Quiet::Again(id) => self.may_restart(id),
+            Quiet::Collect => self.may_collect(),
+            Quiet::AdvanceCollect => self.may_advance_collect(),
+            Quiet::Recon(wish) => self.may_recon(wish),
+            Quiet::Rebid => self.may_rebid(),
+            Quiet::AdvanceRecon => self.may_advance_recon(),
+            Quiet::Stop => self.may_stop(),
         }
     }
 
     // Why a letter is refused, if it is: 3 where the node is idle, 4 where it has stopped, 21 where a phase would
     // restart and the phase number is the greatest one.
     pub(crate) fn may_hear(&self, letter: &Letter<Q>) -> Result<(), Refusal>
-        ensures ok { OnOk result (refusal_of Q.system self.now.state (change.Deliver letter.now) ≡ None) }
-        ensures refused { IfErr result (λ r. refusal_of Q.system self.now.state (change.Deliver letter.now) ≡ Some r) }
+        ensures ok { OnOk result (refusal_of Q.system self.now.state (act.Hear letter.now) ≡ None) }
+        ensures refused { IfErr result (λ r. refusal_of Q.system self.now.state (act.Hear letter.now) ≡ Some r) }
     {
         if self.status.is_idle() {
             return Err(Refusal::NotActive);
@@ -72,8 +69,8 @@ impl<Q: Quorums, S: Replica> Node<Q, S> {
 
     /// Why a letter is refused, if it is: what `ready` says, of its outline, since its copies don't matter.
     pub fn may_hear_outlined(&self, outline: &LetterOutline<'_, Q>) -> Result<(), Refusal>
-        ensures ok { OnOk result (refusal_of Q.system self.now.state (change.Deliver outline.now) ≡ None) }
-        ensures refused { IfErr result (λ r. refusal_of Q.system self.now.state (change.Deliver outline.now) ≡ Some r) }
+        ensures ok { OnOk result (refusal_of Q.system self.now.state (act.Hear outline.now) ≡ None) }
+        ensures refused { IfErr result (λ r. refusal_of Q.system self.now.state (act.Hear outline.now) ≡ Some r) }
     {
         if self.status.is_idle() {
             return Err(Refusal::NotActive);
@@ -166,9 +163,11 @@ impl<Q: Quorums, S: Replica> Node<Q, S> {
         Ok(())
     }
 
-    // Why the node may not send a letter to a name, if it may not: 3 where it is idle, 4 where it has stopped, 5 where
-    // the name is its own or one that it doesn't know.
-    pub(crate) fn may_send(&self, to: Name) -> Result<(), Refusal>
+    /// Why the node may not send a letter to a name, if it may not: 3 where it is idle, 4 where it has stopped, 5 where
+    /// the name is its own or one that it doesn't know.
+    // (asked for each letter that is sent)
+    #[inline(always)]
+    pub fn may_send(&self, to: Name) -> Result<(), Refusal>
         ensures ok { OnOk result (least (send_causes self.now.state to) ≡ None) }
         ensures refused { IfErr result (λ r. least (send_causes self.now.state to) ≡ Some r) }
     {

@@ -25,5 +25,5 @@ pub use deed::Deed;
 pub use effect::Effect;
 pub use laws::changing_laws;
 pub use node::Node;
-pub use prepared::{Found, Hearing, Moving, Prepared, Quick};
+pub use prepared::{Found, Hearing, Moving, Prepared, Quiet};
 pub use rambo_calls::Stage;

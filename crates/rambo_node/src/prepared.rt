@@ -28,21 +28,22 @@ pub struct Prepared<Q: Quorums> {
 pub(crate) enum Turn<Q: Quorums> {
     // A call begins that asks for this.
     Call(Op),
+    // A letter goes out to this name.
+    Send(Name),
     // A call goes on.
     Advance(AdvanceTurn<Q>),
     // A letter is heard.
     Hear(HearTurn<Q>),
     // Any other change.
-    Quick(Quick<Q>),
+    Quiet(Quiet<Q>),
 }
 
-/// A change that allocates nothing: any but a call, its advance, and the delivery of a letter.
+/// A change that allocates nothing, and of which nothing goes into the history or to other nodes: any but a call, its
+/// advance, and a letter that goes out or comes.
 #[derive(Drop)]
-pub enum Quick<Q> {
+pub enum Quiet<Q> {
     /// The node begins to join, with these contacts.
     Join(Members),
-    /// It sends a letter to this name.
-    Send(Name),
     /// The current phase of its call restarts.
     Again(CallId),
     /// It begins to collect the lowest place of its map.

@@ -1,20 +1,21 @@
 //! A change in two halves: the first may fail, and the second changes the node.
 ghost use Rattle.std.specs.Prelude.{◌≡◌, None, Some, false, IsOk, OnOk, IfOk, IfErr};
 ghost use Rattle.rambo_names.specs.Refusals.{IsRefusal};
+ghost use Rattle.rambo_node.specs.Acts.{act_of};
 ghost use Rattle.rambo_node.specs.Changes.{refusal_of, made_by};
 ghost use Rattle.rambo_node.specs.FullNodes.{beside_after};
 ghost use Rattle.rambo_node.specs.Memory.{needs_memory};
-ghost use Rattle.rambo_node.specs.Prepared.{IsFound, IsPrepared, IsReadyTurn, Prepares, change_of, turn_change, quick_change};
-ghost use Rattle.rambo_node.specs.declared.change.Change.TheVariants as change;
+ghost use Rattle.rambo_node.specs.Prepared.{IsFound, IsPrepared, IsReadyTurn, Prepares, act_in, turn_act};
+ghost use Rattle.rambo_node.specs.Acts as act;
 
 use crate::change::Change;
 use crate::deed::Deed;
 use crate::effect::Effect;
 use crate::node::Node;
-use crate::prepared::{AdvanceTurn, Found, Moving, Prepared, Quick, Turn};
+use crate::prepared::{AdvanceTurn, Found, Moving, Prepared, Quiet, Turn};
 use rambo_gossip::Letter;
 use rambo_history::{CallId, Event, Op};
-use rambo_names::{Quorums, Refusal};
+use rambo_names::{Name, Quorums, Refusal};
 use rambo_tag::Replica;
 
 impl<Q: Quorums, S: Replica> Node<Q, S> {
@@ -54,25 +55,24 @@ impl<Q: Quorums, S: Replica> Node<Q, S> {
     /// Else 22, where there is no room for what is new, which only a call, its advance and a letter of an active node
     /// may need.
     pub fn ready(&mut self, change: &Change<Q>) -> Result<Prepared<Q>, Refusal>
-        ensures judged { OnOk result (refusal_of Q.system self.old.state change.now ≡ None) }
+        ensures judged { OnOk result (refusal_of Q.system self.old.state (act_of change.now) ≡ None) }
         ensures same { self.new.state ≡ self.old.state }
         ensures beside { self.new.beside ≡ self.old.beside }
         ensures prepared { IfOk result (IsPrepared Q.system self.new) }
-        ensures change { IfOk result (λ p. made_by self.old.state (change_of p) ≡ made_by self.old.state change.now) }
-        ensures after { IfOk result (λ p. beside_after self.old.state self.old.beside (change_of p) ≡ beside_after self.old.state self.old.beside change.now) }
-        ensures event { IfOk result (λ p. p.event ≡ (made_by self.old.state change.now).deed.event) }
-        ensures mark { IfOk result (λ p. p.mark ≡ (made_by self.old.state change.now).deed.mark) }
-        ensures copy { IfOk result (λ p. p.copy ≡ (made_by self.old.state change.now).deed.copy) }
-        ensures refused { IfErr result (IsRefusal (refusal_of Q.system self.old.state change.now)) }
-        ensures no_memory { needs_memory change.now ≡ false → IfErr result (λ r. refusal_of Q.system self.old.state change.now ≡ Some r) }
+        ensures change { IfOk result (λ p. made_by self.old.state (act_in p) ≡ made_by self.old.state (act_of change.now)) }
+        ensures after { IfOk result (λ p. beside_after self.old.state self.old.beside (act_in p) ≡ beside_after self.old.state self.old.beside (act_of change.now)) }
+        ensures event { IfOk result (λ p. p.event ≡ (made_by self.old.state (act_of change.now)).deed.event) }
+        ensures mark { IfOk result (λ p. p.mark ≡ (made_by self.old.state (act_of change.now)).deed.mark) }
+        ensures copy { IfOk result (λ p. p.copy ≡ (made_by self.old.state (act_of change.now)).deed.copy) }
+        ensures refused { IfErr result (IsRefusal (refusal_of Q.system self.old.state (act_of change.now))) }
+        ensures no_memory { needs_memory (act_of change.now) ≡ false → IfErr result (λ r. refusal_of Q.system self.old.state (act_of change.now) ≡ Some r) }
     {
         match change {
-            Change::Join(contacts) => self.ready_quick(Quick::Join(*contacts)),
             Change::Call(op) => {
                 self.may_call(op)?;
                 self.prepare_call(op)
             }
-            Change::Send(to) => self.ready_quick(Quick::Send(*to)),
+            Change::Send(to) => self.ready_send(*to),
             Change::Deliver(letter) => {
                 self.may_hear(letter)?;
                 self.prepare_letter(letter)
@@ -81,13 +81,10 @@ impl<Q: Quorums, S: Replica> Node<Q, S> {
                 let found = self.may_advance(id)?;
                 self.prepare_advance(*id, found)
             }
-            Change::Again(id) => self.ready_quick(Quick::Again(*id)),
-            Change::Collect => self.ready_quick(Quick::Collect),
-            Change::AdvanceCollect => self.ready_quick(Quick::AdvanceCollect),
-            Change::Recon(wish) => self.ready_quick(Quick::Recon(*wish)),
-            Change::Rebid => self.ready_quick(Quick::Rebid),
-            Change::AdvanceRecon => self.ready_quick(Quick::AdvanceRecon),
-            Change::Stop => self.ready_quick(Quick::Stop),
+            _ => match change.quiet() {
+                Some(quiet) => self.ready_quiet(quiet),
+                None => unreachable!(),
+            },
         }
     }
 
@@ -96,9 +93,9 @@ impl<Q: Quorums, S: Replica> Node<Q, S> {
     /// It allocates nothing and can't fail.
     pub fn finish(&mut self, prepared: Prepared<Q>) -> Effect<Q>
         requires { IsPrepared Q.system self.old prepared }
-        ensures node { self.new.state ≡ (made_by self.old.state (change_of prepared)).node }
-        ensures beside { self.new.beside ≡ beside_after self.old.state self.old.beside (change_of prepared) }
-        ensures effect { result ≡ (made_by self.old.state (change_of prepared)).deed.effect }
+        ensures node { self.new.state ≡ (made_by self.old.state (act_in prepared)).node }
+        ensures beside { self.new.beside ≡ beside_after self.old.state self.old.beside (act_in prepared) }
+        ensures effect { result ≡ (made_by self.old.state (act_in prepared)).deed.effect }
     {
         let Prepared {
             event: _event,
@@ -112,9 +109,9 @@ impl<Q: Quorums, S: Replica> Node<Q, S> {
     // The second half of a change that is ready, and all that it did.
     pub(crate) fn carry_out(&mut self, prepared: Prepared<Q>) -> Deed<Q>
         requires { IsPrepared Q.system self.old prepared }
-        ensures node { self.new.state ≡ (made_by self.old.state (change_of prepared)).node }
-        ensures beside { self.new.beside ≡ beside_after self.old.state self.old.beside (change_of prepared) }
-        ensures deed { result ≡ record { effect = (made_by self.old.state (change_of prepared)).deed.effect; event = prepared.event; mark = prepared.mark; copy = prepared.copy } }
+        ensures node { self.new.state ≡ (made_by self.old.state (act_in prepared)).node }
+        ensures beside { self.new.beside ≡ beside_after self.old.state self.old.beside (act_in prepared) }
+        ensures deed { result ≡ record { effect = (made_by self.old.state (act_in prepared)).deed.effect; event = prepared.event; mark = prepared.mark; copy = prepared.copy } }
     {
         let Prepared {
             event,
@@ -135,13 +132,23 @@ impl<Q: Quorums, S: Replica> Node<Q, S> {
 // The first half of a change of one kind.
 impl<Q: Quorums, S: Replica> Node<Q, S> {
     // Of one that allocates nothing: it is judged.
-    fn ready_quick(&self, quick: Quick<Q>) -> Result<Prepared<Q>, Refusal>
-        ensures judged { OnOk result (refusal_of Q.system self.now.state (quick_change quick) ≡ None) }
-        ensures prepares { IfOk result (Prepares Q.system self.now (quick_change quick)) }
-        ensures refused { IfErr result (λ r. refusal_of Q.system self.now.state (quick_change quick) ≡ Some r) }
+    fn ready_quiet(&self, quiet: Quiet<Q>) -> Result<Prepared<Q>, Refusal>
+        ensures judged { OnOk result (refusal_of Q.system self.now.state (act.Quietly quiet) ≡ None) }
+        ensures prepares { IfOk result (Prepares Q.system self.now (act.Quietly quiet)) }
+        ensures refused { IfErr result (λ r. refusal_of Q.system self.now.state (act.Quietly quiet) ≡ Some r) }
     {
-        self.judge_quick(&quick)?;
-        Ok(Prepared::quiet(Turn::Quick(quick)))
+        self.may_quiet(&quiet)?;
+        Ok(Prepared::quiet(Turn::Quiet(quiet)))
+    }
+
+    // Of a letter that goes out: it is judged.
+    fn ready_send(&self, to: Name) -> Result<Prepared<Q>, Refusal>
+        ensures judged { OnOk result (refusal_of Q.system self.now.state (act.Send to) ≡ None) }
+        ensures prepares { IfOk result (Prepares Q.system self.now (act.Send to)) }
+        ensures refused { IfErr result (λ r. refusal_of Q.system self.now.state (act.Send to) ≡ Some r) }
+    {
+        self.may_send(to)?;
+        Ok(Prepared::quiet(Turn::Send(to)))
     }
 
     /// The first half of a call that isn't refused: room is made for it. In either case the node itself is unchanged.
@@ -150,10 +157,10 @@ impl<Q: Quorums, S: Replica> Node<Q, S> {
     // (what is prepared is large, and where this is inlined the other kinds clear its room)
     #[inline(never)]
     pub fn prepare_call(&mut self, op: &Op) -> Result<Prepared<Q>, Refusal>
-        requires { refusal_of Q.system self.old.state (change.Call op.now) ≡ None }
+        requires { refusal_of Q.system self.old.state (act.Call op.now) ≡ None }
         ensures same { self.new.state ≡ self.old.state }
         ensures beside { self.new.beside ≡ self.old.beside }
-        ensures prepares { IfOk result (Prepares Q.system self.new (change.Call op.now)) }
+        ensures prepares { IfOk result (Prepares Q.system self.new (act.Call op.now)) }
         ensures refused { IfErr result (λ r. r ≡ Refusal.OutOfMemory) }
     {
         let asked = op.clone()?;
@@ -170,12 +177,12 @@ impl<Q: Quorums, S: Replica> Node<Q, S> {
 
     // Of a letter that isn't refused.
     fn prepare_letter(&mut self, letter: &Letter<Q>) -> Result<Prepared<Q>, Refusal>
-        requires { refusal_of Q.system self.old.state (change.Deliver letter.now) ≡ None }
+        requires { refusal_of Q.system self.old.state (act.Hear letter.now) ≡ None }
         ensures same { self.new.state ≡ self.old.state }
         ensures beside { self.new.beside ≡ self.old.beside }
-        ensures prepares { IfOk result (Prepares Q.system self.new (change.Deliver letter.now)) }
+        ensures prepares { IfOk result (Prepares Q.system self.new (act.Hear letter.now)) }
         ensures refused { IfErr result (λ r. r ≡ Refusal.OutOfMemory) }
-        ensures no_memory { needs_memory (change.Deliver letter.now) ≡ false → IsOk result }
+        ensures no_memory { needs_memory (act.Hear letter.now) ≡ false → IsOk result }
     {
         let turn = self.ready_letter(letter)?;
         Ok(Prepared::quiet(Turn::Hear(turn)))
@@ -191,7 +198,7 @@ impl<Q: Quorums, S: Replica> Node<Q, S> {
         requires { IsFound Q.system self.old.state id found }
         ensures same { self.new.state ≡ self.old.state }
         ensures beside { self.new.beside ≡ self.old.beside }
-        ensures prepares { IfOk result (Prepares Q.system self.new (change.Advance id)) }
+        ensures prepares { IfOk result (Prepares Q.system self.new (act.Advance id)) }
         ensures refused { IfErr result (λ r. r ≡ Refusal.OutOfMemory) }
     {
         let mut moving = Moving {
@@ -212,12 +219,13 @@ impl<Q: Quorums, S: Replica> Node<Q, S> {
     #[tactic(auto, unfolding(crate::specs::Changes::made_by))]
     fn finish_turn(&mut self, turn: Turn<Q>) -> Effect<Q>
         requires { IsReadyTurn Q.system self.old turn }
-        ensures node { self.new.state ≡ (made_by self.old.state (turn_change turn)).node }
-        ensures beside { self.new.beside ≡ beside_after self.old.state self.old.beside (turn_change turn) }
-        ensures effect { result ≡ (made_by self.old.state (turn_change turn)).deed.effect }
+        ensures node { self.new.state ≡ (made_by self.old.state (turn_act turn)).node }
+        ensures beside { self.new.beside ≡ beside_after self.old.state self.old.beside (turn_act turn) }
+        ensures effect { result ≡ (made_by self.old.state (turn_act turn)).deed.effect }
     {
         match turn {
             Turn::Call(op) => Effect::Called(self.finish_call(op)),
+            Turn::Send(_) => Effect::Done,
             Turn::Advance(advance) => {
                 let AdvanceTurn { mut moving, effect } = advance;
                 self.finish_advance(&mut moving);
@@ -227,43 +235,42 @@ impl<Q: Quorums, S: Replica> Node<Q, S> {
                 self.finish_hear(letter);
                 Effect::Done
             }
-            Turn::Quick(quick) => self.finish_quick(quick),
+            Turn::Quiet(quiet) => self.do_quiet(quiet),
         }
     }
 
     /// A change that allocates nothing and isn't refused: the node changes. Returns what is reported.
     #[tactic(auto, unfolding(crate::specs::Changes::made_by))]
-    pub fn finish_quick(&mut self, quick: Quick<Q>) -> Effect<Q>
-        requires { refusal_of Q.system self.old.state (quick_change quick) ≡ None }
-        ensures node { self.new.state ≡ (made_by self.old.state (quick_change quick)).node }
-        ensures beside { self.new.beside ≡ beside_after self.old.state self.old.beside (quick_change quick) }
-        ensures effect { result ≡ (made_by self.old.state (quick_change quick)).deed.effect }
+    pub fn do_quiet(&mut self, quiet: Quiet<Q>) -> Effect<Q>
+        requires { refusal_of Q.system self.old.state (act.Quietly quiet) ≡ None }
+        ensures node { self.new.state ≡ (made_by self.old.state (act.Quietly quiet)).node }
+        ensures beside { self.new.beside ≡ self.old.beside }
+        ensures effect { result ≡ (made_by self.old.state (act.Quietly quiet)).deed.effect }
     {
-        match quick {
-            Quick::Join(contacts) => {
+        match quiet {
+            Quiet::Join(contacts) => {
                 self.do_join(contacts);
                 Effect::Done
             }
-            Quick::Send(_) => Effect::Done,
-            Quick::Again(id) => {
+            Quiet::Again(id) => {
                 self.do_again(id);
                 Effect::Done
             }
-            Quick::Collect => {
+            Quiet::Collect => {
                 self.do_collect();
                 Effect::Done
             }
-            Quick::AdvanceCollect => self.do_advance_collect(),
-            Quick::Recon(wish) => {
+            Quiet::AdvanceCollect => self.do_advance_collect(),
+            Quiet::Recon(wish) => {
                 self.do_recon(wish);
                 Effect::Done
             }
-            Quick::Rebid => {
+            Quiet::Rebid => {
                 self.do_rebid();
                 Effect::Done
             }
-            Quick::AdvanceRecon => self.do_advance_recon(),
-            Quick::Stop => {
+            Quiet::AdvanceRecon => self.do_advance_recon(),
+            Quiet::Stop => {
                 self.do_stop();
                 Effect::Done
             }

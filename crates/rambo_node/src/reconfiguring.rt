@@ -7,7 +7,8 @@ ghost use Rattle.rambo_paxos.specs.Votes.{is_spent};
 ghost use Rattle.rambo_node.specs.Changes.{refusal_of, collection_advanced, rebid_made, attempt_advanced, bid_made};
 ghost use Rattle.rambo_node.specs.Reconfigurations.{attempt_opened, attempt_rebid, attempt_ended, collection_opened, collection_moved, collection_ended};
 ghost use Rattle.rambo_node.specs.Refusals.{is_last};
-ghost use Rattle.rambo_node.specs.declared.change.Change.TheVariants as change;
+ghost use Rattle.rambo_node.specs.Acts as act;
+ghost use Rattle.rambo_node.specs.declared.prepared.Quiet.TheVariants as quiet;
 
 use crate::decided::Decided;
 use crate::effect::Effect;
@@ -23,7 +24,7 @@ impl<Q: Quorums, S: Replica> Node<Q, S> {
     // A collection that isn't refused begins.
     #[tactic(auto, unfolding(crate::specs::Reconfigurations::collection_opened))]
     pub(crate) fn do_collect(&mut self)
-        requires { refusal_of Q.system self.old.state change.Collect ≡ None }
+        requires { refusal_of Q.system self.old.state (act.Quietly quiet.Collect) ≡ None }
         ensures state { self.new.state ≡ collection_opened self.old.state }
         ensures beside { self.new.beside ≡ self.old.beside }
     {
@@ -33,10 +34,10 @@ impl<Q: Quorums, S: Replica> Node<Q, S> {
 
     // A collection that isn't refused goes on.
     pub(crate) fn do_advance_collect(&mut self) -> Effect<Q>
-        requires { refusal_of Q.system self.old.state change.AdvanceCollect ≡ None }
+        requires { refusal_of Q.system self.old.state (act.Quietly quiet.AdvanceCollect) ≡ None }
         ensures node { self.new.state ≡ (collection_advanced self.old.state self.old.state.collection).node }
         ensures beside { self.new.beside ≡ self.old.beside }
-        ensures effect { result ≡ (collection_advanced self.old.state self.old.state.collection).deed.effect }
+        ensures effect { result ≡ (collection_advanced self.old.state self.old.state.collection).effect }
     {
         match self.collection {
             Some(collection) => self.turn_collection(collection),
@@ -47,10 +48,10 @@ impl<Q: Quorums, S: Replica> Node<Q, S> {
     // What its collection does that isn't refused.
     fn turn_collection(&mut self, collection: Collection) -> Effect<Q>
         requires held { self.old.state.collection ≡ Some collection }
-        requires judged { refusal_of Q.system self.old.state change.AdvanceCollect ≡ None }
+        requires judged { refusal_of Q.system self.old.state (act.Quietly quiet.AdvanceCollect) ≡ None }
         ensures node { self.new.state ≡ (collection_advanced self.old.state (Some collection)).node }
         ensures beside { self.new.beside ≡ self.old.beside }
-        ensures effect { result ≡ (collection_advanced self.old.state (Some collection)).deed.effect }
+        ensures effect { result ≡ (collection_advanced self.old.state (Some collection)).effect }
     {
         match collection.would_advance(&self.map) {
             Some(GcMove::Propagating) => self.move_collection(collection),
@@ -90,7 +91,7 @@ impl<Q: Quorums, S: Replica> Node<Q, S> {
     // An attempt that isn't refused begins.
     #[tactic(auto, unfolding(crate::specs::Reconfigurations::attempt_opened))]
     pub(crate) fn do_recon(&mut self, wish: Q)
-        requires { refusal_of Q.system self.old.state (change.Recon wish) ≡ None }
+        requires { refusal_of Q.system self.old.state (act.Quietly (quiet.Recon wish)) ≡ None }
         ensures state { self.new.state ≡ attempt_opened self.old.state wish }
         ensures beside { self.new.beside ≡ self.old.beside }
     {
@@ -100,7 +101,7 @@ impl<Q: Quorums, S: Replica> Node<Q, S> {
 
     // An attempt that isn't refused begins again.
     pub(crate) fn do_rebid(&mut self)
-        requires { refusal_of Q.system self.old.state change.Rebid ≡ None }
+        requires { refusal_of Q.system self.old.state (act.Quietly quiet.Rebid) ≡ None }
         ensures state { self.new.state ≡ (rebid_made self.old.state self.old.state.attempt).node }
         ensures beside { self.new.beside ≡ self.old.beside }
     {
@@ -123,10 +124,10 @@ impl<Q: Quorums, S: Replica> Node<Q, S> {
 
     // An attempt that isn't refused goes on.
     pub(crate) fn do_advance_recon(&mut self) -> Effect<Q>
-        requires { refusal_of Q.system self.old.state change.AdvanceRecon ≡ None }
+        requires { refusal_of Q.system self.old.state (act.Quietly quiet.AdvanceRecon) ≡ None }
         ensures node { self.new.state ≡ (attempt_advanced self.old.state self.old.state.attempt).node }
         ensures beside { self.new.beside ≡ self.old.beside }
-        ensures effect { result ≡ (attempt_advanced self.old.state self.old.state.attempt).deed.effect }
+        ensures effect { result ≡ (attempt_advanced self.old.state self.old.state.attempt).effect }
     {
         match self.attempt {
             Some(attempt) => self.turn_attempt(attempt),
@@ -137,10 +138,10 @@ impl<Q: Quorums, S: Replica> Node<Q, S> {
     // What its attempt does that isn't refused.
     fn turn_attempt(&mut self, attempt: Attempt<Q>) -> Effect<Q>
         requires held { self.old.state.attempt ≡ Some attempt }
-        requires judged { refusal_of Q.system self.old.state change.AdvanceRecon ≡ None }
+        requires judged { refusal_of Q.system self.old.state (act.Quietly quiet.AdvanceRecon) ≡ None }
         ensures node { self.new.state ≡ (attempt_advanced self.old.state (Some attempt)).node }
         ensures beside { self.new.beside ≡ self.old.beside }
-        ensures effect { result ≡ (attempt_advanced self.old.state (Some attempt)).deed.effect }
+        ensures effect { result ≡ (attempt_advanced self.old.state (Some attempt)).effect }
     {
         if is_known(&self.map, attempt.place()) {
             return self.end_attempt(attempt.place());
@@ -167,7 +168,7 @@ impl<Q: Quorums, S: Replica> Node<Q, S> {
         requires met { has_quorum Q.system (active_at self.old.state.map (top_of self.old.state.map)) attempt.repliers ≡ true }
         ensures node { self.new.state ≡ (bid_made self.old.state attempt (bid_of attempt)).node }
         ensures beside { self.new.beside ≡ self.old.beside }
-        ensures effect { result ≡ (bid_made self.old.state attempt (bid_of attempt)).deed.effect }
+        ensures effect { result ≡ (bid_made self.old.state attempt (bid_of attempt)).effect }
     {
         let place = attempt.place();
         let mut next = attempt;

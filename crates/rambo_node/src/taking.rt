@@ -1,17 +1,20 @@
 //! The changes that a node takes.
 ghost use Rattle.std.specs.Prelude.{◌≡◌, ◌+◌, None, Some, false, OnOk, OnErr, IfOk, IfErr};
 ghost use Rattle.rambo_names.specs.Refusals.{IsRefusal};
+ghost use Rattle.rambo_node.specs.Acts.{act_of};
 ghost use Rattle.rambo_node.specs.Changes.{refusal_of, made_by, answer_in, collected_in, decided_in};
 ghost use Rattle.rambo_node.specs.FullNodes.{beside_after};
 ghost use Rattle.rambo_node.specs.Memory.{needs_memory};
 ghost use Rattle.rambo_node.specs.Operations.{joined_by, stopped};
-ghost use Rattle.rambo_node.specs.declared.change.Change.TheVariants as change;
+ghost use Rattle.rambo_node.specs.Acts as act;
+ghost use Rattle.rambo_node.specs.declared.prepared.Quiet.TheVariants as quiet;
 
 use crate::change::Change;
 use crate::decided::Decided;
 use crate::deed::Deed;
+use crate::effect::Effect;
 use crate::node::Node;
-use crate::prepared::Moving;
+use crate::prepared::{Moving, Quiet};
 use rambo_history::{Answer, CallId, Op};
 use rambo_joiner::Status;
 use rambo_names::{Members, Quorums, Refusal};
@@ -23,12 +26,12 @@ impl<Q: Quorums, S: Replica> Node<Q, S> {
     /// Refused with what `ready` says.
     #[tactic(auto, unfolding(crate::specs::Changes::made_by))]
     pub fn take(&mut self, change: Change<Q>) -> Result<Deed<Q>, Refusal>
-        ensures judged { OnOk result (refusal_of Q.system self.old.state change ≡ None) }
-        ensures node { OnOk result (self.new.state ≡ (made_by self.old.state change).node) }
-        ensures beside { OnOk result (self.new.beside ≡ beside_after self.old.state self.old.beside change) }
-        ensures deed { IfOk result (λ d. d ≡ (made_by self.old.state change).deed) }
-        ensures refused { IfErr result (IsRefusal (refusal_of Q.system self.old.state change)) }
-        ensures no_memory { needs_memory change ≡ false → IfErr result (λ r. refusal_of Q.system self.old.state change ≡ Some r) }
+        ensures judged { OnOk result (refusal_of Q.system self.old.state (act_of change) ≡ None) }
+        ensures node { OnOk result (self.new.state ≡ (made_by self.old.state (act_of change)).node) }
+        ensures beside { OnOk result (self.new.beside ≡ beside_after self.old.state self.old.beside (act_of change)) }
+        ensures deed { IfOk result (λ d. d ≡ (made_by self.old.state (act_of change)).deed) }
+        ensures refused { IfErr result (IsRefusal (refusal_of Q.system self.old.state (act_of change))) }
+        ensures no_memory { needs_memory (act_of change) ≡ false → IfErr result (λ r. refusal_of Q.system self.old.state (act_of change) ≡ Some r) }
         ensures err { OnErr result (self.new.state ≡ self.old.state) }
         ensures kept { OnErr result (self.new.beside ≡ self.old.beside) }
     {
@@ -39,20 +42,33 @@ impl<Q: Quorums, S: Replica> Node<Q, S> {
         }
     }
 
+    /// A change that allocates nothing: what it did.
+    ///
+    /// Refused with what `ready` says of it.
+    pub fn quietly(&mut self, quiet: Quiet<Q>) -> Result<Effect<Q>, Refusal>
+        ensures judged { OnOk result (refusal_of Q.system self.old.state (act.Quietly quiet) ≡ None) }
+        ensures node { OnOk result (self.new.state ≡ (made_by self.old.state (act.Quietly quiet)).node) }
+        ensures effect { IfOk result (λ e. e ≡ (made_by self.old.state (act.Quietly quiet)).deed.effect) }
+        ensures refused { IfErr result (λ r. refusal_of Q.system self.old.state (act.Quietly quiet) ≡ Some r) }
+        ensures err { OnErr result (self.new.state ≡ self.old.state) }
+        ensures beside { self.new.beside ≡ self.old.beside }
+    {
+        self.may_quiet(&quiet)?;
+        Ok(self.do_quiet(quiet))
+    }
+
     /// An idle node begins to join, with these contacts: it knows them and itself. It allocates nothing.
     ///
     /// Refused with 2 where it isn't idle, 18 where there is no contact.
-    #[tactic(auto, unfolding(crate::specs::Changes::made_by))]
     pub fn join(&mut self, contacts: Members) -> Result<(), Refusal>
-        ensures judged { OnOk result (refusal_of Q.system self.old.state (change.Join contacts) ≡ None) }
-        ensures node { OnOk result (self.new.state ≡ (made_by self.old.state (change.Join contacts)).node) }
-        ensures beside { OnOk result (self.new.beside ≡ beside_after self.old.state self.old.beside (change.Join contacts)) }
-        ensures refused { IfErr result (λ r. refusal_of Q.system self.old.state (change.Join contacts) ≡ Some r) }
+        ensures judged { OnOk result (refusal_of Q.system self.old.state (act.Quietly (quiet.Join contacts)) ≡ None) }
+        ensures node { OnOk result (self.new.state ≡ (made_by self.old.state (act.Quietly (quiet.Join contacts))).node) }
+        ensures beside { OnOk result (self.new.beside ≡ beside_after self.old.state self.old.beside (act.Quietly (quiet.Join contacts))) }
+        ensures refused { IfErr result (λ r. refusal_of Q.system self.old.state (act.Quietly (quiet.Join contacts)) ≡ Some r) }
         ensures err { OnErr result (self.new.state ≡ self.old.state) }
         ensures kept { OnErr result (self.new.beside ≡ self.old.beside) }
     {
-        self.may_join(contacts)?;
-        self.do_join(contacts);
+        self.quietly(Quiet::Join(contacts))?;
         Ok(())
     }
 
@@ -62,11 +78,11 @@ impl<Q: Quorums, S: Replica> Node<Q, S> {
     /// calls, 19 where the key has over 256 bytes, 20 where the value has over 4,096 bytes. Else with 21 where its
     /// phase number or its last call number is the greatest one. Else with 22 where there is no room for the call.
     pub fn call(&mut self, op: Op) -> Result<CallId, Refusal>
-        ensures judged { OnOk result (refusal_of Q.system self.old.state (change.Call op) ≡ None) }
-        ensures node { OnOk result (self.new.state ≡ (made_by self.old.state (change.Call op)).node) }
-        ensures beside { OnOk result (self.new.beside ≡ beside_after self.old.state self.old.beside (change.Call op)) }
+        ensures judged { OnOk result (refusal_of Q.system self.old.state (act.Call op) ≡ None) }
+        ensures node { OnOk result (self.new.state ≡ (made_by self.old.state (act.Call op)).node) }
+        ensures beside { OnOk result (self.new.beside ≡ beside_after self.old.state self.old.beside (act.Call op)) }
         ensures id { IfOk result (λ id. id ≡ record { name = self.old.state.name; number = self.old.state.made + 1 }) }
-        ensures refused { IfErr result (IsRefusal (refusal_of Q.system self.old.state (change.Call op))) }
+        ensures refused { IfErr result (IsRefusal (refusal_of Q.system self.old.state (act.Call op))) }
         ensures err { OnErr result (self.new.state ≡ self.old.state) }
         ensures kept { OnErr result (self.new.beside ≡ self.old.beside) }
     {
@@ -83,11 +99,11 @@ impl<Q: Quorums, S: Replica> Node<Q, S> {
     /// open call, 8 where its phase isn't met. Else with 21 where it is in its query and the phase number, or for a set
     /// the sequence number of the key's tag, is the greatest one. Else with 22 where there is no room for the copy.
     pub fn advance(&mut self, id: CallId) -> Result<Option<Answer>, Refusal>
-        ensures judged { OnOk result (refusal_of Q.system self.old.state (change.Advance id) ≡ None) }
-        ensures node { OnOk result (self.new.state ≡ (made_by self.old.state (change.Advance id)).node) }
-        ensures beside { OnOk result (self.new.beside ≡ beside_after self.old.state self.old.beside (change.Advance id)) }
-        ensures answer { IfOk result (λ a. a ≡ answer_in (made_by self.old.state (change.Advance id)).deed.effect) }
-        ensures refused { IfErr result (IsRefusal (refusal_of Q.system self.old.state (change.Advance id))) }
+        ensures judged { OnOk result (refusal_of Q.system self.old.state (act.Advance id) ≡ None) }
+        ensures node { OnOk result (self.new.state ≡ (made_by self.old.state (act.Advance id)).node) }
+        ensures beside { OnOk result (self.new.beside ≡ beside_after self.old.state self.old.beside (act.Advance id)) }
+        ensures answer { IfOk result (λ a. a ≡ answer_in (made_by self.old.state (act.Advance id)).deed.effect) }
+        ensures refused { IfErr result (IsRefusal (refusal_of Q.system self.old.state (act.Advance id))) }
         ensures err { OnErr result (self.new.state ≡ self.old.state) }
         ensures kept { OnErr result (self.new.beside ≡ self.old.beside) }
     {
@@ -110,15 +126,14 @@ impl<Q: Quorums, S: Replica> Node<Q, S> {
     /// Refused with 3 where the node is idle or joining, 4 where it has stopped. Else with 7 where there is no such
     /// open call, 21 where the phase number is the greatest one.
     pub fn again(&mut self, id: CallId) -> Result<(), Refusal>
-        ensures judged { OnOk result (refusal_of Q.system self.old.state (change.Again id) ≡ None) }
-        ensures node { OnOk result (self.new.state ≡ (made_by self.old.state (change.Again id)).node) }
-        ensures beside { OnOk result (self.new.beside ≡ beside_after self.old.state self.old.beside (change.Again id)) }
-        ensures refused { IfErr result (λ r. refusal_of Q.system self.old.state (change.Again id) ≡ Some r) }
+        ensures judged { OnOk result (refusal_of Q.system self.old.state (act.Quietly (quiet.Again id)) ≡ None) }
+        ensures node { OnOk result (self.new.state ≡ (made_by self.old.state (act.Quietly (quiet.Again id))).node) }
+        ensures beside { OnOk result (self.new.beside ≡ beside_after self.old.state self.old.beside (act.Quietly (quiet.Again id))) }
+        ensures refused { IfErr result (λ r. refusal_of Q.system self.old.state (act.Quietly (quiet.Again id)) ≡ Some r) }
         ensures err { OnErr result (self.new.state ≡ self.old.state) }
         ensures kept { OnErr result (self.new.beside ≡ self.old.beside) }
     {
-        self.may_restart(&id)?;
-        self.do_again(id);
+        self.quietly(Quiet::Again(id))?;
         Ok(())
     }
 
@@ -127,17 +142,15 @@ impl<Q: Quorums, S: Replica> Node<Q, S> {
     ///
     /// Refused with 3 where the node is idle or joining, 4 where it has stopped. Else with 10 where only one place is
     /// active, 11 where a collection is open, 21 where the phase number is the greatest one.
-    #[tactic(auto, unfolding(crate::specs::Changes::made_by))]
     pub fn collect(&mut self) -> Result<(), Refusal>
-        ensures judged { OnOk result (refusal_of Q.system self.old.state change.Collect ≡ None) }
-        ensures node { OnOk result (self.new.state ≡ (made_by self.old.state change.Collect).node) }
-        ensures beside { OnOk result (self.new.beside ≡ beside_after self.old.state self.old.beside change.Collect) }
-        ensures refused { IfErr result (λ r. refusal_of Q.system self.old.state change.Collect ≡ Some r) }
+        ensures judged { OnOk result (refusal_of Q.system self.old.state (act.Quietly quiet.Collect) ≡ None) }
+        ensures node { OnOk result (self.new.state ≡ (made_by self.old.state (act.Quietly quiet.Collect)).node) }
+        ensures beside { OnOk result (self.new.beside ≡ beside_after self.old.state self.old.beside (act.Quietly quiet.Collect)) }
+        ensures refused { IfErr result (λ r. refusal_of Q.system self.old.state (act.Quietly quiet.Collect) ≡ Some r) }
         ensures err { OnErr result (self.new.state ≡ self.old.state) }
         ensures kept { OnErr result (self.new.beside ≡ self.old.beside) }
     {
-        self.may_collect()?;
-        self.do_collect();
+        self.quietly(Quiet::Collect)?;
         Ok(())
     }
 
@@ -149,18 +162,16 @@ impl<Q: Quorums, S: Replica> Node<Q, S> {
     /// Refused with 3 where the node is idle or joining, 4 where it has stopped. Else with 8 where the place isn't
     /// removed and the quorum hasn't replied, 12 where no collection is open. Else with 21 where the first quorum has
     /// replied, the place isn't removed and the phase number is the greatest one.
-    #[tactic(auto, unfolding(crate::specs::Changes::made_by))]
     pub fn advance_collect(&mut self) -> Result<Option<u64>, Refusal>
-        ensures judged { OnOk result (refusal_of Q.system self.old.state change.AdvanceCollect ≡ None) }
-        ensures node { OnOk result (self.new.state ≡ (made_by self.old.state change.AdvanceCollect).node) }
-        ensures beside { OnOk result (self.new.beside ≡ beside_after self.old.state self.old.beside change.AdvanceCollect) }
-        ensures place { IfOk result (λ place. place ≡ collected_in (made_by self.old.state change.AdvanceCollect).deed.effect) }
-        ensures refused { IfErr result (λ r. refusal_of Q.system self.old.state change.AdvanceCollect ≡ Some r) }
+        ensures judged { OnOk result (refusal_of Q.system self.old.state (act.Quietly quiet.AdvanceCollect) ≡ None) }
+        ensures node { OnOk result (self.new.state ≡ (made_by self.old.state (act.Quietly quiet.AdvanceCollect)).node) }
+        ensures beside { OnOk result (self.new.beside ≡ beside_after self.old.state self.old.beside (act.Quietly quiet.AdvanceCollect)) }
+        ensures place { IfOk result (λ place. place ≡ collected_in (made_by self.old.state (act.Quietly quiet.AdvanceCollect)).deed.effect) }
+        ensures refused { IfErr result (λ r. refusal_of Q.system self.old.state (act.Quietly quiet.AdvanceCollect) ≡ Some r) }
         ensures err { OnErr result (self.new.state ≡ self.old.state) }
         ensures kept { OnErr result (self.new.beside ≡ self.old.beside) }
     {
-        self.may_advance_collect()?;
-        let effect = self.do_advance_collect();
+        let effect = self.quietly(Quiet::AdvanceCollect)?;
         Ok(effect.collected())
     }
 
@@ -171,17 +182,15 @@ impl<Q: Quorums, S: Replica> Node<Q, S> {
     /// the configuration at its top, 14 where an attempt is open, 16 where eight places are active. Else with 17 where
     /// the wish has a member that the node doesn't know, 18 where the wish has no member. Else with 21 where the
     /// promised round or the top is the greatest number.
-    #[tactic(auto, unfolding(crate::specs::Changes::made_by))]
     pub fn recon(&mut self, wish: Q) -> Result<(), Refusal>
-        ensures judged { OnOk result (refusal_of Q.system self.old.state (change.Recon wish) ≡ None) }
-        ensures node { OnOk result (self.new.state ≡ (made_by self.old.state (change.Recon wish)).node) }
-        ensures beside { OnOk result (self.new.beside ≡ beside_after self.old.state self.old.beside (change.Recon wish)) }
-        ensures refused { IfErr result (λ r. refusal_of Q.system self.old.state (change.Recon wish) ≡ Some r) }
+        ensures judged { OnOk result (refusal_of Q.system self.old.state (act.Quietly (quiet.Recon wish)) ≡ None) }
+        ensures node { OnOk result (self.new.state ≡ (made_by self.old.state (act.Quietly (quiet.Recon wish))).node) }
+        ensures beside { OnOk result (self.new.beside ≡ beside_after self.old.state self.old.beside (act.Quietly (quiet.Recon wish))) }
+        ensures refused { IfErr result (λ r. refusal_of Q.system self.old.state (act.Quietly (quiet.Recon wish)) ≡ Some r) }
         ensures err { OnErr result (self.new.state ≡ self.old.state) }
         ensures kept { OnErr result (self.new.beside ≡ self.old.beside) }
     {
-        self.may_recon(&wish)?;
-        self.do_recon(wish);
+        self.quietly(Quiet::Recon(wish))?;
         Ok(())
     }
 
@@ -190,17 +199,15 @@ impl<Q: Quorums, S: Replica> Node<Q, S> {
     ///
     /// Refused with 3 where the node is idle or joining, 4 where it has stopped. Else with 15 where no attempt is open
     /// for the first unknown place, 21 where the promised round is the greatest number.
-    #[tactic(auto, unfolding(crate::specs::Changes::made_by))]
     pub fn rebid(&mut self) -> Result<(), Refusal>
-        ensures judged { OnOk result (refusal_of Q.system self.old.state change.Rebid ≡ None) }
-        ensures node { OnOk result (self.new.state ≡ (made_by self.old.state change.Rebid).node) }
-        ensures beside { OnOk result (self.new.beside ≡ beside_after self.old.state self.old.beside change.Rebid) }
-        ensures refused { IfErr result (λ r. refusal_of Q.system self.old.state change.Rebid ≡ Some r) }
+        ensures judged { OnOk result (refusal_of Q.system self.old.state (act.Quietly quiet.Rebid) ≡ None) }
+        ensures node { OnOk result (self.new.state ≡ (made_by self.old.state (act.Quietly quiet.Rebid)).node) }
+        ensures beside { OnOk result (self.new.beside ≡ beside_after self.old.state self.old.beside (act.Quietly quiet.Rebid)) }
+        ensures refused { IfErr result (λ r. refusal_of Q.system self.old.state (act.Quietly quiet.Rebid) ≡ Some r) }
         ensures err { OnErr result (self.new.state ≡ self.old.state) }
         ensures kept { OnErr result (self.new.beside ≡ self.old.beside) }
     {
-        self.may_rebid()?;
-        self.do_rebid();
+        self.quietly(Quiet::Rebid)?;
         Ok(())
     }
 
@@ -211,35 +218,31 @@ impl<Q: Quorums, S: Replica> Node<Q, S> {
     ///
     /// Refused with 3 where the node is idle or joining, 4 where it has stopped. Else with 8 where the attempt's place
     /// is unknown and its quorum hasn't replied, 15 where no attempt is open.
-    #[tactic(auto, unfolding(crate::specs::Changes::made_by))]
     pub fn advance_recon(&mut self) -> Result<Option<Decided<Q>>, Refusal>
-        ensures judged { OnOk result (refusal_of Q.system self.old.state change.AdvanceRecon ≡ None) }
-        ensures node { OnOk result (self.new.state ≡ (made_by self.old.state change.AdvanceRecon).node) }
-        ensures beside { OnOk result (self.new.beside ≡ beside_after self.old.state self.old.beside change.AdvanceRecon) }
-        ensures decided { IfOk result (λ d. d ≡ decided_in (made_by self.old.state change.AdvanceRecon).deed.effect) }
-        ensures refused { IfErr result (λ r. refusal_of Q.system self.old.state change.AdvanceRecon ≡ Some r) }
+        ensures judged { OnOk result (refusal_of Q.system self.old.state (act.Quietly quiet.AdvanceRecon) ≡ None) }
+        ensures node { OnOk result (self.new.state ≡ (made_by self.old.state (act.Quietly quiet.AdvanceRecon)).node) }
+        ensures beside { OnOk result (self.new.beside ≡ beside_after self.old.state self.old.beside (act.Quietly quiet.AdvanceRecon)) }
+        ensures decided { IfOk result (λ d. d ≡ decided_in (made_by self.old.state (act.Quietly quiet.AdvanceRecon)).deed.effect) }
+        ensures refused { IfErr result (λ r. refusal_of Q.system self.old.state (act.Quietly quiet.AdvanceRecon) ≡ Some r) }
         ensures err { OnErr result (self.new.state ≡ self.old.state) }
         ensures kept { OnErr result (self.new.beside ≡ self.old.beside) }
     {
-        self.may_advance_recon()?;
-        let effect = self.do_advance_recon();
+        let effect = self.quietly(Quiet::AdvanceRecon)?;
         Ok(effect.decided())
     }
 
     /// The node stops for ever. It allocates nothing.
     ///
     /// Refused with 3 where it is idle, 4 where it has stopped.
-    #[tactic(auto, unfolding(crate::specs::Changes::made_by))]
     pub fn stop(&mut self) -> Result<(), Refusal>
-        ensures judged { OnOk result (refusal_of Q.system self.old.state change.Stop ≡ None) }
-        ensures node { OnOk result (self.new.state ≡ (made_by self.old.state change.Stop).node) }
-        ensures beside { OnOk result (self.new.beside ≡ beside_after self.old.state self.old.beside change.Stop) }
-        ensures refused { IfErr result (λ r. refusal_of Q.system self.old.state change.Stop ≡ Some r) }
+        ensures judged { OnOk result (refusal_of Q.system self.old.state (act.Quietly quiet.Stop) ≡ None) }
+        ensures node { OnOk result (self.new.state ≡ (made_by self.old.state (act.Quietly quiet.Stop)).node) }
+        ensures beside { OnOk result (self.new.beside ≡ beside_after self.old.state self.old.beside (act.Quietly quiet.Stop)) }
+        ensures refused { IfErr result (λ r. refusal_of Q.system self.old.state (act.Quietly quiet.Stop) ≡ Some r) }
         ensures err { OnErr result (self.new.state ≡ self.old.state) }
         ensures kept { OnErr result (self.new.beside ≡ self.old.beside) }
     {
-        self.may_stop()?;
-        self.do_stop();
+        self.quietly(Quiet::Stop)?;
         Ok(())
     }
 }

@@ -15,16 +15,18 @@ use Rattle.rambo_gc.specs.Collections.{CollectionState}
 use Rattle.rambo_paxos.specs.declared.bid.Bid.{Bid}
 use Rattle.rambo_paxos.specs.declared.bid.Bid.TheVariants as bid
 use Rattle.rambo_paxos.specs.Attempts.{AttemptState, bid_of}
-use Rattle.rambo_node.specs.declared.change.Change.{Change}
-use Rattle.rambo_node.specs.declared.change.Change.TheVariants as change
+use Rattle.rambo_node.specs.Acts.{Act}
 use Rattle.rambo_node.specs.declared.effect.Effect.{Effect}
 use Rattle.rambo_node.specs.declared.effect.Effect.TheVariants as effect
 use Rattle.rambo_calls.specs.declared.stage.Stage.{Stage}
 use Rattle.rambo_calls.specs.declared.stage.Stage.TheVariants.{Query, Propagation}
 use Rattle.rambo_calls.specs.Calls.{CallState}
-use Rattle.rambo_node.specs.Changes.{told, decided, stage_met, advanced, begun_again, collection_turned, collection_advanced, rebid_made, bid_made, attempt_advanced, made_by}
+use Rattle.rambo_node.specs.Changes.{decided, stage_met, advanced, begun_again, collection_turned, collection_advanced, rebid_made, bid_made, attempt_advanced, made_by, quieted}
 use Rattle.rambo_node.specs.Nodes.{NodeState, open_call}
 use Rattle.rambo_node.specs.Reconfigurations.{attempt_ended, collection_move}
+use Rattle.rambo_node.specs.Acts as act
+use Rattle.rambo_node.specs.declared.prepared.Quiet.{Quiet}
+use Rattle.rambo_node.specs.declared.prepared.Quiet.TheVariants as quiet
 use Rattle.rambo_run.specs.declared.step.Step.{Step}
 use Rattle.rambo_run.specs.Worlds.{WorldState, first_world, node_at}
 use Rattle.rambo_run.specs.Steps.{Meant, Turn, meant, with_event, refusal, turn_by, turn_at, turn_of, turn}
@@ -34,7 +36,6 @@ use Rattle.rambo_text.specs.declared.version.Version.{Version}
 use Rattle.rambo_text.specs.Versions.{head_text}
 use Rattle.rambo_check.specs.Lines.{Item, Ordered, items_text}
 use Rattle.rambo_outcome.specs.Outcomes.{call_items, step_items, steps_items, order_items_in, map_item, outcome_lines}
-use Rattle.rambo_check.proofs.ItemTexts.{items-append}
 use Rattle.rambo_outcome.proofs.Loops.{items_on, whole_text}
 
 -- a history, and a longer one that begins with it
@@ -81,6 +82,44 @@ called_there h c o = elim (none_or_some (call_in h c)) [
   | inr p ↦ (p.0, call_kept h (event.Call c o ∷ []) c p.0 p.1)
 ]
 
+-- a quiet act tells of no call
+module _ {Q : Type 0} (h : List Event) (x : NodeState Q) where
+  again_told : (o : Option (CallState Q)) → IsTold h (begun_again x o).effect
+  again_told None = tt
+  again_told (Some c) = tt
+
+  turned_told : (g : CollectionState) (m : GcMove) → IsTold h (collection_turned x g m).effect
+  turned_told g Propagating = tt
+  turned_told g Done = tt
+
+  collection_told : (o : Option CollectionState) → IsTold h (collection_advanced x o).effect
+  collection_told None = tt
+  collection_told (Some g) = turned_told g (collection_move x.map g)
+
+  rebid_told : (o : Option (AttemptState Q)) → IsTold h (rebid_made x o).effect
+  rebid_told None = tt
+  rebid_told (Some a) = tt
+
+  bid_told : (a : AttemptState Q) (b : Bid Q) → IsTold h (bid_made x a b).effect
+  bid_told a bid.Propose = tt
+  bid_told a (bid.Chosen c) = tt
+
+  known_told : (a : AttemptState Q) (t : Bool) → IsTold h (if t then record { node = attempt_ended x; effect = decided x a (active_at x.map a.place) } else bid_made x a (bid_of a)).effect
+  known_told a true = tt
+  known_told a false = bid_told a (bid_of a)
+
+  attempt_told : (o : Option (AttemptState Q)) → IsTold h (attempt_advanced x o).effect
+  attempt_told None = tt
+  attempt_told (Some a) = known_told a (nat_lt a.place (end_of x.map))
+
+  quiet_told : (q : Quiet Q) → IsTold h (quieted x q).effect
+  quiet_told (quiet.Again id) = again_told (open_call x id)
+  quiet_told quiet.AdvanceCollect = collection_told x.collection
+  quiet_told quiet.Rebid = rebid_told x.attempt
+  quiet_told quiet.AdvanceRecon = attempt_told x.attempt
+  quiet_told quiet.Collect = tt
+  quiet_told _ = tt
+
 module _ {Q : Type 0} (w : WorldState Q) where
   -- what a turn tells is told of its world, whose history is longer
   abbrev TellsTrue : Turn Q → Type 0
@@ -94,54 +133,22 @@ module _ {Q : Type 0} (w : WorldState Q) where
   advanced_true n x id None = (tt, grows-refl w.history)
   advanced_true n x id (Some c) = stage_true n x id c c.stage
 
-  again_true : (n : ℕ) (x : NodeState Q) (o : Option (CallState Q)) → TellsTrue (turn_by w n (begun_again x o))
-  again_true n x None = (tt, grows-refl w.history)
-  again_true n x (Some c) = (tt, grows-refl w.history)
-
-  turned_true : (n : ℕ) (x : NodeState Q) (g : CollectionState) (m : GcMove) → TellsTrue (turn_by w n (collection_turned x g m))
-  turned_true n x g Propagating = (tt, grows-refl w.history)
-  turned_true n x g Done = (tt, grows-refl w.history)
-
-  collection_true : (n : ℕ) (x : NodeState Q) (o : Option CollectionState) → TellsTrue (turn_by w n (collection_advanced x o))
-  collection_true n x None = (tt, grows-refl w.history)
-  collection_true n x (Some g) = turned_true n x g (collection_move x.map g)
-
-  rebid_true : (n : ℕ) (x : NodeState Q) (o : Option (AttemptState Q)) → TellsTrue (turn_by w n (rebid_made x o))
-  rebid_true n x None = (tt, grows-refl w.history)
-  rebid_true n x (Some a) = (tt, grows-refl w.history)
-
-  bid_true : (n : ℕ) (x : NodeState Q) (a : AttemptState Q) (b : Bid Q) → TellsTrue (turn_by w n (bid_made x a b))
-  bid_true n x a bid.Propose = (tt, grows-refl w.history)
-  bid_true n x a (bid.Chosen c) = (tt, grows-refl w.history)
-
-  known_true : (n : ℕ) (x : NodeState Q) (a : AttemptState Q) (t : Bool)
-      → TellsTrue (turn_by w n (if t then record { node = attempt_ended x; deed = told (decided x a (active_at x.map a.place)); letter = None } else bid_made x a (bid_of a)))
-  known_true n x a true = (tt, grows-refl w.history)
-  known_true n x a false = bid_true n x a (bid_of a)
-
-  attempt_true : (n : ℕ) (x : NodeState Q) (o : Option (AttemptState Q)) → TellsTrue (turn_by w n (attempt_advanced x o))
-  attempt_true n x None = (tt, grows-refl w.history)
-  attempt_true n x (Some a) = known_true n x a (nat_lt a.place (end_of x.map))
-
-  change_true : (n : ℕ) (x : NodeState Q) (c : Change Q) → TellsTrue (turn_by w n (made_by x c))
+  act_true : (n : ℕ) (x : NodeState Q) (a : Act Q) → TellsTrue (turn_by w n (made_by x a))
   unfolding made_by
-  change_true n x (change.Call o) =
+  act_true n x (act.Call o) =
       let id : CallId = record { name = x.name; number = x.made + 1 } in
       (called_there w.history id o, event_grows w.history (Some (event.Call id o)))
-  change_true n x (change.Advance id) = advanced_true n x id (open_call x id)
-  change_true n x (change.Again id) = again_true n x (open_call x id)
-  change_true n x change.AdvanceCollect = collection_true n x x.collection
-  change_true n x change.Rebid = rebid_true n x x.attempt
-  change_true n x change.AdvanceRecon = attempt_true n x x.attempt
-  change_true n x _ = (tt, grows-refl w.history)
+  act_true n x (act.Advance id) = advanced_true n x id (open_call x id)
+  act_true n x (act.Quietly q) = (quiet_told w.history x q, grows-refl w.history)
+  act_true n x _ = (tt, grows-refl w.history)
 
-  at_true : (n : ℕ) (c : Change Q) (o : Option (NodeState Q)) → TellsTrue (turn_at w n o c)
+  at_true : (n : ℕ) (c : Act Q) (o : Option (NodeState Q)) → TellsTrue (turn_at w n o c)
   at_true n c None = (tt, grows-refl w.history)
-  at_true n c (Some x) = change_true n x c
+  at_true n c (Some x) = act_true n x c
 
   of_true : (o : Option (Meant Q)) → TellsTrue (turn_of w o)
   of_true None = (tt, grows-refl w.history)
-  of_true (Some m) = at_true m.name m.change (node_at w m.name)
+  of_true (Some m) = at_true m.name m.act (node_at w m.name)
 
   turn_true : (st : Step Q) → TellsTrue (turn w st)
   unfolding turn

@@ -1,12 +1,12 @@
 -- What a client learns of its step
-use Rattle.std.proofs.Common.{◌≡◌, ◌≢◌, ◌<◌, ◌⊎◌, inl, inr, ⊎_elim, ℕ, Bool, true, false, if◌then◌else◌, List, [], ◌∷◌, ◌++◌, length, Option, None, Some, Result, Ok, Err, OnOk, IfOk, IfErr, refl, sym, ap, ◌∙◌, subst, arith}
+use Rattle.std.proofs.Common.{◌≡◌, ◌≢◌, ◌<◌, ◌⊎◌, inl, inr, ⊎_elim, ℕ, Bool, true, false, if◌then◌else◌, [], ◌∷◌, ◌++◌, length, Option, None, Some, Result, Ok, Err, OnOk, IfOk, IfErr, refl, sym, ap, ◌∙◌, subst, arith}
 use mathlib.Core.List.{IsPrefix}
 use Rattle.rambo_names.specs.declared.refusal.Refusal.{Refusal}
 use Rattle.rambo_names.specs.declared.refusal.Refusal.TheVariants.{LetterGone, NotActive, NoSuchLetter, OutOfMemory, HistoryFull}
 use Rattle.rambo_names.specs.Quorums.{QuorumSystem}
 use Rattle.rambo_names.specs.Refusals.{least}
 use Rattle.rambo_history.specs.declared.event.CallId.{CallId}
-use Rattle.rambo_node.specs.declared.change.Change.{Change}
+use Rattle.rambo_node.specs.Acts.{Act}
 use Rattle.rambo_node.specs.declared.effect.Effect.{Effect}
 use Rattle.rambo_node.specs.declared.effect.Effect.TheVariants as effect
 use Rattle.rambo_node.specs.Nodes.{NodeState}
@@ -48,13 +48,13 @@ called s agreed b (Ok id) before after st founded p last legal accepted told min
 called s agreed b (Err r) before after st founded p last legal accepted told mine = tt
 
 -- want of memory is no cause by the rules of a step
-never_at : {Q : Type 0} (s : QuorumSystem Q) (o : Option (NodeState Q)) (c : Change Q) (d : Refusal) → least (causes_at s o c) ≡ Some d → d ≢ OutOfMemory
+never_at : {Q : Type 0} (s : QuorumSystem Q) (o : Option (NodeState Q)) (c : Act Q) (d : Refusal) → least (causes_at s o c) ≡ Some d → d ≢ OutOfMemory
 never_at s None c d e = subst (λ r. r ≢ OutOfMemory) (some_inj NotActive d e) (λ e. absurd cc)
 never_at s (Some x) c d e = never_memory s x c d e
 
 never_of : {Q : Type 0} (s : QuorumSystem Q) (w : WorldState Q) (o : Option (Meant Q)) (d : Refusal) → least (causes_of s w o) ≡ Some d → d ≢ OutOfMemory
 never_of s w None d e = subst (λ r. r ≢ OutOfMemory) (some_inj NoSuchLetter d e) no_letter_differs
-never_of s w (Some m) d e = never_at s (node_at w m.name) m.change d e
+never_of s w (Some m) d e = never_at s (node_at w m.name) m.act d e
 
 -- a full book is told by another number
 full_differs : OutOfMemory ≢ HistoryFull

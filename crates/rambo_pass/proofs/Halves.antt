@@ -4,7 +4,7 @@ use Rattle.rambo_names.specs.declared.refusal.Refusal.{Refusal}
 use Rattle.rambo_names.specs.declared.refusal.Refusal.TheVariants.{OutOfMemory}
 use Rattle.rambo_names.specs.Quorums.{QuorumSystem}
 use Rattle.rambo_names.specs.Refusals.{least, IsRefusal}
-use Rattle.rambo_node.specs.declared.change.Change.{Change}
+use Rattle.rambo_node.specs.Acts.{Act}
 use Rattle.rambo_node.specs.Changes.{refusal_of}
 use Rattle.rambo_node.specs.Nodes.{NodeState}
 use Rattle.rambo_run.specs.declared.step.Step.{Step}
@@ -23,7 +23,7 @@ use Rattle.rambo_book.proofs.Refused.{refused_never_memory}
 
 -- in each world it means this change of the node of the name
 abbrev IsOf : {Q : Type 0} → ℕ → Step Q → Type 0
-IsOf {Q} name st = (c : Change Q) × ((w : WorldState Q) → meant w st ≡ Some (record { name = name; change = c }))
+IsOf {Q} name st = (c : Act Q) × ((w : WorldState Q) → meant w st ≡ Some (record { name = name; act = c }))
 
 -- a step that names a name, where no letter was sent, is of its node
 own_of : {Q : Type 0} (st : Step Q) → IfSome (name_in (meant_in [] st)) (λ name. IsOf name st)
@@ -61,7 +61,7 @@ module _ {Q : Type 0} (s : QuorumSystem Q) (w v : WorldState Q) (name : ℕ) (x 
   -- and what there was no memory for isn't refused by them
   pub told_memory : (r : Refusal) (count capacity : ℕ) → IsRefusal (refusal s w st) OutOfMemory → Told None count capacity r → Told (refusal s v st) count capacity r
   told_memory r count capacity h told =
-      let none = accepted (refusal s w st) h (λ d e. refused_never_memory s x (Some (record { name = name; change = own.0 })) d (sym (node_refuses s w name x st own here) ∙ e)) in
+      let none = accepted (refusal s w st) h (λ d e. refused_never_memory s x (Some (record { name = name; act = own.0 })) d (sym (node_refuses s w name x st own here) ∙ e)) in
       subst (λ o. Told o count capacity r) (sym none ∙ alike) told
 
 -- whose step a step is that names a name

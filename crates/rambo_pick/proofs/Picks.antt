@@ -5,9 +5,9 @@ use Rattle.rambo_history.specs.declared.event.CallId.{CallId}
 use Rattle.rambo_calls.specs.Calls.{CallState}
 use Rattle.rambo_calls.specs.Kept.{calls_of}
 use Rattle.rambo_calls.specs.declared.open_call.OpenCall.{OpenCall}
-use Rattle.rambo_node.specs.declared.change.Change.TheVariants as change
 use Rattle.rambo_node.specs.Changes.{refusal_of}
 use Rattle.rambo_node.specs.Nodes.{NodeState}
+use Rattle.rambo_node.specs.Acts as act
 use Rattle.rambo_run.specs.declared.step.Step.{Step}
 use Rattle.rambo_run.specs.declared.step.Step.TheVariants as step
 use Rattle.rambo_run.proofs.Lists.{none-some}
@@ -37,18 +37,18 @@ not_none : {A : Type 0} (o : Option A) → is_some o ≡ true → is_none o ≡ 
 not_none None e = absurd cc
 not_none (Some a) e = refl
 
-pub taken : {Q : Type 0} (s : QuorumSystem Q) (x : NodeState Q) (c : Candidate Q) (cs : List (Candidate Q)) → is_some (refusal_of s x c.change) ≡ false → first_of s x (c ∷ cs) ≡ Some c.step
-taken s x c cs none = ap (λ o. option_map (λ (c : Candidate _). c.step) (cond (is_none o) (Some c) (find (is_accepted s x) cs))) (none_of (refusal_of s x c.change) none)
+pub taken : {Q : Type 0} (s : QuorumSystem Q) (x : NodeState Q) (c : Candidate Q) (cs : List (Candidate Q)) → is_some (refusal_of s x c.act) ≡ false → first_of s x (c ∷ cs) ≡ Some c.step
+taken s x c cs none = ap (λ o. option_map (λ (c : Candidate _). c.step) (cond (is_none o) (Some c) (find (is_accepted s x) cs))) (none_of (refusal_of s x c.act) none)
 
-pub passed : {Q : Type 0} (s : QuorumSystem Q) (x : NodeState Q) (c : Candidate Q) (cs : List (Candidate Q)) → is_some (refusal_of s x c.change) ≡ true → first_of s x (c ∷ cs) ≡ first_of s x cs
-passed s x c cs some = ap (λ t. option_map (λ (c : Candidate _). c.step) (cond t (Some c) (find (is_accepted s x) cs))) (not_none (refusal_of s x c.change) some)
+pub passed : {Q : Type 0} (s : QuorumSystem Q) (x : NodeState Q) (c : Candidate Q) (cs : List (Candidate Q)) → is_some (refusal_of s x c.act) ≡ true → first_of s x (c ∷ cs) ≡ first_of s x cs
+passed s x c cs some = ap (λ t. option_map (λ (c : Candidate _). c.step) (cond t (Some c) (find (is_accepted s x) cs))) (not_none (refusal_of s x c.act) some)
 
 -- so is the first letter of a tray
-pub heard_here : {Q : Type 0} (s : QuorumSystem Q) (x : NodeState Q) (rest : List (Mail Q)) (m : Mail Q) (others : List (Mail Q)) → rest ≡ m ∷ others → is_some (refusal_of s x (change.Deliver m.letter)) ≡ false
+pub heard_here : {Q : Type 0} (s : QuorumSystem Q) (x : NodeState Q) (rest : List (Mail Q)) (m : Mail Q) (others : List (Mail Q)) → rest ≡ m ∷ others → is_some (refusal_of s x (act.Hear m.letter)) ≡ false
     → first_of s x (map delivery rest) ≡ Some (step.Deliver m.number)
 heard_here s x rest m others e none = ap (λ ms. first_of s x (map delivery ms)) e ∙ taken s x (delivery m) (map delivery others) none
 
-pub heard_later : {Q : Type 0} (s : QuorumSystem Q) (x : NodeState Q) (rest : List (Mail Q)) (m : Mail Q) (others : List (Mail Q)) → rest ≡ m ∷ others → is_some (refusal_of s x (change.Deliver m.letter)) ≡ true
+pub heard_later : {Q : Type 0} (s : QuorumSystem Q) (x : NodeState Q) (rest : List (Mail Q)) (m : Mail Q) (others : List (Mail Q)) → rest ≡ m ∷ others → is_some (refusal_of s x (act.Hear m.letter)) ≡ true
     → first_of s x (map delivery rest) ≡ first_of s x (map delivery others)
 heard_later s x rest m others e some = ap (λ ms. first_of s x (map delivery ms)) e ∙ passed s x (delivery m) (map delivery others) some
 
@@ -58,17 +58,17 @@ heard_none s x (m ∷ ms) e = absurd (omega (arith, e))
 
 -- and a call
 pub moved_here : {Q : Type 0} (s : QuorumSystem Q) (x : NodeState Q) (rest : List (CallState Q)) (c : CallState Q) (others : List (CallState Q)) (id : CallId) → rest ≡ c ∷ others → id ≡ record { name = x.name; number = c.number }
-    → is_some (refusal_of s x (change.Advance id)) ≡ false → first_of s x (map (advance x.name) rest) ≡ Some (step.Advance id)
+    → is_some (refusal_of s x (act.Advance id)) ≡ false → first_of s x (map (advance x.name) rest) ≡ Some (step.Advance id)
 moved_here s x rest c others id e own none =
     ap (λ cs. first_of s x (map (advance x.name) cs)) e
-    ∙ taken s x (advance x.name c) (map (advance x.name) others) (ap (λ i. is_some (refusal_of s x (change.Advance i))) (sym own) ∙ none)
+    ∙ taken s x (advance x.name c) (map (advance x.name) others) (ap (λ i. is_some (refusal_of s x (act.Advance i))) (sym own) ∙ none)
     ∙ ap (λ i. Some (step.Advance i)) (sym own)
 
 pub moved_later : {Q : Type 0} (s : QuorumSystem Q) (x : NodeState Q) (rest : List (CallState Q)) (c : CallState Q) (others : List (CallState Q)) (id : CallId) → rest ≡ c ∷ others → id ≡ record { name = x.name; number = c.number }
-    → is_some (refusal_of s x (change.Advance id)) ≡ true → first_of s x (map (advance x.name) rest) ≡ first_of s x (map (advance x.name) others)
+    → is_some (refusal_of s x (act.Advance id)) ≡ true → first_of s x (map (advance x.name) rest) ≡ first_of s x (map (advance x.name) others)
 moved_later s x rest c others id e own some =
     ap (λ cs. first_of s x (map (advance x.name) cs)) e
-    ∙ passed s x (advance x.name c) (map (advance x.name) others) (ap (λ i. is_some (refusal_of s x (change.Advance i))) (sym own) ∙ some)
+    ∙ passed s x (advance x.name c) (map (advance x.name) others) (ap (λ i. is_some (refusal_of s x (act.Advance i))) (sym own) ∙ some)
 
 pub moved_none : {Q : Type 0} (s : QuorumSystem Q) (x : NodeState Q) (rest : List (OpenCall Q)) → length rest ≡ 0 → first_of s x (map (advance x.name) (calls_of rest)) ≡ None
 moved_none s x [] e = refl

@@ -1,20 +1,19 @@
 //! What a node does first of what it may do by itself.
 ghost use Rattle.std.specs.Prelude.{◌≡◌, map, option_map};
 ghost use Rattle.rambo_node.specs.Changes.{refusal_of};
-ghost use Rattle.rambo_node.specs.Prepared.{quick_change};
-ghost use Rattle.rambo_node.specs.declared.change.Change.TheVariants as change;
+ghost use Rattle.rambo_node.specs.Acts as act;
 ghost use Rattle.rambo_pick.specs.Picking.{first_of, candidates, delivery, advance, of_configurations};
 
 use rambo_deeds::{Mail, SharedLetter, Worker, may_hear};
 use rambo_history::CallId;
 use rambo_names::{Quorums, Refusal};
-use rambo_node::{Node, Quick};
+use rambo_node::{Node, Quiet};
 use rambo_run::Step;
 use rambo_tag::Replica;
 
 // Why a node doesn't hear a letter, if it doesn't.
 fn unheard<Q: Quorums, S: Replica>(node: &Node<Q, S>, letter: &SharedLetter<Q>) -> Option<Refusal>
-    ensures { result ≡ refusal_of Q.system node.now.state (change.Deliver letter.now) }
+    ensures { result ≡ refusal_of Q.system node.now.state (act.Hear letter.now) }
 {
     match may_hear(node, letter) {
         Ok(()) => None,
@@ -24,7 +23,7 @@ fn unheard<Q: Quorums, S: Replica>(node: &Node<Q, S>, letter: &SharedLetter<Q>) 
 
 // Why a call of a node doesn't go on, if it doesn't.
 fn unmoved<Q: Quorums, S: Replica>(node: &Node<Q, S>, id: &CallId) -> Option<Refusal>
-    ensures { result ≡ refusal_of Q.system node.now.state (change.Advance id.now) }
+    ensures { result ≡ refusal_of Q.system node.now.state (act.Advance id.now) }
 {
     match node.may_advance(id) {
         Ok(_) => None,
@@ -32,11 +31,11 @@ fn unmoved<Q: Quorums, S: Replica>(node: &Node<Q, S>, id: &CallId) -> Option<Ref
     }
 }
 
-// Why a node refuses a change that allocates nothing, if it does.
-fn refused<Q: Quorums, S: Replica>(node: &Node<Q, S>, quick: &Quick<Q>) -> Option<Refusal>
-    ensures { result ≡ refusal_of Q.system node.now.state (quick_change quick.now) }
+// Why a node refuses a change that is quiet, if it does.
+fn refused<Q: Quorums, S: Replica>(node: &Node<Q, S>, quiet: &Quiet<Q>) -> Option<Refusal>
+    ensures { result ≡ refusal_of Q.system node.now.state (act.Quietly quiet.now) }
 {
-    match node.judge_quick(quick) {
+    match node.may_quiet(quiet) {
         Ok(()) => None,
         Err(refusal) => Some(refusal),
     }
@@ -79,10 +78,10 @@ fn turned_first<Q: Quorums, S: Replica>(worker: &Worker<Q, S>) -> Option<Step<Q>
     ensures { result ≡ first_of Q.system worker.now.state (of_configurations worker.now.state.name) }
 {
     let node = worker.node();
-    if refused(node, &Quick::AdvanceCollect).is_none() {
+    if refused(node, &Quiet::AdvanceCollect).is_none() {
         return Some(Step::AdvanceCollect(node.name()));
     }
-    if refused(node, &Quick::AdvanceRecon).is_none() {
+    if refused(node, &Quiet::AdvanceRecon).is_none() {
         return Some(Step::AdvanceRecon(node.name()));
     }
     None

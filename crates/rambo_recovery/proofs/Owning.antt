@@ -9,7 +9,7 @@ use Rattle.rambo_names.specs.Refusals.{IsRefusal, least, number_of}
 use Rattle.rambo_gossip.specs.declared.letter.Letter.{Letter}
 use Rattle.rambo_joiner.specs.Statuses.{is_stopped}
 use Rattle.rambo_node.specs.Nodes.{NodeState}
-use Rattle.rambo_node.specs.declared.change.Change.{Change}
+use Rattle.rambo_node.specs.Acts.{Act}
 use Rattle.rambo_run.specs.declared.step.Step.{Step}
 use Rattle.rambo_run.specs.declared.step.Step.TheVariants as step
 use Rattle.rambo_run.specs.Kinds.{delivered_by}
@@ -73,13 +73,13 @@ names_one (step.Stop n) other none = none-some n (sym none)
 not_active_differs : NotActive ≢ OutOfMemory
 not_active_differs e = (let numbers : 3 ≡ 22 = ap number_of e in absurd (omega (arith, numbers)))
 
-at_differs : {Q : Type 0} (s : QuorumSystem Q) (o : Option (NodeState Q)) (c : Change Q) (r : Refusal) → least (causes_at s o c) ≡ Some r → r ≢ OutOfMemory
+at_differs : {Q : Type 0} (s : QuorumSystem Q) (o : Option (NodeState Q)) (c : Act Q) (r : Refusal) → least (causes_at s o c) ≡ Some r → r ≢ OutOfMemory
 at_differs s None c r e = subst (λ r. r ≢ OutOfMemory) (some_inj NotActive r e) not_active_differs
 at_differs s (Some x) c r e = never_memory s x c r e
 
 of_differs : {Q : Type 0} (s : QuorumSystem Q) (w : WorldState Q) (o : Option (Meant Q)) (r : Refusal) → least (causes_of s w o) ≡ Some r → r ≢ OutOfMemory
 of_differs s w None r e = subst (λ r. r ≢ OutOfMemory) (some_inj NoSuchLetter r e) no_letter_differs
-of_differs s w (Some m) r e = at_differs s (node_at w m.name) m.change r e
+of_differs s w (Some m) r e = at_differs s (node_at w m.name) m.act r e
 
 none_refused : (o : Option Refusal) (cause : Refusal) → ((r : Refusal) → o ≡ Some r → r ≢ OutOfMemory) → IsRefusal o cause → cause ≡ OutOfMemory → o ≡ None
 none_refused None cause never h e = refl

@@ -3,10 +3,10 @@ use Rattle.std.proofs.Common.{◌≡◌, ◌⊎◌, ℕ, zero, suc, ◌≤◌, L
 use Rattle.std.proofs.lemmas.List.{append_cancel_left, append-nil, length-append}
 use Rattle.rambo_names.specs.Quorums.{QuorumSystem}
 use Rattle.rambo_gossip.specs.declared.letter.Letter.{Letter}
-use Rattle.rambo_node.specs.declared.change.Change.TheVariants as change
 use Rattle.rambo_node.specs.Changes.{made_by}
 use Rattle.rambo_node.specs.Letters.{letter_for}
 use Rattle.rambo_node.specs.Nodes.{NodeState}
+use Rattle.rambo_node.specs.Acts as act
 use Rattle.rambo_run.specs.declared.step.Step.{Step}
 use Rattle.rambo_run.specs.declared.step.Step.TheVariants as step
 use Rattle.rambo_run.specs.Actors.{sent_by, sent}
@@ -54,7 +54,7 @@ one_at_most (step.AdvanceRecon n) = omega arith
 one_at_most (step.Stop n) = omega arith
 
 -- whom it is for
-sent_at : {Q : Type 0} (w : WorldState Q) (n to : ℕ) (o : Option (NodeState Q)) (a : Letter Q) → (turn_at w n o (change.Send to)).world.letters ≡ w.letters ++ a ∷ [] → to ≡ a.addressee
+sent_at : {Q : Type 0} (w : WorldState Q) (n to : ℕ) (o : Option (NodeState Q)) (a : Letter Q) → (turn_at w n o (act.Send to)).world.letters ≡ w.letters ++ a ∷ [] → to ≡ a.addressee
 unfolding made_by
 sent_at w n to None a e = (let len = ap length e ∙ length-append w.letters (a ∷ []) in absurd (omega (arith, len)))
 sent_at w n to (Some x) a e = ap (λ (l : Letter _). l.addressee) (head_is (append_cancel_left w.letters (letter_for x to ∷ []) (a ∷ []) e))

@@ -7,11 +7,13 @@ use Rattle.rambo_names.specs.Refusals.{Cause, cause, least}
 use Rattle.rambo_joiner.specs.declared.status.Status.{Status}
 use Rattle.rambo_joiner.specs.declared.status.Status.TheVariants as status
 use Rattle.rambo_joiner.specs.Statuses.{is_idle, is_stopped}
-use Rattle.rambo_node.specs.declared.change.Change.{Change}
-use Rattle.rambo_node.specs.declared.change.Change.TheVariants as change
+use Rattle.rambo_node.specs.Acts.{Act}
 use Rattle.rambo_node.specs.Changes.{refusal_of}
-use Rattle.rambo_node.specs.Changes.{causes as causes_in}
+use Rattle.rambo_node.specs.Changes.{causes as causes_in, quiet_causes}
 use Rattle.rambo_node.specs.Nodes.{NodeState}
+use Rattle.rambo_node.specs.Acts as act
+use Rattle.rambo_node.specs.declared.prepared.Quiet.{Quiet}
+use Rattle.rambo_node.specs.declared.prepared.Quiet.TheVariants as quiet
 use Rattle.rambo_run.specs.declared.step.Step.{Step}
 use Rattle.rambo_run.specs.Worlds.{WorldState, node_at}
 use Rattle.rambo_run.specs.Steps.{meant, causes_at, causes_of, causes, refusal, turn}
@@ -36,19 +38,13 @@ idle_goes status.Active e = absurd (true≢false e)
 idle_goes status.Stopped e = absurd (true≢false e)
 
 -- a node that takes a step hasn't stopped
-going : {Q : Type 0} (s : QuorumSystem Q) (x : NodeState Q) (c : Change Q) → refusal_of s x c ≡ None → is_stopped x.status ≡ false
-going s x (change.Join contacts) e = idle_goes x.status (no_cause (causes_in s x (change.Join contacts)) e 0 (cause NameUsed (not (is_idle x.status))) refl)
-going s x (change.Call o) e = no_cause (causes_in s x (change.Call o)) e 1 (cause Stopped (is_stopped x.status)) refl
-going s x (change.Send to) e = no_cause (causes_in s x (change.Send to)) e 1 (cause Stopped (is_stopped x.status)) refl
-going s x (change.Deliver l) e = no_cause (causes_in s x (change.Deliver l)) e 1 (cause Stopped (is_stopped x.status)) refl
-going s x (change.Advance id) e = no_cause (causes_in s x (change.Advance id)) e 1 (cause Stopped (is_stopped x.status)) refl
-going s x (change.Again id) e = no_cause (causes_in s x (change.Again id)) e 1 (cause Stopped (is_stopped x.status)) refl
-going s x change.Collect e = no_cause (causes_in s x change.Collect) e 1 (cause Stopped (is_stopped x.status)) refl
-going s x change.AdvanceCollect e = no_cause (causes_in s x change.AdvanceCollect) e 1 (cause Stopped (is_stopped x.status)) refl
-going s x (change.Recon wish) e = no_cause (causes_in s x (change.Recon wish)) e 1 (cause Stopped (is_stopped x.status)) refl
-going s x change.Rebid e = no_cause (causes_in s x change.Rebid) e 1 (cause Stopped (is_stopped x.status)) refl
-going s x change.AdvanceRecon e = no_cause (causes_in s x change.AdvanceRecon) e 1 (cause Stopped (is_stopped x.status)) refl
-going s x change.Stop e = no_cause (causes_in s x change.Stop) e 1 (cause Stopped (is_stopped x.status)) refl
+quiet_goes : {Q : Type 0} (s : QuorumSystem Q) (x : NodeState Q) (q : Quiet Q) → least (quiet_causes s x q) ≡ None → is_stopped x.status ≡ false
+quiet_goes s x (quiet.Join contacts) e = idle_goes x.status (no_cause (quiet_causes s x (quiet.Join contacts)) e 0 (cause NameUsed (not (is_idle x.status))) refl)
+quiet_goes s x _ e = no_cause (quiet_causes s x _) e 1 (cause Stopped (is_stopped x.status)) refl
+
+going : {Q : Type 0} (s : QuorumSystem Q) (x : NodeState Q) (a : Act Q) → refusal_of s x a ≡ None → is_stopped x.status ≡ false
+going s x (act.Quietly q) e = quiet_goes s x q e
+going s x _ e = no_cause (causes_in s x _) e 1 (cause Stopped (is_stopped x.status)) refl
 
 judged_by : {Q : Type 0} (s : QuorumSystem Q) (w : WorldState Q) (st : Step Q) → refusal s w st ≡ least (causes_of s w (meant w st))
 unfolding refusal causes
@@ -62,8 +58,8 @@ stays s w st n accepted h = (
     else_stays w st n
         (λ m is named.
         let here : node_at w m.name ≡ Some h.0 = ap (node_at w) named ∙ h.1.0 in
-        let free : refusal_of s h.0 m.change ≡ None = sym (ap (λ o. least (causes_at s o m.change)) here) ∙ ap (λ o. least (causes_of s w o)) (sym is) ∙ sym (judged_by s w st) ∙ accepted in
-        true≢false (sym h.1.1 ∙ going s h.0 m.change free))
+        let free : refusal_of s h.0 m.act ≡ None = sym (ap (λ o. least (causes_at s o m.act)) here) ∙ ap (λ o. least (causes_of s w o)) (sym is) ∙ sym (judged_by s w st) ∙ accepted in
+        true≢false (sym h.1.1 ∙ going s h.0 m.act free))
         ∙ h.1.0,
     h.1.1,
   ),

@@ -5,9 +5,9 @@ use Rattle.std.proofs.lemmas.List.{append-nil}
 use Rattle.rambo_names.specs.Quorums.{QuorumSystem}
 use Rattle.rambo_names.specs.Refusals.{least}
 use Rattle.rambo_gossip.specs.declared.letter.Letter.{Letter}
-use Rattle.rambo_node.specs.declared.change.Change.TheVariants as change
 use Rattle.rambo_node.specs.Letters.{letter_for}
 use Rattle.rambo_node.specs.Nodes.{NodeState}
+use Rattle.rambo_node.specs.Acts as act
 use Rattle.rambo_run.specs.declared.step.Step.{Step}
 use Rattle.rambo_run.specs.declared.step.Step.TheVariants as step
 use Rattle.rambo_run.specs.Worlds.{WorldState, node_at, letter_at, first_world}
@@ -63,12 +63,12 @@ Lettered w st z = map to z.letters ≡ map to w.letters ++ sent_by st
 quiet : {Q : Type 0} (ls new : List (Letter Q)) → new ≡ ls → map to new ≡ map to ls ++ []
 quiet ls new e = ap (map to) e ∙ sym (append-nil (map to ls))
 
-sending : {Q : Type 0} (s : QuorumSystem Q) (w : WorldState Q) (n a : ℕ) (o : Option (NodeState Q)) → least (causes_at s o (change.Send a)) ≡ None → Lettered w (step.Send n a) (turn_at w n o (change.Send a)).world
+sending : {Q : Type 0} (s : QuorumSystem Q) (w : WorldState Q) (n a : ℕ) (o : Option (NodeState Q)) → least (causes_at s o (act.Send a)) ≡ None → Lettered w (step.Send n a) (turn_at w n o (act.Send a)).world
 unfolding to Rattle.rambo_node.specs.Changes.made_by
 sending s w n a None e = absurd (true≢false (ap is_some e))
 sending s w n a (Some x) e = map-append to w.letters (letter_for x a ∷ [])
 
-send_causes : {Q : Type 0} (s : QuorumSystem Q) (w : WorldState Q) (n a : ℕ) → refusal s w (step.Send n a) ≡ None → least (causes_at s (node_at w n) (change.Send a)) ≡ None
+send_causes : {Q : Type 0} (s : QuorumSystem Q) (w : WorldState Q) (n a : ℕ) → refusal s w (step.Send n a) ≡ None → least (causes_at s (node_at w n) (act.Send a)) ≡ None
 unfolding refusal causes
 send_causes s w n a e = e
 

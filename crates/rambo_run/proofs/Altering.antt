@@ -12,7 +12,7 @@ use Rattle.rambo_node.specs.Nodes.{NodeState}
 use Rattle.rambo_node.specs.Hearing.{heard_gossip}
 use Rattle.rambo_node.specs.Operations.{called, query_answered, call_closed, called_again}
 use Rattle.rambo_node.specs.Reconfigurations.{attempt_opened, attempt_rebid, attempt_moved, config_learnt, attempt_ended, collection_opened, collection_moved, collection_ended}
-use Rattle.rambo_run.proofs.Turn.{Moments, Telling, IsBacked, Alters, collects, seconds, finishes, opens, rebids, proposes, chooses, gives_up, Turn, stays, quiet, calls, hears, queried, answers, agains, alters}
+use Rattle.rambo_run.proofs.Turn.{Moments, Telling, IsBacked, Alters, collects, seconds, finishes, opens, rebids, proposes, chooses, gives_up, Turn, stays, knows, calls, hears, queried, answers, agains, alters}
 
 -- all but the map, the number, the collection, the attempt and the vote
 pub record KeepsRest {Q : Type 0} (x y : NodeState Q) : Type 0 where
@@ -72,7 +72,7 @@ pub data MapTurn {Q : Type 0} (s : QuorumSystem Q) (at : Moments Q) (m : ℕ) (x
 pub map_turn : {Q : Type 0} {T : Telling} (s : QuorumSystem Q) (at : Moments Q) (m n : ℕ) (x y : NodeState Q) → Turn s T at m n x y → MapTurn s at m x y
 unfolding called query_answered call_closed called_again heard_gossip
 map_turn s at m n x y (stays e) = map_moves (map_stays (ap (λ y. y.map) e))
-map_turn s at m n x y (quiet st known e) = map_moves (map_stays (ap (λ y. y.map) e))
+map_turn s at m n x y (knows st known e) = map_moves (map_stays (ap (λ y. y.map) e))
 map_turn s at m n x y (calls o e) = map_moves (map_stays (ap (λ y. y.map) e))
 map_turn s at m n x y (hears u j h a b t e) = map_merges u j h (ap (λ y. y.map) e)
 map_turn s at m n x y (queried c i p h e) = map_moves (map_stays (ap (λ y. y.map) e))

@@ -5,10 +5,12 @@ use Rattle.rambo_names.specs.declared.refusal.Refusal.{Refusal}
 use Rattle.rambo_names.specs.declared.refusal.Refusal.TheVariants.{OutOfMemory, NoSuchLetter}
 use Rattle.rambo_names.specs.Quorums.{QuorumSystem}
 use Rattle.rambo_names.specs.Refusals.{Cause, least, number_of}
-use Rattle.rambo_node.specs.declared.change.Change.{Change}
-use Rattle.rambo_node.specs.declared.change.Change.TheVariants as change
-use Rattle.rambo_node.specs.Changes.{causes, refusal_of}
+use Rattle.rambo_node.specs.Acts.{Act}
+use Rattle.rambo_node.specs.Changes.{causes, quiet_causes, refusal_of}
 use Rattle.rambo_node.specs.Nodes.{NodeState}
+use Rattle.rambo_node.specs.Acts as act
+use Rattle.rambo_node.specs.declared.prepared.Quiet.{Quiet}
+use Rattle.rambo_node.specs.declared.prepared.Quiet.TheVariants as quiet
 use Rattle.rambo_run.proofs.Lists.{pick, some_inj, none-some}
 
 -- whether none of these causes is want of memory
@@ -32,12 +34,16 @@ least_differs (c ∷ cs) r free e =
       | inr p ↦ least_differs cs r both.1 (sym p.1 ∙ e)
     ]
 
-no_memory : {Q : Type 0} (s : QuorumSystem Q) (x : NodeState Q) (c : Change Q) → is_free (causes s x c) ≡ true
-no_memory s x change.Stop = refl
+quiet_needs_none : {Q : Type 0} (s : QuorumSystem Q) (x : NodeState Q) (q : Quiet Q) → is_free (quiet_causes s x q) ≡ true
+quiet_needs_none s x quiet.Stop = refl
+quiet_needs_none s x _ = refl
+
+no_memory : {Q : Type 0} (s : QuorumSystem Q) (x : NodeState Q) (a : Act Q) → is_free (causes s x a) ≡ true
+no_memory s x (act.Quietly q) = quiet_needs_none s x q
 no_memory s x _ = refl
 
 -- no node's refusal is want of memory
-pub never_memory : {Q : Type 0} (s : QuorumSystem Q) (x : NodeState Q) (c : Change Q) (r : Refusal) → refusal_of s x c ≡ Some r → r ≢ OutOfMemory
+pub never_memory : {Q : Type 0} (s : QuorumSystem Q) (x : NodeState Q) (c : Act Q) (r : Refusal) → refusal_of s x c ≡ Some r → r ≢ OutOfMemory
 never_memory s x c r e = least_differs (causes s x c) r (no_memory s x c) e
 
 pub no_letter_differs : NoSuchLetter ≢ OutOfMemory

@@ -19,7 +19,7 @@ use Rattle.rambo_node.specs.Operations.{called, query_answered, call_closed, cal
 use Rattle.rambo_node.specs.Reconfigurations.{attempt_opened, attempt_rebid, attempt_moved, config_learnt, attempt_ended, collection_opened, collection_moved, collection_ended}
 use Rattle.rambo_run.specs.Configurations.{begun}
 use Rattle.rambo_run.proofs.Lists.{pick, some_inj, none-some}
-use Rattle.rambo_run.proofs.Turn.{Moments, Telling, Alters, collects, seconds, finishes, opens, rebids, proposes, chooses, gives_up, Turn, stays, quiet, calls, hears, queried, answers, agains, alters, Run}
+use Rattle.rambo_run.proofs.Turn.{Moments, Telling, Alters, collects, seconds, finishes, opens, rebids, proposes, chooses, gives_up, Turn, stays, knows, calls, hears, queried, answers, agains, alters, Run}
 use Rattle.rambo_run.proofs.Altering.{MapTurn, map_merges, map_moves, map_stays, map_loses, map_gains, map_turn}
 use Rattle.rambo_run.proofs.Formed.{IsCounted, collection_heard}
 use Rattle.rambo_run.proofs.Held.{HoldsAll, up, number_up, names, active, hear_right, Fresh, fresh}
@@ -113,7 +113,7 @@ module _ {Q : Type 0} {T : Telling} (s : QuorumSystem Q) (founders : Q) (at : Mo
   collection_turn : (m n : ℕ) → Turn s T at m n (at m n) (at (suc m) n) → OnceMore m n
   unfolding called query_answered call_closed called_again heard_gossip
   collection_turn m n (stays e) = c_stays (ap (λ y. y.collection) e)
-  collection_turn m n (quiet st known e) = c_stays (ap (λ y. y.collection) e)
+  collection_turn m n (knows st known e) = c_stays (ap (λ y. y.collection) e)
   collection_turn m n (calls o e) = c_stays (ap (λ y. y.collection) e)
   collection_turn m n (hears u j h a b t e) =
       c_hears u j h b t (subst (HoldsAll (at u j)) (sym e) (hear_right (at m n) j n (at u j) (active s founders at run m n) (active s founders at run u j))) (ap (λ y. y.collection) e)

@@ -7,20 +7,20 @@ use Rattle.rambo_config_map.specs.MapLaws.{active_kept, get_right}
 use Rattle.rambo_paxos.specs.declared.bid.Bid.{Bid}
 use Rattle.rambo_paxos.specs.declared.bid.Bid.TheVariants as bid
 use Rattle.rambo_paxos.specs.Attempts.{AttemptState, bid_of}
-use Rattle.rambo_node.specs.declared.change.Change.TheVariants as change
 use Rattle.rambo_node.specs.declared.effect.Effect.{Effect}
 use Rattle.rambo_node.specs.declared.effect.Effect.TheVariants as effect
-use Rattle.rambo_node.specs.Changes.{Made, told, decided, bid_made, attempt_advanced, made_by}
+use Rattle.rambo_node.specs.Changes.{Quieted, decided, bid_made, attempt_advanced, made_by}
 use Rattle.rambo_node.specs.Nodes.{NodeState}
 use Rattle.rambo_node.specs.Reconfigurations.{config_learnt, attempt_ended}
+use Rattle.rambo_node.specs.Acts as act
+use Rattle.rambo_node.specs.declared.prepared.Quiet.TheVariants as quiet
 use Rattle.rambo_run.specs.declared.step.Step.{Step}
 use Rattle.rambo_run.specs.declared.step.Step.TheVariants as step
 use Rattle.rambo_run.specs.Worlds.{WorldState, node_at}
-use Rattle.rambo_run.specs.Steps.{refusal, effect_in, turn_by, turn_at, turn}
+use Rattle.rambo_run.specs.Steps.{refusal, turn_by, turn_at, turn}
 use Rattle.rambo_run.specs.Runs.{unless_refused, after, run_from, run}
 use Rattle.rambo_run.specs.Configurations.{DecisionsStand}
 use Rattle.rambo_run.proofs.Lists.{pick, some_inj, none-some}
-use Rattle.rambo_run.proofs.Deeds.{attempt_silent}
 use Rattle.rambo_run.proofs.Formed.{IsFormed, formed}
 use Rattle.rambo_run.proofs.Sights.{at, is_at}
 use Rattle.rambo_run.proofs.Worlds.{run_of, sound}
@@ -43,7 +43,7 @@ decision_in (effect.Answered id answer) = None
 decision_in (effect.Collected n place) = None
 
 -- what node x, with this map, tells
-record Stands {Q : Type 0} (x : NodeState Q) (made : Made Q) (n p : ℕ) (c : Q) : Type 0 where
+record Stands {Q : Type 0} (x : NodeState Q) (made : Quieted Q) (n p : ℕ) (c : Q) : Type 0 where
   name : n ≡ x.name
   active : active_at made.node.map p ≡ Some c
 
@@ -54,8 +54,8 @@ learnt_active m c =
     active_kept (learnt m c) (end_of m) (omega arith) ∙ get_right m.configs (c ∷ []) (end_of m - m.floor) (omega arith) ∙ ap (slice_get (c ∷ [])) i
 
 module _ {Q : Type 0} (x : NodeState Q) (f : IsFormed x) (n p : ℕ) (c : Q) where
-  abbrev Tells : Made Q → Type 0
-  Tells m = decision_in m.deed.effect ≡ Some (record { name = n; place = p; config = Some c })
+  abbrev Tells : Quieted Q → Type 0
+  Tells m = decision_in m.effect ≡ Some (record { name = n; place = p; config = Some c })
 
   parts : (d : Decision Q) → Some d ≡ Some (record { name = n; place = p; config = Some c }) → (n ≡ d.name) × (p ≡ d.place) × (d.config ≡ Some c)
   parts d e =
@@ -73,7 +73,7 @@ module _ {Q : Type 0} (x : NodeState Q) (f : IsFormed x) (n p : ℕ) (c : Q) whe
   unfolding attempt_ended
   attempt_stands None i e = absurd (none-some _ e)
   attempt_stands (Some a) i e =
-      elim (pick (nat_lt a.place (end_of x.map)) (record { node = attempt_ended x; deed = told (decided x a (active_at x.map a.place)); letter = None }) (bid_made x a (bid_of a))) [
+      elim (pick (nat_lt a.place (end_of x.map)) (record { node = attempt_ended x; effect = decided x a (active_at x.map a.place) }) (bid_made x a (bid_of a))) [
         | inl t ↦ (let q = parts (record { name = x.name; place = a.place; config = active_at x.map a.place }) (subst Tells t.1 e) in
             subst (λ m. Stands x m n p c) (sym t.1) (record { name = q.0; active = ap (active_at x.map) q.1 ∙ q.2 }))
         | inr t ↦ (let low = f.place a i in let high = ltb-false a.place (end_of x.map) t.0 in
@@ -100,19 +100,19 @@ module _ {Q : Type 0} (s : QuorumSystem Q) where
       ap (λ k. run s founders (take k ss)) i ∙ one_more ss _ m st e ∙ done_after _ st r
 
   abbrev Told : WorldState Q → ℕ → Option (NodeState Q) → ℕ → ℕ → Q → Type 0
-  Told w k o n p c = (turn_at w k o change.AdvanceRecon).effect ≡ effect.Decided n (record { place = p; config = Some c })
+  Told w k o n p c = (turn_at w k o (act.Quietly quiet.AdvanceRecon)).effect ≡ effect.Decided n (record { place = p; config = Some c })
 
   stands_at : (w : WorldState Q) (k n p : ℕ) (c : Q) → ((x : NodeState Q) → node_at w k ≡ Some x → IsFormed x × (x.name ≡ k)) → (o : Option (NodeState Q)) → node_at w k ≡ o → Told w k o n p c
-      → (y : NodeState Q) × (node_at (turn_at w k o change.AdvanceRecon).world n ≡ Some y) × (active_at y.map p ≡ Some c)
+      → (y : NodeState Q) × (node_at (turn_at w k o (act.Quietly quiet.AdvanceRecon)).world n ≡ Some y) × (active_at y.map p ≡ Some c)
   unfolding made_by
   stands_at w k n p c f None i e = absurd (none-some _ (ap decision_in e))
   stands_at w k n p c f (Some x) i e =
       let made = attempt_advanced x x.attempt in
       let g = f x i in
-      let silent : effect_in w.letters made.deed.effect made.letter ≡ made.deed.effect = ap (effect_in w.letters made.deed.effect) (attempt_silent x x.attempt).letter in
-      let r = attempt_stands x g.0 n p c x.attempt refl (ap decision_in (sym silent ∙ e)) in
+      let r = attempt_stands x g.0 n p c x.attempt refl (ap decision_in e) in
+      let new = (turn_by w k (made_by x (act.Quietly quiet.AdvanceRecon))).world in
       let same : n ≡ k = r.name ∙ g.1 in
-      (made.node, subst (λ n. node_at (turn_by w k made).world n ≡ Some made.node) (sym same) (own_put w (turn_by w k made).world k x made.node i refl), r.active)
+      (made.node, subst (λ n. node_at new n ≡ Some made.node) (sym same) (own_put w new k x made.node i refl), r.active)
 
 -- what a step tells to be decided for a place stands there
 pub decisions_stand : {Q : Type 0} (s : QuorumSystem Q) → DecisionsStand s

@@ -1,21 +1,13 @@
--- The calls and marks of each kind of change, and the letter that it sends
-use Rattle.std.proofs.Common.{◌≡◌, ℕ, zero, suc, ◌-◌, nat_eq, nat_lt, List, [], ◌∷◌, Option, Some, None, slice_get, slice_set, refl, sym, ap, ◌∙◌, subst, inl, inr, arith, eqb-true}
+-- The calls and marks of each kind of act, and the letter that it sends
+use Rattle.std.proofs.Common.{◌≡◌, ℕ, zero, suc, ◌-◌, nat_eq, List, [], ◌∷◌, Option, Some, None, slice_get, slice_set, refl, sym, ap, ◌∙◌, inl, inr, arith, eqb-true}
 use Rattle.rambo_tag.specs.declared.version.Version.{Version}
 use Rattle.rambo_history.specs.declared.event.CallId.{CallId}
 use Rattle.rambo_history.specs.declared.operation.Op.{Op}
-use Rattle.rambo_config_map.specs.Maps.{active_at, end_of}
-use Rattle.rambo_gc.specs.declared.gc_move.GcMove.{GcMove}
-use Rattle.rambo_gc.specs.declared.gc_move.GcMove.TheVariants.{Propagating, Done}
-use Rattle.rambo_gc.specs.Collections.{CollectionState}
-use Rattle.rambo_paxos.specs.declared.bid.Bid.{Bid}
-use Rattle.rambo_paxos.specs.declared.bid.Bid.TheVariants as bid
-use Rattle.rambo_paxos.specs.Attempts.{AttemptState, bid_of}
 use Rattle.rambo_calls.specs.declared.stage.Stage.{Stage}
 use Rattle.rambo_calls.specs.declared.stage.Stage.TheVariants.{Query, Propagation}
 use Rattle.rambo_calls.specs.Calls.{CallState, find_call}
-use Rattle.rambo_node.specs.Changes.{Made, set_mark, get_mark, told, stage_met, advanced, begun_again, collection_turned, collection_advanced, rebid_made, decided, bid_made, attempt_advanced}
+use Rattle.rambo_node.specs.Changes.{set_mark, get_mark, stage_met, advanced}
 use Rattle.rambo_node.specs.Nodes.{NodeState, open_call}
-use Rattle.rambo_node.specs.Reconfigurations.{attempt_ended, collection_move}
 use Rattle.rambo_sequence.specs.declared.mark.Mark.{Mark}
 use Rattle.rambo_run.specs.Worlds.{WorldState, node_at}
 use Rattle.rambo_run.specs.Steps.{with_mark}
@@ -56,40 +48,6 @@ stage_letter x id c (Propagation kept) = refl
 pub advanced_letter : {Q : Type 0} (x : NodeState Q) (id : CallId) (o : Option (CallState Q)) → (advanced x id o).letter ≡ None
 advanced_letter x id None = refl
 advanced_letter x id (Some c) = stage_letter x id c c.stage
-
--- nor does one that begins anew
-pub again_letter : {Q : Type 0} (x : NodeState Q) (o : Option (CallState Q)) → (begun_again x o).letter ≡ None
-again_letter x None = refl
-again_letter x (Some c) = refl
-
--- nor does a collection or an attempt that goes on, and neither calls nor answers
-pub record IsSilent {Q : Type 0} (m : Made Q) : Type 0 where
-  pub letter : m.letter ≡ None
-  pub event : m.deed.event ≡ None
-
-turned_silent : {Q : Type 0} (x : NodeState Q) (g : CollectionState) (move : GcMove) → IsSilent (collection_turned x g move)
-turned_silent x g Propagating = record { letter = refl; event = refl }
-turned_silent x g Done = record { letter = refl; event = refl }
-
-pub collection_silent : {Q : Type 0} (x : NodeState Q) (o : Option CollectionState) → IsSilent (collection_advanced x o)
-collection_silent x None = record { letter = refl; event = refl }
-collection_silent x (Some g) = turned_silent x g (collection_move x.map g)
-
-pub rebid_silent : {Q : Type 0} (x : NodeState Q) (o : Option (AttemptState Q)) → IsSilent (rebid_made x o)
-rebid_silent x None = record { letter = refl; event = refl }
-rebid_silent x (Some a) = record { letter = refl; event = refl }
-
-bid_silent : {Q : Type 0} (x : NodeState Q) (a : AttemptState Q) (b : Bid Q) → IsSilent (bid_made x a b)
-bid_silent x a bid.Propose = record { letter = refl; event = refl }
-bid_silent x a (bid.Chosen c) = record { letter = refl; event = refl }
-
-pub attempt_silent : {Q : Type 0} (x : NodeState Q) (o : Option (AttemptState Q)) → IsSilent (attempt_advanced x o)
-attempt_silent x None = record { letter = refl; event = refl }
-attempt_silent x (Some a) =
-    elim (pick (nat_lt a.place (end_of x.map)) (record { node = attempt_ended x; deed = told (decided x a (active_at x.map a.place)); letter = None }) (bid_made x a (bid_of a))) [
-      | inl p ↦ subst IsSilent (sym p.1) (record { letter = refl; event = refl })
-      | inr p ↦ subst IsSilent (sym p.1) (bid_silent x a (bid_of a))
-    ]
 
 set_self : {A : Type 0} (xs : List A) (i : ℕ) (a : A) → slice_get xs i ≡ Some a → slice_set xs i a ≡ xs
 set_self [] i a e = absurd (none-some a e)

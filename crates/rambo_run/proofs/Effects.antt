@@ -14,24 +14,24 @@ use Rattle.rambo_gossip.specs.declared.letter.Letter.{Letter}
 use Rattle.rambo_gossip.specs.declared.letter.Gossip.{Gossip}
 use Rattle.rambo_gossip.specs.declared.letter.Kind.{Kind}
 use Rattle.rambo_gossip.specs.declared.letter.Kind.TheVariants as kind
-use Rattle.rambo_node.specs.declared.change.Change.{Change}
-use Rattle.rambo_node.specs.declared.change.Change.TheVariants as change
+use Rattle.rambo_node.specs.Acts.{Act}
 use Rattle.rambo_node.specs.declared.effect.Effect.TheVariants as effect
 use Rattle.rambo_calls.specs.declared.stage.Stage.{Stage}
 use Rattle.rambo_calls.specs.declared.stage.Stage.TheVariants.{Query, Propagation}
 use Rattle.rambo_calls.specs.Calls.{CallState}
-use Rattle.rambo_node.specs.Changes.{Made, told, stage_met, advanced, begun_again, collection_turned, collection_advanced, rebid_made, decided, bid_made, attempt_advanced, made_by}
+use Rattle.rambo_node.specs.Changes.{Made, Quieted, stage_met, advanced, begun_again, collection_turned, collection_advanced, rebid_made, decided, bid_made, attempt_advanced, made_by}
 use Rattle.rambo_node.specs.Hearing.{heard_kind, heard_join, heard_gossip}
 use Rattle.rambo_node.specs.Nodes.{NodeState, open_call, first_node}
 use Rattle.rambo_node.specs.Operations.{called, query_answered, call_closed, called_again, joined_by, stopped}
 use Rattle.rambo_node.specs.Reconfigurations.{attempt_opened, attempt_rebid, attempt_moved, config_learnt, attempt_ended, collection_opened, collection_move, collection_moved, collection_ended}
+use Rattle.rambo_node.specs.Acts as act
+use Rattle.rambo_node.specs.declared.prepared.Quiet.TheVariants as quiet
 use Rattle.rambo_joiner.specs.Statuses.{is_active}
 use Rattle.rambo_run.specs.declared.step.Step.{Step}
 use Rattle.rambo_run.specs.declared.step.Step.TheVariants as step
 use Rattle.rambo_run.specs.Worlds.{WorldState, node_at, letter_at}
-use Rattle.rambo_run.specs.Steps.{delivery, effect_in, turn_by, turn_at, turn_of, turn}
+use Rattle.rambo_run.specs.Steps.{delivery, turn_by, turn_at, turn_of, turn}
 use Rattle.rambo_run.specs.Configurations.{RemovedPlacesAreTold}
-use Rattle.rambo_run.proofs.Deeds.{collection_silent}
 use Rattle.rambo_run.proofs.Moments.{moment, worlds}
 use Rattle.rambo_run.proofs.Lists.{pick}
 use Rattle.rambo_run.proofs.Held.{up}
@@ -54,33 +54,37 @@ advance_floor : {Q : Type 0} (x : NodeState Q) (id : CallId) (o : Option (CallSt
 advance_floor x id None = refl
 advance_floor x id (Some c) = stage_floor x id c c.stage
 
-again_floor : {Q : Type 0} (x : NodeState Q) (o : Option (CallState Q)) → StaysAbove x (begun_again x o)
+-- it stays after a quiet act
+abbrev StaysQuietly : {Q : Type 0} → NodeState Q → Quieted Q → Type 0
+StaysQuietly x m = m.node.map.floor ≡ x.map.floor
+
+again_floor : {Q : Type 0} (x : NodeState Q) (o : Option (CallState Q)) → StaysQuietly x (begun_again x o)
 unfolding called_again
 again_floor x None = refl
 again_floor x (Some c) = refl
 
-rebid_floor : {Q : Type 0} (x : NodeState Q) (o : Option (AttemptState Q)) → StaysAbove x (rebid_made x o)
+rebid_floor : {Q : Type 0} (x : NodeState Q) (o : Option (AttemptState Q)) → StaysQuietly x (rebid_made x o)
 unfolding attempt_rebid
 rebid_floor x None = refl
 rebid_floor x (Some a) = refl
 
-bid_floor : {Q : Type 0} (x : NodeState Q) (a : AttemptState Q) (b : Bid Q) → StaysAbove x (bid_made x a b)
+bid_floor : {Q : Type 0} (x : NodeState Q) (a : AttemptState Q) (b : Bid Q) → StaysQuietly x (bid_made x a b)
 unfolding attempt_moved config_learnt
 bid_floor x a bid.Propose = refl
 bid_floor x a (bid.Chosen c) = refl
 
-attempt_floor : {Q : Type 0} (x : NodeState Q) (o : Option (AttemptState Q)) → StaysAbove x (attempt_advanced x o)
+attempt_floor : {Q : Type 0} (x : NodeState Q) (o : Option (AttemptState Q)) → StaysQuietly x (attempt_advanced x o)
 unfolding attempt_ended
 attempt_floor x None = refl
 attempt_floor x (Some a) =
-    elim (pick (nat_lt a.place (end_of x.map)) (record { node = attempt_ended x; deed = told (decided x a (active_at x.map a.place)); letter = None }) (bid_made x a (bid_of a))) [
+    elim (pick (nat_lt a.place (end_of x.map)) (record { node = attempt_ended x; effect = decided x a (active_at x.map a.place) }) (bid_made x a (bid_of a))) [
       | inl p ↦ ap (λ m. m.node.map.floor) p.1
       | inr p ↦ ap (λ m. m.node.map.floor) p.1 ∙ bid_floor x a (bid_of a)
     ]
 
 -- the floor stays, or rises by one after a collection that is told
-abbrev MayCollect : {Q : Type 0} → NodeState Q → Made Q → Type 0
-MayCollect x m = StaysAbove x m ⊎ ((g : CollectionState) × (x.collection ≡ Some g) × (x.map.floor ≤ g.place) × (m.node.map.floor ≡ x.map.floor + 1) × (m.deed.effect ≡ effect.Collected x.name g.place))
+abbrev MayCollect : {Q : Type 0} → NodeState Q → Quieted Q → Type 0
+MayCollect x m = StaysQuietly x m ⊎ ((g : CollectionState) × (x.collection ≡ Some g) × (x.map.floor ≤ g.place) × (m.node.map.floor ≡ x.map.floor + 1) × (m.effect ≡ effect.Collected x.name g.place))
 
 turned_floor : {Q : Type 0} (x : NodeState Q) (g : CollectionState) (move : GcMove) → x.collection ≡ Some g → MayCollect x (collection_turned x g move)
 unfolding collection_moved collection_ended
@@ -115,7 +119,7 @@ module _ {Q : Type 0} (s : QuorumSystem Q) (founders : Q) (world : ℕ → World
   RemovedIn w n = p < (seen_at s founders w n).map.floor
 
   -- a change of node k, whose floor is what it is for a cause
-  changed : (m n k : ℕ) (x : NodeState Q) (c : Change Q) → node_at (world m) k ≡ Some x → (p < (made_by x c).node.map.floor → Cause m) → RemovedIn (turn_by (world m) k (made_by x c)).world n → Cause m
+  changed : (m n k : ℕ) (x : NodeState Q) (c : Act Q) → node_at (world m) k ≡ Some x → (p < (made_by x c).node.map.floor → Cause m) → RemovedIn (turn_by (world m) k (made_by x c)).world n → Cause m
   changed m n k x c e f h =
       let put = seen_put s founders (world m) (turn_by (world m) k (made_by x c)).world k x (made_by x c).node e refl n in
       elim (pick (nat_eq n k) (made_by x c).node (seen_at s founders (world m) n)) [
@@ -123,7 +127,7 @@ module _ {Q : Type 0} (s : QuorumSystem Q) (founders : Q) (world : ℕ → World
         | inr q ↦ inl (m, n, omega arith, subst (λ y. p < y.map.floor) (put ∙ q.1) h)
       ]
 
-  quiet_at : (m n k : ℕ) (c : Change Q) → ((x : NodeState Q) → StaysAbove x (made_by x c)) → (o : Option (NodeState Q)) → node_at (world m) k ≡ o → RemovedIn (turn_at (world m) k o c).world n → Cause m
+  quiet_at : (m n k : ℕ) (c : Act Q) → ((x : NodeState Q) → StaysAbove x (made_by x c)) → (o : Option (NodeState Q)) → node_at (world m) k ≡ o → RemovedIn (turn_at (world m) k o c).world n → Cause m
   quiet_at m n k c f None e h = inl (m, n, omega arith, h)
   quiet_at m n k c f (Some x) e h =
       changed m n k x c e (λ l. inl (m, k, omega arith, subst (λ x. p < x.map.floor) (is_at s founders world all m k x e) (subst (λ q. p < q) (f x) l))) h
@@ -145,23 +149,23 @@ module _ {Q : Type 0} (s : QuorumSystem Q) (founders : Q) (world : ℕ → World
       inl (f.moment, f.sender, omega (arith, f.before), subst (λ g. p < g.map.floor) q.1 h)
 
   delivered_at : (m n i : ℕ) (l : Letter Q) → letter_at (world m).letters i ≡ Some l → (o : Option (NodeState Q)) → node_at (world m) l.addressee ≡ o
-      → RemovedIn (turn_at (world m) l.addressee o (change.Deliver l)).world n → Cause m
+      → RemovedIn (turn_at (world m) l.addressee o (act.Hear l)).world n → Cause m
   unfolding made_by
   delivered_at m n i l e None a h = inl (m, n, omega arith, h)
   delivered_at m n i l e (Some x) a h =
-      changed m n l.addressee x (change.Deliver l) a (heard_at m n l.addressee l.sender l.kind (letter_cause m i l e) x (is_at s founders world all m l.addressee x a)) h
+      changed m n l.addressee x (act.Hear l) a (heard_at m n l.addressee l.sender l.kind (letter_cause m i l e) x (is_at s founders world all m l.addressee x a)) h
 
   delivered : (m n i : ℕ) (o : Option (Letter Q)) → letter_at (world m).letters i ≡ o → RemovedIn (turn_of (world m) (delivery o)).world n → Cause m
   delivered m n i None e h = inl (m, n, omega arith, h)
   delivered m n i (Some l) e h = delivered_at m n i l e (node_at (world m) l.addressee) refl h
 
   -- the collection that ends is told, and is the one of the floor
-  collected_at : (m n k : ℕ) → Happens s founders world all m (step.AdvanceCollect k) → (x : NodeState Q) → node_at (world m) k ≡ Some x → RemovedIn (turn_by (world m) k (made_by x change.AdvanceCollect)).world n → Cause m
+  collected_at : (m n k : ℕ) → Happens s founders world all m (step.AdvanceCollect k) → (x : NodeState Q) → node_at (world m) k ≡ Some x → RemovedIn (turn_by (world m) k (made_by x (act.Quietly quiet.AdvanceCollect))).world n → Cause m
   unfolding turn made_by
   collected_at m n k d x e h =
       let is = is_at s founders world all m k x e in
       let here : p < x.map.floor → Cause m = λ l. inl (m, k, omega arith, subst (λ x. p < x.map.floor) is l) in
-      changed m n k x change.AdvanceCollect e (λ l. elim (collection_floor x x.collection refl) [
+      changed m n k x (act.Quietly quiet.AdvanceCollect) e (λ l. elim (collection_floor x x.collection refl) [
         | inl q ↦ here (subst (λ f. p < f) q l)
         | inr q ↦ elim (cases_lt p x.map.floor) [
           | inl low ↦ here low
@@ -175,24 +179,24 @@ module _ {Q : Type 0} (s : QuorumSystem Q) (founders : Q) (world : ℕ → World
                 before = omega arith;
                 node = k;
                 happens = d;
-                effect = ap (λ o. (turn_at (world m) k o change.AdvanceCollect).effect) e
-                    ∙ (λ i. effect_in (world m).letters (q.4 i) ((collection_silent x x.collection).letter i)) ∙ (λ i. effect.Collected (name i) (place i));
+                effect = ap (λ o. (turn_at (world m) k o (act.Quietly quiet.AdvanceCollect)).effect) e
+                    ∙ q.4 ∙ (λ i. effect.Collected (name i) (place i));
               }))
         ]
       ]) h
 
-  collect_at : (m n k : ℕ) → Happens s founders world all m (step.AdvanceCollect k) → (o : Option (NodeState Q)) → node_at (world m) k ≡ o → RemovedIn (turn_at (world m) k o change.AdvanceCollect).world n → Cause m
+  collect_at : (m n k : ℕ) → Happens s founders world all m (step.AdvanceCollect k) → (o : Option (NodeState Q)) → node_at (world m) k ≡ o → RemovedIn (turn_at (world m) k o (act.Quietly quiet.AdvanceCollect)).world n → Cause m
   collect_at m n k d None e h = inl (m, n, omega arith, h)
   collect_at m n k d (Some x) e h = collected_at m n k d x e h
 
   step_cause : (m n : ℕ) (st : Step Q) → Happens s founders world all m st → RemovedIn (turn (world m) st).world n → Cause m
   unfolding turn made_by joined_by called collection_opened attempt_opened stopped
   step_cause m n (step.Deliver i) d h = delivered m n i (letter_at (world m).letters i) refl h
-  step_cause m n (step.Advance id) d h = quiet_at m n id.name (change.Advance id) (λ x. advance_floor x id (open_call x id)) (node_at (world m) id.name) refl h
-  step_cause m n (step.Again id) d h = quiet_at m n id.name (change.Again id) (λ x. again_floor x (open_call x id)) (node_at (world m) id.name) refl h
+  step_cause m n (step.Advance id) d h = quiet_at m n id.name (act.Advance id) (λ x. advance_floor x id (open_call x id)) (node_at (world m) id.name) refl h
+  step_cause m n (step.Again id) d h = quiet_at m n id.name (act.Quietly (quiet.Again id)) (λ x. again_floor x (open_call x id)) (node_at (world m) id.name) refl h
   step_cause m n (step.AdvanceCollect k) d h = collect_at m n k d (node_at (world m) k) refl h
-  step_cause m n (step.Rebid k) d h = quiet_at m n k change.Rebid (λ x. rebid_floor x x.attempt) (node_at (world m) k) refl h
-  step_cause m n (step.AdvanceRecon k) d h = quiet_at m n k change.AdvanceRecon (λ x. attempt_floor x x.attempt) (node_at (world m) k) refl h
+  step_cause m n (step.Rebid k) d h = quiet_at m n k (act.Quietly quiet.Rebid) (λ x. rebid_floor x x.attempt) (node_at (world m) k) refl h
+  step_cause m n (step.AdvanceRecon k) d h = quiet_at m n k (act.Quietly quiet.AdvanceRecon) (λ x. attempt_floor x x.attempt) (node_at (world m) k) refl h
   step_cause m n _ d h = quiet_at m n _ _ (λ x. refl) (node_at (world m) _) refl h
 
   none_removed : (n : ℕ) → Removed 0 n → ⊥

@@ -7,10 +7,11 @@ use Rattle.rambo_config_map.specs.Maps.{MapState, without_lowest}
 use Rattle.rambo_gc.specs.declared.gc_move.GcMove.TheVariants.{Done}
 use Rattle.rambo_gc.specs.declared.stage.Stage.TheVariants.{Second}
 use Rattle.rambo_gc.specs.Collections.{CollectionState, next_move}
-use Rattle.rambo_node.specs.declared.change.Change.TheVariants as change
-use Rattle.rambo_node.specs.Changes.{collection_turned, collection_advanced, made_by}
+use Rattle.rambo_node.specs.Changes.{alone, quieted, collection_turned, collection_advanced, made_by}
 use Rattle.rambo_node.specs.Nodes.{NodeState}
 use Rattle.rambo_node.specs.Reconfigurations.{collection_move, collection_ended}
+use Rattle.rambo_node.specs.Acts as act
+use Rattle.rambo_node.specs.declared.prepared.Quiet.TheVariants as quiet
 use Rattle.rambo_run.specs.declared.step.Step.{Step}
 use Rattle.rambo_run.specs.declared.step.Step.TheVariants as step
 use Rattle.rambo_run.specs.Worlds.{WorldState, node_at}
@@ -99,10 +100,10 @@ module _ {Q : Type 0} (s : QuorumSystem Q) (founders : Q) (ss : List (Step Q)) w
       let w = world g.ended in
       let x = g.ender in
       let last = g.second in
-      let made : made_by x change.AdvanceCollect ≡ collection_turned x last Done = ap (collection_advanced x) g.second_open ∙ ap (collection_turned x last) (second_done x.map last g.second_quorum.stage) in (
+      let made : quieted x quiet.AdvanceCollect ≡ collection_turned x last Done = ap (collection_advanced x) g.second_open ∙ ap (collection_turned x last) (second_done x.map last g.second_quorum.stage) in (
         collection_ended x last,
-        ap (λ w. node_at w g.node) (next_world s founders ss g.ended (step.AdvanceCollect g.node) g.ends.0 g.ends.1 ∙ ap (λ o. (turn_at w g.node o change.AdvanceCollect).world) g.ender_is ∙ ap (λ made. (turn_by w g.node made).world) made)
-            ∙ own_put w (turn_by w g.node (collection_turned x last Done)).world g.node x (collection_ended x last) g.ender_is refl,
+        ap (λ w. node_at w g.node) (next_world s founders ss g.ended (step.AdvanceCollect g.node) g.ends.0 g.ends.1 ∙ ap (λ o. (turn_at w g.node o (act.Quietly quiet.AdvanceCollect)).world) g.ender_is ∙ ap (λ made. (turn_by w g.node (alone made.node)).world) made)
+            ∙ own_put w (turn_by w g.node (alone (collection_turned x last Done).node)).world g.node x (collection_ended x last) g.ender_is refl,
         (let floor = ended_floor x last g.second_quorum.kept in omega (arith, floor, g.still_lowest)),
       )
 

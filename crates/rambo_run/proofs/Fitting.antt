@@ -14,21 +14,21 @@ use Rattle.rambo_history.specs.declared.fault.HistoryFault.TheVariants.{CalledTw
 use Rattle.rambo_history.specs.Calls.{fits, answer_for}
 use Rattle.rambo_history.specs.Histories.{call_in}
 use Rattle.rambo_history.specs.Faults.{answer_fault, fault_of}
-use Rattle.rambo_node.specs.declared.change.Change.{Change}
-use Rattle.rambo_node.specs.declared.change.Change.TheVariants as change
+use Rattle.rambo_node.specs.Acts.{Act}
 use Rattle.rambo_calls.specs.declared.stage.Stage.{Stage}
 use Rattle.rambo_calls.specs.declared.stage.Stage.TheVariants.{Query, Propagation}
 use Rattle.rambo_calls.specs.Calls.{CallState}
-use Rattle.rambo_node.specs.Changes.{stage_met, advanced, begun_again, made_by}
+use Rattle.rambo_node.specs.Changes.{stage_met, advanced, made_by}
 use Rattle.rambo_node.specs.Nodes.{NodeState, open_call}
 use Rattle.rambo_node.specs.Operations.{answer_of}
+use Rattle.rambo_node.specs.Acts as act
 use Rattle.rambo_sequence.specs.declared.mark.Mark.{Mark}
 use Rattle.rambo_run.specs.declared.step.Step.{Step}
 use Rattle.rambo_run.specs.Worlds.{WorldState, node_at}
-use Rattle.rambo_run.specs.Steps.{Meant, meant, with_event, Turn, turn_by, turn_at, turn_of, turn}
+use Rattle.rambo_run.specs.Steps.{Meant, meant, Turn, turn_by, turn_at, turn_of, turn}
 use Rattle.rambo_run.specs.Runs.{run}
 use Rattle.rambo_run.proofs.Lists.{Member}
-use Rattle.rambo_run.proofs.Deeds.{id_of, open_member, collection_silent, rebid_silent, attempt_silent}
+use Rattle.rambo_run.proofs.Deeds.{id_of, open_member}
 use Rattle.rambo_run.proofs.Seen.{Seen, seen}
 use Rattle.rambo_run.proofs.Books.{Book, Apart, next_new, open_call as not_answered}
 use Rattle.rambo_run.proofs.Booked.{book}
@@ -102,28 +102,20 @@ module _ {Q : Type 0} (s : QuorumSystem Q) (founders : Q) (ss : List (Step Q)) w
   advance_fits n x id None e f = inl refl
   advance_fits n x id (Some c) e f = stage_fits n x id c c.stage e f
 
-  again_fits : (n : ℕ) (x : NodeState Q) (o : Option (CallState Q)) → Grows (turn_by w n (begun_again x o))
-  again_fits n x None = inl refl
-  again_fits n x (Some c) = inl refl
-
-  -- a change of a node adds no event, or one that fits
-  change_fits : (n : ℕ) (x : NodeState Q) (c : Change Q) → node_at w n ≡ Some x → Grows (turn_by w n (made_by x c))
+  -- an act of a node adds no event, or one that fits
+  act_fits : (n : ℕ) (x : NodeState Q) (c : Act Q) → node_at w n ≡ Some x → Grows (turn_by w n (made_by x c))
   unfolding made_by
-  change_fits n x (change.Call o) e = inr (record { event = event.Call (id_of x.name (x.made + 1)) o; history = refl; fault = own_call_fits n x o e })
-  change_fits n x (change.Advance id) e = advance_fits n x id (open_call x id) e refl
-  change_fits n x (change.Again id) e = again_fits n x (open_call x id)
-  change_fits n x change.AdvanceCollect e = inl (ap (with_event w.history) (collection_silent x x.collection).event)
-  change_fits n x change.Rebid e = inl (ap (with_event w.history) (rebid_silent x x.attempt).event)
-  change_fits n x change.AdvanceRecon e = inl (ap (with_event w.history) (attempt_silent x x.attempt).event)
-  change_fits n x _ e = inl refl
+  act_fits n x (act.Call o) e = inr (record { event = event.Call (id_of x.name (x.made + 1)) o; history = refl; fault = own_call_fits n x o e })
+  act_fits n x (act.Advance id) e = advance_fits n x id (open_call x id) e refl
+  act_fits n x _ e = inl refl
 
-  at_fits : (n : ℕ) (c : Change Q) (o : Option (NodeState Q)) → node_at w n ≡ o → Grows (turn_at w n o c)
+  at_fits : (n : ℕ) (c : Act Q) (o : Option (NodeState Q)) → node_at w n ≡ o → Grows (turn_at w n o c)
   at_fits n c None e = inl refl
-  at_fits n c (Some x) e = change_fits n x c e
+  at_fits n c (Some x) e = act_fits n x c e
 
   of_fits : (o : Option (Meant Q)) → Grows (turn_of w o)
   of_fits None = inl refl
-  of_fits (Some m) = at_fits m.name m.change (node_at w m.name) refl
+  of_fits (Some m) = at_fits m.name m.act (node_at w m.name) refl
 
   -- a step adds no event, or one that fits
   pub events_fit : (st : Step Q) → Grows (turn w st)

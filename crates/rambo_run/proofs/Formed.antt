@@ -19,7 +19,7 @@ use Rattle.rambo_bids.specs.Hearing.{is_level, heard_for}
 use Rattle.rambo_node.specs.Operations.{called, query_answered, call_closed, called_again}
 use Rattle.rambo_node.specs.Reconfigurations.{attempt_opened, attempt_rebid, attempt_moved, config_learnt, attempt_ended, collection_opened, collection_moved, collection_ended}
 use Rattle.rambo_run.proofs.Lists.{pick, some_inj, none-some}
-use Rattle.rambo_run.proofs.Turn.{Moments, Telling, IsBacked, Alters, collects, seconds, finishes, opens, rebids, proposes, chooses, gives_up, Turn, stays, quiet, calls, hears, queried, answers, agains, alters, Run}
+use Rattle.rambo_run.proofs.Turn.{Moments, Telling, IsBacked, Alters, collects, seconds, finishes, opens, rebids, proposes, chooses, gives_up, Turn, stays, knows, calls, hears, queried, answers, agains, alters, Run}
 use Rattle.rambo_run.proofs.Altering.{MapMove, map_stays, map_loses, map_gains, map_move}
 
 pub record IsFormed {Q : Type 0} (x : NodeState Q) : Type 0 where
@@ -165,7 +165,7 @@ module _ {Q : Type 0} {T : Telling} (s : QuorumSystem Q) (founders : Q) (at : Mo
   formed_turn : (m n : ℕ) → ((u j : ℕ) → u ≤ m → IsFormed (at u j)) → (y : NodeState Q) → Turn s T at m n (at m n) y → IsFormed y
   unfolding called query_answered call_closed called_again
   formed_turn m n f y (stays e) = subst IsFormed (sym e) (f m n (omega arith))
-  formed_turn m n f y (quiet st known e) = formed_same (at m n) y (f m n (omega arith)) (ap (λ y. y.map) e) (ap (λ y. y.collection) e) (ap (λ y. y.attempt) e)
+  formed_turn m n f y (knows st known e) = formed_same (at m n) y (f m n (omega arith)) (ap (λ y. y.map) e) (ap (λ y. y.collection) e) (ap (λ y. y.attempt) e)
   formed_turn m n f y (calls o e) = formed_same (at m n) y (f m n (omega arith)) (ap (λ y. y.map) e) (ap (λ y. y.collection) e) (ap (λ y. y.attempt) e)
   formed_turn m n f y (hears u j h a b t e) = subst IsFormed (sym e) (formed_heard (at m n) j (gossip_for (at u j) n) (f m n (omega arith)) (f u j h).active)
   formed_turn m n f y (queried c i p h e) = formed_same (at m n) y (f m n (omega arith)) (ap (λ y. y.map) e) (ap (λ y. y.collection) e) (ap (λ y. y.attempt) e)

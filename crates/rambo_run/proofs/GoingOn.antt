@@ -6,7 +6,7 @@ use Rattle.rambo_names.specs.declared.refusal.Refusal.{Refusal}
 use Rattle.rambo_names.specs.Quorums.{QuorumSystem}
 use Rattle.rambo_history.specs.declared.event.Event.{Event}
 use Rattle.rambo_gossip.specs.declared.letter.Letter.{Letter}
-use Rattle.rambo_node.specs.declared.change.Change.{Change}
+use Rattle.rambo_node.specs.Acts.{Act}
 use Rattle.rambo_node.specs.Changes.{made_by}
 use Rattle.rambo_node.specs.Nodes.{NodeState}
 use Rattle.rambo_run.specs.declared.step.Step.{Step}
@@ -54,13 +54,13 @@ other_stays w z (suc k) (suc n) x y d h e =
     let i : suc k - 1 ≡ k = omega arith in
     ap (λ l. slice_get l n) (e ∙ ap (λ i. slice_set w.nodes i y) i) ∙ set_there w.nodes k n y (λ r. d (ap suc (sym r)))
 
-else_at : {Q : Type 0} (w : WorldState Q) (k n : ℕ) (c : Change Q) (o : Option (NodeState Q)) → (k ≡ n → ⊥) → node_at w k ≡ o → node_at (turn_at w k o c).world n ≡ node_at w n
+else_at : {Q : Type 0} (w : WorldState Q) (k n : ℕ) (c : Act Q) (o : Option (NodeState Q)) → (k ≡ n → ⊥) → node_at w k ≡ o → node_at (turn_at w k o c).world n ≡ node_at w n
 else_at w k n c None d h = refl
 else_at w k n c (Some x) d h = other_stays w (turn_at w k (Some x) c).world k n x (made_by x c).node d h refl
 
 else_of : {Q : Type 0} (w : WorldState Q) (n : ℕ) (o : Option (Meant Q)) → ((m : Meant Q) → o ≡ Some m → m.name ≡ n → ⊥) → node_at (turn_of w o).world n ≡ node_at w n
 else_of w n None d = refl
-else_of w n (Some m) d = else_at w m.name n m.change (node_at w m.name) (d m refl) refl
+else_of w n (Some m) d = else_at w m.name n m.act (node_at w m.name) (d m refl) refl
 
 -- a step leaves the nodes as they are that it doesn't mean
 pub else_stays : {Q : Type 0} (w : WorldState Q) (st : Step Q) (n : ℕ) → ((m : Meant Q) → meant w st ≡ Some m → m.name ≡ n → ⊥) → node_at (turn w st).world n ≡ node_at w n
@@ -89,13 +89,13 @@ event_grows : (es : List Event) (o : Option Event) → IsPrefix es (with_event e
 event_grows es None = prefix_self es
 event_grows es (Some e) = (e ∷ [], refl)
 
-at_grows : {Q : Type 0} (w : WorldState Q) (n : ℕ) (c : Change Q) (o : Option (NodeState Q)) → Grows w (turn_at w n o c).world
+at_grows : {Q : Type 0} (w : WorldState Q) (n : ℕ) (c : Act Q) (o : Option (NodeState Q)) → Grows w (turn_at w n o c).world
 at_grows w n c None = grows_self w
 at_grows w n c (Some x) = record { letters = letter_grows w.letters (made_by x c).letter; history = event_grows w.history (made_by x c).deed.event }
 
 of_grows : {Q : Type 0} (w : WorldState Q) (o : Option (Meant Q)) → Grows w (turn_of w o).world
 of_grows w None = grows_self w
-of_grows w (Some m) = at_grows w m.name m.change (node_at w m.name)
+of_grows w (Some m) = at_grows w m.name m.act (node_at w m.name)
 
 pub turn-grows : {Q : Type 0} (w : WorldState Q) (st : Step Q) → Grows w (turn w st).world
 unfolding turn

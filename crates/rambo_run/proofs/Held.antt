@@ -23,7 +23,7 @@ use Rattle.rambo_node.specs.Hearing.{heard_gossip, number_after}
 use Rattle.rambo_calls.specs.Hearing.{any_gap}
 use Rattle.rambo_node.specs.Operations.{called, taken, new_copy, with_copy, query_answered, call_closed, called_again}
 use Rattle.rambo_run.proofs.Lists.{pick}
-use Rattle.rambo_run.proofs.Turn.{Moments, Telling, Alters, Turn, stays, quiet, calls, hears, queried, answers, agains, alters, Run}
+use Rattle.rambo_run.proofs.Turn.{Moments, Telling, Alters, Turn, stays, knows, calls, hears, queried, answers, agains, alters, Run}
 use Rattle.rambo_run.proofs.Altering.{altered_rest, map_move}
 use Rattle.rambo_run.proofs.Formed.{IsFormed, map_grows, formed}
 
@@ -135,7 +135,7 @@ hear_right x j n y a b = record { copies = joined-again x.registers y.registers;
 pub name_turn : {Q : Type 0} {T : Telling} (s : QuorumSystem Q) (at : Moments Q) (m n : ℕ) (x y : NodeState Q) → Turn s T at m n x y → y.name ≡ x.name
 unfolding called query_answered call_closed called_again heard_gossip
 name_turn s at m n x y (stays e) = ap (λ y. y.name) e
-name_turn s at m n x y (quiet st known e) = ap (λ y. y.name) e
+name_turn s at m n x y (knows st known e) = ap (λ y. y.name) e
 name_turn s at m n x y (calls o e) = ap (λ y. y.name) e
 name_turn s at m n x y (hears u j h b k t e) = ap (λ y. y.name) e
 name_turn s at m n x y (queried c i p h e) = ap (λ y. y.name) e
@@ -188,7 +188,7 @@ module _ {Q : Type 0} {T : Telling} (s : QuorumSystem Q) (founders : Q) (at : Mo
   growth : (m n : ℕ) → Turn s T at m n (at m n) (at (suc m) n) → Growth T at m n (at m n) (at (suc m) n)
   unfolding called query_answered call_closed called_again heard_gossip
   growth m n (stays e) = by_itself (holds_same _ _ (ap (λ y. y.registers) e) (ap (λ y. y.map) e)) (omega (arith, ap (λ y. y.number) e)) (ap (λ y. y.heard) e) (omega (arith, ap (λ y. y.made) e))
-  growth m n (quiet st known e) = by_itself (holds_same _ _ (ap (λ y. y.registers) e) (ap (λ y. y.map) e)) (omega (arith, ap (λ y. y.number) e)) (ap (λ y. y.heard) e) (omega (arith, ap (λ y. y.made) e))
+  growth m n (knows st known e) = by_itself (holds_same _ _ (ap (λ y. y.registers) e) (ap (λ y. y.map) e)) (omega (arith, ap (λ y. y.number) e)) (ap (λ y. y.heard) e) (omega (arith, ap (λ y. y.made) e))
   growth m n (calls o e) = by_itself (holds_same _ _ (ap (λ y. y.registers) e) (ap (λ y. y.map) e)) (omega (arith, ap (λ y. y.number) e)) (ap (λ y. y.heard) e) (omega (arith, ap (λ y. y.made) e))
   growth m n (hears u j h b k t e) =
       let x = at m n in

@@ -9,10 +9,10 @@ use Rattle.rambo_history.specs.declared.event.CallId.{CallId}
 use Rattle.rambo_history.specs.Calls.{key_of, is_get}
 use Rattle.rambo_calls.specs.declared.stage.Stage.TheVariants.{Query}
 use Rattle.rambo_calls.specs.Calls.{CallState, kept_in, find_call}
-use Rattle.rambo_node.specs.declared.change.Change.TheVariants as change
 use Rattle.rambo_node.specs.Changes.{stage_met, advanced, made_by}
 use Rattle.rambo_node.specs.Nodes.{open_call}
 use Rattle.rambo_node.specs.Operations.{taken, query_answered}
+use Rattle.rambo_node.specs.Acts as act
 use Rattle.rambo_run.specs.declared.step.Step.{Step}
 use Rattle.rambo_run.specs.declared.step.Step.TheVariants as step
 use Rattle.rambo_run.specs.Worlds.{WorldState, node_at}
@@ -69,14 +69,14 @@ module _ {Q : Type 0} (s : QuorumSystem Q) (law : IsSound s) (founders : Q) (ss 
       cond-true (nat_eq k l.reader.name) (find_call d.number l.reader.calls) None (eq-eqb k l.reader.name (sym named))
       ∙ find_member l.reader.calls d numbered.single (member_stands d l.reader.calls l.asks)
 
-  advances : d.stage ≡ Query → made_by l.reader (change.Advance id) ≡ stage_met l.reader id d Query
+  advances : d.stage ≡ Query → made_by l.reader (act.Advance id) ≡ stage_met l.reader id d Query
   unfolding made_by
   advances q = ap (advanced l.reader id) found ∙ ap (stage_met l.reader id d) q
 
   next : d.stage ≡ Query → IsDone s founders ss u (step.Advance id) → node_at (run s founders (take (u + 1) ss)) k ≡ Some (query_answered l.reader d)
   unfolding turn
   next q h =
-      ap (λ w. node_at w k) (next_world s founders ss u (step.Advance id) h.0 h.1 ∙ ap (λ o. (turn_at world k o (change.Advance id)).world) l.reader_is ∙ ap (λ made. (turn_by world k made).world) (advances q))
+      ap (λ w. node_at w k) (next_world s founders ss u (step.Advance id) h.0 h.1 ∙ ap (λ o. (turn_at world k o (act.Advance id)).world) l.reader_is ∙ ap (λ made. (turn_by world k made).world) (advances q))
       ∙ own_put world (turn_by world k (stage_met l.reader id d Query)).world k l.reader (query_answered l.reader d) l.reader_is refl
 
   raised : key_of d.op ≡ key_of c.op → is_get d.op ≡ false → d.stage ≡ Query → IsDone s founders ss u (step.Advance id) → Raises s founders ss (u + 1) k (tag_of (kept_in c.stage)) d

@@ -46,8 +46,9 @@ pub mod GoingOn
 pub mod Legal
 pub mod Actors
 pub mod Growing
-pub mod Quiet
-pub mod QuickSteps
+pub mod Unsent
+pub mod QuietSteps
+pub mod QuietKeeps
 pub mod Causes
 mod Rows
 mod ChangeRows

@@ -1,7 +1,7 @@
 -- The nodes of a run: there are 64, and each name has its node
 use Rattle.std.proofs.Common.{◌≡◌, ℕ, zero, suc, ◌-◌, ◌≤◌, List, length, Option, Some, None, refl, sym, ap, ◌∙◌, inl, inr, arith, length-set}
 use Rattle.rambo_names.specs.Quorums.{QuorumSystem}
-use Rattle.rambo_node.specs.declared.change.Change.{Change}
+use Rattle.rambo_node.specs.Acts.{Act}
 use Rattle.rambo_node.specs.Nodes.{NodeState, first_node}
 use Rattle.rambo_run.specs.declared.step.Step.{Step}
 use Rattle.rambo_run.specs.Worlds.{WorldState, node_at, first_world}
@@ -27,13 +27,13 @@ at_named w (suc n) x l e = (omega arith, omega (arith, l, there_below w.nodes n 
 abbrev SameCount : {Q : Type 0} → WorldState Q → Turn Q → Type 0
 SameCount w t = length t.world.nodes ≡ length w.nodes
 
-at_count : {Q : Type 0} (w : WorldState Q) (n : ℕ) (c : Change Q) (o : Option (NodeState Q)) → SameCount w (turn_at w n o c)
+at_count : {Q : Type 0} (w : WorldState Q) (n : ℕ) (c : Act Q) (o : Option (NodeState Q)) → SameCount w (turn_at w n o c)
 at_count w n c None = refl
 at_count w n c (Some x) = length-set w.nodes (n - 1) _
 
 of_count : {Q : Type 0} (w : WorldState Q) (o : Option (Meant Q)) → SameCount w (turn_of w o)
 of_count w None = refl
-of_count w (Some m) = at_count w m.name m.change (node_at w m.name)
+of_count w (Some m) = at_count w m.name m.act (node_at w m.name)
 
 turn_count : {Q : Type 0} (w : WorldState Q) (st : Step Q) → SameCount w (turn w st)
 unfolding turn

@@ -8,7 +8,7 @@ use Rattle.rambo_calls.specs.Hearing.{heard_call}
 use Rattle.rambo_node.specs.Hearing.{number_after, heard_gossip}
 use Rattle.rambo_node.specs.Operations.{called, query_answered, call_closed, called_again}
 use Rattle.rambo_run.proofs.Lists.{Member, Single, member_more, member_map, member_put, member_out, single_put, single_out, single_map, single_more}
-use Rattle.rambo_run.proofs.Turn.{Moments, Telling, Turn, stays, quiet, calls, hears, queried, answers, agains, alters, Run}
+use Rattle.rambo_run.proofs.Turn.{Moments, Telling, Turn, stays, knows, calls, hears, queried, answers, agains, alters, Run}
 use Rattle.rambo_run.proofs.Altering.{altered_rest}
 
 -- no two open calls of a node have one number, nor one that is still to come
@@ -19,7 +19,7 @@ pub record Numbered {Q : Type 0} (x : NodeState Q) : Type 0 where
 pub numbered_turn : {Q : Type 0} {T : Telling} (s : QuorumSystem Q) (at : Moments Q) (m n : ℕ) (x y : NodeState Q) → Numbered x → Turn s T at m n x y → Numbered y
 unfolding called query_answered call_closed called_again heard_gossip
 numbered_turn s at m n x y o (stays e) = subst Numbered (sym e) o
-numbered_turn s at m n x y o (quiet st known e) = subst Numbered (sym e) (record { single = o.single; low = o.low })
+numbered_turn s at m n x y o (knows st known e) = subst Numbered (sym e) (record { single = o.single; low = o.low })
 numbered_turn s at m n x y o (calls op e) = subst Numbered (sym e) (record {
   single = single_more _ x.calls o.single (λ d i q. omega (arith, o.low d i, q));
   low = λ c i. ⊎_elim (λ k. omega (arith, o.low c k)) (λ k. omega (arith, ap (λ c. c.number) k)) (member_more c _ x.calls i);

@@ -25,7 +25,7 @@ use Rattle.rambo_calls.specs.Hearing.{has_gap, any_gap, restarted, heard_call}
 use Rattle.rambo_node.specs.Hearing.{heard_gossip}
 use Rattle.rambo_node.specs.Operations.{called, taken, with_copy, query_answered, call_closed, called_again}
 use Rattle.rambo_run.proofs.Lists.{pick, Member, member_more, member_map, member_put, member_out}
-use Rattle.rambo_run.proofs.Turn.{Moments, Telling, Turn, stays, quiet, calls, hears, queried, answers, agains, alters, Run}
+use Rattle.rambo_run.proofs.Turn.{Moments, Telling, Turn, stays, knows, calls, hears, queried, answers, agains, alters, Run}
 use Rattle.rambo_run.proofs.Altering.{altered_rest}
 use Rattle.rambo_run.proofs.Places.{HeldConfig, held_in}
 use Rattle.rambo_run.proofs.Numbers.{Numbered, numbered_at}
@@ -247,7 +247,7 @@ module _ {Q : Type 0} {T : Telling} (s : QuorumSystem Q) (founders : Q) (at : Mo
   calls_on : (m n : ℕ) → AllAt m n → Turn s T at m n (at m n) (at (suc m) n) → AllAt (suc m) n
   unfolding called query_answered call_closed called_again
   calls_on m n all (stays e) c i = call_lasts m n c (all c (subst (λ z. Member c z.calls) e i))
-  calls_on m n all (quiet st known e) c i = call_lasts m n c (all c (subst (λ z. Member c z.calls) e i))
+  calls_on m n all (knows st known e) c i = call_lasts m n c (all c (subst (λ z. Member c z.calls) e i))
   calls_on m n all (calls o e) c i =
       elim (member_more c _ (at m n).calls (subst (λ z. Member c z.calls) e i)) [
         | inl k ↦ call_lasts m n c (all c k)

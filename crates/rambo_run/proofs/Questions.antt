@@ -13,16 +13,17 @@ use Rattle.rambo_paxos.specs.Attempts.{AttemptState, bid_of}
 use Rattle.rambo_gossip.specs.declared.letter.Letter.{Letter}
 use Rattle.rambo_gossip.specs.declared.letter.Kind.{Kind}
 use Rattle.rambo_gossip.specs.declared.letter.Kind.TheVariants as kind
-use Rattle.rambo_node.specs.declared.change.Change.{Change}
-use Rattle.rambo_node.specs.declared.change.Change.TheVariants as change
+use Rattle.rambo_node.specs.Acts.{Act}
 use Rattle.rambo_calls.specs.declared.stage.Stage.{Stage}
 use Rattle.rambo_calls.specs.declared.stage.Stage.TheVariants.{Query, Propagation}
 use Rattle.rambo_calls.specs.Calls.{CallState}
-use Rattle.rambo_node.specs.Changes.{Made, told, stage_met, advanced, begun_again, collection_turned, collection_advanced, rebid_made, decided, bid_made, attempt_advanced, made_by}
+use Rattle.rambo_node.specs.Changes.{Made, Quieted, stage_met, advanced, begun_again, collection_turned, collection_advanced, rebid_made, decided, bid_made, attempt_advanced, made_by}
 use Rattle.rambo_node.specs.Hearing.{collection_after, heard_kind, heard_join, heard_gossip}
 use Rattle.rambo_node.specs.Nodes.{NodeState, open_call}
 use Rattle.rambo_node.specs.Operations.{called, query_answered, call_closed, called_again, joined_by, stopped}
 use Rattle.rambo_node.specs.Reconfigurations.{attempt_opened, attempt_rebid, attempt_moved, config_learnt, attempt_ended, collection_opened, collection_move, collection_moved, collection_ended}
+use Rattle.rambo_node.specs.Acts as act
+use Rattle.rambo_node.specs.declared.prepared.Quiet.TheVariants as quiet
 use Rattle.rambo_run.specs.declared.step.Step.{Step}
 use Rattle.rambo_run.specs.declared.step.Step.TheVariants as step
 use Rattle.rambo_run.specs.Worlds.{WorldState, node_at, letter_at}
@@ -47,7 +48,7 @@ after_none (Some d) j heard e = absurd (none-some _ (sym e))
 after_question : (o : Option CollectionState) (j heard : ℕ) → SameQuestion o (collection_after o j heard)
 after_question o j heard = record { asks = λ g e. let r = collection_heard o j heard g e in (r.0, r.1, r.2.stage, r.2.number); none = after_none o j heard }
 
--- a change leaves the collection
+-- an act leaves the collection
 abbrev Leaves : {Q : Type 0} → NodeState Q → Made Q → Type 0
 Leaves x m = m.node.collection ≡ x.collection
 
@@ -60,26 +61,30 @@ advance_leaves : {Q : Type 0} (x : NodeState Q) (id : CallId) (o : Option (CallS
 advance_leaves x id None = refl
 advance_leaves x id (Some c) = stage_leaves x id c c.stage
 
-again_leaves : {Q : Type 0} (x : NodeState Q) (o : Option (CallState Q)) → Leaves x (begun_again x o)
+-- and so does a quiet act
+abbrev LeavesQuietly : {Q : Type 0} → NodeState Q → Quieted Q → Type 0
+LeavesQuietly x m = m.node.collection ≡ x.collection
+
+again_leaves : {Q : Type 0} (x : NodeState Q) (o : Option (CallState Q)) → LeavesQuietly x (begun_again x o)
 unfolding called_again
 again_leaves x None = refl
 again_leaves x (Some c) = refl
 
-rebid_leaves : {Q : Type 0} (x : NodeState Q) (o : Option (AttemptState Q)) → Leaves x (rebid_made x o)
+rebid_leaves : {Q : Type 0} (x : NodeState Q) (o : Option (AttemptState Q)) → LeavesQuietly x (rebid_made x o)
 unfolding attempt_rebid
 rebid_leaves x None = refl
 rebid_leaves x (Some a) = refl
 
-bid_leaves : {Q : Type 0} (x : NodeState Q) (a : AttemptState Q) (b : Bid Q) → Leaves x (bid_made x a b)
+bid_leaves : {Q : Type 0} (x : NodeState Q) (a : AttemptState Q) (b : Bid Q) → LeavesQuietly x (bid_made x a b)
 unfolding attempt_moved config_learnt
 bid_leaves x a bid.Propose = refl
 bid_leaves x a (bid.Chosen c) = refl
 
-attempt_leaves : {Q : Type 0} (x : NodeState Q) (o : Option (AttemptState Q)) → Leaves x (attempt_advanced x o)
+attempt_leaves : {Q : Type 0} (x : NodeState Q) (o : Option (AttemptState Q)) → LeavesQuietly x (attempt_advanced x o)
 unfolding attempt_ended
 attempt_leaves x None = refl
 attempt_leaves x (Some a) =
-    elim (pick (nat_lt a.place (end_of x.map)) (record { node = attempt_ended x; deed = told (decided x a (active_at x.map a.place)); letter = None }) (bid_made x a (bid_of a))) [
+    elim (pick (nat_lt a.place (end_of x.map)) (record { node = attempt_ended x; effect = decided x a (active_at x.map a.place) }) (bid_made x a (bid_of a))) [
       | inl p ↦ ap (λ m. m.node.collection) p.1
       | inr p ↦ ap (λ m. m.node.collection) p.1 ∙ bid_leaves x a (bid_of a)
     ]
@@ -109,7 +114,7 @@ module _ {Q : Type 0} (s : QuorumSystem Q) (founders : Q) (world : ℕ → World
   idle m n = asks_still (same_question (seen_at s founders (world m) n).collection (seen_at s founders (world m) n).collection refl)
 
   -- a change of node k
-  changed : (m n k : ℕ) (x : NodeState Q) (c : Change Q) → node_at (world m) k ≡ Some x → (n ≡ k → Asks m n (made_by x c).node.collection) → AsksIn m n (turn_by (world m) k (made_by x c)).world
+  changed : (m n k : ℕ) (x : NodeState Q) (c : Act Q) → node_at (world m) k ≡ Some x → (n ≡ k → Asks m n (made_by x c).node.collection) → AsksIn m n (turn_by (world m) k (made_by x c)).world
   changed m n k x c e f =
       let put = seen_put s founders (world m) (turn_by (world m) k (made_by x c)).world k x (made_by x c).node e refl n in
       elim (pick (nat_eq n k) (made_by x c).node (seen_at s founders (world m) n)) [
@@ -120,22 +125,22 @@ module _ {Q : Type 0} (s : QuorumSystem Q) (founders : Q) (world : ℕ → World
   same_at : (m n k : ℕ) (x : NodeState Q) (p : Option CollectionState) → node_at (world m) k ≡ Some x → n ≡ k → SameQuestion x.collection p → Asks m n p
   same_at m n k x p e q h = asks_still (subst (λ x. SameQuestion x.collection p) (is_at s founders world all m k x e ∙ ap (at s founders world all m) (sym q)) h)
 
-  quiet_at : (m n k : ℕ) (c : Change Q) → ((x : NodeState Q) → SameQuestion x.collection (made_by x c).node.collection) → (o : Option (NodeState Q)) → node_at (world m) k ≡ o → AsksIn m n (turn_at (world m) k o c).world
+  quiet_at : (m n k : ℕ) (c : Act Q) → ((x : NodeState Q) → SameQuestion x.collection (made_by x c).node.collection) → (o : Option (NodeState Q)) → node_at (world m) k ≡ o → AsksIn m n (turn_at (world m) k o c).world
   quiet_at m n k c f None e = idle m n
   quiet_at m n k c f (Some x) e = changed m n k x c e (λ q. same_at m n k x _ e q (f x))
 
-  leaves_at : (m n k : ℕ) (c : Change Q) → ((x : NodeState Q) → Leaves x (made_by x c)) → AsksIn m n (turn_at (world m) k (node_at (world m) k) c).world
+  leaves_at : (m n k : ℕ) (c : Act Q) → ((x : NodeState Q) → Leaves x (made_by x c)) → AsksIn m n (turn_at (world m) k (node_at (world m) k) c).world
   leaves_at m n k c f = quiet_at m n k c (λ x. same_question x.collection (made_by x c).node.collection (f x)) (node_at (world m) k) refl
 
   delivered : (m n : ℕ) (o : Option (Letter Q)) → AsksIn m n (turn_of (world m) (delivery o)).world
   unfolding made_by
   delivered m n None = idle m n
-  delivered m n (Some l) = quiet_at m n l.addressee (change.Deliver l) (λ x. hear_question x l.sender l.kind) (node_at (world m) l.addressee) refl
+  delivered m n (Some l) = quiet_at m n l.addressee (act.Hear l) (λ x. hear_question x l.sender l.kind) (node_at (world m) l.addressee) refl
 
-  collect_at : (m n k : ℕ) → Happens s founders world all m (step.Collect k) → (o : Option (NodeState Q)) → node_at (world m) k ≡ o → AsksIn m n (turn_at (world m) k o change.Collect).world
+  collect_at : (m n k : ℕ) → Happens s founders world all m (step.Collect k) → (o : Option (NodeState Q)) → node_at (world m) k ≡ o → AsksIn m n (turn_at (world m) k o (act.Quietly quiet.Collect)).world
   unfolding made_by collection_opened
   collect_at m n k d None e = idle m n
-  collect_at m n k d (Some x) e = changed m n k x change.Collect e (λ q. asks_first (subst (λ k. Happens s founders world all m (step.Collect k)) (sym q) d) (opened x.map (x.number + 1) x.name) refl refl)
+  collect_at m n k d (Some x) e = changed m n k x (act.Quietly quiet.Collect) e (λ q. asks_first (subst (λ k. Happens s founders world all m (step.Collect k)) (sym q) d) (opened x.map (x.number + 1) x.name) refl refl)
 
   turned_at : (m n k : ℕ) → Happens s founders world all m (step.AdvanceCollect k) → n ≡ k → (x : NodeState Q) → node_at (world m) k ≡ Some x → (o : Option CollectionState) → x.collection ≡ o
       → Asks m n (collection_advanced x o).node.collection
@@ -143,20 +148,20 @@ module _ {Q : Type 0} (s : QuorumSystem Q) (founders : Q) (world : ℕ → World
   turned_at m n k d q x e (Some g) i =
       asks_next (subst (λ k. Happens s founders world all m (step.AdvanceCollect k)) (sym q) d) (λ h j. moved_stage x g (collection_move x.map g) h j)
 
-  advance_at : (m n k : ℕ) → Happens s founders world all m (step.AdvanceCollect k) → (o : Option (NodeState Q)) → node_at (world m) k ≡ o → AsksIn m n (turn_at (world m) k o change.AdvanceCollect).world
+  advance_at : (m n k : ℕ) → Happens s founders world all m (step.AdvanceCollect k) → (o : Option (NodeState Q)) → node_at (world m) k ≡ o → AsksIn m n (turn_at (world m) k o (act.Quietly quiet.AdvanceCollect)).world
   unfolding made_by
   advance_at m n k d None e = idle m n
-  advance_at m n k d (Some x) e = changed m n k x change.AdvanceCollect e (λ q. turned_at m n k d q x e x.collection refl)
+  advance_at m n k d (Some x) e = changed m n k x (act.Quietly quiet.AdvanceCollect) e (λ q. turned_at m n k d q x e x.collection refl)
 
   step_asks : (m n : ℕ) (st : Step Q) → Happens s founders world all m st → AsksIn m n (turn (world m) st).world
   unfolding turn made_by joined_by called attempt_opened stopped
   step_asks m n (step.Deliver i) d = delivered m n (letter_at (world m).letters i)
-  step_asks m n (step.Advance id) d = leaves_at m n id.name (change.Advance id) (λ x. advance_leaves x id (open_call x id))
-  step_asks m n (step.Again id) d = leaves_at m n id.name (change.Again id) (λ x. again_leaves x (open_call x id))
+  step_asks m n (step.Advance id) d = leaves_at m n id.name (act.Advance id) (λ x. advance_leaves x id (open_call x id))
+  step_asks m n (step.Again id) d = leaves_at m n id.name (act.Quietly (quiet.Again id)) (λ x. again_leaves x (open_call x id))
   step_asks m n (step.Collect k) d = collect_at m n k d (node_at (world m) k) refl
   step_asks m n (step.AdvanceCollect k) d = advance_at m n k d (node_at (world m) k) refl
-  step_asks m n (step.Rebid k) d = leaves_at m n k change.Rebid (λ x. rebid_leaves x x.attempt)
-  step_asks m n (step.AdvanceRecon k) d = leaves_at m n k change.AdvanceRecon (λ x. attempt_leaves x x.attempt)
+  step_asks m n (step.Rebid k) d = leaves_at m n k (act.Quietly quiet.Rebid) (λ x. rebid_leaves x x.attempt)
+  step_asks m n (step.AdvanceRecon k) d = leaves_at m n k (act.Quietly quiet.AdvanceRecon) (λ x. attempt_leaves x x.attempt)
   step_asks m n _ d = leaves_at m n _ _ (λ x. refl)
 
   asks : (m n : ℕ) → AsksIn m n (world (suc m))

@@ -3,7 +3,7 @@ use Rattle.std.proofs.Common.{◌≡◌, ℕ, zero, suc, ◌-◌, nat_eq, List, 
 use Rattle.std.proofs.lemmas.Bool.{eqb-false}
 use Rattle.rambo_names.specs.declared.refusal.Refusal.{Refusal}
 use Rattle.rambo_names.specs.Quorums.{QuorumSystem}
-use Rattle.rambo_node.specs.declared.change.Change.{Change}
+use Rattle.rambo_node.specs.Acts.{Act}
 use Rattle.rambo_node.specs.Changes.{made_by, replayed}
 use Rattle.rambo_node.specs.Nodes.{NodeState, first_node}
 use Rattle.rambo_run.specs.declared.step.Step.{Step}
@@ -15,7 +15,7 @@ use Rattle.rambo_run.proofs.Lists.{pick, some_inj, none-some, set_here, set_ther
 use Rattle.rambo_run.proofs.FirstWorlds.{first_named}
 
 -- node n is x, and after some of the changes y, from which the rest is replayed
-abbrev Replayed : {Q : Type 0} → WorldState Q → ℕ → NodeState Q → List (Change Q) → List (Change Q) → Type 0
+abbrev Replayed : {Q : Type 0} → WorldState Q → ℕ → NodeState Q → List (Act Q) → List (Act Q) → Type 0
 Replayed {Q} z n x all rest = (y : NodeState Q) × (node_at z n ≡ Some y) × (replayed y rest ≡ replayed x all)
 
 -- another node's place is another
@@ -33,8 +33,8 @@ own_put w z (suc n) x y h e =
     ap (λ l. slice_get l n) (e ∙ ap (λ i. slice_set w.nodes i y) i) ∙ set_here w.nodes n x y h
 
 -- a change of node k
-changed_at : {Q : Type 0} (w : WorldState Q) (k n : ℕ) (x : NodeState Q) (c : Change Q) (rest : List (Change Q)) → node_at w n ≡ Some x → (o : Option (NodeState Q)) → node_at w k ≡ o
-    → Replayed (turn_at w k o c).world n x (entered n (Some (record { name = k; change = c })) rest) rest
+changed_at : {Q : Type 0} (w : WorldState Q) (k n : ℕ) (x : NodeState Q) (c : Act Q) (rest : List (Act Q)) → node_at w n ≡ Some x → (o : Option (NodeState Q)) → node_at w k ≡ o
+    → Replayed (turn_at w k o c).world n x (entered n (Some (record { name = k; act = c })) rest) rest
 changed_at w k n x c rest h None e = elim (pick (nat_eq k n) (c ∷ rest) rest) [
   | inl p ↦ absurd (none-some x (sym e ∙ ap (node_at w) (eqb-true k n p.0) ∙ h))
   | inr p ↦ (x, h, sym (ap (replayed x) p.1))
@@ -50,10 +50,10 @@ changed_at w k n x c rest h (Some a) e = elim (pick (nat_eq k n) (c ∷ rest) re
 ]
 
 -- a step
-step_replayed : {Q : Type 0} (w : WorldState Q) (n : ℕ) (x : NodeState Q) (r : Option Refusal) (m : Option (Meant Q)) (rest : List (Change Q)) → node_at w n ≡ Some x
+step_replayed : {Q : Type 0} (w : WorldState Q) (n : ℕ) (x : NodeState Q) (r : Option Refusal) (m : Option (Meant Q)) (rest : List (Act Q)) → node_at w n ≡ Some x
     → Replayed (unless_refused r w (turn_of w m).world) n x (entered_unless r n m rest) rest
 step_replayed w n x None None rest h = (x, h, refl)
-step_replayed w n x None (Some m) rest h = changed_at w m.name n x m.change rest h (node_at w m.name) refl
+step_replayed w n x None (Some m) rest h = changed_at w m.name n x m.act rest h (node_at w m.name) refl
 step_replayed w n x (Some r) m rest h = (x, h, refl)
 
 replays_from : {Q : Type 0} (s : QuorumSystem Q) (n : ℕ) (sts : List (Step Q)) (w : WorldState Q) (x : NodeState Q) → node_at w n ≡ Some x → node_at (run_from s w sts) n ≡ Some (replayed x (journal_from s w n sts))

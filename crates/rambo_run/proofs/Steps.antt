@@ -10,18 +10,18 @@ use Rattle.rambo_gossip.specs.declared.letter.Letter.{Letter}
 use Rattle.rambo_gossip.specs.declared.letter.Gossip.{Gossip}
 use Rattle.rambo_gossip.specs.declared.letter.Kind.{Kind}
 use Rattle.rambo_gossip.specs.declared.letter.Kind.TheVariants as kind
-use Rattle.rambo_node.specs.declared.change.Change.{Change}
-use Rattle.rambo_node.specs.declared.change.Change.TheVariants as change
+use Rattle.rambo_node.specs.Acts.{Act}
 use Rattle.rambo_node.specs.Changes.{made_by}
 use Rattle.rambo_node.specs.Nodes.{NodeState}
 use Rattle.rambo_node.specs.Letters.{letter_for}
 use Rattle.rambo_node.specs.Reconfigurations.{collection_move}
+use Rattle.rambo_node.specs.Acts as act
 use Rattle.rambo_run.specs.declared.step.Step.{Step}
 use Rattle.rambo_run.specs.declared.step.Step.TheVariants as step
 use Rattle.rambo_run.specs.Worlds.{WorldState, node_at, letter_at}
 use Rattle.rambo_run.specs.Steps.{delivery, sends, with_letter, turn_by, turn_at, turn_of, turn}
 use Rattle.rambo_run.proofs.Lists.{pick, some_inj, none-some, get_more}
-use Rattle.rambo_run.proofs.Quiet.{quiet_made}
+use Rattle.rambo_run.proofs.Unsent.{unsent}
 
 -- no cause holds
 abbrev pub AllClear : List Cause → Type 0
@@ -49,18 +49,18 @@ is_gossip (kind.Gossip g) = true
 abbrev pub OneMore : {Q : Type 0} → WorldState Q → Step Q → WorldState Q → Type 0
 OneMore {Q} w st z = (z.letters ≡ w.letters) ⊎ ((n : ℕ) × (to : ℕ) × (x : NodeState Q) × (node_at w n ≡ Some x) × (st ≡ step.Send n to) × (z.letters ≡ w.letters ++ letter_for x to ∷ []))
 
-pub letters_by : {Q : Type 0} (w : WorldState Q) (n : ℕ) (x : NodeState Q) (c : Change Q) → sends c ≡ false → (turn_by w n (made_by x c)).world.letters ≡ w.letters
-letters_by w n x c h = ap (with_letter w.letters) (quiet_made x c h)
+pub letters_by : {Q : Type 0} (w : WorldState Q) (n : ℕ) (x : NodeState Q) (c : Act Q) → sends c ≡ false → (turn_by w n (made_by x c)).world.letters ≡ w.letters
+letters_by w n x c h = ap (with_letter w.letters) (unsent x c h)
 
-pub letters_at : {Q : Type 0} (w : WorldState Q) (n : ℕ) (c : Change Q) → sends c ≡ false → (o : Option (NodeState Q)) → (turn_at w n o c).world.letters ≡ w.letters
+pub letters_at : {Q : Type 0} (w : WorldState Q) (n : ℕ) (c : Act Q) → sends c ≡ false → (o : Option (NodeState Q)) → (turn_at w n o c).world.letters ≡ w.letters
 letters_at w n c h None = refl
 letters_at w n c h (Some x) = letters_by w n x c h
 
 pub letters_delivered : {Q : Type 0} (w : WorldState Q) (o : Option (Letter Q)) → (turn_of w (delivery o)).world.letters ≡ w.letters
 letters_delivered w None = refl
-letters_delivered w (Some l) = letters_at w l.addressee (change.Deliver l) refl (node_at w l.addressee)
+letters_delivered w (Some l) = letters_at w l.addressee (act.Hear l) refl (node_at w l.addressee)
 
-pub letters_sent : {Q : Type 0} (w : WorldState Q) (n to : ℕ) (o : Option (NodeState Q)) → node_at w n ≡ o → OneMore w (step.Send n to) (turn_at w n o (change.Send to)).world
+pub letters_sent : {Q : Type 0} (w : WorldState Q) (n to : ℕ) (o : Option (NodeState Q)) → node_at w n ≡ o → OneMore w (step.Send n to) (turn_at w n o (act.Send to)).world
 unfolding made_by
 letters_sent w n to None h = inl refl
 letters_sent w n to (Some x) h = inr (n, to, x, h, refl, refl)

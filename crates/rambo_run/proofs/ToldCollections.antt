@@ -6,20 +6,20 @@ use Rattle.rambo_gc.specs.declared.gc_move.GcMove.TheVariants.{Propagating, Done
 use Rattle.rambo_gc.specs.Collections.{CollectionState, move_of}
 use Rattle.rambo_gc.specs.Turns.{HasSecondQuorum}
 use Rattle.rambo_gc.specs.CollectionLaws.{collection_over}
-use Rattle.rambo_node.specs.declared.change.Change.TheVariants as change
 use Rattle.rambo_node.specs.declared.effect.Effect.{Effect}
 use Rattle.rambo_node.specs.declared.effect.Effect.TheVariants as effect
 use Rattle.rambo_node.specs.Changes.{collection_turned, collection_advanced, made_by}
 use Rattle.rambo_node.specs.Nodes.{NodeState}
 use Rattle.rambo_node.specs.Refusals.{collection_turn}
+use Rattle.rambo_node.specs.Acts as act
+use Rattle.rambo_node.specs.declared.prepared.Quiet.TheVariants as quiet
 use Rattle.rambo_run.specs.declared.step.Step.{Step}
 use Rattle.rambo_run.specs.declared.step.Step.TheVariants as step
 use Rattle.rambo_run.specs.Worlds.{WorldState, node_at}
-use Rattle.rambo_run.specs.Steps.{causes_at, causes, refusal, effect_in, turn_at, turn}
+use Rattle.rambo_run.specs.Steps.{causes_at, causes, refusal, turn_at, turn}
 use Rattle.rambo_run.specs.Claims.{IsDone}
 use Rattle.rambo_run.specs.Configurations.{IsCollected, ToldCollectionsAreWhole}
 use Rattle.rambo_run.proofs.Lists.{some_inj, none-some}
-use Rattle.rambo_run.proofs.Deeds.{collection_silent}
 use Rattle.rambo_run.proofs.Steps.{AllClear, clear, some_there, same_move}
 use Rattle.rambo_run.proofs.Collections.{collection_at, ends}
 use Rattle.rambo_run.proofs.Sights.{at}
@@ -43,15 +43,15 @@ abbrev Ends : {Q : Type 0} → QuorumSystem Q → NodeState Q → ℕ → Type 0
 Ends s x p = (g : CollectionState) × (x.collection ≡ Some g) × (g.place ≡ p) × (move_of s x.map g ≡ Some Done)
 
 module _ {Q : Type 0} (s : QuorumSystem Q) (x : NodeState Q) (p : ℕ) where
-  turned_ends : (g : CollectionState) → x.collection ≡ Some g → (move : GcMove) → move_of s x.map g ≡ Some move → place_in (collection_turned x g move).deed.effect ≡ Some p → Ends s x p
+  turned_ends : (g : CollectionState) → x.collection ≡ Some g → (move : GcMove) → move_of s x.map g ≡ Some move → place_in (collection_turned x g move).effect ≡ Some p → Ends s x p
   turned_ends g i Propagating d e = absurd (none-some p e)
   turned_ends g i Done d e = (g, i, some_inj g.place p e, d)
 
-  advance_ends : (o : Option CollectionState) → x.collection ≡ o → (not (is_none o) && is_none (collection_turn s x o)) ≡ false → place_in (collection_advanced x o).deed.effect ≡ Some p → Ends s x p
+  advance_ends : (o : Option CollectionState) → x.collection ≡ o → (not (is_none o) && is_none (collection_turn s x o)) ≡ false → place_in (collection_advanced x o).effect ≡ Some p → Ends s x p
   advance_ends None i d e = absurd (none-some p e)
   advance_ends (Some g) i d e =
       let r = some_there (move_of s x.map g) d in
-      turned_ends g i r.0 r.1 (subst (λ move. place_in (collection_turned x g move).deed.effect ≡ Some p) (same_move s x.map g r.0 r.1) e)
+      turned_ends g i r.0 r.1 (subst (λ move. place_in (collection_turned x g move).effect ≡ Some p) (same_move s x.map g r.0 r.1) e)
 
 module _ {Q : Type 0} (s : QuorumSystem Q) (founders : Q) (ss : List (Step Q)) (m k n p : ℕ) where
   abbrev world : WorldState Q
@@ -72,17 +72,14 @@ module _ {Q : Type 0} (s : QuorumSystem Q) (founders : Q) (ss : List (Step Q)) (
       ]
 
   abbrev Tells : Option (NodeState Q) → Type 0
-  Tells o = (turn_at world k o change.AdvanceCollect).effect ≡ effect.Collected n p
+  Tells o = (turn_at world k o (act.Quietly quiet.AdvanceCollect)).effect ≡ effect.Collected n p
 
-  told_at : IsDone s founders ss m (step.AdvanceCollect k) → (o : Option (NodeState Q)) → node_at world k ≡ o → AllClear (causes_at s o change.AdvanceCollect) → Tells o → IsCollected s founders ss m p
+  told_at : IsDone s founders ss m (step.AdvanceCollect k) → (o : Option (NodeState Q)) → node_at world k ≡ o → AllClear (causes_at s o (act.Quietly quiet.AdvanceCollect)) → Tells o → IsCollected s founders ss m p
   unfolding made_by
   told_at does None i d e = absurd (none-some p (ap place_in e))
-  told_at does (Some x) i d e =
-      let made = collection_advanced x x.collection in
-      let silent : effect_in world.letters made.deed.effect made.letter ≡ made.deed.effect = ap (effect_in world.letters made.deed.effect) (collection_silent x x.collection).letter in
-      ended does x i (advance_ends s x p x.collection refl d.1.1.0 (ap place_in (sym silent ∙ e)))
+  told_at does (Some x) i d e = ended does x i (advance_ends s x p x.collection refl d.1.1.0 (ap place_in e))
 
-  refused_not : refusal s world (step.AdvanceCollect k) ≡ None → AllClear (causes_at s (node_at world k) change.AdvanceCollect)
+  refused_not : refusal s world (step.AdvanceCollect k) ≡ None → AllClear (causes_at s (node_at world k) (act.Quietly quiet.AdvanceCollect))
   unfolding refusal causes
   refused_not e = clear (causes s world (step.AdvanceCollect k)) e
 

@@ -46,7 +46,7 @@ pub data Alters {Q : Type 0} (s : QuorumSystem Q) (x y : NodeState Q) : Type 0 w
 -- the node before is x, and after is y
 pub data Turn {Q : Type 0} (s : QuorumSystem Q) (T : Telling) (at : Moments Q) (m n : ℕ) (x y : NodeState Q) : Type 0 where
   stays : y ≡ x → Turn s T at m n x y
-  quiet : (status : Status) (known : NameSet) → y ≡ record x { status = status; known = known } → Turn s T at m n x y
+  knows : (status : Status) (known : NameSet) → y ≡ record x { status = status; known = known } → Turn s T at m n x y
   calls : (o : Op) → y ≡ called x o → Turn s T at m n x y
   hears : (u j : ℕ) → u ≤ m → 1 ≤ j → 1 ≤ n → T m n u j → y ≡ heard_gossip x j (gossip_for (at u j) n) → Turn s T at m n x y
   queried : (c : CallState Q) → Member c x.calls → propagates c.stage ≡ false → is_met s c.phase ≡ true → y ≡ query_answered x c → Turn s T at m n x y

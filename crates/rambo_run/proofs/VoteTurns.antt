@@ -15,7 +15,7 @@ use Rattle.rambo_node.specs.Letters.{gossip_for}
 use Rattle.rambo_node.specs.Hearing.{heard_gossip}
 use Rattle.rambo_node.specs.Operations.{called, query_answered, call_closed, called_again}
 use Rattle.rambo_node.specs.Reconfigurations.{attempt_opened, attempt_rebid, attempt_moved, config_learnt, attempt_ended, collection_opened, collection_moved, collection_ended}
-use Rattle.rambo_run.proofs.Turn.{Moments, Telling, IsBacked, Alters, collects, seconds, finishes, opens, rebids, proposes, chooses, gives_up, Turn, stays, quiet, calls, hears, queried, answers, agains, alters}
+use Rattle.rambo_run.proofs.Turn.{Moments, Telling, IsBacked, Alters, collects, seconds, finishes, opens, rebids, proposes, chooses, gives_up, Turn, stays, knows, calls, hears, queried, answers, agains, alters}
 use Rattle.rambo_run.proofs.Formed.{IsFormed, lost_end, gained_end, loses_room}
 
 pub data VoteTurn {Q : Type 0} (s : QuorumSystem Q) (at : Moments Q) (m n : ℕ) (x y : NodeState Q) : Type 0 where
@@ -53,7 +53,7 @@ module _ {Q : Type 0} (s : QuorumSystem Q) where
   pub vote_turn : {T : Telling} (at : Moments Q) (m n : ℕ) (x y : NodeState Q) → IsFormed x → Turn s T at m n x y → VoteTurn s at m n x y
   unfolding called query_answered call_closed called_again
   vote_turn at m n x y f (stays e) = v_stays (ap (λ y. end_of y.map) e) (ap (λ y. y.vote) e) (ap (λ y. y.attempt) e)
-  vote_turn at m n x y f (quiet st known e) = v_stays (ap (λ y. end_of y.map) e) (ap (λ y. y.vote) e) (ap (λ y. y.attempt) e)
+  vote_turn at m n x y f (knows st known e) = v_stays (ap (λ y. end_of y.map) e) (ap (λ y. y.vote) e) (ap (λ y. y.attempt) e)
   vote_turn at m n x y f (calls o e) = v_stays (ap (λ y. end_of y.map) e) (ap (λ y. y.vote) e) (ap (λ y. y.attempt) e)
   vote_turn at m n x y f (hears u j h a b t e) = v_hears u j h e
   vote_turn at m n x y f (queried c i p h e) = v_stays (ap (λ y. end_of y.map) e) (ap (λ y. y.vote) e) (ap (λ y. y.attempt) e)

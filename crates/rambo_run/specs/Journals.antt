@@ -3,7 +3,7 @@ use Rattle.std.specs.Prelude.{◌≡◌, ℕ, if◌then◌else◌, nat_eq, List,
 use Rattle.rambo_names.specs.declared.refusal.Refusal.{Refusal}
 use Rattle.rambo_names.specs.Names.{IsName}
 use Rattle.rambo_names.specs.Quorums.{QuorumSystem}
-use Rattle.rambo_node.specs.declared.change.Change.{Change}
+use Rattle.rambo_node.specs.Acts.{Act}
 use Rattle.rambo_node.specs.Changes.{replayed}
 use Rattle.rambo_node.specs.Nodes.{first_node}
 use Rattle.rambo_run.specs.declared.step.Step.{Step}
@@ -12,21 +12,21 @@ use Rattle.rambo_run.specs.Steps.{Meant, meant, refusal}
 use Rattle.rambo_run.specs.Runs.{after, run}
 
 -- the change goes into the journal of its own node
-abbrev pub entered : {Q : Type 0} → ℕ → Option (Meant Q) → List (Change Q) → List (Change Q)
+abbrev pub entered : {Q : Type 0} → ℕ → Option (Meant Q) → List (Act Q) → List (Act Q)
 entered n None cs = cs
-entered n (Some m) cs = if nat_eq m.name n then m.change ∷ cs else cs
+entered n (Some m) cs = if nat_eq m.name n then m.act ∷ cs else cs
 
 -- unless the step was refused
-abbrev pub entered_unless : {Q : Type 0} → Option Refusal → ℕ → Option (Meant Q) → List (Change Q) → List (Change Q)
+abbrev pub entered_unless : {Q : Type 0} → Option Refusal → ℕ → Option (Meant Q) → List (Act Q) → List (Act Q)
 entered_unless None n m cs = entered n m cs
 entered_unless (Some r) n m cs = cs
 
 -- the changes that node n made in these steps, the oldest first
-unfoldable pub journal_from : {Q : Type 0} → QuorumSystem Q → WorldState Q → ℕ → List (Step Q) → List (Change Q)
+unfoldable pub journal_from : {Q : Type 0} → QuorumSystem Q → WorldState Q → ℕ → List (Step Q) → List (Act Q)
 journal_from s w n [] = []
 journal_from s w n (st ∷ sts) = entered_unless (refusal s w st) n (meant w st) (journal_from s (after s w st) n sts)
 
-unfoldable pub journal : {Q : Type 0} → QuorumSystem Q → Q → ℕ → List (Step Q) → List (Change Q)
+unfoldable pub journal : {Q : Type 0} → QuorumSystem Q → Q → ℕ → List (Step Q) → List (Act Q)
 journal s founders n sts = journal_from s (first_world s founders) n sts
 
 -- each node of a run is the replay of its own changes

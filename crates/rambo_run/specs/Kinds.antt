@@ -1,22 +1,22 @@
 -- Steps of a kind, by what they say themselves
 use Rattle.std.specs.Prelude.{ℕ, Option, None, Some}
 use Rattle.std.specs.Option.{option_map}
-use Rattle.rambo_node.specs.declared.prepared.Quick.{Quick}
-use Rattle.rambo_node.specs.declared.prepared.Quick.TheVariants as quick
+use Rattle.rambo_node.specs.declared.prepared.Quiet.{Quiet}
+use Rattle.rambo_node.specs.declared.prepared.Quiet.TheVariants as quiet
 use Rattle.rambo_run.specs.declared.step.Step.{Step}
 use Rattle.rambo_run.specs.declared.step.Step.TheVariants as step
 
--- the change that a step means where that allocates nothing and sends no letter, and the name of its node
-abbrev pub quick_of : {Q : Type 0} → Step Q → Option (ℕ × Quick Q)
-quick_of (step.Join n contacts) = Some (n, quick.Join contacts)
-quick_of (step.Again id) = Some (id.name, quick.Again id)
-quick_of (step.Collect n) = Some (n, quick.Collect)
-quick_of (step.AdvanceCollect n) = Some (n, quick.AdvanceCollect)
-quick_of (step.Recon n wish) = Some (n, quick.Recon wish)
-quick_of (step.Rebid n) = Some (n, quick.Rebid)
-quick_of (step.AdvanceRecon n) = Some (n, quick.AdvanceRecon)
-quick_of (step.Stop n) = Some (n, quick.Stop)
-quick_of _ = None
+-- the quiet act that a step means, if it means one, and the name of its node
+abbrev pub quiet_of : {Q : Type 0} → Step Q → Option (ℕ × Quiet Q)
+quiet_of (step.Join n contacts) = Some (n, quiet.Join contacts)
+quiet_of (step.Again id) = Some (id.name, quiet.Again id)
+quiet_of (step.Collect n) = Some (n, quiet.Collect)
+quiet_of (step.AdvanceCollect n) = Some (n, quiet.AdvanceCollect)
+quiet_of (step.Recon n wish) = Some (n, quiet.Recon wish)
+quiet_of (step.Rebid n) = Some (n, quiet.Rebid)
+quiet_of (step.AdvanceRecon n) = Some (n, quiet.AdvanceRecon)
+quiet_of (step.Stop n) = Some (n, quiet.Stop)
+quiet_of _ = None
 
 -- the number of the letter that a step delivers, if it delivers one
 abbrev pub delivered_by : {Q : Type 0} → Step Q → Option ℕ
@@ -29,4 +29,4 @@ named_by (step.Call n o) = Some n
 named_by (step.Send n to) = Some n
 named_by (step.Deliver l) = None
 named_by (step.Advance id) = Some id.name
-named_by st = option_map (λ p. p.0) (quick_of st)
+named_by st = option_map (λ p. p.0) (quiet_of st)

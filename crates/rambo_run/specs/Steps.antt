@@ -1,60 +1,67 @@
--- What a step does, and why it is refused: it is a change of one node, from which letters, history and marks follow
+-- What a step does, and why it is refused: it is an act of one node, from which letters, history and marks follow
 use Rattle.std.specs.Prelude.{ℕ, ◌+◌, ◌-◌, Bool, true, false, List, [], ◌∷◌, ◌++◌, length, Option, None, Some, slice_set}
-use Rattle.std.specs.Option.{option_map}
+use Rattle.std.specs.Option.{option_and_then, option_map}
 use Rattle.rambo_names.specs.declared.refusal.Refusal.{Refusal}
 use Rattle.rambo_names.specs.declared.refusal.Refusal.TheVariants.{NotActive, NoSuchLetter}
 use Rattle.rambo_names.specs.Quorums.{QuorumSystem}
 use Rattle.rambo_names.specs.Refusals.{Cause, cause, least}
 use Rattle.rambo_history.specs.declared.event.Event.{Event}
 use Rattle.rambo_gossip.specs.declared.letter.Letter.{Letter}
-use Rattle.rambo_node.specs.declared.change.Change.{Change}
-use Rattle.rambo_node.specs.declared.change.Change.TheVariants as change
+use Rattle.rambo_node.specs.Acts.{Act}
+use Rattle.rambo_node.specs.Acts as act
 use Rattle.rambo_node.specs.declared.effect.Effect.{Effect}
 use Rattle.rambo_node.specs.declared.effect.Effect.TheVariants as effect
 use Rattle.rambo_node.specs.Changes as node
 use Rattle.rambo_node.specs.Changes.{Made, made_by}
 use Rattle.rambo_node.specs.Nodes.{NodeState}
-use Rattle.rambo_node.specs.Prepared.{quick_change}
 use Rattle.rambo_sequence.specs.declared.mark.Mark.{Mark}
 use Rattle.rambo_run.specs.declared.step.Step.{Step}
 use Rattle.rambo_run.specs.declared.step.Step.TheVariants as step
-use Rattle.rambo_run.specs.Kinds.{quick_of}
+use Rattle.rambo_run.specs.Kinds.{quiet_of, delivered_by}
 use Rattle.rambo_run.specs.Worlds.{WorldState, node_at, letter_at}
 
--- a node, by its name, and a change of it
+-- a node, by its name, and what it does
 pub record Meant (Q : Type 0) : Type 0 where
   pub name : ℕ
-  pub change : Change Q
+  pub act : Act Q
 
 abbrev pub delivery : {Q : Type 0} → Option (Letter Q) → Option (Meant Q)
 delivery None = None
-delivery (Some l) = Some (record { name = l.addressee; change = change.Deliver l })
+delivery (Some l) = Some (record { name = l.addressee; act = act.Hear l })
 
--- which node and change a step means, if the letter that it names was sent
-abbrev pub meant : {Q : Type 0} → WorldState Q → Step Q → Option (Meant Q)
-meant w (step.Call n o) = Some (record { name = n; change = change.Call o })
-meant w (step.Send n to) = Some (record { name = n; change = change.Send to })
-meant w (step.Deliver l) = delivery (letter_at w.letters l)
-meant w (step.Advance id) = Some (record { name = id.name; change = change.Advance id })
-meant w st = option_map (λ p. record { name = p.0; change = quick_change p.1 }) (quick_of st)
+-- what a step means where this is the letter that it lets come, if it was sent
+abbrev pub meant_by : {Q : Type 0} → Option (Letter Q) → Step Q → Option (Meant Q)
+meant_by o (step.Call n op) = Some (record { name = n; act = act.Call op })
+meant_by o (step.Send n to) = Some (record { name = n; act = act.Send to })
+meant_by o (step.Deliver l) = delivery o
+meant_by o (step.Advance id) = Some (record { name = id.name; act = act.Advance id })
+meant_by o st = option_map (λ p. record { name = p.0; act = act.Quietly p.1 }) (quiet_of st)
 
--- the same where these letters were sent: nothing else of a world decides what a step means
+-- the letter that a step lets come, if it was sent
+abbrev pub letter_in : {Q : Type 0} → List (Letter Q) → Step Q → Option (Letter Q)
+letter_in ls st = option_and_then (letter_at ls) (delivered_by st)
+
+-- what a step means where these letters were sent
 abbrev pub meant_in : {Q : Type 0} → List (Letter Q) → Step Q → Option (Meant Q)
-meant_in ls st = meant (record { nodes = []; letters = ls; history = []; marks = [] }) st
+meant_in ls st = meant_by (letter_in ls st) st
 
--- whether a change sends a letter
-abbrev pub sends : {Q : Type 0} → Change Q → Bool
-sends (change.Send to) = true
+-- and in a world, of which nothing else decides that
+abbrev pub meant : {Q : Type 0} → WorldState Q → Step Q → Option (Meant Q)
+meant w st = meant_in w.letters st
+
+-- whether an act sends a letter
+abbrev pub sends : {Q : Type 0} → Act Q → Bool
+sends (act.Send to) = true
 sends _ = false
 
 -- there are 64 nodes, so that each name has one
-abbrev pub causes_at : {Q : Type 0} → QuorumSystem Q → Option (NodeState Q) → Change Q → List Cause
-causes_at s None c = cause NotActive true ∷ []
-causes_at s (Some x) c = node.causes s x c
+abbrev pub causes_at : {Q : Type 0} → QuorumSystem Q → Option (NodeState Q) → Act Q → List Cause
+causes_at s None a = cause NotActive true ∷ []
+causes_at s (Some x) a = node.causes s x a
 
 abbrev pub causes_of : {Q : Type 0} → QuorumSystem Q → WorldState Q → Option (Meant Q) → List Cause
 causes_of s w None = cause NoSuchLetter true ∷ []
-causes_of s w (Some m) = causes_at s (node_at w m.name) m.change
+causes_of s w (Some m) = causes_at s (node_at w m.name) m.act
 
 -- the causes of refusal of a step, in ascending order of number
 unfoldable pub causes : {Q : Type 0} → QuorumSystem Q → WorldState Q → Step Q → List Cause
@@ -91,7 +98,7 @@ abbrev pub effect_in : {Q : Type 0} → List (Letter Q) → Effect Q → Option 
 effect_in ls e None = e
 effect_in ls e (Some l) = effect.Sent (length ls + 1)
 
--- the node is put in its place, and what the change did goes to the letters, the history and the marks
+-- the node is put in its place, and what the act did goes to the letters, the history and the marks
 abbrev pub turn_by : {Q : Type 0} → WorldState Q → ℕ → Made Q → Turn Q
 turn_by w n m = record {
   world = record {
@@ -103,13 +110,13 @@ turn_by w n m = record {
   effect = effect_in w.letters m.deed.effect m.letter;
 }
 
-abbrev pub turn_at : {Q : Type 0} → WorldState Q → ℕ → Option (NodeState Q) → Change Q → Turn Q
-turn_at w n None c = no_turn w
-turn_at w n (Some x) c = turn_by w n (made_by x c)
+abbrev pub turn_at : {Q : Type 0} → WorldState Q → ℕ → Option (NodeState Q) → Act Q → Turn Q
+turn_at w n None a = no_turn w
+turn_at w n (Some x) a = turn_by w n (made_by x a)
 
 abbrev pub turn_of : {Q : Type 0} → WorldState Q → Option (Meant Q) → Turn Q
 turn_of w None = no_turn w
-turn_of w (Some m) = turn_at w m.name (node_at w m.name) m.change
+turn_of w (Some m) = turn_at w m.name (node_at w m.name) m.act
 
 -- what a step does that isn't refused
 unfoldable pub turn : {Q : Type 0} → WorldState Q → Step Q → Turn Q

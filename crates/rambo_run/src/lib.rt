@@ -4,7 +4,7 @@
 mod founding;
 mod laws;
 mod outcome;
-mod quick;
+mod quiet;
 mod run;
 mod step;
 
@@ -17,6 +17,6 @@ pub use laws::{
     runs_go_on, tags_follow_answers, told_collections_are_whole,
 };
 pub use outcome::{NodeMap, Outcome};
-pub use quick::quick_of;
+pub use quiet::quiet_of;
 pub use run::Run;
 pub use step::Step;

@@ -3,9 +3,10 @@ use Rattle.std.proofs.Common.{◌≡◌, ℕ, suc, Bool, true, false, cond, List
 use Rattle.rambo_names.specs.Quorums.{QuorumSystem}
 use Rattle.rambo_names.specs.Refusals.{least}
 use Rattle.rambo_calls.specs.Calls.{CallState}
-use Rattle.rambo_node.specs.declared.change.Change.TheVariants as change
 use Rattle.rambo_node.specs.Changes.{refusal_of}
 use Rattle.rambo_node.specs.Nodes.{NodeState}
+use Rattle.rambo_node.specs.Acts as act
+use Rattle.rambo_node.specs.declared.prepared.Quiet.TheVariants as quiet
 use Rattle.rambo_run.specs.declared.step.Step.{Step}
 use Rattle.rambo_run.specs.declared.step.Step.TheVariants as step
 use Rattle.rambo_run.specs.Worlds.{WorldState, node_at}
@@ -38,7 +39,7 @@ each_advance P name (c ∷ cs) h = (h c, each_advance P name cs h)
 
 -- each of what a node may do by itself
 pub each_candidate : {Q : Type 0} (P : Candidate Q → Type 0) (M : Mail Q → Type 0) (x : NodeState Q) (tray : List (Mail Q)) → All M tray → ((m : Mail Q) → M m → P (pick.delivery m)) → ((c : CallState Q) → P (advance x.name c))
-    → P (record { step = step.AdvanceCollect x.name; change = change.AdvanceCollect }) → P (record { step = step.AdvanceRecon x.name; change = change.AdvanceRecon }) → Each P (candidates x tray)
+    → P (record { step = step.AdvanceCollect x.name; act = act.Quietly quiet.AdvanceCollect }) → P (record { step = step.AdvanceRecon x.name; act = act.Quietly quiet.AdvanceRecon }) → Each P (candidates x tray)
 each_candidate P M x tray all hears moves collects bids =
     each_append P (map pick.delivery tray) (map (advance x.name) x.calls ++ of_configurations x.name) (each_delivery P M tray all hears)
     (each_append P (map (advance x.name) x.calls) (of_configurations x.name) (each_advance P x.name x.calls moves) (collects, (bids, tt)))
@@ -48,7 +49,7 @@ mapped : {A B : Type 0} (test : Bool) (f : A → B) (a : A) (o : Option A) → c
 mapped true f a o = refl
 mapped false f a o = refl
 
-first_alike : {Q : Type 0} (s : QuorumSystem Q) (w : WorldState Q) (x : NodeState Q) (cs : List (Candidate Q)) → Each (λ (c : Candidate Q). refusal s w c.step ≡ refusal_of s x c.change) cs
+first_alike : {Q : Type 0} (s : QuorumSystem Q) (w : WorldState Q) (x : NodeState Q) (cs : List (Candidate Q)) → Each (λ (c : Candidate Q). refusal s w c.step ≡ refusal_of s x c.act) cs
     → first_of s w (map (λ (c : Candidate Q). c.step) cs) ≡ pick.first_of s x cs
 first_alike s w x [] alike = refl
 first_alike s w x (c ∷ cs) alike =
@@ -69,22 +70,22 @@ picked_each s x P (c ∷ cs) a =
 
 -- a world in which the node of its name is this one
 module _ {Q : Type 0} (s : QuorumSystem Q) (w : WorldState Q) (x : NodeState Q) (here : node_at w x.name ≡ Some x) where
-  hears : (m : Mail Q) → IsMailOf w x.name m → refusal s w (step.Deliver m.number) ≡ refusal_of s x (change.Deliver m.letter)
+  hears : (m : Mail Q) → IsMailOf w x.name m → refusal s w (step.Deliver m.number) ≡ refusal_of s x (act.Hear m.letter)
   hears m is =
       refusal_is s w (step.Deliver m.number)
       ∙ ap (λ o. least (causes_of s w (delivery o))) is.1
-      ∙ ap (λ n. least (causes_at s (node_at w n) (change.Deliver is.0))) is.3
-      ∙ ap (λ o. least (causes_at s o (change.Deliver is.0))) here
+      ∙ ap (λ n. least (causes_at s (node_at w n) (act.Hear is.0))) is.3
+      ∙ ap (λ o. least (causes_at s o (act.Hear is.0))) here
       ∙ sym (verdict_alike s x m.letter is.0 (short_here w x.name x here m.letter is.0 is.2 is.3))
 
-  moves : (c : CallState Q) → refusal s w (advance x.name c).step ≡ refusal_of s x (advance x.name c).change
-  moves c = refusal_is s w (advance x.name c).step ∙ ap (λ o. least (causes_at s o (advance x.name c).change)) here
+  moves : (c : CallState Q) → refusal s w (advance x.name c).step ≡ refusal_of s x (advance x.name c).act
+  moves c = refusal_is s w (advance x.name c).step ∙ ap (λ o. least (causes_at s o (advance x.name c).act)) here
 
-  collects : refusal s w (step.AdvanceCollect x.name) ≡ refusal_of s x change.AdvanceCollect
-  collects = refusal_is s w (step.AdvanceCollect x.name) ∙ ap (λ o. least (causes_at s o change.AdvanceCollect)) here
+  collects : refusal s w (step.AdvanceCollect x.name) ≡ refusal_of s x (act.Quietly quiet.AdvanceCollect)
+  collects = refusal_is s w (step.AdvanceCollect x.name) ∙ ap (λ o. least (causes_at s o (act.Quietly quiet.AdvanceCollect))) here
 
-  bids : refusal s w (step.AdvanceRecon x.name) ≡ refusal_of s x change.AdvanceRecon
-  bids = refusal_is s w (step.AdvanceRecon x.name) ∙ ap (λ o. least (causes_at s o change.AdvanceRecon)) here
+  bids : refusal s w (step.AdvanceRecon x.name) ≡ refusal_of s x (act.Quietly quiet.AdvanceRecon)
+  bids = refusal_is s w (step.AdvanceRecon x.name) ∙ ap (λ o. least (causes_at s o (act.Quietly quiet.AdvanceRecon))) here
 
   pub first_is : (tray : List (Mail Q)) → All (IsMailOf w x.name) tray → first_of s w (steps_of x tray) ≡ pick.first_of s x (candidates x tray)
-  first_is tray all = first_alike s w x (candidates x tray) (each_candidate (λ (c : Candidate Q). refusal s w c.step ≡ refusal_of s x c.change) (IsMailOf w x.name) x tray all hears moves collects bids)
+  first_is tray all = first_alike s w x (candidates x tray) (each_candidate (λ (c : Candidate Q). refusal s w c.step ≡ refusal_of s x c.act) (IsMailOf w x.name) x tray all hears moves collects bids)

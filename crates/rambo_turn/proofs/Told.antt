@@ -3,14 +3,14 @@ use Rattle.std.proofs.Common.{◌≡◌, ℕ, ◌+◌, length, Option, None, Som
 use Rattle.std.proofs.lemmas.Bool.{true≢false}
 use Rattle.rambo_names.specs.Quorums.{QuorumSystem}
 use Rattle.rambo_names.specs.Refusals.{least}
-use Rattle.rambo_node.specs.declared.change.Change.TheVariants as change
 use Rattle.rambo_node.specs.declared.effect.Effect.TheVariants as effect
 use Rattle.rambo_node.specs.Nodes.{NodeState}
+use Rattle.rambo_node.specs.Acts as act
 use Rattle.rambo_run.specs.declared.step.Step.TheVariants as step
 use Rattle.rambo_run.specs.Worlds.{WorldState, node_at}
 use Rattle.rambo_run.specs.Steps.{causes_at, causes, refusal, turn_at, turn}
 
-send_at : {Q : Type 0} (s : QuorumSystem Q) (w : WorldState Q) (n to : ℕ) (x : Option (NodeState Q)) → least (causes_at s x (change.Send to)) ≡ None → (number : ℕ) × ((turn_at w n x (change.Send to)).effect ≡ effect.Sent number)
+send_at : {Q : Type 0} (s : QuorumSystem Q) (w : WorldState Q) (n to : ℕ) (x : Option (NodeState Q)) → least (causes_at s x (act.Send to)) ≡ None → (number : ℕ) × ((turn_at w n x (act.Send to)).effect ≡ effect.Sent number)
 unfolding Rattle.rambo_node.specs.Changes.made_by
 send_at s w n to None e = absurd (true≢false (ap is_some e))
 send_at s w n to (Some x) e = (length w.letters + 1, λ i. effect.Sent (length w.letters + 1))

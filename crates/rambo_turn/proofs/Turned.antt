@@ -2,9 +2,10 @@
 use Rattle.std.proofs.Common.{◌≡◌, ℕ, zero, suc, List, [], Some, IfSome, refl, sym, ap, ◌∙◌, subst}
 use Rattle.std.proofs.lemmas.Option.{slice_get-get_or}
 use Rattle.rambo_names.specs.Quorums.{QuorumSystem}
-use Rattle.rambo_node.specs.declared.change.Change.{Change}
-use Rattle.rambo_node.specs.declared.change.Change.TheVariants as change
+use Rattle.rambo_node.specs.Acts.{Act}
 use Rattle.rambo_node.specs.Nodes.{NodeState}
+use Rattle.rambo_node.specs.Acts as act
+use Rattle.rambo_node.specs.declared.prepared.Quiet.TheVariants as quiet
 use Rattle.rambo_run.specs.declared.step.Step.{Step}
 use Rattle.rambo_run.specs.declared.step.Step.TheVariants as step
 use Rattle.rambo_run.specs.Steps.{Meant, meant_in}
@@ -42,9 +43,9 @@ pub picked_own : {Q : Type 0} (s : QuorumSystem Q) (name : ℕ) (x : NodeState Q
     → IfSome (pick.first_of s x (candidates x tray)) (λ st. (m : Meant Q) → meant_in [] st ≡ Some m → m.name ≡ name)
 picked_own {Q} s name x tray own =
     let means = λ (st : Step Q). (m : Meant Q) → meant_in [] st ≡ Some m → m.name ≡ name in
-    let named : (c : Change Q) (m : Meant Q) → Some (record { name = x.name; change = c }) ≡ Some m → m.name ≡ name = λ c m e. ap (λ (m : Meant Q). m.name) (sym (some_inj _ m e)) ∙ own in
+    let named : (c : Act Q) (m : Meant Q) → Some (record { name = x.name; act = c }) ≡ Some m → m.name ≡ name = λ c m e. ap (λ (m : Meant Q). m.name) (sym (some_inj _ m e)) ∙ own in
     picked_each s x means (candidates x tray)
-    (each_candidate (λ (c : Candidate Q). means c.step) (λ m. Unit {0}) x tray (λ k d lt. tt) (λ mail there m e. no_letter mail.number m e) (λ c. named (advance x.name c).change) (named change.AdvanceCollect) (named change.AdvanceRecon))
+    (each_candidate (λ (c : Candidate Q). means c.step) (λ m. Unit {0}) x tray (λ k d lt. tt) (λ mail there m e. no_letter mail.number m e) (λ c. named (advance x.name c).act) (named (act.Quietly quiet.AdvanceCollect)) (named (act.Quietly quiet.AdvanceRecon)))
 
 -- and lets a letter come that is there
 pub picked_in : {Q : Type 0} (s : QuorumSystem Q) (x : NodeState Q) (tray : List (Mail Q)) → IfSome (pick.first_of s x (candidates x tray)) (λ st. (number : ℕ) → st ≡ step.Deliver number → IsIn tray number)

@@ -9,9 +9,9 @@ use Rattle.rambo_tag.specs.Copies.{Copies, joined}
 use Rattle.rambo_tag.specs.Logs.{greatest_of}
 use Rattle.rambo_gossip.specs.declared.letter.Kind.TheVariants as kind
 use Rattle.rambo_gossip.specs.Letters.{letter_with}
-use Rattle.rambo_node.specs.declared.change.Change.TheVariants as change
 use Rattle.rambo_node.specs.declared.effect.Effect.TheVariants as effect
 use Rattle.rambo_node.specs.Hearing.{heard_letter}
+use Rattle.rambo_node.specs.Acts as act
 use Rattle.rambo_sequence.specs.declared.mark.Mark.{Mark}
 use Rattle.rambo_run.specs.declared.step.Step.TheVariants as step
 use Rattle.rambo_run.specs.Steps.{refusal, turn}
@@ -39,7 +39,7 @@ module _ {Q : Type 0} (s : QuorumSystem Q) (ks new : List (KeptNode Q)) (ss : Li
     (accepted : hear_refusal s ks m.letter ≡ None) (heard : IsHeard ks new m.letter before (max before m.told)) where
   own : (k : KeptNode Q) × (kept_at ks m.letter.addressee ≡ Some k) × (state_at ks m.letter.addressee ≡ Some k.node.state)
   own =
-      let x = there s (state_at ks m.letter.addressee) (change.Deliver m.letter) accepted in
+      let x = there s (state_at ks m.letter.addressee) (act.Hear m.letter) accepted in
       let k = kept_there ks m.letter.addressee x.0 x.1 in
       (k.0, k.1, x.1 ∙ ap Some (sym k.2))
 

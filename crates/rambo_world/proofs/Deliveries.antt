@@ -13,11 +13,11 @@ use Rattle.rambo_tag.specs.Logs.{greatest_of}
 use Rattle.rambo_history.specs.declared.event.Event.{Event}
 use Rattle.rambo_gossip.specs.declared.letter.Letter.{Letter}
 use Rattle.rambo_gossip.specs.Letters.{letter_with}
-use Rattle.rambo_node.specs.declared.change.Change.TheVariants as change
 use Rattle.rambo_node.specs.declared.effect.Effect.TheVariants as effect
 use Rattle.rambo_node.specs.Changes.{made_by}
 use Rattle.rambo_node.specs.Hearing.{heard_letter}
 use Rattle.rambo_node.specs.Nodes.{NodeState}
+use Rattle.rambo_node.specs.Acts as act
 use Rattle.rambo_sequence.specs.declared.mark.Mark.{Mark}
 use Rattle.rambo_run.specs.declared.step.Step.TheVariants as step
 use Rattle.rambo_run.specs.Worlds.{WorldState, letter_at}
@@ -40,7 +40,7 @@ module _ {Q : Type 0} (ks : List (KeptNode Q)) (ss : List (SentState Q)) (h : Li
   no_letter found = letter_at-sent ks ss number ∙ ap (option_map (whole_letter ks)) found
 
   pub sent_causes : (s : QuorumSystem Q) (m : SentState Q) → sent_at ss number ≡ Some m
-      → causes_of s (world_of ks ss h ms) (delivery (letter_at (whole_letters ks ss) number)) ≡ causes_at s (state_at ks m.letter.addressee) (change.Deliver m.letter)
+      → causes_of s (world_of ks ss h ms) (delivery (letter_at (whole_letters ks ss) number)) ≡ causes_at s (state_at ks m.letter.addressee) (act.Hear m.letter)
   sent_causes s m found =
       ap (λ l. causes_of s (world_of ks ss h ms) (delivery l)) (sent_letter m found)
       ∙ causes_with s (state_at ks m.letter.addressee) m.letter (greatest_of (take m.told (log_at ks m.letter.sender)))
@@ -66,19 +66,19 @@ moved_state ks new (suc i) f x y e there found =
     some_is y.node.state (f x) (sym (slice_get-map state_of new i ∙ ap (option_map state_of) (ap (slice_get new) (sym place) ∙ found)) ∙ here)
 
 -- a delivery is the hearing of a letter
-delivered : {Q : Type 0} (x : NodeState Q) (l : Letter Q) → (made_by x (change.Deliver l)).node ≡ heard_letter x l
+delivered : {Q : Type 0} (x : NodeState Q) (l : Letter Q) → (made_by x (act.Hear l)).node ≡ heard_letter x l
 unfolding made_by
 delivered x l = refl
 
-delivered_in : {Q : Type 0} (n : ℕ) (o : Option (NodeState Q)) (l : Letter Q) (xs : List (NodeState Q)) → moved_in n o (λ y. (made_by y (change.Deliver l)).node) xs ≡ moved_in n o (λ y. heard_letter y l) xs
+delivered_in : {Q : Type 0} (n : ℕ) (o : Option (NodeState Q)) (l : Letter Q) (xs : List (NodeState Q)) → moved_in n o (λ y. (made_by y (act.Hear l)).node) xs ≡ moved_in n o (λ y. heard_letter y l) xs
 delivered_in n None l xs = refl
 delivered_in n (Some x) l xs = ap (slice_set xs (n - 1)) (delivered x l)
 
-pub delivered_moved : {Q : Type 0} (ks : List (KeptNode Q)) (n : ℕ) (l m : Letter Q) → l ≡ m → moved ks n (λ y. (made_by y (change.Deliver l)).node) ≡ moved ks n (λ y. heard_letter y m)
+pub delivered_moved : {Q : Type 0} (ks : List (KeptNode Q)) (n : ℕ) (l m : Letter Q) → l ≡ m → moved ks n (λ y. (made_by y (act.Hear l)).node) ≡ moved ks n (λ y. heard_letter y m)
 delivered_moved ks n l m same = delivered_in n (state_at ks n) l (states_of ks) ∙ ap (λ l. moved ks n (λ y. heard_letter y l)) same
 
 -- a letter that comes to a node that is there
-heard_turn : {Q : Type 0} (w : WorldState Q) (l : Letter Q) (x : NodeState Q) → turn_at w l.addressee (Some x) (change.Deliver l)
+heard_turn : {Q : Type 0} (w : WorldState Q) (l : Letter Q) (x : NodeState Q) → turn_at w l.addressee (Some x) (act.Hear l)
     ≡ record { world = record w { nodes = slice_set w.nodes (l.addressee - 1) (heard_letter x l) }; effect = effect.Done }
 unfolding made_by
 heard_turn w l x = refl
@@ -161,7 +161,7 @@ module _ {Q : Type 0} (ks new : List (KeptNode Q)) (ss : List (SentState Q)) (co
       sym (heard_alike x.node.state s.letter.sender s.letter.kind pack (greatest_of (take s.told log)) alike) in
       let node : slice_set (states_of ks) (s.letter.addressee - 1) (heard_letter x.node.state whole) ≡ states_of new =
       ap (slice_set (states_of ks) (s.letter.addressee - 1)) same ∙ sym (e ∙ ap (λ o. moved_in s.letter.addressee o (λ y. heard_letter y (letter_with s.letter pack)) (states_of ks)) state) in
-      step_turn w (step.Deliver number) s.letter.addressee (change.Deliver whole) (ap delivery (sent_letter ks ss h ms number s found))
-      ∙ ap (λ o. turn_at w s.letter.addressee o (change.Deliver whole)) state
+      step_turn w (step.Deliver number) s.letter.addressee (act.Hear whole) (ap delivery (sent_letter ks ss h ms number s found))
+      ∙ ap (λ o. turn_at w s.letter.addressee o (act.Hear whole)) state
       ∙ heard_turn w whole x.node.state
       ∙ λ i. record { world = record { nodes = node i; letters = sym letters i; history = h; marks = ms }; effect = effect.Done }

@@ -10,10 +10,10 @@ use Rattle.rambo_gossip.specs.declared.letter.Letter.{Letter}
 use Rattle.rambo_gossip.specs.declared.letter.Kind.{Kind}
 use Rattle.rambo_gossip.specs.declared.letter.Kind.TheVariants as kind
 use Rattle.rambo_gossip.specs.Letters.{kind_with, letter_with}
-use Rattle.rambo_node.specs.declared.change.Change.TheVariants as change
 use Rattle.rambo_node.specs.Hearing.{heard_kind, heard_join, heard_gossip}
 use Rattle.rambo_node.specs.Nodes.{NodeState}
 use Rattle.rambo_node.specs.Refusals.{hear_causes}
+use Rattle.rambo_node.specs.Acts as act
 use Rattle.rambo_run.specs.Steps.{causes_at}
 use Rattle.rambo_run.specs.Worlds.{letter_at}
 use Rattle.rambo_letters.specs.Kept.{SentState, sent_at}
@@ -30,7 +30,7 @@ pub hear_causes-with : {Q : Type 0} (x : NodeState Q) (k : Kind Q) (c : Copies) 
 hear_causes-with x kind.Join c = refl
 hear_causes-with x (kind.Gossip g) c = refl
 
-pub causes_with : {Q : Type 0} (s : QuorumSystem Q) (o : Option (NodeState Q)) (l : Letter Q) (c : Copies) → causes_at s o (change.Deliver (letter_with l c)) ≡ causes_at s o (change.Deliver l)
+pub causes_with : {Q : Type 0} (s : QuorumSystem Q) (o : Option (NodeState Q)) (l : Letter Q) (c : Copies) → causes_at s o (act.Hear (letter_with l c)) ≡ causes_at s o (act.Hear l)
 causes_with s None l c = refl
 causes_with s (Some x) l c = hear_causes-with x l.kind c
 

@@ -20,7 +20,6 @@ use Rattle.rambo_gossip.specs.Letters.{kind_with, letter_with}
 use Rattle.rambo_gossip.specs.Short as short
 use Rattle.rambo_logs.specs.NodeLogs.{extended, part, lacked}
 use Rattle.rambo_node.specs.Changes.{refusal_of, made_by}
-use Rattle.rambo_node.specs.declared.change.Change.TheVariants as change
 use Rattle.rambo_node.specs.Hearing.{heard_kind, heard_letter}
 use Rattle.rambo_node.specs.Nodes.{NodeState, RoomyNode}
 use Rattle.rambo_node.specs.Prepared.{IsReadyKind}
@@ -33,6 +32,7 @@ use Rattle.rambo_world.specs.Logging.{copies_in}
 use Rattle.rambo_letters.specs.Kept.{SentState}
 use Rattle.rambo_letters.proofs.Lists.{some_is}
 use Rattle.rambo_node.specs.Letters.{gossip_for}
+use Rattle.rambo_node.specs.Acts as act
 use Rattle.rambo_world.proofs.Delivering.{heard_alike}
 use Rattle.rambo_world.proofs.Sendings.{told_of}
 use Rattle.rambo_world.proofs.Logging.{made_name, heard_recorded}
@@ -50,7 +50,7 @@ other_kind x j (kind.Gossip g) other c e = heard_alike x j (kind.Gossip g) other
 
 -- copies that make the same of a node's as those of a letter make the same of the node
 pub other_heard : {Q : Type 0} (x : NodeState Q) (l : Letter Q) (other c : Copies) → joined x.registers other ≡ joined x.registers (short.copies_in (letter_with l c).kind)
-    → heard_letter x (letter_with l other) ≡ (made_by x (change.Deliver (letter_with l c))).node
+    → heard_letter x (letter_with l other) ≡ (made_by x (act.Hear (letter_with l c))).node
 unfolding made_by
 other_heard x l other c e = other_kind x l.sender l.kind other c e
 
@@ -88,16 +88,16 @@ module _ {Q : Type 0} (xs : List (RoomyNode Q)) (ls : List (List KeyedVersion)) 
   addressee = ap (λ ks. state_at ks l.addressee) (sym view) ∙ node_here xs ls place l.addressee x y at named below is
 
   -- it is judged by that node
-  pub judged_here : (s : QuorumSystem Q) → refusal_of s x.state (change.Deliver l) ≡ hear_refusal s now l
-  judged_here s = ap (λ o. least (causes_at s o (change.Deliver l))) (sym addressee)
+  pub judged_here : (s : QuorumSystem Q) → refusal_of s x.state (act.Hear l) ≡ hear_refusal s now l
+  judged_here s = ap (λ o. least (causes_at s o (act.Hear l))) (sym addressee)
 
   module _ (ms : List (List KeyedVersion)) (start end : ℕ) (join : l.kind ≡ kind.Join → end ≤ start) where
     pub heard_nodes : HasHeard x y ls ms l start end → IsHeard now (kept_of (slice_set xs place y) ms) l start end
     heard_nodes h =
         let same = count ∙ sym counted in
         subst (λ ks. IsHeard ks (kept_of (slice_set xs place y) ms) l start end) view (record {
-          nodes = put_node xs ls place l.addressee x y at named below is ms (λ z. (made_by z (change.Deliver (letter_with l (greatest_of (lacked_of ls l start end))))).node) h.node
-              ∙ ap (λ c. moved (kept_of xs ls) l.addressee (λ z. (made_by z (change.Deliver (letter_with l c))).node)) (sym (brought_is xs ls same l start end));
+          nodes = put_node xs ls place l.addressee x y at named below is ms (λ z. (made_by z (act.Hear (letter_with l (greatest_of (lacked_of ls l start end))))).node) h.node
+              ∙ ap (λ c. moved (kept_of xs ls) l.addressee (λ z. (made_by z (act.Hear (letter_with l c))).node)) (sym (brought_is xs ls same l start end));
           enough = enough_brought xs ls same l start end h.enough;
         })
 
@@ -111,7 +111,7 @@ module _ {Q : Type 0} (xs : List (RoomyNode Q)) (ls : List (List KeyedVersion)) 
         subst (λ ks. AllGrow ks (kept_of (slice_set xs place y) ms)) view
         (subst (λ ms. AllGrow (kept_of xs ls) (kept_of (slice_set xs place y) ms)) (sym h.logs)
         (log_grows xs ls place l.addressee x y at named below is (own ++ more) within (record {
-          name = ap (λ z. z.name) h.node ∙ made_name x.state (change.Deliver letter);
+          name = ap (λ z. z.name) h.node ∙ made_name x.state (act.Hear letter);
           extends = (more, refl);
           recorded = λ before. ap (λ z. z.registers) h.node ∙ heard_recorded x.state own more letter before (ap (joined x.state.registers) (sym told));
         })))
@@ -146,7 +146,7 @@ module _ {Q : Type 0} (s : QuorumSystem Q) (xs : List (RoomyNode Q)) (from to i 
 
 -- where there was no room
 pub met_not : {Q : Type 0} (E : Refusal → Type 0) (s : QuorumSystem Q) (old new : RoomyNode Q) (before after : List (List KeyedVersion)) (m : SentState Q) (start : ℕ) (r : Result (Result ℕ Refusal) Refusal)
-    → IsErrAnd r E → refusal_of s old.state (change.Deliver m.letter) ≡ None → IsUnheard old new before after → HasMet s old new before after m start r
+    → IsErrAnd r E → refusal_of s old.state (act.Hear m.letter) ≡ None → IsUnheard old new before after → HasMet s old new before after m start r
 met_not E s old new before after m start (Ok t) is accepted same = elim is [ ]
 met_not E s old new before after m start (Err e) is accepted same = record { refusal = tt; told = tt; heard = tt; stays = tt; accepted = accepted; err = same }
 
@@ -183,7 +183,7 @@ module _ {Q : Type 0} (s : QuorumSystem Q) (xs : List (RoomyNode Q)) (ls : List 
   at_place : y ≡ get_or xs (to - 1) y
   at_place = sym (get_or_from_slice_get xs (to - 1) y y at_y)
 
-  judged : refusal_of s y.state (change.Deliver m.letter) ≡ hear_refusal s now m.letter
+  judged : refusal_of s y.state (act.Hear m.letter) ≡ hear_refusal s now m.letter
   judged = judged_here xs ls now view count counted m.letter (to - 1) refl low y z within at_place s
 
   past : m.letter.kind ≡ kind.Join → max start m.told ≤ start

@@ -11,12 +11,12 @@ use Rattle.rambo_names.specs.Refusals.{least}
 use Rattle.rambo_gossip.specs.declared.letter.Letter.{Letter}
 use Rattle.rambo_history.specs.declared.event.CallId.{CallId}
 use Rattle.rambo_history.specs.declared.operation.Op.{Op}
-use Rattle.rambo_node.specs.declared.change.Change.{Change}
-use Rattle.rambo_node.specs.declared.change.Change.TheVariants as change
+use Rattle.rambo_node.specs.Acts.{Act}
 use Rattle.rambo_node.specs.declared.effect.Effect.TheVariants as effect
 use Rattle.rambo_node.specs.Changes.{made_by}
 use Rattle.rambo_node.specs.Letters.{letter_for}
 use Rattle.rambo_node.specs.Nodes.{NodeState}
+use Rattle.rambo_node.specs.Acts as act
 use Rattle.rambo_run.specs.declared.step.Step.{Step}
 use Rattle.rambo_run.specs.declared.step.Step.TheVariants as step
 use Rattle.rambo_run.specs.Worlds.{WorldState, first_world, node_at, letter_at}
@@ -27,7 +27,7 @@ use Rattle.rambo_run.specs.Told.{called}
 use Rattle.rambo_run.specs.Steps.{sends}
 use Rattle.rambo_world.specs.Worlds.{EventFits}
 use Rattle.rambo_world.specs.Direct.{without_letters, passed, pass_refusal, first_of, IsReachedBarLetters}
-use Rattle.rambo_run.proofs.Quiet.{quiet_made}
+use Rattle.rambo_run.proofs.Unsent.{unsent}
 use Rattle.rambo_run.proofs.GoingOn.{after-refused, run_none}
 use Rattle.rambo_run.proofs.Legal.{events_fit_run}
 use Rattle.rambo_run.proofs.GoingOn.{run-after}
@@ -44,7 +44,7 @@ module _ {Q : Type 0} (s : QuorumSystem Q) where
   same_causes w ls None = refl
   same_causes w ls (Some m) = refl
 
-  same_at : (w : WorldState Q) (ls : List (Letter Q)) (n : ℕ) (c : Change Q) (o : Option (NodeState Q))
+  same_at : (w : WorldState Q) (ls : List (Letter Q)) (n : ℕ) (c : Act Q) (o : Option (NodeState Q))
       → without_letters (turn_at (record w { letters = ls }) n o c).world ≡ without_letters (turn_at w n o c).world
   same_at w ls n c None = refl
   same_at w ls n c (Some x) = refl
@@ -52,7 +52,7 @@ module _ {Q : Type 0} (s : QuorumSystem Q) where
   same_turn : (w : WorldState Q) (ls : List (Letter Q)) (m : Option (Meant Q))
       → without_letters (turn_of (record w { letters = ls }) m).world ≡ without_letters (turn_of w m).world
   same_turn w ls None = refl
-  same_turn w ls (Some m) = same_at w ls m.name m.change (node_at w m.name)
+  same_turn w ls (Some m) = same_at w ls m.name m.act (node_at w m.name)
 
   same_unless : (o : Option Refusal) (v w a b : WorldState Q) → without_letters v ≡ without_letters w → without_letters a ≡ without_letters b
       → without_letters (unless_refused o v a) ≡ without_letters (unless_refused o w b)
@@ -69,22 +69,22 @@ module _ {Q : Type 0} (s : QuorumSystem Q) where
       ∙ ap (λ cs. without_letters (unless_refused (least cs) v (turn_of v (meant w st)).world)) (same_causes w ls (meant w st))
       ∙ same_unless (refusal s w st) v w (turn_of v (meant w st)).world (turn w st).world refl (same_turn w ls (meant w st))
 
-  quiet_at : (w : WorldState Q) (n : ℕ) (c : Change Q) (o : Option (NodeState Q)) → sends c ≡ false → (turn_at w n o c).world.letters ≡ w.letters
+  quiet_at : (w : WorldState Q) (n : ℕ) (c : Act Q) (o : Option (NodeState Q)) → sends c ≡ false → (turn_at w n o c).world.letters ≡ w.letters
   quiet_at w n c None quiet = refl
-  quiet_at w n c (Some x) quiet = ap (with_letter w.letters) (quiet_made x c quiet)
+  quiet_at w n c (Some x) quiet = ap (with_letter w.letters) (unsent x c quiet)
 
   quiet_unless : (o : Option Refusal) (w next : WorldState Q) → next.letters ≡ w.letters → (unless_refused o w next).letters ≡ w.letters
   quiet_unless None w next e = e
   quiet_unless (Some r) w next e = refl
 
   -- a step that sends no letter
-  pub quiet_after : (w : WorldState Q) (st : Step Q) (n : ℕ) (c : Change Q) → meant w st ≡ Some (record { name = n; change = c }) → sends c ≡ false → (after s w st).letters ≡ w.letters
+  pub quiet_after : (w : WorldState Q) (st : Step Q) (n : ℕ) (c : Act Q) → meant w st ≡ Some (record { name = n; act = c }) → sends c ≡ false → (after s w st).letters ≡ w.letters
   unfolding after
   quiet_after w st n c means quiet =
       quiet_unless (refusal s w st) w (turn w st).world (ap (λ t. t.world.letters) (step_turn w st n c means) ∙ quiet_at w n c (node_at w n) quiet)
 
   -- it is the same where there are none
-  pub bare_after : (w : WorldState Q) (st : Step Q) (n : ℕ) (c : Change Q) → ((v : WorldState Q) → meant v st ≡ Some (record { name = n; change = c })) → sends c ≡ false
+  pub bare_after : (w : WorldState Q) (st : Step Q) (n : ℕ) (c : Act Q) → ((v : WorldState Q) → meant v st ≡ Some (record { name = n; act = c })) → sends c ≡ false
       → after s (without_letters w) st ≡ without_letters (after s w st)
   bare_after w st n c means quiet =
       let bare = without_letters w in
@@ -102,7 +102,7 @@ module _ {Q : Type 0} (s : QuorumSystem Q) where
     bar_none w reached = ap (λ (w : WorldState Q). w.letters) reached.1
 
     -- a step that means a change of a node, and sends no letter
-    module _ (st : Step Q) (n : ℕ) (c : Change Q) (means : (v : WorldState Q) → meant v st ≡ Some (record { name = n; change = c })) where
+    module _ (st : Step Q) (n : ℕ) (c : Act Q) (means : (v : WorldState Q) → meant v st ≡ Some (record { name = n; act = c })) where
       pub bar_next : (w new : WorldState Q) → IsReachedBarLetters s founders w → sends c ≡ false → new ≡ after s w st → IsReachedBarLetters s founders new
       bar_next w new reached quiet e =
           let v = run s founders reached.0 in
@@ -132,7 +132,7 @@ module _ {Q : Type 0} (s : QuorumSystem Q) where
   sent_in None (Some x) to = letter_for x to ∷ []
 
   sent_unless : (o : Option Refusal) (w : WorldState Q) (from to : ℕ) (x : Option (NodeState Q))
-      → (unless_refused o w (turn_at w from x (change.Send to)).world).letters ≡ w.letters ++ sent_in o x to
+      → (unless_refused o w (turn_at w from x (act.Send to)).world).letters ≡ w.letters ++ sent_in o x to
   unfolding made_by
   sent_unless (Some r) w from to x = sym (append-nil w.letters)
   sent_unless None w from to None = sym (append-nil w.letters)
@@ -171,13 +171,13 @@ module _ {Q : Type 0} (s : QuorumSystem Q) where
   -- a letter that comes is no more
   came_silent : (w : WorldState Q) (o : Option (Letter Q)) → (turn_of w (delivery o)).world.letters ≡ w.letters
   came_silent w None = refl
-  came_silent w (Some l) = quiet_at w l.addressee (change.Deliver l) (node_at w l.addressee) refl
+  came_silent w (Some l) = quiet_at w l.addressee (act.Hear l) (node_at w l.addressee) refl
 
   deliver_silent : (w : WorldState Q) (number : ℕ) → (after s w (step.Deliver number)).letters ≡ w.letters
   unfolding after turn
   deliver_silent w number = quiet_unless (refusal s w (step.Deliver number)) w (turn w (step.Deliver number)).world (came_silent w (letter_at w.letters number))
 
-  one_sent : (w : WorldState Q) (o : Option (NodeState Q)) (to : ℕ) → least (causes_at s o (change.Send to)) ≡ None → length (w.letters ++ sent_in None o to) ≡ length w.letters + 1
+  one_sent : (w : WorldState Q) (o : Option (NodeState Q)) (to : ℕ) → least (causes_at s o (act.Send to)) ≡ None → length (w.letters ++ sent_in None o to) ≡ length w.letters + 1
   one_sent w None to e = absurd (false≢true (ap is_some (sym e)))
   one_sent w (Some x) to e = length_push w.letters (letter_for x to)
 
@@ -217,7 +217,7 @@ module _ {Q : Type 0} (s : QuorumSystem Q) where
       ap (λ j. slice_set w.nodes j x) place
       ∙ ap (slice_set w.nodes i) (sym (get_or_from_slice_get w.nodes i x x e)) ∙ set-get_or w.nodes i x
 
-  send_at : (w : WorldState Q) (from to : ℕ) (o : Option (NodeState Q)) → node_at w from ≡ o → without_letters (turn_at w from o (change.Send to)).world ≡ without_letters w
+  send_at : (w : WorldState Q) (from to : ℕ) (o : Option (NodeState Q)) → node_at w from ≡ o → without_letters (turn_at w from o (act.Send to)).world ≡ without_letters w
   unfolding made_by
   send_at w from to None e = refl
   send_at w from to (Some x) e = λ i. record { nodes = stays_at w from x e i; letters = []; history = w.history; marks = w.marks }
@@ -229,7 +229,7 @@ module _ {Q : Type 0} (s : QuorumSystem Q) where
   sent_bare : (w : WorldState Q) (from to : ℕ) → without_letters (after s w (step.Send from to)) ≡ without_letters w
   unfolding after turn
   sent_bare w from to =
-      kept_unless (refusal s w (step.Send from to)) w (turn_at w from (node_at w from) (change.Send to)).world (send_at w from to (node_at w from) refl)
+      kept_unless (refusal s w (step.Send from to)) w (turn_at w from (node_at w from) (act.Send to)).world (send_at w from to (node_at w from) refl)
 
   -- a letter that doesn't pass leaves the world as it is
   pub unpassed : (w : WorldState Q) (from to : ℕ) (r : Refusal) → w.letters ≡ [] → pass_refusal s w from to ≡ Some r → passed s w from to ≡ w
@@ -245,7 +245,7 @@ module _ {Q : Type 0} (s : QuorumSystem Q) where
 
 -- a call has the name of its node
 called_by : {Q : Type 0} (w : WorldState Q) (n : ℕ) (o : Op) (id : CallId) (x : Option (NodeState Q)) → node_at w n ≡ x → ((y : NodeState Q) → node_at w n ≡ Some y → y.name ≡ n)
-    → (turn_at w n x (change.Call o)).effect ≡ effect.Called id → id.name ≡ n
+    → (turn_at w n x (act.Call o)).effect ≡ effect.Called id → id.name ≡ n
 unfolding made_by
 called_by w n o id None at named e = cc
 called_by w n o id (Some x) at named e =
@@ -255,5 +255,5 @@ called_by w n o id (Some x) at named e =
 pub call_named : {Q : Type 0} (s : QuorumSystem Q) (w : WorldState Q) (n : ℕ) (o : Op) → ((y : NodeState Q) → node_at w n ≡ Some y → y.name ≡ n)
     → (r : Result CallId Refusal) → called r ≡ result_of (refusal s w (step.Call n o)) w (step.Call n o) → IfOk r (λ id. id.name ≡ n)
 call_named s w n o named (Ok id) told =
-    called_by w n o id (node_at w n) refl named (sym (ap (λ t. t.effect) (step_turn w (step.Call n o) n (change.Call o) refl)) ∙ (told_done (refusal s w (step.Call n o)) w (step.Call n o) (effect.Called id) told).1)
+    called_by w n o id (node_at w n) refl named (sym (ap (λ t. t.effect) (step_turn w (step.Call n o) n (act.Call o) refl)) ∙ (told_done (refusal s w (step.Call n o)) w (step.Call n o) (effect.Called id) told).1)
 call_named s w n o named (Err r) told = tt

@@ -1,6 +1,5 @@
 mod Growth
 mod Zipping
-mod Members
 mod Logging
 mod Stepping
 mod Merging

@@ -2,7 +2,6 @@
 use Rattle.std.proofs.Common.{◌≡◌, ℕ, ◌+◌, ◌<◌, true, List, ◌++◌, Option, Some, None, refl, sym, ap, ◌∙◌, inl, arith}
 use Rattle.std.proofs.Common.{append-nil}
 use Rattle.std.specs.Prelude.{if◌then◌else◌}
-use Rattle.std.specs.FinMap as copies
 use Rattle.std.specs.FinMap.{get, insert}
 use Rattle.rambo_tag.specs.declared.version.Version.{Version}
 use Rattle.rambo_tag.specs.declared.keyed_version.KeyedVersion.{KeyedVersion}
@@ -18,17 +17,16 @@ use Rattle.rambo_history.specs.declared.operation.Op.TheVariants as op
 use Rattle.rambo_gossip.specs.declared.letter.Letter.{Letter}
 use Rattle.rambo_gossip.specs.declared.letter.Kind.{Kind}
 use Rattle.rambo_gossip.specs.declared.letter.Kind.TheVariants as kind
-use Rattle.rambo_node.specs.declared.change.Change.{Change}
-use Rattle.rambo_node.specs.declared.change.Change.TheVariants as change
+use Rattle.rambo_node.specs.Acts.{Act}
 use Rattle.rambo_calls.specs.declared.stage.Stage.{Stage}
 use Rattle.rambo_calls.specs.declared.stage.Stage.TheVariants.{Query, Propagation}
 use Rattle.rambo_calls.specs.Calls.{CallState}
 use Rattle.rambo_node.specs.Nodes.{NodeState, open_call}
 use Rattle.rambo_node.specs.Hearing.{heard_kind, heard_join, heard_gossip}
-use Rattle.rambo_node.specs.Operations.{called, joined_by, stopped, called_again, query_answered, call_closed, with_copy, taken, new_copy}
-use Rattle.rambo_node.specs.Changes.{Made, made_by, quiet, stage_met, advanced, begun_again, copy_put, collection_advanced, rebid_made, attempt_advanced}
-use Rattle.rambo_node.specs.Reconfigurations.{collection_opened, attempt_opened}
-use Rattle.rambo_world.proofs.Members.{Keeps, opened_keeps, collection_keeps, wish_keeps, rebid_keeps, attempt_keeps}
+use Rattle.rambo_node.specs.Operations.{called, query_answered, call_closed, with_copy, taken, new_copy}
+use Rattle.rambo_node.specs.Changes.{made_by, stage_met, advanced, copy_put}
+use Rattle.rambo_node.specs.Acts as act
+use Rattle.rambo_run.proofs.QuietKeeps.{quiet_keeps}
 use Rattle.rambo_world.specs.Logging.{copies_in, copies_brought, listed}
 
 -- the copy that a set makes is newer than the present one
@@ -61,16 +59,6 @@ module _ {Q : Type 0} (x : NodeState Q) where
   advanced_logged id None = refl
   advanced_logged id (Some c) = stage_logged id c c.stage
 
-  again_name : (c : Option (CallState Q)) → (begun_again x c).node.name ≡ x.name
-  unfolding called_again
-  again_name None = refl
-  again_name (Some c) = refl
-
-  again_logged : (c : Option (CallState Q)) → (begun_again x c).node.registers ≡ greatest_after x.registers (listed (begun_again x c).deed.copy)
-  unfolding called_again
-  again_logged None = refl
-  again_logged (Some c) = refl
-
   heard_name : (j : ℕ) (k : Kind Q) → (heard_kind x j k).name ≡ x.name
   unfolding heard_join heard_gossip
   heard_name j kind.Join = refl
@@ -82,42 +70,27 @@ module _ {Q : Type 0} (x : NodeState Q) where
   heard_joined j (kind.Gossip g) = refl
 
   -- a node keeps its name
-  pub made_name : (c : Change Q) → (made_by x c).node.name ≡ x.name
-  unfolding made_by joined_by called stopped
-  made_name (change.Deliver l) = heard_name l.sender l.kind
-  made_name (change.Advance id) = advanced_name id (open_call x id)
-  made_name (change.Again id) = again_name (open_call x id)
-  made_name change.Collect = (opened_keeps x).name
-  made_name change.AdvanceCollect = (collection_keeps x x.collection).name
-  made_name (change.Recon wish) = (wish_keeps x wish).name
-  made_name change.Rebid = (rebid_keeps x x.attempt).name
-  made_name change.AdvanceRecon = (attempt_keeps x x.attempt).name
+  pub made_name : (c : Act Q) → (made_by x c).node.name ≡ x.name
+  unfolding made_by called
+  made_name (act.Hear l) = heard_name l.sender l.kind
+  made_name (act.Advance id) = advanced_name id (open_call x id)
+  made_name (act.Quietly q) = (quiet_keeps x q).name
   made_name _ = refl
 
-  -- a change that keeps its copies and puts none
-  kept_registers : (m : Made Q) → Keeps x m → m.node.registers ≡ greatest_after (joined x.registers copies.empty) (listed m.deed.copy)
-  kept_registers m k = k.registers ∙ sym (joined-empty x.registers) ∙ ap (λ o. greatest_after (joined x.registers copies.empty) (listed o)) (sym k.copy)
-
   -- it takes on the copies that are brought to it, and the one that it puts
-  pub made_registers : (c : Change Q) → (made_by x c).node.registers ≡ greatest_after (joined x.registers (copies_brought c)) (listed (made_by x c).deed.copy)
-  unfolding made_by joined_by called stopped
-  made_registers (change.Deliver l) = heard_joined l.sender l.kind
-  made_registers (change.Advance id) =
+  pub made_registers : (c : Act Q) → (made_by x c).node.registers ≡ greatest_after (joined x.registers (copies_brought c)) (listed (made_by x c).deed.copy)
+  unfolding made_by called
+  made_registers (act.Hear l) = heard_joined l.sender l.kind
+  made_registers (act.Advance id) =
       advanced_logged id (open_call x id) ∙ ap (λ r. greatest_after r (listed (advanced x id (open_call x id)).deed.copy)) (sym (joined-empty x.registers))
-  made_registers (change.Again id) =
-      again_logged (open_call x id) ∙ ap (λ r. greatest_after r (listed (begun_again x (open_call x id)).deed.copy)) (sym (joined-empty x.registers))
-  made_registers change.Collect = kept_registers (quiet (collection_opened x)) (opened_keeps x)
-  made_registers change.AdvanceCollect = kept_registers (collection_advanced x x.collection) (collection_keeps x x.collection)
-  made_registers (change.Recon wish) = kept_registers (quiet (attempt_opened x wish)) (wish_keeps x wish)
-  made_registers change.Rebid = kept_registers (rebid_made x x.attempt) (rebid_keeps x x.attempt)
-  made_registers change.AdvanceRecon = kept_registers (attempt_advanced x x.attempt) (attempt_keeps x x.attempt)
+  made_registers (act.Quietly q) = (quiet_keeps x q).registers ∙ sym (joined-empty x.registers)
   made_registers _ = sym (joined-empty x.registers)
 
 greatest_of-more : (log more : List KeyedVersion) → greatest_of (log ++ more) ≡ greatest_after (greatest_of log) more
 greatest_of-more log more = greatest_of-append log more ∙ joined-greatest_of (greatest_of log) more
 
 -- what is logged with a change: what it brings that was lacking, and the copy that was put
-pub made_recorded : {Q : Type 0} (x : NodeState Q) (log more : List KeyedVersion) (c : Change Q)
+pub made_recorded : {Q : Type 0} (x : NodeState Q) (log more : List KeyedVersion) (c : Act Q)
     → x.registers ≡ greatest_of log → joined x.registers (greatest_of more) ≡ joined x.registers (copies_brought c)
     → (made_by x c).node.registers ≡ greatest_of (log ++ (more ++ listed (made_by x c).deed.copy))
 made_recorded x log more c recorded brought =
@@ -131,6 +104,6 @@ made_recorded x log more c recorded brought =
 -- what is logged with a letter
 pub heard_recorded : {Q : Type 0} (x : NodeState Q) (log more : List KeyedVersion) (l : Letter Q)
     → x.registers ≡ greatest_of log → joined x.registers (greatest_of more) ≡ joined x.registers (copies_in l.kind)
-    → (made_by x (change.Deliver l)).node.registers ≡ greatest_of (log ++ more)
+    → (made_by x (act.Hear l)).node.registers ≡ greatest_of (log ++ more)
 unfolding made_by
-heard_recorded x log more l recorded brought = made_recorded x log more (change.Deliver l) recorded brought ∙ ap (λ m. greatest_of (log ++ m)) (append-nil more)
+heard_recorded x log more l recorded brought = made_recorded x log more (act.Hear l) recorded brought ∙ ap (λ m. greatest_of (log ++ m)) (append-nil more)

@@ -10,10 +10,10 @@ use Rattle.rambo_names.specs.Quorums.{QuorumSystem}
 use Rattle.rambo_names.specs.Refusals.{least}
 use Rattle.rambo_history.specs.declared.event.Event.{Event}
 use Rattle.rambo_joiner.specs.Statuses.{is_idle, is_stopped}
-use Rattle.rambo_node.specs.declared.change.Change.TheVariants as change
 use Rattle.rambo_node.specs.declared.effect.Effect.TheVariants as effect
 use Rattle.rambo_node.specs.Nodes.{NodeState}
 use Rattle.rambo_node.specs.Refusals.{send_causes}
+use Rattle.rambo_node.specs.Acts as act
 use Rattle.rambo_sequence.specs.declared.mark.Mark.{Mark}
 use Rattle.rambo_run.specs.declared.step.Step.TheVariants as step
 use Rattle.rambo_run.specs.Steps.{Turn, causes_at, refusal, turn}
@@ -62,7 +62,7 @@ module _ {Q : Type 0} (s : QuorumSystem Q) (ks : List (KeptNode Q)) (h : List Ev
       ∙ ap (λ (t : Turn Q). t.world) (send_world ks [] (outline k to ∷ []) h ms from to 1 k (outline k to) found there name recorded refl refl refl)
 
   -- its coming is judged
-  pub judged_alone : refusal s (after s (world_of ks [] h ms) (step.Send from to)) (step.Deliver 1) ≡ least (causes_at s (state_at ks to) (change.Deliver (outline k to).letter))
+  pub judged_alone : refusal s (after s (world_of ks [] h ms) (step.Send from to)) (step.Deliver 1) ≡ least (causes_at s (state_at ks to) (act.Hear (outline k to).letter))
   judged_alone =
       ap (λ w. refusal s w (step.Deliver 1)) sent_alone ∙ deliver_refusal s (world_of ks (outline k to ∷ []) h ms) 1
       ∙ ap least (sent_causes ks (outline k to ∷ []) h ms 1 s (outline k to) refl)
@@ -92,7 +92,7 @@ module _ {Q : Type 0} (s : QuorumSystem Q) (ks : List (KeptNode Q)) (ss : List (
   is = (λ i. world_of ks (sym none i) h ms) ∙ view
 
   sending : refusal s (world_of ks [] h ms) (step.Send from to) ≡ least (send_causes x to)
-  sending = step_refusal (world_of ks [] h ms) (step.Send from to) from (change.Send to) refl s ∙ ap (λ o. least (causes_at s o (change.Send to))) at
+  sending = step_refusal (world_of ks [] h ms) (step.Send from to) from (act.Send to) refl s ∙ ap (λ o. least (causes_at s o (act.Send to))) at
 
   abbrev coming : Option Refusal
   coming = refusal s (after s (world_of ks [] h ms) (step.Send from to)) (step.Deliver 1)

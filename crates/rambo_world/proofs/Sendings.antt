@@ -13,10 +13,10 @@ use Rattle.rambo_gossip.specs.declared.letter.Kind.TheVariants as kind
 use Rattle.rambo_gossip.specs.Letters.{kind_with}
 use Rattle.rambo_history.specs.declared.event.Event.{Event}
 use Rattle.rambo_node.specs.Letters.{letter_for, gossip_for}
-use Rattle.rambo_node.specs.declared.change.Change.TheVariants as change
 use Rattle.rambo_node.specs.Changes.{made_by}
 use Rattle.rambo_node.specs.Nodes.{NodeState}
 use Rattle.rambo_node.specs.declared.effect.Effect.TheVariants as effect
+use Rattle.rambo_node.specs.Acts as act
 use Rattle.rambo_sequence.specs.declared.mark.Mark.{Mark}
 use Rattle.rambo_run.specs.declared.step.Step.TheVariants as step
 use Rattle.rambo_run.specs.Steps.{turn, turn_at}
@@ -79,7 +79,7 @@ kept_sent ks ss s ms kept sent = record {
 
 -- who sends a letter stays as it is
 sent_turn : {Q : Type 0} (ks : List (KeptNode Q)) (ss : List (SentState Q)) (h : List Event) (ms : List Mark) (n to : ℕ) (x : NodeState Q) → slice_set (states_of ks) (n - 1) x ≡ states_of ks
-    → turn_at (world_of ks ss h ms) n (Some x) (change.Send to)
+    → turn_at (world_of ks ss h ms) n (Some x) (act.Send to)
     ≡ record { world = record { nodes = states_of ks; letters = whole_letters ks ss ++ letter_for x to ∷ []; history = h; marks = ms }; effect = effect.Sent (length (whole_letters ks ss) + 1) }
 unfolding made_by
 sent_turn ks ss h ms n to x same = λ i. record { world = record { nodes = same i; letters = whole_letters ks ss ++ letter_for x to ∷ []; history = h; marks = ms }; effect = effect.Sent (length (whole_letters ks ss) + 1) }
@@ -99,5 +99,5 @@ send_world ks ss after h ms n to count k s found there name recorded same pushed
     let letters : whole_letters ks ss ++ letter_for k.node.state to ∷ [] ≡ whole_letters ks after =
     sym (ap (whole_letters ks) pushed ∙ map-append (whole_letter ks) ss (s ∷ []) ∙ ap (λ l. whole_letters ks ss ++ l ∷ []) (ap (whole_letter ks) same ∙ whole_outline ks k n to found name recorded)) in
     let number : length (whole_letters ks ss) + 1 ≡ count = ap (λ m. m + 1) (length-map ss (whole_letter ks)) ∙ sym (counted ∙ ap length pushed ∙ length-append ss (s ∷ [])) in
-    step_turn (world_of ks ss h ms) (step.Send n to) n (change.Send to) refl ∙ ap (λ o. turn_at (world_of ks ss h ms) n o (change.Send to)) there ∙ sent_turn ks ss h ms n to k.node.state (stays ks n k.node.state there)
+    step_turn (world_of ks ss h ms) (step.Send n to) n (act.Send to) refl ∙ ap (λ o. turn_at (world_of ks ss h ms) n o (act.Send to)) there ∙ sent_turn ks ss h ms n to k.node.state (stays ks n k.node.state there)
     ∙ λ i. record { world = record { nodes = states_of ks; letters = letters i; history = h; marks = ms }; effect = effect.Sent (number i) }

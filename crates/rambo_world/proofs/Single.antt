@@ -3,7 +3,6 @@ use Rattle.std.proofs.Common.{◌≡◌, false, Option, None, Some, Result, Ok, 
 use Rattle.rambo_names.specs.declared.refusal.Refusal.{Refusal}
 use Rattle.rambo_names.specs.Quorums.{QuorumSystem}
 use Rattle.rambo_names.specs.Refusals.{least}
-use Rattle.rambo_node.specs.declared.change.Change.TheVariants as change
 use Rattle.rambo_node.specs.declared.effect.Effect.{Effect}
 use Rattle.rambo_history.specs.declared.event.CallId.{CallId}
 use Rattle.rambo_calls.specs.Calls.{CallState, is_missing}
@@ -13,6 +12,7 @@ use Rattle.rambo_node.specs.Changes.{advanced, answer_in, made_by, stage_met}
 use Rattle.rambo_node.specs.Nodes.{open_call}
 use Rattle.rambo_node.proofs.Judged.{advance_next}
 use Rattle.rambo_node.specs.Nodes.{NodeState}
+use Rattle.rambo_node.specs.Acts as act
 use Rattle.rambo_run.specs.declared.step.Step.{Step}
 use Rattle.rambo_run.specs.declared.step.Step.TheVariants as step
 use Rattle.rambo_run.specs.Runs.{after, result_of}
@@ -54,7 +54,7 @@ met_effect w x id None = refl
 met_effect w x id (Some c) = stage_effect w x id c c.stage
 
 -- a call goes on
-went : {Q : Type 0} (w : WorldState Q) (x : NodeState Q) (id : CallId) → (turn_at w id.name (Some x) (change.Advance id)).effect ≡ (advanced x id (open_call x id)).deed.effect
+went : {Q : Type 0} (w : WorldState Q) (x : NodeState Q) (id : CallId) → (turn_at w id.name (Some x) (act.Advance id)).effect ≡ (advanced x id (open_call x id)).deed.effect
 unfolding made_by
 went w x id = met_effect w x id (open_call x id)
 
@@ -62,11 +62,11 @@ pub advancing : {Q : Type 0} (s : QuorumSystem Q) (w new : WorldState Q) (id : C
     → turn w (step.Advance id) ≡ record { world = new; effect = e } → went_on id (answer_in e) ≡ e
 advancing s w new id e accepted is =
     let st = step.Advance id in
-    let allowed = sym (step_refusal w st id.name (change.Advance id) refl s) ∙ accepted in
-    let x = there s (node_at w id.name) (change.Advance id) allowed in
+    let allowed = sym (step_refusal w st id.name (act.Advance id) refl s) ∙ accepted in
+    let x = there s (node_at w id.name) (act.Advance id) allowed in
     let told : e ≡ (advanced x.0 id (open_call x.0 id)).deed.effect =
-    ap (λ (t : Turn _). t.effect) (sym is ∙ step_turn w st id.name (change.Advance id) refl ∙ ap (λ o. turn_at w id.name o (change.Advance id)) x.1) ∙ went w x.0 id in
-    let found = (advance_next x.0 s id (sym (ap (λ o. least (causes_at s o (change.Advance id))) x.1) ∙ allowed)).0 in
+    ap (λ (t : Turn _). t.effect) (sym is ∙ step_turn w st id.name (act.Advance id) refl ∙ ap (λ o. turn_at w id.name o (act.Advance id)) x.1) ∙ went w x.0 id in
+    let found = (advance_next x.0 s id (sym (ap (λ o. least (causes_at s o (act.Advance id))) x.1) ∙ allowed)).0 in
     ap (λ e. went_on id (answer_in e)) told ∙ call_told x.0 id (open_call x.0 id) found ∙ sym told
 
 -- what is told of a step that was taken

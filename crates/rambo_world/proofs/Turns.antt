@@ -6,7 +6,7 @@ use Rattle.rambo_names.specs.declared.refusal.Refusal.{Refusal}
 use Rattle.rambo_names.specs.declared.refusal.Refusal.TheVariants.{OutOfMemory}
 use Rattle.rambo_names.specs.Quorums.{QuorumSystem}
 use Rattle.rambo_names.specs.Refusals.{least, IsRefusal}
-use Rattle.rambo_node.specs.declared.change.Change.{Change}
+use Rattle.rambo_node.specs.Acts.{Act}
 use Rattle.rambo_node.specs.Changes.{refusal_of}
 use Rattle.rambo_node.specs.Nodes.{NodeState}
 use Rattle.rambo_run.specs.declared.step.Step.{Step}
@@ -20,7 +20,7 @@ use Rattle.rambo_letters.proofs.Lists.{some_is}
 use Rattle.rambo_world.proofs.Growth.{state_at-kept}
 
 -- who isn't refused is there
-pub there : {Q : Type 0} (s : QuorumSystem Q) (o : Option (NodeState Q)) (c : Change Q) → least (causes_at s o c) ≡ None → (x : NodeState Q) × (o ≡ Some x)
+pub there : {Q : Type 0} (s : QuorumSystem Q) (o : Option (NodeState Q)) (c : Act Q) → least (causes_at s o c) ≡ None → (x : NodeState Q) × (o ≡ Some x)
 there s None c e = absurd (true≢false (ap is_some e))
 there s (Some x) c e = (x, refl)
 
@@ -40,7 +40,7 @@ kept_there ks zero x e = absurd (false≢true (ap is_some e))
 kept_there ks (suc i) x e = kept_some (kept_at ks (suc i)) x (sym (state_at-kept ks (suc i) (omega arith)) ∙ e)
 
 -- a step that means a change of a node
-module _ {Q : Type 0} (w : WorldState Q) (st : Step Q) (n : ℕ) (c : Change Q) (means : meant w st ≡ Some (record { name = n; change = c })) where
+module _ {Q : Type 0} (w : WorldState Q) (st : Step Q) (n : ℕ) (c : Act Q) (means : meant w st ≡ Some (record { name = n; act = c })) where
   pub step_turn : turn w st ≡ turn_at w n (node_at w n) c
   unfolding turn
   step_turn = ap (turn_of w) means
@@ -58,15 +58,15 @@ unfolding refusal causes
 deliver_refusal s w number = refl
 
 -- a step that means a change of a node is judged by that node
-pub judged_at : {Q : Type 0} (s : QuorumSystem Q) (w : WorldState Q) (st : Step Q) (n : ℕ) (c : Change Q) (x : NodeState Q)
-    → meant w st ≡ Some (record { name = n; change = c }) → node_at w n ≡ Some x → refusal_of s x c ≡ refusal s w st
+pub judged_at : {Q : Type 0} (s : QuorumSystem Q) (w : WorldState Q) (st : Step Q) (n : ℕ) (c : Act Q) (x : NodeState Q)
+    → meant w st ≡ Some (record { name = n; act = c }) → node_at w n ≡ Some x → refusal_of s x c ≡ refusal s w st
 judged_at s w st n c x means found = sym (step_refusal w st n c means s ∙ ap (λ o. least (causes_at s o c)) found)
 
 -- the same of a world by its parts
-pub judged_now : {Q : Type 0} (s : QuorumSystem Q) (w now : WorldState Q) → w ≡ now → (st : Step Q) (n : ℕ) (c : Change Q) (x : NodeState Q)
-    → meant w st ≡ Some (record { name = n; change = c }) → node_at w n ≡ Some x → (o : Option Refusal) → refusal_of s x c ≡ o → refusal s now st ≡ o
+pub judged_now : {Q : Type 0} (s : QuorumSystem Q) (w now : WorldState Q) → w ≡ now → (st : Step Q) (n : ℕ) (c : Act Q) (x : NodeState Q)
+    → meant w st ≡ Some (record { name = n; act = c }) → node_at w n ≡ Some x → (o : Option Refusal) → refusal_of s x c ≡ o → refusal s now st ≡ o
 judged_now s w now view st n c x means found o e = subst (λ w. refusal s w st ≡ o) view (sym (judged_at s w st n c x means found) ∙ e)
 
-pub turned_now : {Q : Type 0} (w now : WorldState Q) → w ≡ now → (st : Step Q) (n : ℕ) (c : Change Q) → meant w st ≡ Some (record { name = n; change = c })
+pub turned_now : {Q : Type 0} (w now : WorldState Q) → w ≡ now → (st : Step Q) (n : ℕ) (c : Act Q) → meant w st ≡ Some (record { name = n; act = c })
     → (t : Turn Q) → turn_at w n (node_at w n) c ≡ t → turn now st ≡ t
 turned_now w now view st n c means t done = ap (λ w. turn w st) (sym view) ∙ step_turn w st n c means ∙ done

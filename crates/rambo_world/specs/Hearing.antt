@@ -11,8 +11,8 @@ use Rattle.rambo_gossip.specs.Letters.{letter_with}
 use Rattle.rambo_logs.specs.NodeLogs.{extended, part, lacked}
 use Rattle.rambo_logs.specs.NodeLogs as node_logs
 use Rattle.rambo_node.specs.Changes.{refusal_of, made_by}
-use Rattle.rambo_node.specs.declared.change.Change.TheVariants as change
 use Rattle.rambo_node.specs.Nodes.{NodeState, RoomyNode}
+use Rattle.rambo_node.specs.Acts as act
 use Rattle.rambo_letters.specs.Kept.{SentState}
 use Rattle.rambo_run.specs.Steps.{causes_at}
 use Rattle.rambo_world.specs.Direct.{told_refusal}
@@ -20,7 +20,7 @@ use Rattle.rambo_world.specs.Kept.{KeptNode, outline_by, states_of, state_at, lo
 
 -- why the addressee of a letter refuses it, if it does
 abbrev pub hear_refusal : {Q : Type 0} → QuorumSystem Q → List (KeptNode Q) → Letter Q → Option Refusal
-hear_refusal s ks l = least (causes_at s (state_at ks l.addressee) (change.Deliver l))
+hear_refusal s ks l = least (causes_at s (state_at ks l.addressee) (act.Hear l))
 
 -- of a part of the log of a letter's sender, the copies that its addressee's log lacks
 abbrev pub lacked_of : {Q : Type 0} → List (List KeyedVersion) → Letter Q → ℕ → ℕ → List KeyedVersion
@@ -33,7 +33,7 @@ told_by x to ls = outline_by x to (length (node_logs.log_at ls x.name))
 -- a node heard a letter, with those copies of a part of its sender's log that its own lacked. These come to the same as
 -- all of the part, and are in its log then
 pub record HasHeard {Q : Type 0} (old new : RoomyNode Q) (before after : List (List KeyedVersion)) (l : Letter Q) (start end : ℕ) : Type 0 where
-  pub node : new.state ≡ (made_by old.state (change.Deliver (letter_with l (greatest_of (lacked_of before l start end))))).node
+  pub node : new.state ≡ (made_by old.state (act.Hear (letter_with l (greatest_of (lacked_of before l start end))))).node
   pub logs : after ≡ extended before l.addressee (lacked_of before l start end)
   pub enough : joined (greatest_of (node_logs.log_at before l.addressee)) (greatest_of (lacked_of before l start end)) ≡ joined (greatest_of (node_logs.log_at before l.addressee)) (greatest_of (part (node_logs.log_at before l.sender) start end))
 
@@ -45,15 +45,15 @@ pub record IsUnheard {Q : Type 0} (old new : RoomyNode Q) (before after : List (
 -- what became of a letter to a node that has such a letter kept for it. It was heard, and how many copies it has is
 -- answered; or why it isn't heard is; or there was no room
 pub record HasMet {Q : Type 0} (s : QuorumSystem Q) (old new : RoomyNode Q) (before after : List (List KeyedVersion)) (m : SentState Q) (start : ℕ) (r : Result (Result ℕ Refusal) Refusal) : Type 0 where
-  pub refusal : IfOk r (λ t. told_refusal t ≡ refusal_of s old.state (change.Deliver m.letter))
+  pub refusal : IfOk r (λ t. told_refusal t ≡ refusal_of s old.state (act.Hear m.letter))
   pub told : IfOk r (λ t. IfOk t (λ told. told ≡ m.told))
   pub heard : IfOk r (λ t. OnOk t (HasHeard old new before after m.letter start (max start m.told)))
   pub stays : IfOk r (λ t. OnErr t (IsUnheard old new before after))
-  pub accepted : OnErr r (refusal_of s old.state (change.Deliver m.letter) ≡ None)
+  pub accepted : OnErr r (refusal_of s old.state (act.Hear m.letter) ≡ None)
   pub err : OnErr r (IsUnheard old new before after)
 
 -- the addressee of a letter heard it, with those copies of a part of its sender's log that it lacked, which come to the same
 -- as all of the part
 pub record IsHeard {Q : Type 0} (old new : List (KeptNode Q)) (l : Letter Q) (start end : ℕ) : Type 0 where
-  pub nodes : states_of new ≡ moved old l.addressee (λ x. (made_by x (change.Deliver (letter_with l (brought old l start end)))).node)
+  pub nodes : states_of new ≡ moved old l.addressee (λ x. (made_by x (act.Hear (letter_with l (brought old l start end)))).node)
   pub enough : joined (greatest_of (log_at old l.addressee)) (brought old l start end) ≡ joined (greatest_of (log_at old l.addressee)) (greatest_of (part (log_at old l.sender) start end))

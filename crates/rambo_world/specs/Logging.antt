@@ -5,8 +5,8 @@ use Rattle.rambo_tag.specs.declared.keyed_version.KeyedVersion.{KeyedVersion}
 use Rattle.rambo_tag.specs.Copies.{Copies}
 use Rattle.rambo_gossip.specs.declared.letter.Kind.{Kind}
 use Rattle.rambo_gossip.specs.declared.letter.Kind.TheVariants as kind
-use Rattle.rambo_node.specs.declared.change.Change.{Change}
-use Rattle.rambo_node.specs.declared.change.Change.TheVariants as change
+use Rattle.rambo_node.specs.Acts.{Act}
+use Rattle.rambo_node.specs.Acts as act
 
 -- the copies of gossip
 abbrev pub copies_in : {Q : Type 0} → Kind Q → Copies
@@ -14,8 +14,8 @@ copies_in kind.Join = copies.empty
 copies_in (kind.Gossip g) = g.copies
 
 -- no change but a letter brings any
-abbrev pub copies_brought : {Q : Type 0} → Change Q → Copies
-copies_brought (change.Deliver l) = copies_in l.kind
+abbrev pub copies_brought : {Q : Type 0} → Act Q → Copies
+copies_brought (act.Hear l) = copies_in l.kind
 copies_brought _ = copies.empty
 
 -- a copy, if there is one, as a list

@@ -5,7 +5,7 @@ use Rattle.rambo_names.specs.Quorums.{QuorumSystem}
 use Rattle.rambo_history.specs.declared.event.Event.{Event}
 use Rattle.rambo_history.specs.declared.operation.Answer.{Answer}
 use Rattle.rambo_history.specs.Faults.{fault_of}
-use Rattle.rambo_node.specs.declared.change.Change.{Change}
+use Rattle.rambo_node.specs.Acts.{Act}
 use Rattle.rambo_node.specs.declared.effect.Effect.{Effect}
 use Rattle.rambo_node.specs.Changes.{made_by, answer_in}
 use Rattle.rambo_node.specs.Nodes.{NodeState}
@@ -23,7 +23,7 @@ abbrev pub state : {Q : Type 0} → QuorumSystem Q → WorldOf Q → WorldState 
 state s w = run s w.founders w.steps
 
 -- the event of a change of a node, if it has one, can be appended to the history
-abbrev pub EventFits : {Q : Type 0} → WorldState Q → ℕ → Change Q → Type 0
+abbrev pub EventFits : {Q : Type 0} → WorldState Q → ℕ → Act Q → Type 0
 EventFits {Q} w n c = (x : NodeState Q) (e : Event) → node_at w n ≡ Some x → (made_by x c).deed.event ≡ Some e → fault_of w.history e ≡ None
 
 -- the answer that a call got as it went on, if it did and wasn't refused

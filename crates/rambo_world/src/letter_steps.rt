@@ -9,7 +9,6 @@ ghost use Rattle.rambo_world.specs.Direct.{pass_refusal, passed, told_refusal};
 use crate::state::State;
 use rambo_letters::Outline;
 use rambo_names::{Name, Quorums, Refusal};
-use rambo_node::Quick;
 use rambo_tag::Replica;
 
 impl<Q: Quorums, S: Replica> State<Q, S> {
@@ -21,7 +20,7 @@ impl<Q: Quorums, S: Replica> State<Q, S> {
         ensures err { OnErr result (self.new ≡ self.old) }
         ensures refused { IfErr result (λ r. r ≡ Refusal.OutOfMemory) }
     {
-        if let Err(refusal) = self.nodes.node(from).judge_quick(&Quick::Send(to)) {
+        if let Err(refusal) = self.nodes.node(from).may_send(to) {
             return Ok(Err(refusal));
         }
         self.letters.push(&self.nodes.outline(from, to))?;
@@ -62,7 +61,7 @@ impl<Q: Quorums, S: Replica> State<Q, S> {
         ensures err { OnErr result (self.new ≡ self.old) }
         ensures refused { IfErr result (λ r. r ≡ Refusal.OutOfMemory) }
     {
-        if let Err(refusal) = self.nodes.node(from).judge_quick(&Quick::Send(to)) {
+        if let Err(refusal) = self.nodes.node(from).may_send(to) {
             return Ok(Err(refusal));
         }
         let before = self.merged.of(to, from);

@@ -1,40 +1,39 @@
 //! Steps of one node.
-ghost use Rattle.std.specs.Prelude.{◌≡◌, ◌<◌, ◌++◌, ◌∷◌, [], false, None, Some, OnOk, OnErr, IfOk, IfErr};
+ghost use Rattle.std.specs.Prelude.{◌≡◌, ◌<◌, ◌++◌, ◌∷◌, [], None, Some, OnOk, OnErr, IfOk, IfErr};
 ghost use Rattle.std.specs.Vec.{vec_capacity, vec_len};
 ghost use Rattle.rambo_names.specs.Refusals.{least};
 ghost use Rattle.rambo_history.specs.Faults.{fault_of};
-ghost use Rattle.rambo_node.specs.Prepared.{quick_change};
 ghost use Rattle.rambo_run.specs.Runs.{after, result_of};
-ghost use Rattle.rambo_run.specs.Steps.{causes_at, refusal, sends, turn_at, with_event, with_mark};
+ghost use Rattle.rambo_run.specs.Steps.{causes_at, refusal, turn_at, with_event, with_mark};
 ghost use Rattle.rambo_run.specs.Told.{called};
 ghost use Rattle.rambo_run.specs.Worlds.{node_at};
 ghost use Rattle.rambo_run.specs.declared.step.Step.TheVariants as step;
 ghost use Rattle.rambo_world.specs.Worlds.{EventFits};
+ghost use Rattle.rambo_node.specs.Acts as act;
 
 use crate::state::State;
 use rambo_history::{CallId, Event, History, Op};
 use rambo_names::{Name, Quorums, Refusal};
-use rambo_node::{Change, Deed, Effect, Quick};
+use rambo_node::{Deed, Effect, Quiet};
 use rambo_sequence::Mark;
 use rambo_tag::Replica;
 
 impl<Q: Quorums, S: Replica> State<Q, S> {
-    // A node takes a change that allocates nothing, and sends no letter: what it did, or why it is refused.
-    pub(crate) fn quick(&mut self, name: Name, quick: Quick<Q>) -> Result<Effect<Q>, Refusal>
-        requires { sends (quick_change quick) ≡ false }
-        ensures ok { IfOk result (λ e. turn_at self.old name (node_at self.old name) (quick_change quick) ≡ record { world = self.new; effect = e }) }
-        ensures accepted { OnOk result (least (causes_at Q.system (node_at self.old name) (quick_change quick)) ≡ None) }
-        ensures refused { IfErr result (λ r. least (causes_at Q.system (node_at self.old name) (quick_change quick)) ≡ Some r) }
+    // A node takes a change that is quiet: what it did, or why it is refused.
+    pub(crate) fn quiet(&mut self, name: Name, quiet: Quiet<Q>) -> Result<Effect<Q>, Refusal>
+        ensures ok { IfOk result (λ e. turn_at self.old name (node_at self.old name) (act.Quietly quiet) ≡ record { world = self.new; effect = e }) }
+        ensures accepted { OnOk result (least (causes_at Q.system (node_at self.old name) (act.Quietly quiet)) ≡ None) }
+        ensures refused { IfErr result (λ r. least (causes_at Q.system (node_at self.old name) (act.Quietly quiet)) ≡ Some r) }
         ensures err { OnErr result (self.new ≡ self.old) }
     {
         let node = self.nodes.node_mut(name);
-        node.judge_quick(&quick)?;
-        Ok(node.finish_quick(quick))
+        node.may_quiet(&quiet)?;
+        Ok(node.do_quiet(quiet))
     }
 
     // A client asks a node for an operation: the call, or why it is refused.
     pub(crate) fn call(&mut self, name: Name, op: Op) -> Result<Result<CallId, Refusal>, Refusal>
-        requires fits { refusal Q.system self.old (step.Call name op) ≡ None → EventFits self.old name (Change.Call op) }
+        requires fits { refusal Q.system self.old (step.Call name op) ≡ None → EventFits self.old name (act.Call op) }
         ensures told { IfOk result (λ r. called r ≡ result_of (refusal Q.system self.old (step.Call name op)) self.old (step.Call name op)) }
         ensures after { OnOk result (self.new ≡ after Q.system self.old (step.Call name op)) }
         ensures accepted { OnErr result (refusal Q.system self.old (step.Call name op) ≡ None) }
@@ -60,7 +59,7 @@ impl<Q: Quorums, S: Replica> State<Q, S> {
         name: Name,
         op: &Op,
     ) -> Result<Result<CallId, Refusal>, Refusal>
-        requires fits { refusal Q.system self.old (step.Call name op.now) ≡ None → EventFits self.old name (Change.Call op.now) }
+        requires fits { refusal Q.system self.old (step.Call name op.now) ≡ None → EventFits self.old name (act.Call op.now) }
         ensures told { IfOk result (λ r. called r ≡ result_of (refusal Q.system self.old (step.Call name op.now)) self.old (step.Call name op.now)) }
         ensures after { OnOk result (self.new ≡ after Q.system self.old (step.Call name op.now)) }
         ensures accepted { OnErr result (refusal Q.system self.old (step.Call name op.now) ≡ None) }
@@ -81,7 +80,7 @@ impl<Q: Quorums, S: Replica> State<Q, S> {
 
     // A call goes on: what it did, or why it is refused.
     pub(crate) fn advance(&mut self, id: CallId) -> Result<Result<Effect<Q>, Refusal>, Refusal>
-        requires fits { refusal Q.system self.old (step.Advance id) ≡ None → EventFits self.old id.name (Change.Advance id) }
+        requires fits { refusal Q.system self.old (step.Advance id) ≡ None → EventFits self.old id.name (act.Advance id) }
         ensures told { IfOk result (λ r. r ≡ result_of (refusal Q.system self.old (step.Advance id)) self.old (step.Advance id)) }
         ensures after { OnOk result (self.new ≡ after Q.system self.old (step.Advance id)) }
         ensures accepted { OnErr result (refusal Q.system self.old (step.Advance id) ≡ None) }

@@ -11,6 +11,7 @@ ghost use Rattle.rambo_tag.specs.Logs.{greatest_of};
 ghost use Rattle.rambo_logs.specs.NodeLogs as node_logs;
 ghost use Rattle.rambo_logs.specs.NodeLogs.{extended, part};
 ghost use Rattle.std.specs.Option.{IsSomeAnd};
+ghost use Rattle.rambo_node.specs.Acts as act;
 ghost use Rattle.rambo_node.specs.Changes.{refusal_of, made_by, quiet_deed};
 ghost use Rattle.rambo_node.specs.Nodes.{NodeState, RoomyNode, first_node};
 ghost use Rattle.rambo_node.specs.Prepared.{IsFound};
@@ -28,7 +29,7 @@ use rambo_history::{CallId, Event, History};
 use rambo_letters::Outline;
 use rambo_logs::Logs;
 use rambo_names::{Name, Quorums, Refusal};
-use rambo_node::{Change, Deed, Found, Moving, Node};
+use rambo_node::{Deed, Found, Moving, Node};
 use rambo_run::NodeMap;
 use rambo_sequence::Mark;
 use rambo_tag::{KeyedVersion, Pack, Replica};
@@ -130,8 +131,8 @@ impl<Q: Quorums, S: Replica> Nodes<Q, S> {
     ) -> Result<(), Refusal>
         requires found { (x : NodeState Q) → state_at self.old id.name ≡ Some x → IsFound Q.system x id found }
         requires quiet { deed.old ≡ quiet_deed }
-        ensures nodes { OnOk result (states_of self.new ≡ moved self.old id.name (λ x. (made_by x (Change.Advance id)).node)) }
-        ensures deed { OnOk result ((x : NodeState Q) → state_at self.old id.name ≡ Some x → deed.new ≡ record (made_by x (Change.Advance id)).deed { copy = None }) }
+        ensures nodes { OnOk result (states_of self.new ≡ moved self.old id.name (λ x. (made_by x (act.Advance id)).node)) }
+        ensures deed { OnOk result ((x : NodeState Q) → state_at self.old id.name ≡ Some x → deed.new ≡ record (made_by x (act.Advance id)).deed { copy = None }) }
         ensures events { history.new.events ≡ history.old.events }
         ensures items { marks.new.items ≡ marks.old.items }
         ensures room { OnOk result ((e : Event) → deed.new.event ≡ Some e → 0 < history.new.room) }
@@ -245,10 +246,10 @@ fn hear<Q: Quorums, S: Replica>(
     end: usize,
 ) -> Result<Result<(), Refusal>, Refusal>
     requires join { letter.now.kind ≡ kind.Join → end ≤ start }
-    ensures told { IfOk result (λ r. told_refusal r ≡ refusal_of Q.system node.old.state (Change.Deliver letter.now)) }
+    ensures told { IfOk result (λ r. told_refusal r ≡ refusal_of Q.system node.old.state (act.Hear letter.now)) }
     ensures heard { IfOk result (λ r. OnOk r (HasHeard node.old node.new logs.old.logs logs.new.logs letter.now start end)) }
     ensures stays { IfOk result (λ r. OnErr r (IsUnheard node.old node.new logs.old.logs logs.new.logs)) }
-    ensures accepted { OnErr result (refusal_of Q.system node.old.state (Change.Deliver letter.now) ≡ None) }
+    ensures accepted { OnErr result (refusal_of Q.system node.old.state (act.Hear letter.now) ≡ None) }
     ensures refused { IfErr result (λ r. r ≡ Refusal.OutOfMemory) }
     ensures err { OnErr result (IsUnheard node.old node.new logs.old.logs logs.new.logs) }
 {
@@ -301,8 +302,8 @@ fn hear_with<Q: Quorums, S: Replica>(
     letter: &LetterOutline<'_, Q>,
     copies: Pack,
 ) -> Result<(), Refusal>
-    requires { refusal_of Q.system node.old.state (Change.Deliver letter.now) ≡ None }
-    ensures node { OnOk result (node.new.state ≡ (made_by node.old.state (Change.Deliver (letter_with letter.now copies))).node) }
+    requires { refusal_of Q.system node.old.state (act.Hear letter.now) ≡ None }
+    ensures node { OnOk result (node.new.state ≡ (made_by node.old.state (act.Hear (letter_with letter.now copies))).node) }
     ensures refused { IfErr result (λ r. r ≡ Refusal.OutOfMemory) }
     ensures err { OnErr result (node.new.state ≡ node.old.state) }
 {

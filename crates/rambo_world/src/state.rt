@@ -10,8 +10,8 @@ use rambo_history::History;
 use rambo_letters::Letters;
 use rambo_logs::MergedCounts;
 use rambo_names::{Quorums, Refusal};
-use rambo_node::{Effect, Quick};
-use rambo_run::{Step, quick_of};
+use rambo_node::Effect;
+use rambo_run::{Step, quiet_of};
 use rambo_sequence::Mark;
 use rambo_tag::Replica;
 use std::alloc::Global;
@@ -64,7 +64,7 @@ impl<Q: Quorums, S: Replica> State<Q, S> {
     {
         match step {
             Step::Call(name, op) => self.nodes.node(*name).may_call(op),
-            Step::Send(from, to) => { self.nodes.node(*from).judge_quick(&Quick::Send(*to)) }
+            Step::Send(from, to) => self.nodes.node(*from).may_send(*to),
             Step::Advance(id) => {
                 self.nodes.node(id.name).may_advance(id)?;
                 Ok(())
@@ -76,8 +76,8 @@ impl<Q: Quorums, S: Replica> State<Q, S> {
                 }
                 None => Err(Refusal::NoSuchLetter),
             },
-            _ => match quick_of(step) {
-                Some(meant) => self.nodes.node(meant.0).judge_quick(&meant.1),
+            _ => match quiet_of(step) {
+                Some(meant) => self.nodes.node(meant.0).may_quiet(&meant.1),
                 None => unreachable!(),
             },
         }
@@ -124,8 +124,8 @@ impl<Q: Quorums, S: Replica> State<Q, S> {
                 Ok(()) => Ok(Ok(Effect::Done)),
                 Err(refusal) => Ok(Err(refusal)),
             },
-            _ => match quick_of(step) {
-                Some(meant) => Ok(self.quick(meant.0, meant.1)),
+            _ => match quiet_of(step) {
+                Some(meant) => Ok(self.quiet(meant.0, meant.1)),
                 None => unreachable!(),
             },
         }

@@ -1,9 +1,8 @@
 use Rattle.std.proofs.lemmas.Grind.{common_steps}
 use Rattle.std.proofs.Common.{◌∙◌, ◌<◌, ◌≤◌, false, length, refl, sym, ap, subst, arith}
-use Rattle.rambo_run.specs.Steps.{refusal}
+use Rattle.rambo_run.specs.Steps.{refusal, meant_by}
 use Rattle.rambo_names.proofs.Sizes.{up_fits, back_fits}
 use Rattle.std.specs.Option.{option_copied}
-use Rattle.rambo_deeds.specs.Deeds.{meant_by}
 use Rattle.rambo_roll.specs.Stocks.{StockView}
 use Rattle.rambo_book.specs.Kept.{BookView, state}
 use Rattle.rambo_book.proofs.Refused.{refused_never_memory}

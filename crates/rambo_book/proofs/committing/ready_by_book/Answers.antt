@@ -5,8 +5,7 @@ use Rattle.rambo_names.specs.Refusals.{IsRefusal}
 use Rattle.rambo_names.proofs.Errors.{err_kept}
 use Rattle.rambo_names.proofs.Sizes.{up_fits, back_fits}
 use Rattle.rambo_deeds.proofs.Means.{refused_alike}
-use Rattle.rambo_run.specs.Steps.{refusal}
-use Rattle.rambo_deeds.specs.Deeds.{meant_by}
+use Rattle.rambo_run.specs.Steps.{refusal, meant_by}
 use Rattle.rambo_book.specs.Kept.{KeeperView, state}
 use Rattle.rambo_book.specs.Readying.{IsReadyIn}
 use Rattle.rambo_book.proofs.Commits.{served_inside, verdict, ready_here}

@@ -95,37 +95,37 @@ returns-in-Call-clause-effect g c = λ ch ls given counts.
     let ready = subst (IsReadyStep s v o ch) c.in-Call.is given in
     told_alone v o ch ls _ (c.finish_call.ensures.effect ∙ call_tells v o ch s c.in-Call.prepared c.into_inner.result c.into_inner.ensures ready) (none_goes v _ ready.letter)
 
-pub finish_quick-requires : goal.finish_quick-requires
-finish_quick-requires g c =
+pub do_quiet-requires : goal.do_quiet-requires
+do_quiet-requires g c =
     let s = g.Q.Quorums.system in
     let v = c.args.worker.now in
     let o = outline_of (option_copied c.args.letter) in
-    let ready = subst (IsReadyStep s v o c.requires.ready.0) c.in-Quick.is c.requires.ready.1 in
+    let ready = subst (IsReadyStep s v o c.requires.ready.0) c.in-Quiet.is c.requires.ready.1 in
     (c.requires-raw.1.1.0, ap (refusal_of s v.state) (sym ready.half) ∙ ready.accepted)
 
-pub returns-in-Quick-clause-node : goal.returns-in-Quick-clause-node
-returns-in-Quick-clause-node g c = λ ch given.
+pub returns-in-Quiet-clause-node : goal.returns-in-Quiet-clause-node
+returns-in-Quiet-clause-node g c = λ ch given.
     let s = g.Q.Quorums.system in
     let v = c.args.worker.now in
     let o = outline_of (option_copied c.args.letter) in
-    let ready = subst (IsReadyStep s v o ch) c.in-Quick.is given in
-    c.finish_quick.ensures.node ∙ ap (λ ch. (made_by v.state ch).node) (sym ready.half)
+    let ready = subst (IsReadyStep s v o ch) c.in-Quiet.is given in
+    c.do_quiet.ensures.node ∙ ap (λ ch. (made_by v.state ch).node) (sym ready.half)
 
-pub returns-in-Quick-clause-beside : goal.returns-in-Quick-clause-beside
-returns-in-Quick-clause-beside g c = λ ch given.
+pub returns-in-Quiet-clause-beside : goal.returns-in-Quiet-clause-beside
+returns-in-Quiet-clause-beside g c = λ ch given.
     let s = g.Q.Quorums.system in
     let v = c.args.worker.now in
     let o = outline_of (option_copied c.args.letter) in
-    let ready = subst (IsReadyStep s v o ch) c.in-Quick.is given in
-    c.finish_quick.ensures.beside ∙ ap (beside_after v.state v.beside) (sym ready.half)
+    let ready = subst (IsReadyStep s v o ch) c.in-Quiet.is given in
+    c.do_quiet.ensures.beside ∙ ap (beside_after v.state v.beside) (sym ready.half)
 
-pub returns-in-Quick-clause-effect : goal.returns-in-Quick-clause-effect
-returns-in-Quick-clause-effect g c = λ ch ls given counts.
+pub returns-in-Quiet-clause-effect : goal.returns-in-Quiet-clause-effect
+returns-in-Quiet-clause-effect g c = λ ch ls given counts.
     let s = g.Q.Quorums.system in
     let v = c.args.worker.now in
     let o = outline_of (option_copied c.args.letter) in
-    let ready = subst (IsReadyStep s v o ch) c.in-Quick.is given in
-    told_alone v o ch ls _ (c.finish_quick.ensures.effect ∙ ap (λ ch. (made_by v.state ch).deed.effect) (sym ready.half)) (none_goes v _ ready.letter)
+    let ready = subst (IsReadyStep s v o ch) c.in-Quiet.is given in
+    told_alone v o ch ls _ (c.do_quiet.ensures.effect ∙ ap (λ ch. (made_by v.state ch).deed.effect) (sym ready.half)) (none_goes v _ ready.letter)
 
 pub returns-in-Send-clause-kept : goal.returns-in-Send-clause-kept
 returns-in-Send-clause-kept g c = subst (λ h. Recorded (event_of h) (mark_of h) c.args.kept.now c.args.kept.now) (sym c.in-Send.is) (recorded_none c.args.kept.now)
@@ -133,8 +133,8 @@ returns-in-Send-clause-kept g c = subst (λ h. Recorded (event_of h) (mark_of h)
 pub returns-in-Hear-clause-kept : goal.returns-in-Hear-clause-kept
 returns-in-Hear-clause-kept g c = subst (λ h. Recorded (event_of h) (mark_of h) c.args.kept.now c.args.kept.now) (sym c.in-Hear.is) (recorded_none c.args.kept.now)
 
-pub returns-in-Quick-clause-kept : goal.returns-in-Quick-clause-kept
-returns-in-Quick-clause-kept g c = subst (λ h. Recorded (event_of h) (mark_of h) c.args.kept.now c.args.kept.now) (sym c.in-Quick.is) (recorded_none c.args.kept.now)
+pub returns-in-Quiet-clause-kept : goal.returns-in-Quiet-clause-kept
+returns-in-Quiet-clause-kept g c = subst (λ h. Recorded (event_of h) (mark_of h) c.args.kept.now c.args.kept.now) (sym c.in-Quiet.is) (recorded_none c.args.kept.now)
 
 pub returns-in-Call-clause-kept : goal.returns-in-Call-clause-kept
 returns-in-Call-clause-kept g c =

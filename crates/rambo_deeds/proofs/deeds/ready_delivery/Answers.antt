@@ -3,7 +3,7 @@ use Rattle.std.specs.Option.{option_copied}
 use Rattle.rambo_names.specs.Refusals.{IsRefusal}
 use Rattle.rambo_names.proofs.Errors.{err_kept}
 use Rattle.rambo_node.specs.Changes.{refusal_of}
-use Rattle.rambo_node.specs.declared.change.Change.TheVariants as change
+use Rattle.rambo_node.specs.Acts as act
 use Rattle.rambo_run.specs.Steps.{delivery}
 use Rattle.rambo_deeds.specs.declared.half.Half.TheVariants as half
 use Rattle.rambo_deeds.specs.Deeds.{judged, outline_of, IsReadyStep}
@@ -24,10 +24,10 @@ returns-clause-ready g c = λ m is.
     let v = c.ready_letter.new.node in
     let l = c.in-Some.letter.now in
     let found = c.in_ok-hearing.ensures in
-    let ok = ap (λ x. refusal_of s x (change.Deliver l)) found.same ∙ found.judged in
+    let ok = ap (λ x. refusal_of s x (act.Hear l)) found.same ∙ found.judged in
     let came = ap (λ o. outline_of (option_copied o)) c.in-Some.is in
     subst (λ ch. IsReadyStep s v (outline_of (option_copied c.args.letter)) ch (half.Hear c.in_ok-hearing.hearing)) (delivers l _ m (sym (ap option_copied c.in-Some.is)) is)
-    (subst (λ o. IsReadyStep s v o (change.Deliver l) (half.Hear c.in_ok-hearing.hearing)) (sym came) (hear_ready s v l c.in_ok-hearing.hearing ok found.hearing))
+    (subst (λ o. IsReadyStep s v o (act.Hear l) (half.Hear c.in_ok-hearing.hearing)) (sym came) (hear_ready s v l c.in_ok-hearing.hearing ok found.hearing))
 
 pub returns-in_err-hearing-clause-refused : goal.returns-in_err-hearing-clause-refused
 returns-in_err-hearing-clause-refused g c =

@@ -16,10 +16,10 @@ new-requires g c = standing_fits 0 g.row.Q g.Q.Quorums g.Q.PartialEq g.met.Q.Quo
 
 pub returns-clause-ready : goal.returns-clause-ready
 returns-clause-ready g c =
-    send_ready g.Q.Quorums.system c.args.node.now c.args.to c.in_ok-letter.letter _ c.in_ok-copies.copies (subst IsName c.number-number.ensures.value c.number-number.ensures.range) c.in_ok-judge_quick.ensures.ok c.in_ok-letter.ensures.same c.outline_for-outline.ensures c.in_ok-copies.ensures.since
+    send_ready g.Q.Quorums.system c.args.node.now c.args.to c.in_ok-letter.letter _ c.in_ok-copies.copies (subst IsName c.number-number.ensures.value c.number-number.ensures.range) c.in_ok-may_send.ensures.ok c.in_ok-letter.ensures.same c.outline_for-outline.ensures c.in_ok-copies.ensures.since
 
-pub judge_quick-requires : goal.judge_quick-requires
-judge_quick-requires g c = assumption
+pub may_send-requires : goal.may_send-requires
+may_send-requires g c = assumption
 
 pub returns-in_err-copies-clause-judged : goal.returns-in_err-copies-clause-judged
 returns-in_err-copies-clause-judged g c = grind (arith, common_steps)

@@ -12,8 +12,8 @@ use Rattle.rambo_node.specs.Changes.{refusal_of}
 use Rattle.rambo_node.specs.Nodes.{NodeState}
 use Rattle.rambo_node.specs.Prepared.{IsHearing}
 use Rattle.rambo_node.proofs.Memory.{OnOk-always}
-use Rattle.rambo_node.specs.declared.change.Change.TheVariants as change
 use Rattle.rambo_node.proofs.Readiness.{copies_judged}
+use Rattle.rambo_node.specs.Acts as act
 use Rattle.rambo_deeds.proofs.Outlines.{letter_again}
 use Rattle.rambo_deeds.proofs.letter.ready_letter.Goals as goal
 
@@ -24,8 +24,8 @@ pub ready_outlined-requires : goal.ready_outlined-requires
 ready_outlined-requires g c = (c.requires-raw.1.1, c.in_ok-may_hear_outlined.ensures.ok)
 
 -- a letter is refused as its outline is
-abbrev alike : {Q : Type 0} (s : QuorumSystem Q) (x : NodeState Q) (l o : Letter Q) → o ≡ letter_with l map.empty → refusal_of s x (change.Deliver o) ≡ refusal_of s x (change.Deliver l)
-alike s x l o is = ap (λ (n : Letter _). refusal_of s x (change.Deliver n)) is ∙ copies_judged s x l map.empty
+abbrev alike : {Q : Type 0} (s : QuorumSystem Q) (x : NodeState Q) (l o : Letter Q) → o ≡ letter_with l map.empty → refusal_of s x (act.Hear o) ≡ refusal_of s x (act.Hear l)
+alike s x l o is = ap (λ (n : Letter _). refusal_of s x (act.Hear n)) is ∙ copies_judged s x l map.empty
 
 -- what is told of the one is told of the other
 told_as : {o p : Option Refusal} {r : Refusal} → o ≡ p → o ≡ Some r → IsRefusal p r
@@ -35,7 +35,7 @@ pub returns-in_err-may_hear_outlined-clause-refused : goal.returns-in_err-may_he
 returns-in_err-may_hear_outlined-clause-refused g c =
     let s = g.Q.Quorums.system in
     let x = c.args.node.now.state in
-    err_kept c.from_residual.result (IsRefusal (refusal_of s x (change.Deliver c.args.letter.now))) _ c.from_residual.ensures.1
+    err_kept c.from_residual.result (IsRefusal (refusal_of s x (act.Hear c.args.letter.now))) _ c.from_residual.ensures.1
     (told_as (alike s x c.args.letter.now _ c.outline-outline.ensures) c.in_err-may_hear_outlined.ensures.refused)
 
 pub returns-clause-judged : goal.returns-clause-judged
@@ -54,7 +54,7 @@ lacks {r = r} none out = subst (λ p. IsRefusal p r) (sym none) out
 pub returns-in_err-copies-clause-refused : goal.returns-in_err-copies-clause-refused
 returns-in_err-copies-clause-refused g c =
     let none = sym (alike g.Q.Quorums.system c.args.node.now.state c.args.letter.now _ c.outline-outline.ensures) ∙ c.in_ok-may_hear_outlined.ensures.ok in
-    err_kept c.from_residual-in_err-copies.result (IsRefusal (refusal_of g.Q.Quorums.system c.args.node.now.state (change.Deliver c.args.letter.now))) _ c.from_residual-in_err-copies.ensures.1
+    err_kept c.from_residual-in_err-copies.result (IsRefusal (refusal_of g.Q.Quorums.system c.args.node.now.state (act.Hear c.args.letter.now))) _ c.from_residual-in_err-copies.ensures.1
     (lacks none c.in_err-copies.ensures.refused)
 
 pub returns-clause-hearing : goal.returns-clause-hearing

@@ -3,7 +3,7 @@ use Rattle.std.specs.Option.{IsSomeAnd}
 use Rattle.rambo_gossip.specs.Letters.{letter_with}
 use Rattle.rambo_logs.specs.NodeLogs.{extended}
 use Rattle.rambo_node.specs.Changes.{made_by}
-use Rattle.rambo_node.specs.declared.change.Change.TheVariants as change
+use Rattle.rambo_node.specs.Acts as act
 use Rattle.rambo_world.specs.Hearing.{lacked_of}
 use Rattle.rambo_world.proofs.Heard.{lacks_nothing}
 use Rattle.rambo_world.proofs.nodes.hear.Goals as goal
@@ -20,7 +20,7 @@ returns-clause-heard g c =
     let at = ap (λ l. l.addressee) c.letter.view_is in
     let put = c.take_on.ensures more (λ within. c.in_ok-copies.ensures.brought within ∙ ap (λ n. Some (record { to = n; copies = more })) (sym at)) (lacks_nothing ls l c.args.start c.args.end) in
     record {
-      node = c.in_ok-hear_with.ensures.node ∙ ap (λ p. (made_by c.args.node.now.state (change.Deliver (letter_with l p))).node) c.in_ok-copies.ensures.given;
+      node = c.in_ok-hear_with.ensures.node ∙ ap (λ p. (made_by c.args.node.now.state (act.Hear (letter_with l p))).node) c.in_ok-copies.ensures.given;
       logs = put ∙ λ i. extended (c.bring.ensures.same i) (at i) more;
       enough = c.in_ok-copies.ensures.enough;
     }

@@ -1,7 +1,7 @@
 use Rattle.std.proofs.Common.{◌∙◌, ap}
 use Rattle.rambo_gossip.specs.Letters.{letter_with}
 use Rattle.rambo_node.specs.Changes.{made_by}
-use Rattle.rambo_node.specs.declared.change.Change.TheVariants as change
+use Rattle.rambo_node.specs.Acts as act
 use Rattle.rambo_world.proofs.Heard.{ready_bare, other_heard}
 use Rattle.rambo_world.proofs.nodes.hear_with.Goals as goal
 
@@ -15,4 +15,4 @@ returns-clause-node g c =
     let l = c.args.letter.now in
     let own = c.in_ok-hearing.hearing.copies in
     c.finish_outlined.ensures.state ∙ other_heard c.ready_outlined.new.self.state l own c.args.copies c.in_ok-hearing.ensures.hearing.alike
-    ∙ ap (λ x. (made_by x (change.Deliver (letter_with l c.args.copies))).node) c.ready_outlined.ensures.same
+    ∙ ap (λ x. (made_by x (act.Hear (letter_with l c.args.copies))).node) c.ready_outlined.ensures.same

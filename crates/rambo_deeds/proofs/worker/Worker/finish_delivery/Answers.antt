@@ -3,12 +3,12 @@ use Rattle.std.specs.FinMap as map
 use Rattle.rambo_tag.specs.Copies.{Copies}
 use Rattle.rambo_gossip.specs.declared.letter.Letter.{Letter}
 use Rattle.rambo_gossip.specs.Letters.{letter_with}
-use Rattle.rambo_node.specs.declared.change.Change.TheVariants as change
 use Rattle.rambo_node.specs.FullNodes.{beside_after}
 use Rattle.rambo_node.specs.Hearing.{heard_letter}
 use Rattle.rambo_node.specs.Nodes.{NodeState, RoomyNode}
 use Rattle.rambo_node.specs.Prepared.{IsReadyKind}
 use Rattle.rambo_node.proofs.Readiness.{ready_apart}
+use Rattle.rambo_node.specs.Acts as act
 use Rattle.rambo_names.proofs.Sizes.{up_fits, back_fits}
 use Rattle.rambo_deeds.proofs.Outlines.{letter_twice}
 use Rattle.rambo_deeds.proofs.worker.Worker.finish_delivery.Goals as goal
@@ -26,9 +26,9 @@ told_heard : {Q : Type 0} (x y : NodeState Q) (l o : Letter Q) (copies : Copies)
 told_heard x y l o copies same outline = (λ i. heard_letter (same i) (letter_with (outline i) copies)) ∙ ap (heard_letter y) (letter_twice l map.empty copies)
 
 told_beside : {Q : Type 0} (v w : RoomyNode Q) (l o : Letter Q) (copies : Copies) → v ≡ w → o ≡ letter_with l map.empty
-    → beside_after v.state v.beside (change.Deliver (letter_with o copies)) ≡ beside_after w.state w.beside (change.Deliver (letter_with l copies))
+    → beside_after v.state v.beside (act.Hear (letter_with o copies)) ≡ beside_after w.state w.beside (act.Hear (letter_with l copies))
 told_beside v w l o copies same outline =
-    (λ i. beside_after (same i).state (same i).beside (change.Deliver (letter_with (outline i) copies))) ∙ ap (λ l. beside_after w.state w.beside (change.Deliver l)) (letter_twice l map.empty copies)
+    (λ i. beside_after (same i).state (same i).beside (act.Hear (letter_with (outline i) copies))) ∙ ap (λ l. beside_after w.state w.beside (act.Hear l)) (letter_twice l map.empty copies)
 
 pub returns-clause-node : goal.returns-clause-node
 returns-clause-node g c =

@@ -10,8 +10,8 @@ calls-requires g c =
     let calls = back_fits _ _ _ (next _ _ _ _ (up_fits _ _ _ node)) in
     (node, variant_fits _ _ _ _ (back_fits _ _ _ (up_fits _ _ _ calls)))
 
-pub judge_quick-requires : goal.judge_quick-requires
-judge_quick-requires g c = back_fits _ _ _ (up_fits _ _ _ c.requires-raw.1.1)
+pub may_quiet-requires : goal.may_quiet-requires
+may_quiet-requires g c = back_fits _ _ _ (up_fits _ _ _ c.requires-raw.1.1)
 
-pub judge_quick-requires-else-goes_on : goal.judge_quick-requires-else-goes_on
-judge_quick-requires-else-goes_on g c = back_fits _ _ _ (up_fits _ _ _ c.requires-raw.1.1)
+pub may_quiet-requires-else-goes_on : goal.may_quiet-requires-else-goes_on
+may_quiet-requires-else-goes_on g c = back_fits _ _ _ (up_fits _ _ _ c.requires-raw.1.1)

@@ -1,13 +1,13 @@
 use Rattle.std.proofs.Common.{None, IfOk, ap, sym, ◌∙◌, subst}
 use Rattle.std.specs.Option.{option_copied}
-use Rattle.rambo_node.specs.declared.change.Change.TheVariants as change
 use Rattle.rambo_node.specs.Nodes.{RoomyNode}
-use Rattle.rambo_node.specs.Prepared.{quick_change}
-use Rattle.rambo_run.proofs.QuickSteps.{quick_else}
+use Rattle.rambo_node.specs.Acts as act
+use Rattle.rambo_run.proofs.QuietSteps.{quiet_else}
 use Rattle.rambo_names.proofs.Sizes.{up_fits, back_fits}
-use Rattle.rambo_deeds.specs.Deeds.{meant_by, IsReadyStep}
+use Rattle.rambo_run.specs.Steps.{meant_by}
+use Rattle.rambo_deeds.specs.Deeds.{IsReadyStep}
 use Rattle.rambo_letters.proofs.Fitting.{standing_fits}
-use Rattle.rambo_deeds.proofs.Means.{cleared, told, ready_after, cleared_as, told_as, ready_as, quick_by, quick_silent}
+use Rattle.rambo_deeds.proofs.Means.{cleared, told, ready_after, cleared_as, told_as, ready_as, quiet_by}
 use Rattle.rambo_deeds.proofs.worker.Worker.ready.Goals as goal
 
 pub ready_send-requires : goal.ready_send-requires
@@ -22,58 +22,58 @@ ready_advance-requires g c = back_fits _ _ _ (up_fits _ _ _ c.requires-raw.1.1)
 pub ready_delivery-requires : goal.ready_delivery-requires
 ready_delivery-requires g c = back_fits _ _ _ (up_fits _ _ _ c.requires-raw.1.1)
 
-pub ready_quick-requires : goal.ready_quick-requires
-ready_quick-requires g c = (back_fits _ _ _ (up_fits _ _ _ c.requires-raw.1.1), quick_silent c.args.step.now c.in-Some.meant (sym c.quick_of.ensures ∙ c.in-Some.is))
+pub ready_quiet-requires : goal.ready_quiet-requires
+ready_quiet-requires g c = back_fits _ _ _ (up_fits _ _ _ c.requires-raw.1.1)
 
 pub unreachable-requires : goal.unreachable-requires
 unreachable-requires g c =
     let other = c.in_default in
-    quick_else c.args.step.now (sym c.quick_of.ensures ∙ c.in-None.is) other.not-Call other.not-Send other.not-Deliver other.not-Advance
+    quiet_else c.args.step.now (sym c.quiet_of.ensures ∙ c.in-None.is) other.not-Call other.not-Send other.not-Deliver other.not-Advance
 
 pub returns-in-Call-clause-judged : goal.returns-in-Call-clause-judged
 returns-in-Call-clause-judged g c =
     let o = option_copied c.args.letter in
-    cleared g.Q.Quorums.system c.self.inside.node.state c.args.self.now.state (ap (λ (v : RoomyNode _). v.state) c.self.view_is) o c.args.step.now (change.Call c.in-Call.op) c.ready_call.result (c.in-Call.field-0, ap (meant_by o) c.in-Call.is) c.ready_call.ensures.judged
+    cleared g.Q.Quorums.system c.self.inside.node.state c.args.self.now.state (ap (λ (v : RoomyNode _). v.state) c.self.view_is) o c.args.step.now (act.Call c.in-Call.op) c.ready_call.result (c.in-Call.field-0, ap (meant_by o) c.in-Call.is) c.ready_call.ensures.judged
 
 pub returns-in-Call-clause-refused : goal.returns-in-Call-clause-refused
 returns-in-Call-clause-refused g c =
     let o = option_copied c.args.letter in
-    told g.Q.Quorums.system c.self.inside.node.state c.args.self.now.state (ap (λ (v : RoomyNode _). v.state) c.self.view_is) o c.args.step.now (change.Call c.in-Call.op) c.ready_call.result (c.in-Call.field-0, ap (meant_by o) c.in-Call.is) c.ready_call.ensures.refused
+    told g.Q.Quorums.system c.self.inside.node.state c.args.self.now.state (ap (λ (v : RoomyNode _). v.state) c.self.view_is) o c.args.step.now (act.Call c.in-Call.op) c.ready_call.result (c.in-Call.field-0, ap (meant_by o) c.in-Call.is) c.ready_call.ensures.refused
 
 pub returns-in-Call-clause-ready : goal.returns-in-Call-clause-ready
 returns-in-Call-clause-ready g c =
     let o = option_copied c.args.letter in
-    ready_after g.Q.Quorums.system c.ready_call.new.node o c.args.step.now (change.Call c.in-Call.op) c.ready_call.result (c.in-Call.field-0, ap (meant_by o) c.in-Call.is) c.ready_call.ensures.ready
+    ready_after g.Q.Quorums.system c.ready_call.new.node o c.args.step.now (act.Call c.in-Call.op) c.ready_call.result (c.in-Call.field-0, ap (meant_by o) c.in-Call.is) c.ready_call.ensures.ready
 
 pub returns-in-Send-clause-judged : goal.returns-in-Send-clause-judged
 returns-in-Send-clause-judged g c =
     let o = option_copied c.args.letter in
-    cleared g.Q.Quorums.system c.self.inside.node.state c.args.self.now.state (ap (λ (v : RoomyNode _). v.state) c.self.view_is) o c.args.step.now (change.Send c.in-Send.to) c.ready_send.result (c.in-Send.field-0, ap (meant_by o) c.in-Send.is) c.ready_send.ensures.judged
+    cleared g.Q.Quorums.system c.self.inside.node.state c.args.self.now.state (ap (λ (v : RoomyNode _). v.state) c.self.view_is) o c.args.step.now (act.Send c.in-Send.to) c.ready_send.result (c.in-Send.field-0, ap (meant_by o) c.in-Send.is) c.ready_send.ensures.judged
 
 pub returns-in-Send-clause-refused : goal.returns-in-Send-clause-refused
 returns-in-Send-clause-refused g c =
     let o = option_copied c.args.letter in
-    told g.Q.Quorums.system c.self.inside.node.state c.args.self.now.state (ap (λ (v : RoomyNode _). v.state) c.self.view_is) o c.args.step.now (change.Send c.in-Send.to) c.ready_send.result (c.in-Send.field-0, ap (meant_by o) c.in-Send.is) c.ready_send.ensures.refused
+    told g.Q.Quorums.system c.self.inside.node.state c.args.self.now.state (ap (λ (v : RoomyNode _). v.state) c.self.view_is) o c.args.step.now (act.Send c.in-Send.to) c.ready_send.result (c.in-Send.field-0, ap (meant_by o) c.in-Send.is) c.ready_send.ensures.refused
 
 pub returns-in-Send-clause-ready : goal.returns-in-Send-clause-ready
 returns-in-Send-clause-ready g c =
     let o = option_copied c.args.letter in
-    ready_after g.Q.Quorums.system c.self.inside.node o c.args.step.now (change.Send c.in-Send.to) c.ready_send.result (c.in-Send.field-0, ap (meant_by o) c.in-Send.is) c.ready_send.ensures.ready
+    ready_after g.Q.Quorums.system c.self.inside.node o c.args.step.now (act.Send c.in-Send.to) c.ready_send.result (c.in-Send.field-0, ap (meant_by o) c.in-Send.is) c.ready_send.ensures.ready
 
 pub returns-in-Advance-clause-judged : goal.returns-in-Advance-clause-judged
 returns-in-Advance-clause-judged g c =
     let o = option_copied c.args.letter in
-    cleared g.Q.Quorums.system c.self.inside.node.state c.args.self.now.state (ap (λ (v : RoomyNode _). v.state) c.self.view_is) o c.args.step.now (change.Advance c.in-Advance.id) c.ready_advance.result (c.in-Advance.id.name, ap (meant_by o) c.in-Advance.is) c.ready_advance.ensures.judged
+    cleared g.Q.Quorums.system c.self.inside.node.state c.args.self.now.state (ap (λ (v : RoomyNode _). v.state) c.self.view_is) o c.args.step.now (act.Advance c.in-Advance.id) c.ready_advance.result (c.in-Advance.id.name, ap (meant_by o) c.in-Advance.is) c.ready_advance.ensures.judged
 
 pub returns-in-Advance-clause-refused : goal.returns-in-Advance-clause-refused
 returns-in-Advance-clause-refused g c =
     let o = option_copied c.args.letter in
-    told g.Q.Quorums.system c.self.inside.node.state c.args.self.now.state (ap (λ (v : RoomyNode _). v.state) c.self.view_is) o c.args.step.now (change.Advance c.in-Advance.id) c.ready_advance.result (c.in-Advance.id.name, ap (meant_by o) c.in-Advance.is) c.ready_advance.ensures.refused
+    told g.Q.Quorums.system c.self.inside.node.state c.args.self.now.state (ap (λ (v : RoomyNode _). v.state) c.self.view_is) o c.args.step.now (act.Advance c.in-Advance.id) c.ready_advance.result (c.in-Advance.id.name, ap (meant_by o) c.in-Advance.is) c.ready_advance.ensures.refused
 
 pub returns-in-Advance-clause-ready : goal.returns-in-Advance-clause-ready
 returns-in-Advance-clause-ready g c =
     let o = option_copied c.args.letter in
-    ready_after g.Q.Quorums.system c.ready_advance.new.node o c.args.step.now (change.Advance c.in-Advance.id) c.ready_advance.result (c.in-Advance.id.name, ap (meant_by o) c.in-Advance.is) c.ready_advance.ensures.ready
+    ready_after g.Q.Quorums.system c.ready_advance.new.node o c.args.step.now (act.Advance c.in-Advance.id) c.ready_advance.result (c.in-Advance.id.name, ap (meant_by o) c.in-Advance.is) c.ready_advance.ensures.ready
 
 pub returns-in-Deliver-clause-judged : goal.returns-in-Deliver-clause-judged
 returns-in-Deliver-clause-judged g c =
@@ -92,7 +92,7 @@ returns-in-Some-clause-judged g c =
     let o = option_copied c.args.letter in
     let meant = c.in-Some.meant in
     let q = meant.1 in
-    cleared g.Q.Quorums.system c.self.inside.node.state c.args.self.now.state (ap (λ (v : RoomyNode _). v.state) c.self.view_is) o st (quick_change q) c.ready_quick.result (quick_by o st meant (sym c.quick_of.ensures ∙ c.in-Some.is)) c.ready_quick.ensures.judged
+    cleared g.Q.Quorums.system c.self.inside.node.state c.args.self.now.state (ap (λ (v : RoomyNode _). v.state) c.self.view_is) o st (act.Quietly q) c.ready_quiet.result (quiet_by o st meant (sym c.quiet_of.ensures ∙ c.in-Some.is)) c.ready_quiet.ensures.judged
 
 pub returns-in-Some-clause-refused : goal.returns-in-Some-clause-refused
 returns-in-Some-clause-refused g c =
@@ -100,7 +100,7 @@ returns-in-Some-clause-refused g c =
     let o = option_copied c.args.letter in
     let meant = c.in-Some.meant in
     let q = meant.1 in
-    told g.Q.Quorums.system c.self.inside.node.state c.args.self.now.state (ap (λ (v : RoomyNode _). v.state) c.self.view_is) o st (quick_change q) c.ready_quick.result (quick_by o st meant (sym c.quick_of.ensures ∙ c.in-Some.is)) c.ready_quick.ensures.refused
+    told g.Q.Quorums.system c.self.inside.node.state c.args.self.now.state (ap (λ (v : RoomyNode _). v.state) c.self.view_is) o st (act.Quietly q) c.ready_quiet.result (quiet_by o st meant (sym c.quiet_of.ensures ∙ c.in-Some.is)) c.ready_quiet.ensures.refused
 
 pub returns-in-Some-clause-ready : goal.returns-in-Some-clause-ready
 returns-in-Some-clause-ready g c =
@@ -109,5 +109,5 @@ returns-in-Some-clause-ready g c =
     let o = option_copied c.args.letter in
     let meant = c.in-Some.meant in
     let q = meant.1 in
-    let quick = c.ready_quick in
-    ready_after s c.args.self.now o st (quick_change q) quick.result (quick_by o st meant (sym c.quick_of.ensures ∙ c.in-Some.is)) (subst (λ v. IfOk quick.result (IsReadyStep s v None (quick_change q))) c.self.view_is quick.ensures.ready)
+    let quiet = c.ready_quiet in
+    ready_after s c.args.self.now o st (act.Quietly q) quiet.result (quiet_by o st meant (sym c.quiet_of.ensures ∙ c.in-Some.is)) (subst (λ v. IfOk quiet.result (IsReadyStep s v None (act.Quietly q))) c.self.view_is quiet.ensures.ready)

@@ -1,9 +1,9 @@
 use Rattle.std.proofs.Common.{refl, ◌∙◌}
 use Rattle.rambo_node.specs.Changes.{made_by}
 use Rattle.rambo_node.specs.FullNodes.{beside_after}
-use Rattle.rambo_node.specs.declared.change.Change.TheVariants as change
 use Rattle.rambo_names.proofs.Errors.{err_ok, err_if_ok, on_err}
 use Rattle.rambo_node.proofs.node.Node.advance.Goals as goal
+use Rattle.rambo_node.specs.Acts as act
 
 pub drop-deed-requires : goal.drop-deed-requires
 drop-deed-requires g c = assumption
@@ -41,12 +41,12 @@ returns-clause-judged g c = c.in_ok-found.ensures.ok.accepted
 pub returns-clause-node : goal.returns-clause-node
 returns-clause-node g c =
     let m = c.in_ok-ready_advance.ensures in
-    c.finish_advance.ensures.node ∙ λ i. (made_by (m.same i) (change.Advance (m.id i))).node
+    c.finish_advance.ensures.node ∙ λ i. (made_by (m.same i) (act.Advance (m.id i))).node
 
 pub returns-clause-beside : goal.returns-clause-beside
 returns-clause-beside g c =
     let m = c.in_ok-ready_advance.ensures in
-    c.finish_advance.ensures.beside ∙ λ i. beside_after (m.same i) (m.beside i) (change.Advance (m.id i))
+    c.finish_advance.ensures.beside ∙ λ i. beside_after (m.same i) (m.beside i) (act.Advance (m.id i))
 
 pub returns-in_err-found-clause-beside : goal.returns-in_err-found-clause-beside
 returns-in_err-found-clause-beside g c = err_ok c.from_residual.result _ _ c.from_residual.ensures.1

@@ -1,9 +1,9 @@
 use Rattle.std.proofs.Common.{◌≡◌, ◌+◌, None, refl, sym, ap, ◌∙◌, subst}
 use Rattle.rambo_node.specs.Changes.{refusal_of, made_by}
 use Rattle.rambo_node.specs.FullNodes.{beside_after}
-use Rattle.rambo_node.specs.declared.change.Change.TheVariants as change
 use Rattle.rambo_names.proofs.Errors.{err_ok, err_if_ok, on_err}
 use Rattle.rambo_node.proofs.node.Node.call.Goals as goal
+use Rattle.rambo_node.specs.Acts as act
 
 pub drop-op-requires : goal.drop-op-requires
 drop-op-requires g c = assumption
@@ -29,15 +29,15 @@ ready_call-requires g c = c.requires-raw.1.1
 pub finish_call-requires : goal.finish_call-requires
 finish_call-requires g c =
     let room = c.in_ok-ready_call.ensures in
-    (c.requires-raw.1.1, (subst (λ x. refusal_of g.Q.Quorums.system x (change.Call c.args.op) ≡ None) (sym room.same) c.in_ok-may_call.ensures.ok, room.ok))
+    (c.requires-raw.1.1, (subst (λ x. refusal_of g.Q.Quorums.system x (act.Call c.args.op) ≡ None) (sym room.same) c.in_ok-may_call.ensures.ok, room.ok))
 
 pub returns-clause-node : goal.returns-clause-node
-returns-clause-node g c = c.finish_call.ensures.node ∙ ap (λ x. (made_by x (change.Call c.args.op)).node) c.in_ok-ready_call.ensures.same
+returns-clause-node g c = c.finish_call.ensures.node ∙ ap (λ x. (made_by x (act.Call c.args.op)).node) c.in_ok-ready_call.ensures.same
 
 pub returns-clause-beside : goal.returns-clause-beside
 returns-clause-beside g c =
     let room = c.in_ok-ready_call.ensures in
-    c.finish_call.ensures.beside ∙ λ i. beside_after (room.same i) (room.beside i) (change.Call c.args.op)
+    c.finish_call.ensures.beside ∙ λ i. beside_after (room.same i) (room.beside i) (act.Call c.args.op)
 
 pub returns-clause-id : goal.returns-clause-id
 returns-clause-id g c = c.finish_call.ensures.id ∙ ap (λ x. record { name = x.name; number = x.made + 1 }) c.in_ok-ready_call.ensures.same

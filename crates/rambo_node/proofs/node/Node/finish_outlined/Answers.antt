@@ -5,9 +5,9 @@ use Rattle.rambo_node.specs.Hearing.{heard_kind, heard_letter}
 use Rattle.rambo_gossip.specs.Letters.{letter_with}
 use Rattle.rambo_node.specs.FullNodes.{beside_after, beside_heard}
 use Rattle.rambo_node.specs.Prepared.{IsReadyKind}
-use Rattle.rambo_node.specs.declared.change.Change.TheVariants as change
 use Rattle.rambo_node.proofs.Besides.{join_beside}
 use Rattle.rambo_node.proofs.node.Node.finish_outlined.Goals as goal
+use Rattle.rambo_node.specs.Acts as act
 
 pub returns-in-None-clause-state : goal.returns-in-None-clause-state
 returns-in-None-clause-state g c =
@@ -38,7 +38,7 @@ returns-in-None-clause-beside g c =
     let copies = c.args.hearing.copies in
     c.meet.ensures.beside ∙ sym (join_beside v.state v.beside j)
     ∙ sym (ap (λ k. beside_heard v.state v.beside j (kind_with (outlined k) copies)) c.in-None.is)
-    ∙ ap (λ l. beside_after v.state v.beside (change.Deliver (letter_with l copies))) c.outline.view_is
+    ∙ ap (λ l. beside_after v.state v.beside (act.Hear (letter_with l copies))) c.outline.view_is
 
 pub returns-in-Some-clause-beside : goal.returns-in-Some-clause-beside
 returns-in-Some-clause-beside g c =
@@ -47,4 +47,4 @@ returns-in-Some-clause-beside g c =
     let copies = c.args.hearing.copies in
     c.finish_gossip.ensures.beside
     ∙ sym (ap (λ k. beside_heard v.state v.beside j (kind_with (outlined k) copies)) c.in-Some.is)
-    ∙ ap (λ l. beside_after v.state v.beside (change.Deliver (letter_with l copies))) c.outline.view_is
+    ∙ ap (λ l. beside_after v.state v.beside (act.Hear (letter_with l copies))) c.outline.view_is

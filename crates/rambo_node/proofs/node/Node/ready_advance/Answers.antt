@@ -6,9 +6,9 @@ use Rattle.rambo_names.proofs.Errors.{on_err}
 use Rattle.rambo_node.specs.Changes.{made_by}
 use Rattle.rambo_node.specs.Kept.{answered_from}
 use Rattle.rambo_node.specs.Prepared.{IsFound, IsMoving, HasRoomFor, put_by}
-use Rattle.rambo_node.specs.declared.change.Change.TheVariants as change
 use Rattle.rambo_node.proofs.Readiness.{found_there, found_asked, found_next, found_before, query_tells, answer_tells, query_takes, answer_takes}
 use Rattle.rambo_node.proofs.node.Node.ready_advance.Goals as goal
+use Rattle.rambo_node.specs.Acts as act
 
 pub tell_query-requires : goal.tell_query-requires
 tell_query-requires g c =
@@ -43,7 +43,7 @@ returns-in-Some-clause-deed g c =
     let same = c.in_ok-room_at.ensures.same in
     let found = subst (λ y. IsFound s y m.id m.found) (sym same) c.requires.found in
     let asked = found_asked s x m.id m.found found (Some o) (sym (ap option_copied c.in-Some.is) ∙ c.query_at.ensures) in
-    on_ok_weaker c.tell_query.result (λ e. e ∙ query_tells x m.id o asked ∙ ap (λ y. (made_by y (change.Advance m.id)).deed) same) c.tell_query.ensures.deed
+    on_ok_weaker c.tell_query.result (λ e. e ∙ query_tells x m.id o asked ∙ ap (λ y. (made_by y (act.Advance m.id)).deed) same) c.tell_query.ensures.deed
 
 pub returns-in-Some-clause-id : goal.returns-in-Some-clause-id
 returns-in-Some-clause-id g c = on_ok_weaker c.tell_query.result (λ e. ap (λ m. m.id) e) c.tell_query.ensures.moving
@@ -74,7 +74,7 @@ returns-in-None-clause-deed g c =
     let round = found_asked s x m.id m.found found None (sym (ap option_copied c.in-None.is) ∙ c.query_at.ensures) in
     on_ok_weaker c.tell_answer.result (λ e.
     e ∙ ap (λ n. answered_from m.id (slice_get x.calls n)) found.own ∙ answer_tells x m.id (found_there s x m.id m.found found) round
-    ∙ ap (λ y. (made_by y (change.Advance m.id)).deed) same) c.tell_answer.ensures.deed
+    ∙ ap (λ y. (made_by y (act.Advance m.id)).deed) same) c.tell_answer.ensures.deed
 
 pub query_at-requires : goal.query_at-requires
 query_at-requires g c = assumption

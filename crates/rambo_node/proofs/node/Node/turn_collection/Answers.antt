@@ -36,7 +36,7 @@ returns-in-Some-Propagating-clause-effect g c =
     let x = c.args.self.now.state in
     let s = g.Q.Quorums.system in
     let met = sym (c.would_advance.ensures ∙ ap (λ v. move_of s v.state.map c.args.collection) c.self.view_is) ∙ c.in-Some-Propagating.is ∙ ap Some c.in-Some-Propagating.field-0-is in
-    c.move_collection.ensures.effect ∙ sym (ap (λ v. (collection_turned x c.args.collection v).deed.effect) (same_move s x.map c.args.collection Propagating met))
+    c.move_collection.ensures.effect ∙ sym (ap (λ v. (collection_turned x c.args.collection v).effect) (same_move s x.map c.args.collection Propagating met))
 
 pub returns-in-Some-Done-clause-node : goal.returns-in-Some-Done-clause-node
 returns-in-Some-Done-clause-node g c =
@@ -50,7 +50,7 @@ returns-in-Some-Done-clause-effect g c =
     let x = c.args.self.now.state in
     let s = g.Q.Quorums.system in
     let met = sym (c.would_advance.ensures ∙ ap (λ v. move_of s v.state.map c.args.collection) c.self.view_is) ∙ c.in-Some-Done.is ∙ ap Some c.in-Some-Done.field-0-is in
-    c.end_collection.ensures.effect ∙ sym (ap (λ v. (collection_turned x c.args.collection v).deed.effect) (same_move s x.map c.args.collection Done met))
+    c.end_collection.ensures.effect ∙ sym (ap (λ v. (collection_turned x c.args.collection v).effect) (same_move s x.map c.args.collection Done met))
 
 pub would_advance-requires : goal.would_advance-requires
 would_advance-requires g c = back_fits _ _ _ (up_fits _ _ _ c.requires-raw.1.1.0)

@@ -1,5 +1,4 @@
 use Rattle.std.proofs.Common.{◌≡◌, ◌∙◌, refl, sym, ap, subst}
-use Rattle.rambo_node.specs.declared.change.Change.TheVariants as change
 use Rattle.rambo_run.specs.declared.step.Step.{Step}
 use Rattle.rambo_run.specs.declared.step.Step.TheVariants as step
 use Rattle.rambo_run.specs.Runs.{result_of}
@@ -11,11 +10,12 @@ use Rattle.rambo_world.specs.Direct.{IsReachedBarLetters}
 use Rattle.rambo_world.proofs.Letterless.{bar_fits, bar_next}
 use Rattle.rambo_world.proofs.Single.{advanced_told}
 use Rattle.rambo_world.proofs.direct.Direct.advance.Goals as goal
+use Rattle.rambo_node.specs.Acts as act
 
 pub advance-requires : goal.advance-requires
 advance-requires g c =
     let st : Step g.row.Q.Denot = step.Advance c.args.id in
-    (back_fits _ _ _ (up_fits _ _ _ c.requires-raw.1.1), bar_fits g.Q.Quorums.system c.self.inside.founders st c.args.id.name (change.Advance c.args.id) (λ v. refl) c.self.inside.state c.self.invariant)
+    (back_fits _ _ _ (up_fits _ _ _ c.requires-raw.1.1), bar_fits g.Q.Quorums.system c.self.inside.founders st c.args.id.name (act.Advance c.args.id) (λ v. refl) c.self.inside.state c.self.invariant)
 
 pub invariant_of-self : goal.invariant_of-self
 invariant_of-self g c = subst (IsReachedBarLetters g.Q.Quorums.system c.self.inside.founders) (sym c.in_err-advance.ensures.err) c.self.invariant
@@ -26,12 +26,12 @@ returns-in_err-advance-clause-reached g c = subst (IsReachedBarLetters g.Q.Quoru
 pub invariant_of-self-2 : goal.invariant_of-self-2
 invariant_of-self-2 g c =
     let st : Step g.row.Q.Denot = step.Advance c.args.id in
-    bar_next g.Q.Quorums.system c.self.inside.founders st c.args.id.name (change.Advance c.args.id) (λ v. refl) c.self.inside.state c.advance.new.self c.self.invariant refl c.in_ok-advance.ensures.after
+    bar_next g.Q.Quorums.system c.self.inside.founders st c.args.id.name (act.Advance c.args.id) (λ v. refl) c.self.inside.state c.advance.new.self c.self.invariant refl c.in_ok-advance.ensures.after
 
 pub returns-clause-reached : goal.returns-clause-reached
 returns-clause-reached g c =
     let st : Step g.row.Q.Denot = step.Advance c.args.id in
-    bar_next g.Q.Quorums.system c.self.inside.founders st c.args.id.name (change.Advance c.args.id) (λ v. refl) c.self.inside.state c.advance.new.self c.self.invariant refl c.in_ok-advance.ensures.after
+    bar_next g.Q.Quorums.system c.self.inside.founders st c.args.id.name (act.Advance c.args.id) (λ v. refl) c.self.inside.state c.advance.new.self c.self.invariant refl c.in_ok-advance.ensures.after
 
 pub returns-clause-told : goal.returns-clause-told
 returns-clause-told g c =

@@ -1,6 +1,5 @@
 use Rattle.std.proofs.Common.{◌≡◌, None, IfOk, OnErr, refl, subst}
 use Rattle.std.proofs.lemmas.Result.{IfOk-weaker}
-use Rattle.rambo_node.specs.declared.change.Change.TheVariants as change
 use Rattle.rambo_run.specs.declared.step.Step.{Step}
 use Rattle.rambo_run.specs.declared.step.Step.TheVariants as step
 use Rattle.rambo_run.specs.Runs.{result_of}
@@ -11,16 +10,17 @@ use Rattle.rambo_names.proofs.Sizes.{up_fits, back_fits}
 use Rattle.rambo_world.proofs.Letterless.{bar_fits, bar_named, bar_on, call_named}
 use Rattle.rambo_world.proofs.Reached.{goes_on, stays}
 use Rattle.rambo_world.proofs.direct.Direct.call.Goals as goal
+use Rattle.rambo_node.specs.Acts as act
 
 pub call-requires : goal.call-requires
 call-requires g c =
     let st : Step g.row.Q.Denot = step.Call c.args.name c.args.op in
-    (back_fits _ _ _ (up_fits _ _ _ c.requires-raw.1.1), bar_fits g.Q.Quorums.system c.self.inside.founders st c.args.name (change.Call c.args.op) (λ v. refl) c.self.inside.state c.self.invariant)
+    (back_fits _ _ _ (up_fits _ _ _ c.requires-raw.1.1), bar_fits g.Q.Quorums.system c.self.inside.founders st c.args.name (act.Call c.args.op) (λ v. refl) c.self.inside.state c.self.invariant)
 
 pub invariant_of-self : goal.invariant_of-self
 invariant_of-self g c =
     let st : Step g.row.Q.Denot = step.Call c.args.name c.args.op in
-    bar_on g.Q.Quorums.system c.self.inside.founders st c.args.name (change.Call c.args.op) (λ v. refl) c.self.inside.state c.call.new.self c.call.result c.self.invariant refl c.call.ensures.after c.call.ensures.err
+    bar_on g.Q.Quorums.system c.self.inside.founders st c.args.name (act.Call c.args.op) (λ v. refl) c.self.inside.state c.call.new.self c.call.result c.self.invariant refl c.call.ensures.after c.call.ensures.err
 
 pub returns-clause-told : goal.returns-clause-told
 returns-clause-told g c =

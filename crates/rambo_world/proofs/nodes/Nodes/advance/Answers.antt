@@ -7,7 +7,7 @@ use Rattle.rambo_tag.proofs.Logged.{greatest_of-nil}
 use Rattle.rambo_logs.specs.NodeLogs.{extended}
 use Rattle.rambo_node.specs.Changes.{made_by}
 use Rattle.rambo_node.specs.declared.deed.Deed.{Deed}
-use Rattle.rambo_node.specs.declared.change.Change.TheVariants as change
+use Rattle.rambo_node.specs.Acts as act
 use Rattle.rambo_world.specs.Kept.{kept_of, state_at, moved, SameBarRoom, AllGrow}
 use Rattle.rambo_world.specs.Logging.{listed}
 use Rattle.rambo_names.proofs.Sizes.{up_fits, back_fits}
@@ -73,11 +73,11 @@ finish_advance-requires g c = (back_fits _ _ _ (up_fits _ _ _ c.requires-raw.1.1
 pub log_copy-requires : goal.log_copy-requires
 log_copy-requires g c = c.in_ok-make_room.ensures.copy
 
-logs_after : (g : _) (c : goal.Joined-moving-11 g) → c.log_copy.new.logs.logs ≡ extended c.self.inside.logs.logs c.args.id.name (listed (made_by c.index_mut-node.result.now.state (change.Advance c.args.id)).deed.copy)
+logs_after : (g : _) (c : goal.Joined-moving-11 g) → c.log_copy.new.logs.logs ≡ extended c.self.inside.logs.logs c.args.id.name (listed (made_by c.index_mut-node.result.now.state (act.Advance c.args.id)).deed.copy)
 logs_after g c = c.log_copy.ensures.logged ∙ λ i. extended (c.make_room.ensures.same i) c.args.id.name (listed (ap (λ d. d.copy) c.in_ok-ready_advance.ensures.deed i))
 
-made : (g : _) (c : goal.Joined-moving-11 g) → c.finish_advance.new.self.state ≡ (made_by c.index_mut-node.result.now.state (change.Advance c.args.id)).node
-made g c = c.finish_advance.ensures.node ∙ λ i. (made_by (c.ready_advance.ensures.same i) (change.Advance (c.in_ok-ready_advance.ensures.id i))).node
+made : (g : _) (c : goal.Joined-moving-11 g) → c.finish_advance.new.self.state ≡ (made_by c.index_mut-node.result.now.state (act.Advance c.args.id)).node
+made g c = c.finish_advance.ensures.node ∙ λ i. (made_by (c.ready_advance.ensures.same i) (act.Advance (c.in_ok-ready_advance.ensures.id i))).node
 
 pub invariant_of-self-2 : goal.invariant_of-self-2
 invariant_of-self-2 g c = (length-set c.self.inside.list.items _ _ ∙ c.self.invariant.0, ap length (logs_after g c) ∙ length-set c.self.inside.logs.logs _ _ ∙ c.self.invariant.1)
@@ -88,8 +88,8 @@ returns-clause-nodes g c =
     let ls = c.self.inside.logs.logs in
     let x = c.index_mut-node.result.now in
     let below : c.place_of.result < length xs = subst (λ n. c.place_of.result < n) (sym c.self.invariant.0) c.place_of.ensures.within in
-    put_node xs ls c.place_of.result c.args.id.name x c.finish_advance.new.self c.place_of.ensures.place c.place_of.ensures.named.0 below c.index_mut-node.ensures.value c.log_copy.new.logs.logs (λ y. (made_by y (change.Advance c.args.id)).node) (made g c)
-    ∙ ap (λ now. moved now c.args.id.name (λ y. (made_by y (change.Advance c.args.id)).node)) c.self.view_is
+    put_node xs ls c.place_of.result c.args.id.name x c.finish_advance.new.self c.place_of.ensures.place c.place_of.ensures.named.0 below c.index_mut-node.ensures.value c.log_copy.new.logs.logs (λ y. (made_by y (act.Advance c.args.id)).node) (made g c)
+    ∙ ap (λ now. moved now c.args.id.name (λ y. (made_by y (act.Advance c.args.id)).node)) c.self.view_is
 
 pub returns-clause-deed : goal.returns-clause-deed
 returns-clause-deed g c y found =
@@ -99,7 +99,7 @@ returns-clause-deed g c y found =
     let below : c.place_of.result < length xs = subst (λ n. c.place_of.result < n) (sym c.self.invariant.0) c.place_of.ensures.within in
     let here = subst (λ now. state_at now c.args.id.name ≡ Some x.state) c.self.view_is (node_here xs ls c.place_of.result c.args.id.name x x c.place_of.ensures.place c.place_of.ensures.named.0 below c.index_mut-node.ensures.value) in
     ap (λ o. record c.ready_advance.new.deed { copy = o }) c.log_copy.ensures.taken
-    ∙ ap (λ (d : Deed _). record d { copy = None }) (c.in_ok-ready_advance.ensures.deed ∙ ap (λ y. (made_by y (change.Advance c.args.id)).deed) (some_is x.state y (sym here ∙ found)))
+    ∙ ap (λ (d : Deed _). record d { copy = None }) (c.in_ok-ready_advance.ensures.deed ∙ ap (λ y. (made_by y (act.Advance c.args.id)).deed) (some_is x.state y (sym here ∙ found)))
 
 pub returns-clause-grow : goal.returns-clause-grow
 returns-clause-grow g c =
@@ -109,12 +109,12 @@ returns-clause-grow g c =
     let y = c.finish_advance.new.self in
     let below : c.place_of.result < length xs = subst (λ n. c.place_of.result < n) (sym c.self.invariant.0) c.place_of.ensures.within in
     let own : List KeyedVersion = slice_index_or ls (c.args.id.name - 1) [] in
-    let more : List KeyedVersion = listed (made_by x.state (change.Advance c.args.id)).deed.copy in
+    let more : List KeyedVersion = listed (made_by x.state (act.Advance c.args.id)).deed.copy in
     let within : c.args.id.name - 1 < length ls = subst (λ n. n < length ls) c.place_of.ensures.place (subst (λ n. c.place_of.result < n) (sym c.self.invariant.1) c.place_of.ensures.within) in
     subst (λ now. AllGrow now (kept_of (slice_set xs c.place_of.result y) c.log_copy.new.logs.logs)) c.self.view_is
     (subst (λ ms. AllGrow (kept_of xs ls) (kept_of (slice_set xs c.place_of.result y) ms)) (sym (logs_after g c))
     (log_grows xs ls c.place_of.result c.args.id.name x y c.place_of.ensures.place c.place_of.ensures.named.0 below c.index_mut-node.ensures.value (own ++ more) within (record {
-      name = ap (λ y. y.name) (made g c) ∙ made_name x.state (change.Advance c.args.id);
+      name = ap (λ y. y.name) (made g c) ∙ made_name x.state (act.Advance c.args.id);
       extends = (more, refl);
-      recorded = λ before. ap (λ y. y.registers) (made g c) ∙ made_recorded x.state own [] (change.Advance c.args.id) before (ap (joined x.state.registers) greatest_of-nil);
+      recorded = λ before. ap (λ y. y.registers) (made g c) ∙ made_recorded x.state own [] (act.Advance c.args.id) before (ap (joined x.state.registers) greatest_of-nil);
     })))

@@ -1,5 +1,4 @@
 use Rattle.std.proofs.Common.{◌≡◌, ◌∙◌, refl, sym, ap, subst}
-use Rattle.rambo_node.specs.declared.change.Change.TheVariants as change
 use Rattle.rambo_run.specs.declared.step.Step.{Step}
 use Rattle.rambo_run.specs.declared.step.Step.TheVariants as step
 use Rattle.rambo_run.specs.Runs.{result_of}
@@ -11,9 +10,10 @@ use Rattle.rambo_world.proofs.Reached.{reached_fits, reached_next}
 use Rattle.rambo_world.proofs.Single.{advanced_told}
 use Rattle.rambo_world.proofs.Turns.{step_fits}
 use Rattle.rambo_world.proofs.running.RunningRun.advance.Goals as goal
+use Rattle.rambo_node.specs.Acts as act
 
 pub advance-requires : goal.advance-requires
-advance-requires g c = (back_fits _ _ _ (up_fits _ _ _ c.requires-raw.1.1), step_fits c.self.inside.state (step.Advance c.args.id) c.args.id.name (change.Advance c.args.id) refl g.Q.Quorums.system (reached_fits g.Q.Quorums.system c.self.inside.founders c.self.inside.state c.self.invariant))
+advance-requires g c = (back_fits _ _ _ (up_fits _ _ _ c.requires-raw.1.1), step_fits c.self.inside.state (step.Advance c.args.id) c.args.id.name (act.Advance c.args.id) refl g.Q.Quorums.system (reached_fits g.Q.Quorums.system c.self.inside.founders c.self.inside.state c.self.invariant))
 
 pub invariant_of-self : goal.invariant_of-self
 invariant_of-self g c = subst (IsReached g.Q.Quorums.system c.self.inside.founders) (sym c.in_err-advance.ensures.err) c.self.invariant

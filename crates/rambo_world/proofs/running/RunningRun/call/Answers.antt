@@ -1,5 +1,4 @@
 use Rattle.std.proofs.Common.{◌≡◌, None, IfOk, OnErr, refl, subst}
-use Rattle.rambo_node.specs.declared.change.Change.TheVariants as change
 use Rattle.rambo_run.specs.declared.step.Step.{Step}
 use Rattle.rambo_run.specs.declared.step.Step.TheVariants as step
 use Rattle.rambo_run.specs.Runs.{result_of}
@@ -10,9 +9,10 @@ use Rattle.rambo_names.proofs.Sizes.{up_fits, back_fits}
 use Rattle.rambo_world.proofs.Reached.{reached_fits, reached_on, goes_on, stays}
 use Rattle.rambo_world.proofs.Turns.{step_fits}
 use Rattle.rambo_world.proofs.running.RunningRun.call.Goals as goal
+use Rattle.rambo_node.specs.Acts as act
 
 pub call-requires : goal.call-requires
-call-requires g c = (back_fits _ _ _ (up_fits _ _ _ c.requires-raw.1.1), step_fits c.self.inside.state (step.Call c.args.name c.args.op) c.args.name (change.Call c.args.op) refl g.Q.Quorums.system (reached_fits g.Q.Quorums.system c.self.inside.founders c.self.inside.state c.self.invariant))
+call-requires g c = (back_fits _ _ _ (up_fits _ _ _ c.requires-raw.1.1), step_fits c.self.inside.state (step.Call c.args.name c.args.op) c.args.name (act.Call c.args.op) refl g.Q.Quorums.system (reached_fits g.Q.Quorums.system c.self.inside.founders c.self.inside.state c.self.invariant))
 
 pub invariant_of-self : goal.invariant_of-self
 invariant_of-self g c = reached_on g.Q.Quorums.system c.self.inside.founders c.self.inside.state c.call.new.self (step.Call c.args.name c.args.op) c.call.result c.self.invariant c.call.ensures.after c.call.ensures.err

@@ -1,7 +1,7 @@
 use Rattle.std.proofs.Common.{◌∙◌, None, Some, refl, sym, ap, subst}
 use Rattle.rambo_history.specs.Faults.{fault_of}
 use Rattle.rambo_node.specs.Prepared.{IsFound}
-use Rattle.rambo_node.specs.declared.change.Change.TheVariants as change
+use Rattle.rambo_node.specs.Acts as act
 use Rattle.rambo_run.specs.declared.step.Step.TheVariants as step
 use Rattle.rambo_run.specs.Steps.{with_event, with_mark}
 use Rattle.rambo_run.proofs.GoingOn.{after-refused}
@@ -27,17 +27,17 @@ may_advance-requires g c = back_fits _ _ _ (up_fits _ _ _ (back_fits _ _ _ (next
 pub returns-in-Err-clause-told : goal.returns-in-Err-clause-told
 returns-in-Err-clause-told g c =
     refused_told g.Q.Quorums.system c.args.self.now (step.Advance c.args.id) c.in-Err.refusal
-    (judged_now g.Q.Quorums.system _ c.args.self.now c.self.view_is (step.Advance c.args.id) c.args.id.name (change.Advance c.args.id) c.node.result.now.state refl c.node.ensures (Some c.in-Err.refusal) c.in-Err.ensures.refused)
+    (judged_now g.Q.Quorums.system _ c.args.self.now c.self.view_is (step.Advance c.args.id) c.args.id.name (act.Advance c.args.id) c.node.result.now.state refl c.node.ensures (Some c.in-Err.refusal) c.in-Err.ensures.refused)
 
 pub returns-in-Err-clause-after : goal.returns-in-Err-clause-after
 returns-in-Err-clause-after g c =
     sym (after-refused g.Q.Quorums.system c.args.self.now (step.Advance c.args.id) c.in-Err.refusal
-    (judged_now g.Q.Quorums.system _ c.args.self.now c.self.view_is (step.Advance c.args.id) c.args.id.name (change.Advance c.args.id) c.node.result.now.state refl c.node.ensures (Some c.in-Err.refusal) c.in-Err.ensures.refused))
+    (judged_now g.Q.Quorums.system _ c.args.self.now c.self.view_is (step.Advance c.args.id) c.args.id.name (act.Advance c.args.id) c.node.result.now.state refl c.node.ensures (Some c.in-Err.refusal) c.in-Err.ensures.refused))
 
 pub returns-in_err-advance-clause-accepted : goal.returns-in_err-advance-clause-accepted
 returns-in_err-advance-clause-accepted g c =
     on_err c.from_residual.result
-    (judged_now g.Q.Quorums.system _ c.args.self.now c.self.view_is (step.Advance c.args.id) c.args.id.name (change.Advance c.args.id) c.node.result.now.state refl c.node.ensures None c.in-Ok.ensures.ok.accepted)
+    (judged_now g.Q.Quorums.system _ c.args.self.now c.self.view_is (step.Advance c.args.id) c.args.id.name (act.Advance c.args.id) c.node.result.now.state refl c.node.ensures None c.in-Ok.ensures.ok.accepted)
 
 pub advance-requires : goal.advance-requires
 advance-requires g c = (
@@ -60,10 +60,10 @@ returns-in_err-advance-clause-err g c =
 pub note-requires-clause-fits : goal.note-requires-clause-fits
 note-requires-clause-fits g c =
     let n = c.args.id.name in
-    let ch = change.Advance c.args.id in
+    let ch = act.Advance c.args.id in
     let x = c.node.result.now.state in
     let fits = subst (λ w. EventFits w n ch) (sym c.self.view_is)
-    (c.requires.fits (judged_now g.Q.Quorums.system _ c.args.self.now c.self.view_is (step.Advance c.args.id) c.args.id.name (change.Advance c.args.id) c.node.result.now.state refl c.node.ensures None c.in-Ok.ensures.ok.accepted)) in
+    (c.requires.fits (judged_now g.Q.Quorums.system _ c.args.self.now c.self.view_is (step.Advance c.args.id) c.args.id.name (act.Advance c.args.id) c.node.result.now.state refl c.node.ensures None c.in-Ok.ensures.ok.accepted)) in
     λ e found. ap (λ h. fault_of h e) c.advance.ensures.events ∙ fits x e c.node.ensures (sym (ap (λ d. d.event) (c.in_ok-advance.ensures.deed x c.node.ensures)) ∙ found)
 
 pub invariant_of-self-2 : goal.invariant_of-self-2
@@ -76,11 +76,11 @@ returns-clause-told g c =
     let h = c.self.inside.history.events in
     let ms = c.self.inside.marks.items in
     let n = c.args.id.name in
-    let ch = change.Advance c.args.id in
+    let ch = act.Advance c.args.id in
     let x = c.node.result.now.state in
     let deed = c.in_ok-advance.ensures.deed x c.node.ensures in
     taken_told g.Q.Quorums.system c.args.self.now (step.Advance c.args.id) (world_of c.advance.new.self ss c.note.new.history.events c.note.new.marks.items) c.note.new.deed.effect
-    (judged_now g.Q.Quorums.system _ c.args.self.now c.self.view_is (step.Advance c.args.id) c.args.id.name (change.Advance c.args.id) c.node.result.now.state refl c.node.ensures None c.in-Ok.ensures.ok.accepted)
+    (judged_now g.Q.Quorums.system _ c.args.self.now c.self.view_is (step.Advance c.args.id) c.args.id.name (act.Advance c.args.id) c.node.result.now.state refl c.node.ensures None c.in-Ok.ensures.ok.accepted)
     (turned_now _ c.args.self.now c.self.view_is (step.Advance c.args.id) n ch refl _
     (changed_world ks c.advance.new.self ss h c.note.new.history.events ms c.note.new.marks.items n ch c.note.new.deed.effect x c.in_ok-advance.ensures.nodes
     (letters_stay ks c.advance.new.self c.advance.ensures.grow ss c.self.invariant.sent) c.node.ensures refl (c.note.ensures.effect ∙ ap (λ d. d.effect) deed)
@@ -93,11 +93,11 @@ returns-clause-after g c =
     let h = c.self.inside.history.events in
     let ms = c.self.inside.marks.items in
     let n = c.args.id.name in
-    let ch = change.Advance c.args.id in
+    let ch = act.Advance c.args.id in
     let x = c.node.result.now.state in
     let deed = c.in_ok-advance.ensures.deed x c.node.ensures in
     taken_after g.Q.Quorums.system c.args.self.now (step.Advance c.args.id) (world_of c.advance.new.self ss c.note.new.history.events c.note.new.marks.items) c.note.new.deed.effect
-    (judged_now g.Q.Quorums.system _ c.args.self.now c.self.view_is (step.Advance c.args.id) c.args.id.name (change.Advance c.args.id) c.node.result.now.state refl c.node.ensures None c.in-Ok.ensures.ok.accepted)
+    (judged_now g.Q.Quorums.system _ c.args.self.now c.self.view_is (step.Advance c.args.id) c.args.id.name (act.Advance c.args.id) c.node.result.now.state refl c.node.ensures None c.in-Ok.ensures.ok.accepted)
     (turned_now _ c.args.self.now c.self.view_is (step.Advance c.args.id) n ch refl _
     (changed_world ks c.advance.new.self ss h c.note.new.history.events ms c.note.new.marks.items n ch c.note.new.deed.effect x c.in_ok-advance.ensures.nodes
     (letters_stay ks c.advance.new.self c.advance.ensures.grow ss c.self.invariant.sent) c.node.ensures refl (c.note.ensures.effect ∙ ap (λ d. d.effect) deed)

@@ -5,8 +5,8 @@ use Rattle.rambo_history.specs.Faults.{fault_of}
 use Rattle.rambo_node.specs.Changes.{made_by, refusal_of}
 use Rattle.rambo_node.specs.Nodes.{NodeState}
 use Rattle.rambo_node.specs.Operations.{called}
-use Rattle.rambo_node.specs.declared.change.Change.TheVariants as change
 use Rattle.rambo_node.specs.declared.effect.Effect.TheVariants as effect
+use Rattle.rambo_node.specs.Acts as act
 use Rattle.rambo_run.specs.declared.step.Step.TheVariants as step
 use Rattle.rambo_run.specs.Steps.{turn}
 use Rattle.rambo_run.proofs.GoingOn.{after-refused}
@@ -43,27 +43,27 @@ ready_call-requires g c = back_fits _ _ _ (up_fits _ _ _ (back_fits _ _ _ (next 
 pub returns-in-Err-clause-told : goal.returns-in-Err-clause-told
 returns-in-Err-clause-told g c =
     refused_told g.Q.Quorums.system c.args.self.now (step.Call c.args.name c.args.op) c.in-Err.refusal
-    (judged_now g.Q.Quorums.system _ c.args.self.now c.self.view_is (step.Call c.args.name c.args.op) c.args.name (change.Call c.args.op) c.node.result.now.state refl c.node.ensures (Some c.in-Err.refusal) c.in-Err.ensures.refused)
+    (judged_now g.Q.Quorums.system _ c.args.self.now c.self.view_is (step.Call c.args.name c.args.op) c.args.name (act.Call c.args.op) c.node.result.now.state refl c.node.ensures (Some c.in-Err.refusal) c.in-Err.ensures.refused)
 
 pub returns-in-Err-clause-after : goal.returns-in-Err-clause-after
 returns-in-Err-clause-after g c =
     sym (after-refused g.Q.Quorums.system c.args.self.now (step.Call c.args.name c.args.op) c.in-Err.refusal
-    (judged_now g.Q.Quorums.system _ c.args.self.now c.self.view_is (step.Call c.args.name c.args.op) c.args.name (change.Call c.args.op) c.node.result.now.state refl c.node.ensures (Some c.in-Err.refusal) c.in-Err.ensures.refused))
+    (judged_now g.Q.Quorums.system _ c.args.self.now c.self.view_is (step.Call c.args.name c.args.op) c.args.name (act.Call c.args.op) c.node.result.now.state refl c.node.ensures (Some c.in-Err.refusal) c.in-Err.ensures.refused))
 
 pub returns-in_err-reserve-clause-accepted : goal.returns-in_err-reserve-clause-accepted
 returns-in_err-reserve-clause-accepted g c =
     on_err c.from_residual.result
-    (judged_now g.Q.Quorums.system _ c.args.self.now c.self.view_is (step.Call c.args.name c.args.op) c.args.name (change.Call c.args.op) c.node.result.now.state refl c.node.ensures None c.in_default.ensures.ok)
+    (judged_now g.Q.Quorums.system _ c.args.self.now c.self.view_is (step.Call c.args.name c.args.op) c.args.name (act.Call c.args.op) c.node.result.now.state refl c.node.ensures None c.in_default.ensures.ok)
 
 pub returns-in_err-asked-clause-accepted : goal.returns-in_err-asked-clause-accepted
 returns-in_err-asked-clause-accepted g c =
     on_err c.from_residual-in_err-asked.result
-    (judged_now g.Q.Quorums.system _ c.args.self.now c.self.view_is (step.Call c.args.name c.args.op) c.args.name (change.Call c.args.op) c.node.result.now.state refl c.node.ensures None c.in_default.ensures.ok)
+    (judged_now g.Q.Quorums.system _ c.args.self.now c.self.view_is (step.Call c.args.name c.args.op) c.args.name (act.Call c.args.op) c.node.result.now.state refl c.node.ensures None c.in_default.ensures.ok)
 
 pub returns-in_err-ready_call-clause-accepted : goal.returns-in_err-ready_call-clause-accepted
 returns-in_err-ready_call-clause-accepted g c =
     on_err c.from_residual-in_err-ready_call.result
-    (judged_now g.Q.Quorums.system _ c.args.self.now c.self.view_is (step.Call c.args.name c.args.op) c.args.name (change.Call c.args.op) c.node.result.now.state refl c.node.ensures None c.in_default.ensures.ok)
+    (judged_now g.Q.Quorums.system _ c.args.self.now c.self.view_is (step.Call c.args.name c.args.op) c.args.name (act.Call c.args.op) c.node.result.now.state refl c.node.ensures None c.in_default.ensures.ok)
 
 pub invariant_of-self-in_err-ready_call : goal.invariant_of-self-in_err-ready_call
 invariant_of-self-in_err-ready_call g c =
@@ -93,7 +93,7 @@ finish_call-id-requires g c =
     let own = some_is x.state c.node.result.now.state (sym (lent_state c.self.inside.nodes n x x lent.ensures.kept lent.ensures.named.0) ∙ c.node.ensures) in (
       back_fits _ _ _ (up_fits _ _ _ (back_fits _ _ _ (next _ _ _ _ (next _ _ _ _ (next _ _ _ _ (next _ _ _ _ (up_fits _ _ _ c.requires-raw.1.1.0))))))),
       (
-        ap (λ y. refusal_of g.Q.Quorums.system y (change.Call c.args.op)) (c.ready_call.ensures.same ∙ own) ∙ c.in_default.ensures.ok,
+        ap (λ y. refusal_of g.Q.Quorums.system y (act.Call c.args.op)) (c.ready_call.ensures.same ∙ own) ∙ c.in_default.ensures.ok,
         c.in_ok-ready_call.ensures.ok,
       ),
     )
@@ -102,25 +102,25 @@ pub push_call-requires-clause-fits : goal.push_call-requires-clause-fits
 unfolding made_by
 push_call-requires-clause-fits g c =
     let n = c.args.name in
-    let ch = change.Call c.args.op in
+    let ch = act.Call c.args.op in
     let lent = c.node_mut-node in
     let x = lent.result.now in
     let ev = event.Call c.finish_call-id.result c.in_ok-asked.asked in
     let fits = subst (λ w. EventFits w n ch) (sym c.self.view_is)
-    (c.requires.fits (judged_now g.Q.Quorums.system _ c.args.self.now c.self.view_is (step.Call c.args.name c.args.op) c.args.name (change.Call c.args.op) c.node.result.now.state refl c.node.ensures None c.in_default.ensures.ok)) in
+    (c.requires.fits (judged_now g.Q.Quorums.system _ c.args.self.now c.self.view_is (step.Call c.args.name c.args.op) c.args.name (act.Call c.args.op) c.node.result.now.state refl c.node.ensures None c.in_default.ensures.ok)) in
     let id = c.finish_call-id.ensures.id ∙ ap (λ (y : NodeState _). record { name = y.name; number = y.made + 1 }) c.ready_call.ensures.same in
     ap (λ h. fault_of h ev) (ap (λ h. h.events) c.prepare.ensures ∙ c.in_ok-reserve.ensures.events)
     ∙ fits x.state ev (lent_state c.self.inside.nodes n x x lent.ensures.kept lent.ensures.named.0) (sym (λ i. Some (event.Call (id i) (c.in_ok-asked.ensures.same i))))
 
-made : (g : _) (c : goal.After-push_call g) → c.finish_call-id.new.self.state ≡ (made_by c.node_mut-node.result.now.state (change.Call c.args.op)).node
-made g c = c.finish_call-id.ensures.node ∙ ap (λ y. (made_by y (change.Call c.args.op)).node) c.ready_call.ensures.same
+made : (g : _) (c : goal.After-push_call g) → c.finish_call-id.new.self.state ≡ (made_by c.node_mut-node.result.now.state (act.Call c.args.op)).node
+made g c = c.finish_call-id.ensures.node ∙ ap (λ y. (made_by y (act.Call c.args.op)).node) c.ready_call.ensures.same
 
 grows : (g : _) (c : goal.After-push_call g) → AllGrow c.self.inside.nodes (with_node c.self.inside.nodes c.args.name c.finish_call-id.new.self)
 unfolding made_by called
 grows g c =
     let lent = c.node_mut-node in
     let x = lent.result.now in
-    lent_grows c.self.inside.nodes c.args.name x c.finish_call-id.new.self lent.ensures.kept lent.ensures.named.0 (ap (λ y. y.name) (made g c) ∙ made_name x.state (change.Call c.args.op)) (ap (λ y. y.registers) (made g c))
+    lent_grows c.self.inside.nodes c.args.name x c.finish_call-id.new.self lent.ensures.kept lent.ensures.named.0 (ap (λ y. y.name) (made g c) ∙ made_name x.state (act.Call c.args.op)) (ap (λ y. y.registers) (made g c))
 
 pub invariant_of-self-2 : goal.invariant_of-self-2
 invariant_of-self-2 g c = kept_stays c.self.inside.nodes (with_node c.self.inside.nodes c.args.name c.finish_call-id.new.self) (grows g c) c.self.inside.letters c.self.inside.merged c.self.invariant
@@ -134,7 +134,7 @@ turned g c =
     let h = c.self.inside.history.events in
     let ms = c.self.inside.marks.items in
     let n = c.args.name in
-    let ch = change.Call c.args.op in
+    let ch = act.Call c.args.op in
     let lent = c.node_mut-node in
     let x = lent.result.now in
     let y = c.finish_call-id.new.self in
@@ -148,12 +148,12 @@ turned g c =
 pub returns-clause-told : goal.returns-clause-told
 returns-clause-told g c =
     taken_told g.Q.Quorums.system c.args.self.now (step.Call c.args.name c.args.op) _ (effect.Called c.finish_call-id.result)
-    (judged_now g.Q.Quorums.system _ c.args.self.now c.self.view_is (step.Call c.args.name c.args.op) c.args.name (change.Call c.args.op) c.node.result.now.state refl c.node.ensures None c.in_default.ensures.ok) (turned g c)
+    (judged_now g.Q.Quorums.system _ c.args.self.now c.self.view_is (step.Call c.args.name c.args.op) c.args.name (act.Call c.args.op) c.node.result.now.state refl c.node.ensures None c.in_default.ensures.ok) (turned g c)
 
 pub returns-clause-after : goal.returns-clause-after
 returns-clause-after g c =
     taken_after g.Q.Quorums.system c.args.self.now (step.Call c.args.name c.args.op) _ (effect.Called c.finish_call-id.result)
-    (judged_now g.Q.Quorums.system _ c.args.self.now c.self.view_is (step.Call c.args.name c.args.op) c.args.name (change.Call c.args.op) c.node.result.now.state refl c.node.ensures None c.in_default.ensures.ok) (turned g c)
+    (judged_now g.Q.Quorums.system _ c.args.self.now c.self.view_is (step.Call c.args.name c.args.op) c.args.name (act.Call c.args.op) c.node.result.now.state refl c.node.ensures None c.in_default.ensures.ok) (turned g c)
 
 pub push_call-requires-clause-room : goal.push_call-requires-clause-room
 push_call-requires-clause-room g c = grind (arith, common_steps)

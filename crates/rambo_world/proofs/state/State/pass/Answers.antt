@@ -15,8 +15,8 @@ node-requires g c =
     let nodes = back_fits _ _ _ (next _ _ _ _ (next _ _ _ _ (next _ _ _ _ (next _ _ _ _ (up_fits _ _ _ c.requires-raw.1.1.0))))) in
     (nodes, back_fits _ _ _ (up_fits _ _ _ nodes))
 
-pub judge_quick-requires : goal.judge_quick-requires
-judge_quick-requires g c = back_fits _ _ _ (up_fits _ _ _ (back_fits _ _ _ (next _ _ _ _ (next _ _ _ _ (next _ _ _ _ (next _ _ _ _ (up_fits _ _ _ c.requires-raw.1.1.0)))))))
+pub may_send-requires : goal.may_send-requires
+may_send-requires g c = back_fits _ _ _ (up_fits _ _ _ (back_fits _ _ _ (next _ _ _ _ (next _ _ _ _ (next _ _ _ _ (next _ _ _ _ (up_fits _ _ _ c.requires-raw.1.1.0)))))))
 
 -- the sender refuses it
 unsent : (g : _) (c : goal.In-Err g) → pass_refusal g.Q.Quorums.system c.args.self.now c.args.from c.args.to ≡ Some c.in-Err.refusal

@@ -1,6 +1,6 @@
 use Rattle.std.proofs.Common.{◌≡◌, ◌∙◌, ◌-◌, None, Some, refl, sym, ap, subst}
-use Rattle.rambo_node.specs.declared.change.Change.TheVariants as change
 use Rattle.rambo_node.specs.declared.effect.Effect.TheVariants as effect
+use Rattle.rambo_node.specs.Acts as act
 use Rattle.rambo_run.specs.declared.step.Step.{Step}
 use Rattle.rambo_run.specs.declared.step.Step.TheVariants as step
 use Rattle.rambo_run.specs.Steps.{refusal, turn}
@@ -19,8 +19,8 @@ node-requires g c =
     let nodes = back_fits _ _ _ (next _ _ _ _ (next _ _ _ _ (next _ _ _ _ (next _ _ _ _ (up_fits _ _ _ c.requires-raw.1.1))))) in
     (nodes, back_fits _ _ _ (up_fits _ _ _ nodes))
 
-pub judge_quick-requires : goal.judge_quick-requires
-judge_quick-requires g c = back_fits _ _ _ (up_fits _ _ _ (back_fits _ _ _ (next _ _ _ _ (next _ _ _ _ (next _ _ _ _ (next _ _ _ _ (up_fits _ _ _ c.requires-raw.1.1)))))))
+pub may_send-requires : goal.may_send-requires
+may_send-requires g c = back_fits _ _ _ (up_fits _ _ _ (back_fits _ _ _ (next _ _ _ _ (next _ _ _ _ (next _ _ _ _ (next _ _ _ _ (up_fits _ _ _ c.requires-raw.1.1)))))))
 
 pub outline-requires : goal.outline-requires
 outline-requires g c = back_fits _ _ _ (next _ _ _ _ (next _ _ _ _ (next _ _ _ _ (next _ _ _ _ (up_fits _ _ _ c.requires-raw.1.1)))))
@@ -37,7 +37,7 @@ refused g c =
     let s = g.Q.Quorums.system in
     let st : Step g.row.Q.Denot = step.Send c.args.from c.args.to in
     let w = world_of c.self.inside.nodes c.self.inside.letters c.self.inside.history.events c.self.inside.marks.items in
-    subst (λ w. refusal s w st ≡ Some c.in-Err.refusal) c.self.view_is (sym (judged_at s w st c.args.from (change.Send c.args.to) c.node.result.now.state refl c.node.ensures) ∙ c.in-Err.ensures.refused)
+    subst (λ w. refusal s w st ≡ Some c.in-Err.refusal) c.self.view_is (sym (judged_at s w st c.args.from (act.Send c.args.to) c.node.result.now.state refl c.node.ensures) ∙ c.in-Err.ensures.refused)
 
 pub returns-in-Err-clause-told : goal.returns-in-Err-clause-told
 returns-in-Err-clause-told g c = refused_told g.Q.Quorums.system c.args.self.now (step.Send c.args.from c.args.to) c.in-Err.refusal (refused g c)
@@ -50,7 +50,7 @@ returns-in_err-push-clause-accepted g c =
     let s = g.Q.Quorums.system in
     let st : Step g.row.Q.Denot = step.Send c.args.from c.args.to in
     let w = world_of c.self.inside.nodes c.self.inside.letters c.self.inside.history.events c.self.inside.marks.items in
-    on_err c.from_residual.result (subst (λ w. refusal s w st ≡ None) c.self.view_is (sym (judged_at s w st c.args.from (change.Send c.args.to) c.node.result.now.state refl c.node.ensures) ∙ c.in_default.ensures.ok))
+    on_err c.from_residual.result (subst (λ w. refusal s w st ≡ None) c.self.view_is (sym (judged_at s w st c.args.from (act.Send c.args.to) c.node.result.now.state refl c.node.ensures) ∙ c.in_default.ensures.ok))
 
 pub invariant_of-self-2 : goal.invariant_of-self-2
 invariant_of-self-2 g c =
@@ -66,7 +66,7 @@ accepted g c =
     let s = g.Q.Quorums.system in
     let st : Step g.row.Q.Denot = step.Send c.args.from c.args.to in
     let w = world_of c.self.inside.nodes c.self.inside.letters c.self.inside.history.events c.self.inside.marks.items in
-    subst (λ w. refusal s w st ≡ None) c.self.view_is (sym (judged_at s w st c.args.from (change.Send c.args.to) c.node.result.now.state refl c.node.ensures) ∙ c.in_default.ensures.ok)
+    subst (λ w. refusal s w st ≡ None) c.self.view_is (sym (judged_at s w st c.args.from (act.Send c.args.to) c.node.result.now.state refl c.node.ensures) ∙ c.in_default.ensures.ok)
 
 -- and the letter is sent
 sent : (g : _) (c : goal.After-len g) → turn c.args.self.now (step.Send c.args.from c.args.to)

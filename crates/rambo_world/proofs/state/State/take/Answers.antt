@@ -1,20 +1,19 @@
 use Rattle.std.proofs.lemmas.Grind.{common_steps}
 use Rattle.std.proofs.Common.{◌≡◌, ◌∙◌, IfOk, refl, sym, subst, arith}
-use Rattle.rambo_node.specs.Prepared.{quick_change}
-use Rattle.rambo_node.specs.declared.change.Change.TheVariants as change
 use Rattle.rambo_run.specs.declared.step.Step.TheVariants as step
 use Rattle.rambo_run.specs.Runs.{result_of}
-use Rattle.rambo_run.specs.Steps.{refusal}
-use Rattle.rambo_run.proofs.QuickSteps.{quick_means, quick_else}
-use Rattle.rambo_world.proofs.Quiet.{quick_told, quick_after}
+use Rattle.rambo_run.specs.Steps.{letter_in, refusal}
+use Rattle.rambo_run.proofs.QuietSteps.{quiet_means, quiet_else}
+use Rattle.rambo_world.proofs.Quiet.{quiet_told, quiet_after}
 use Rattle.rambo_world.proofs.Turns.{step_fits}
 use Rattle.rambo_world.proofs.state.State.take.Goals as goal
+use Rattle.rambo_node.specs.Acts as act
 
 pub call_lent-requires : goal.call_lent-requires
-call_lent-requires g c = (c.requires-raw.1.1.0, step_fits c.args.self.now (step.Call c.in-Call.name c.in-Call.op) c.in-Call.name (change.Call c.in-Call.op) refl g.Q.Quorums.system c.requires.fits)
+call_lent-requires g c = (c.requires-raw.1.1.0, step_fits c.args.self.now (step.Call c.in-Call.name c.in-Call.op) c.in-Call.name (act.Call c.in-Call.op) refl g.Q.Quorums.system c.requires.fits)
 
 pub advance-requires : goal.advance-requires
-advance-requires g c = (c.requires-raw.1.1.0, step_fits c.args.self.now (step.Advance c.in-Advance.id) c.in-Advance.id.name (change.Advance c.in-Advance.id) refl g.Q.Quorums.system c.requires.fits)
+advance-requires g c = (c.requires-raw.1.1.0, step_fits c.args.self.now (step.Advance c.in-Advance.id) c.in-Advance.id.name (act.Advance c.in-Advance.id) refl g.Q.Quorums.system c.requires.fits)
 
 pub send-requires : goal.send-requires
 send-requires g c = c.requires-raw.1.1.0
@@ -22,12 +21,12 @@ send-requires g c = c.requires-raw.1.1.0
 pub deliver-requires : goal.deliver-requires
 deliver-requires g c = c.requires-raw.1.1.0
 
-pub quick-requires : goal.quick-requires
-quick-requires g c = (c.requires-raw.1.1.0, (quick_means c.args.self.now c.args.step.now c.in-Some.meant (sym c.quick_of.ensures ∙ c.in-Some.is)).silent)
+pub quiet-requires : goal.quiet-requires
+quiet-requires g c = c.requires-raw.1.1.0
 
 pub unreachable-requires : goal.unreachable-requires
 unreachable-requires g c =
-    quick_else c.args.step.now (sym c.quick_of.ensures ∙ c.in-None.is) c.in_default.not-Call c.in_default.not-Send c.in_default.not-Deliver c.in_default.not-Advance
+    quiet_else c.args.step.now (sym c.quiet_of.ensures ∙ c.in-None.is) c.in_default.not-Call c.in_default.not-Send c.in_default.not-Deliver c.in_default.not-Advance
 
 pub returns-in-Advance-clause-told : goal.returns-in-Advance-clause-told
 returns-in-Advance-clause-told g c =
@@ -40,10 +39,10 @@ returns-in-Some g c =
     let w = c.args.self.now in
     let st = c.args.step.now in
     let m = c.in-Some.meant in
-    let means = quick_means w st m (sym c.quick_of.ensures ∙ c.in-Some.is) in
+    let means = quiet_means (letter_in w.letters st) st m (sym c.quiet_of.ensures ∙ c.in-Some.is) in
     record {
-      told = quick_told s w c.quick.new.self st m.0 (quick_change m.1) means.means c.quick.result c.quick.ensures.ok c.quick.ensures.accepted c.quick.ensures.refused;
-      after = quick_after s w c.quick.new.self st m.0 (quick_change m.1) means.means c.quick.result c.quick.ensures.ok c.quick.ensures.accepted c.quick.ensures.refused c.quick.ensures.err;
+      told = quiet_told s w c.quiet.new.self st m.0 (act.Quietly m.1) means c.quiet.result c.quiet.ensures.ok c.quiet.ensures.accepted c.quiet.ensures.refused;
+      after = quiet_after s w c.quiet.new.self st m.0 (act.Quietly m.1) means c.quiet.result c.quiet.ensures.ok c.quiet.ensures.accepted c.quiet.ensures.refused c.quiet.ensures.err;
       accepted = tt;
       err = tt;
       refused = tt;

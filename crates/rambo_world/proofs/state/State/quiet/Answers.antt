@@ -1,32 +1,32 @@
 use Rattle.std.proofs.Common.{◌∙◌, refl, sym, ap}
 use Rattle.rambo_names.specs.Refusals.{least}
 use Rattle.rambo_node.specs.Changes.{made_by}
-use Rattle.rambo_node.specs.Prepared.{quick_change}
-use Rattle.rambo_run.specs.Steps.{causes_at, turn_at, with_event, with_mark}
+use Rattle.rambo_node.specs.Acts as act
+use Rattle.rambo_run.specs.Steps.{causes_at, turn_at}
 use Rattle.rambo_run.specs.Worlds.{node_at}
 use Rattle.rambo_world.specs.Kept.{with_node}
 use Rattle.rambo_names.proofs.Errors.{err_kept, on_err}
 use Rattle.rambo_names.proofs.Sizes.{up_fits, back_fits, next}
 use Rattle.rambo_world.proofs.Changing.{changed_world, same_world}
 use Rattle.rambo_world.proofs.Lent.{lent_state, lent_moved, lent_same, lent_grows}
-use Rattle.rambo_world.proofs.Quiet.{quick_keeps}
+use Rattle.rambo_run.proofs.QuietKeeps.{quiet_keeps}
 use Rattle.rambo_world.proofs.Stepping.{kept_stays, letters_stay}
-use Rattle.rambo_world.proofs.state.State.quick.Goals as goal
+use Rattle.rambo_world.proofs.state.State.quiet.Goals as goal
 
 pub node_mut-node-requires : goal.node_mut-node-requires
 node_mut-node-requires g c =
     let nodes = back_fits _ _ _ (next _ _ _ _ (next _ _ _ _ (next _ _ _ _ (next _ _ _ _ (up_fits _ _ _ c.requires-raw.1.1.0))))) in
     (nodes, back_fits _ _ _ (up_fits _ _ _ nodes))
 
-pub judge_quick-requires : goal.judge_quick-requires
-judge_quick-requires g c =
+pub may_quiet-requires : goal.may_quiet-requires
+may_quiet-requires g c =
     let nodes = back_fits _ _ _ (next _ _ _ _ (next _ _ _ _ (next _ _ _ _ (next _ _ _ _ (up_fits _ _ _ c.requires-raw.1.1.0))))) in
     back_fits _ _ _ (up_fits _ _ _ nodes)
 
-pub finish_quick-requires : goal.finish_quick-requires
-finish_quick-requires g c =
+pub do_quiet-requires : goal.do_quiet-requires
+do_quiet-requires g c =
     let nodes = back_fits _ _ _ (next _ _ _ _ (next _ _ _ _ (next _ _ _ _ (next _ _ _ _ (up_fits _ _ _ c.requires-raw.1.1.0))))) in
-    (back_fits _ _ _ (up_fits _ _ _ nodes), c.in_ok-judge_quick.ensures.ok)
+    (back_fits _ _ _ (up_fits _ _ _ nodes), c.in_ok-may_quiet.ensures.ok)
 
 pub invariant_of-self : goal.invariant_of-self
 invariant_of-self g c =
@@ -35,8 +35,8 @@ invariant_of-self g c =
     let lent = c.node_mut-node in
     kept_stays ks (with_node ks n lent.result.now) (lent_grows ks n lent.result.now lent.result.now lent.ensures.kept lent.ensures.named.0 refl refl) c.self.inside.letters c.self.inside.merged c.self.invariant
 
-pub returns-in_err-judge_quick-clause-err : goal.returns-in_err-judge_quick-clause-err
-returns-in_err-judge_quick-clause-err g c =
+pub returns-in_err-may_quiet-clause-err : goal.returns-in_err-may_quiet-clause-err
+returns-in_err-may_quiet-clause-err g c =
     let ks = c.self.inside.nodes in
     let n = c.args.name in
     let lent = c.node_mut-node in
@@ -45,29 +45,31 @@ returns-in_err-judge_quick-clause-err g c =
     (lent_same ks n lent.result.now lent.result.now lent.ensures.kept lent.ensures.named.0 refl) c.self.invariant.sent refl refl
     ∙ c.self.view_is)
 
-pub returns-in_err-judge_quick-clause-refused : goal.returns-in_err-judge_quick-clause-refused
-returns-in_err-judge_quick-clause-refused g c =
+pub returns-in_err-may_quiet-clause-refused : goal.returns-in_err-may_quiet-clause-refused
+returns-in_err-may_quiet-clause-refused g c =
     let s = g.Q.Quorums.system in
     let ks = c.self.inside.nodes in
     let n = c.args.name in
     let lent = c.node_mut-node in
-    let ch = quick_change c.args.quick in
+    let ch = act.Quietly c.args.quiet in
     err_kept c.from_residual.result _ _ c.from_residual.ensures.1
-    (ap (λ w. least (causes_at s (node_at w n) ch)) (sym c.self.view_is) ∙ ap (λ o. least (causes_at s o ch)) (lent_state ks n lent.result.now lent.result.now lent.ensures.kept lent.ensures.named.0) ∙ c.in_err-judge_quick.ensures.refused)
+    (ap (λ w. least (causes_at s (node_at w n) ch)) (sym c.self.view_is) ∙ ap (λ o. least (causes_at s o ch)) (lent_state ks n lent.result.now lent.result.now lent.ensures.kept lent.ensures.named.0) ∙ c.in_err-may_quiet.ensures.refused)
 
 pub invariant_of-self-2 : goal.invariant_of-self-2
+unfolding made_by
 invariant_of-self-2 g c =
     let ks = c.self.inside.nodes in
     let n = c.args.name in
     let lent = c.node_mut-node in
     let x = lent.result.now.state in
-    let made = c.finish_quick.ensures.node in
-    let keeps = quick_keeps x c.args.quick c.requires in
-    kept_stays ks (with_node ks n c.finish_quick.new.self)
-    (lent_grows ks n lent.result.now c.finish_quick.new.self lent.ensures.kept lent.ensures.named.0 (ap (λ y. y.name) made ∙ keeps.name) (ap (λ y. y.registers) made ∙ keeps.registers))
+    let made = c.do_quiet.ensures.node in
+    let keeps = quiet_keeps x c.args.quiet in
+    kept_stays ks (with_node ks n c.do_quiet.new.self)
+    (lent_grows ks n lent.result.now c.do_quiet.new.self lent.ensures.kept lent.ensures.named.0 (ap (λ y. y.name) made ∙ keeps.name) (ap (λ y. y.registers) made ∙ keeps.registers))
     c.self.inside.letters c.self.inside.merged c.self.invariant
 
 pub returns-clause-ok : goal.returns-clause-ok
+unfolding made_by
 returns-clause-ok g c =
     let ks = c.self.inside.nodes in
     let ss = c.self.inside.letters in
@@ -76,15 +78,15 @@ returns-clause-ok g c =
     let n = c.args.name in
     let lent = c.node_mut-node in
     let x = lent.result.now.state in
-    let y = c.finish_quick.new.self in
-    let ch = quick_change c.args.quick in
-    let made = c.finish_quick.ensures.node in
-    let keeps = quick_keeps x c.args.quick c.requires in
+    let y = c.do_quiet.new.self in
+    let ch = act.Quietly c.args.quiet in
+    let made = c.do_quiet.ensures.node in
+    let keeps = quiet_keeps x c.args.quiet in
     let grow = lent_grows ks n lent.result.now y lent.ensures.kept lent.ensures.named.0 (ap (λ y. y.name) made ∙ keeps.name) (ap (λ y. y.registers) made ∙ keeps.registers) in
     ap (λ w. turn_at w n (node_at w n) ch) (sym c.self.view_is)
-    ∙ changed_world ks (with_node ks n y) ss h h ms ms n ch c.finish_quick.result x
+    ∙ changed_world ks (with_node ks n y) ss h h ms ms n ch c.do_quiet.result x
     (lent_moved ks n lent.result.now y lent.ensures.kept lent.ensures.named.0 (λ z. (made_by z ch).node) made) (letters_stay ks (with_node ks n y) grow ss c.self.invariant.sent)
-    (lent_state ks n lent.result.now y lent.ensures.kept lent.ensures.named.0) c.requires c.finish_quick.ensures.effect (sym (ap (with_event h) keeps.event)) (sym (ap (with_mark ms) keeps.mark))
+    (lent_state ks n lent.result.now y lent.ensures.kept lent.ensures.named.0) refl c.do_quiet.ensures.effect refl refl
 
 pub returns-clause-accepted : goal.returns-clause-accepted
 returns-clause-accepted g c =
@@ -92,5 +94,5 @@ returns-clause-accepted g c =
     let ks = c.self.inside.nodes in
     let n = c.args.name in
     let lent = c.node_mut-node in
-    let ch = quick_change c.args.quick in
-    ap (λ w. least (causes_at s (node_at w n) ch)) (sym c.self.view_is) ∙ ap (λ o. least (causes_at s o ch)) (lent_state ks n lent.result.now lent.result.now lent.ensures.kept lent.ensures.named.0) ∙ c.in_ok-judge_quick.ensures.ok
+    let ch = act.Quietly c.args.quiet in
+    ap (λ w. least (causes_at s (node_at w n) ch)) (sym c.self.view_is) ∙ ap (λ o. least (causes_at s o ch)) (lent_state ks n lent.result.now lent.result.now lent.ensures.kept lent.ensures.named.0) ∙ c.in_ok-may_quiet.ensures.ok
