@@ -15,17 +15,17 @@ use Rattle.rambo_world.proofs.state.State.quiet.Goals as goal
 
 pub node_mut-node-requires : goal.node_mut-node-requires
 node_mut-node-requires g c =
-    let nodes = back_fits _ _ _ (next _ _ _ _ (next _ _ _ _ (next _ _ _ _ (next _ _ _ _ (up_fits _ _ _ c.requires-raw.1.1.0))))) in
+    let nodes = back_fits _ _ _ (next _ _ _ _ (next _ _ _ _ (next _ _ _ _ (next _ _ _ _ (up_fits _ _ _ c.requires-raw.1.1))))) in
     (nodes, back_fits _ _ _ (up_fits _ _ _ nodes))
 
 pub may_quiet-requires : goal.may_quiet-requires
 may_quiet-requires g c =
-    let nodes = back_fits _ _ _ (next _ _ _ _ (next _ _ _ _ (next _ _ _ _ (next _ _ _ _ (up_fits _ _ _ c.requires-raw.1.1.0))))) in
+    let nodes = back_fits _ _ _ (next _ _ _ _ (next _ _ _ _ (next _ _ _ _ (next _ _ _ _ (up_fits _ _ _ c.requires-raw.1.1))))) in
     back_fits _ _ _ (up_fits _ _ _ nodes)
 
 pub do_quiet-requires : goal.do_quiet-requires
 do_quiet-requires g c =
-    let nodes = back_fits _ _ _ (next _ _ _ _ (next _ _ _ _ (next _ _ _ _ (next _ _ _ _ (up_fits _ _ _ c.requires-raw.1.1.0))))) in
+    let nodes = back_fits _ _ _ (next _ _ _ _ (next _ _ _ _ (next _ _ _ _ (next _ _ _ _ (up_fits _ _ _ c.requires-raw.1.1))))) in
     (back_fits _ _ _ (up_fits _ _ _ nodes), c.in_ok-may_quiet.ensures.ok)
 
 pub invariant_of-self : goal.invariant_of-self
