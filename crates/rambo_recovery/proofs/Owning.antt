@@ -42,32 +42,12 @@ its a m name named e = ap (λ (m : Meant _). m.name) (sym (some_inj a m e)) ∙ 
 -- a step that names somebody is theirs
 pub served : {Q : Type 0} (w : WorldState Q) (st : Step Q) (name : ℕ) → name_in (meant_in [] st) ≡ Some name → IsServedBy w st name
 served {Q} w (step.Deliver i) name named m e = absurd (none-some name (sym (unnamed Q i) ∙ named))
-served w (step.Join n contacts) name named m e = its _ m name named e
-served w (step.Call n o) name named m e = its _ m name named e
-served w (step.Send n to) name named m e = its _ m name named e
-served w (step.Advance id) name named m e = its _ m name named e
-served w (step.Again id) name named m e = its _ m name named e
-served w (step.Collect n) name named m e = its _ m name named e
-served w (step.AdvanceCollect n) name named m e = its _ m name named e
-served w (step.Recon n wish) name named m e = its _ m name named e
-served w (step.Rebid n) name named m e = its _ m name named e
-served w (step.AdvanceRecon n) name named m e = its _ m name named e
-served w (step.Stop n) name named m e = its _ m name named e
+served w _ name named m e = its _ m name named e
 
 -- and each but a delivery names somebody
 pub names_one : {Q : Type 0} (st : Step Q) → delivered_by st ≡ None → name_in (meant_in [] st) ≡ None → ⊥
 names_one (step.Deliver i) other none = none-some i (sym other)
-names_one (step.Join n contacts) other none = none-some n (sym none)
-names_one (step.Call n o) other none = none-some n (sym none)
-names_one (step.Send n to) other none = none-some n (sym none)
-names_one (step.Advance id) other none = none-some id.name (sym none)
-names_one (step.Again id) other none = none-some id.name (sym none)
-names_one (step.Collect n) other none = none-some n (sym none)
-names_one (step.AdvanceCollect n) other none = none-some n (sym none)
-names_one (step.Recon n wish) other none = none-some n (sym none)
-names_one (step.Rebid n) other none = none-some n (sym none)
-names_one (step.AdvanceRecon n) other none = none-some n (sym none)
-names_one (step.Stop n) other none = none-some n (sym none)
+names_one _ other none = none-some _ (sym none)
 
 -- what is told of a step whose first half was refused
 not_active_differs : NotActive ≢ OutOfMemory
@@ -172,14 +152,4 @@ either_drawn b c steps (Err e) is same = (ap (λ (b : BookView _). b.drawn) same
 -- a step that is no delivery
 pub no_delivery : {Q : Type 0} (st : Step Q) → ((number : ℕ) → st ≡ step.Deliver number → ⊥) → delivered_by st ≡ None
 no_delivery (step.Deliver i) other = absurd (other i refl)
-no_delivery (step.Join n contacts) other = refl
-no_delivery (step.Call n o) other = refl
-no_delivery (step.Send n to) other = refl
-no_delivery (step.Advance id) other = refl
-no_delivery (step.Again id) other = refl
-no_delivery (step.Collect n) other = refl
-no_delivery (step.AdvanceCollect n) other = refl
-no_delivery (step.Recon n wish) other = refl
-no_delivery (step.Rebid n) other = refl
-no_delivery (step.AdvanceRecon n) other = refl
-no_delivery (step.Stop n) other = refl
+no_delivery _ other = refl

@@ -41,17 +41,7 @@ head_is {a = a} {b = b} e = some_inj a b (ap (λ l. slice_get l 0) e)
 -- a step sends one letter at most
 one_at_most : {Q : Type 0} (st : Step Q) → length (sent_by st) ≤ 1
 one_at_most (step.Send n a) = omega arith
-one_at_most (step.Join n contacts) = omega arith
-one_at_most (step.Call n o) = omega arith
-one_at_most (step.Deliver l) = omega arith
-one_at_most (step.Advance id) = omega arith
-one_at_most (step.Again id) = omega arith
-one_at_most (step.Collect n) = omega arith
-one_at_most (step.AdvanceCollect n) = omega arith
-one_at_most (step.Recon n wish) = omega arith
-one_at_most (step.Rebid n) = omega arith
-one_at_most (step.AdvanceRecon n) = omega arith
-one_at_most (step.Stop n) = omega arith
+one_at_most _ = omega arith
 
 -- whom it is for
 sent_at : {Q : Type 0} (w : WorldState Q) (n to : ℕ) (o : Option (NodeState Q)) (a : Letter Q) → (turn_at w n o (act.Send to)).world.letters ≡ w.letters ++ a ∷ [] → to ≡ a.addressee
@@ -62,17 +52,7 @@ sent_at w n to (Some x) a e = ap (λ (l : Letter _). l.addressee) (head_is (appe
 sent_last : {Q : Type 0} (w : WorldState Q) (st : Step Q) (a : Letter Q) → length (sent_by st) ≡ 1 → (turn w st).world.letters ≡ w.letters ++ a ∷ [] → sent_by st ≡ a.addressee ∷ []
 unfolding turn
 sent_last w (step.Send n to) a one e = ap (λ n. n ∷ []) (sent_at w n to (node_at w n) a e)
-sent_last w (step.Join n contacts) a one e = absurd (omega (arith, one))
-sent_last w (step.Call n o) a one e = absurd (omega (arith, one))
-sent_last w (step.Deliver l) a one e = absurd (omega (arith, one))
-sent_last w (step.Advance id) a one e = absurd (omega (arith, one))
-sent_last w (step.Again id) a one e = absurd (omega (arith, one))
-sent_last w (step.Collect n) a one e = absurd (omega (arith, one))
-sent_last w (step.AdvanceCollect n) a one e = absurd (omega (arith, one))
-sent_last w (step.Recon n wish) a one e = absurd (omega (arith, one))
-sent_last w (step.Rebid n) a one e = absurd (omega (arith, one))
-sent_last w (step.AdvanceRecon n) a one e = absurd (omega (arith, one))
-sent_last w (step.Stop n) a one e = absurd (omega (arith, one))
+sent_last w _ a one e = absurd (omega (arith, one))
 
 -- a letter of a longer list is one of the list, or the last one
 more_at : {Q : Type 0} (ls rest : List (Letter Q)) (few : length rest ≤ 1) (number : ℕ) (l : Letter Q) → letter_at (ls ++ rest) number ≡ Some l
