@@ -4,10 +4,8 @@ use Rattle.std.proofs.lemmas.List.{length-append}
 use Rattle.std.specs.Option.{option_map}
 use mathlib.Core.List.{IsPrefix}
 use Rattle.rambo_names.specs.Quorums.{QuorumSystem}
-use Rattle.rambo_history.specs.declared.event.Event.{Event}
 use Rattle.rambo_gossip.specs.declared.letter.Letter.{Letter}
 use Rattle.rambo_node.specs.FullNodes.{FullNode}
-use Rattle.rambo_sequence.specs.declared.mark.Mark.{Mark}
 use Rattle.rambo_run.specs.declared.step.Step.{Step}
 use Rattle.rambo_run.specs.declared.step.Step.TheVariants as step
 use Rattle.rambo_run.specs.Runs.{run}
@@ -99,24 +97,6 @@ pub drawn_book : {Q : Type 0} {s : QuorumSystem Q} {agreed : Option Q} {most : �
 drawn_book {steps = steps} {letters = letters} {kept = kept} {drawn = drawn} {ahead = ahead} steps' drawn' done is b e all none =
     same_book steps' letters kept drawn' b e refl (record_still kept) (few_then (length steps) drawn drawn' ahead done b.few all none) (λ bounded. absurd (true≢false (sym is ∙ bounded)))
 
--- one that forgot a call
-pub forgetful_book : {Q : Type 0} {s : QuorumSystem Q} {agreed : Option Q} {most : ℕ} {endless : Bool} {f : Q} {steps : List (Step Q)} {letters : LettersView Q} {kept : RecordView} {capacity drawn ahead : ℕ}
-    (kept' : RecordView) → IsBook s agreed most endless f steps letters kept capacity drawn ahead → (kept'.all ≡ kept.all) → ((history : List Event) (marks : List Mark) → IsRecord history marks kept → IsRecord history marks kept')
-    → IsBook s agreed most endless f steps letters kept' capacity drawn ahead
-forgetful_book {s = s} {f = f} {steps = steps} kept' b all keeps = record {
-  founded = b.founded;
-  terms = b.terms;
-  fits = b.fits;
-  few = b.few;
-  undrawn = b.undrawn;
-  whole = λ is. ap is_some all ∙ b.whole is;
-  legal = b.legal;
-  window = b.window;
-  gone = b.gone;
-  sent = b.sent;
-  recorded = keeps (run s f steps).history (run s f steps).marks b.recorded;
-}
-
 module _ {Q : Type 0} {s : QuorumSystem Q} {agreed : Option Q} {most : ℕ} {endless : Bool} {f : Q} {steps : List (Step Q)} {letters : LettersView Q} {kept : RecordView} {capacity drawn ahead : ℕ}
     (b : IsBook s agreed most endless f steps letters kept capacity drawn ahead) {roomy : LettersView Q} (room : roomy ≡ record letters { room = roomy.room }) where
   pub sent_room : length (completed (run s f steps) letters) ≡ roomy.gone + length roomy.kept
@@ -179,9 +159,6 @@ module _ {Q : Type 0} {s : QuorumSystem Q} {agreed : Option Q} {most : ℕ} {end
 
   pub all_few : letters.gone + length letters.kept ≤ length steps
   all_few = (let all = all_counted in let few = few_letters s f steps in omega (arith, all, few))
-
-  pub all_sent : length (completed (run s f steps) letters) ≡ letters.gone + length letters.kept
-  all_sent = b.sent.0 ∙ sym all_counted
 
   -- a step that delivers none that is gone means what it does by the kept ones
   pub letter_kept : (st : Step Q) → delivers_gone letters.gone st ≡ false → kept_in letters st ≡ letter_in (completed (run s f steps) letters) st

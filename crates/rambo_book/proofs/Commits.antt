@@ -30,7 +30,7 @@ use Rattle.rambo_book.specs.declared.readied.Ready.{Ready}
 use Rattle.rambo_book.specs.Readying.{IsReadyIn}
 use Rattle.rambo_run.proofs.GoingOn.{prefix_trans}
 use Rattle.rambo_run.proofs.NodeLists.{nodes_count}
-use Rattle.rambo_book.proofs.Standing.{Alike, outlines_alike, letter_goes, light_sent, light_count}
+use Rattle.rambo_book.proofs.Standing.{Alike, outlines_alike, letter_goes, light_sent}
 use Rattle.rambo_book.proofs.Firsts.{is_named}
 use Rattle.rambo_book.proofs.Judging.{Judged, judged_by, still, still_full, begun, Finished, finished, kept_on}
 use Rattle.rambo_book.proofs.Readying.{ready_alike}
@@ -158,8 +158,3 @@ module _ {Q : Type 0} {s : QuorumSystem Q} {agreed : Option Q} {most : ℕ} {rol
         let p : IsPrefix seen (steps ++ st ∷ []) = prefix_trans seen steps (steps ++ st ∷ []) (begun s agreed most rolled f steps letters history marks capacity holds name node tray seen b k idle) (st ∷ [], refl) in
         let fits : length (steps ++ st ∷ []) ≤ most = omega (arith, less, b.terms, length-append steps (st ∷ [])) in
         subst (IsKeeper s agreed most held name new tray) (sym e) (kept_on s agreed most f holds held name node new tray seen (steps ++ st ∷ []) b.founded k same p h.legal fits h.node h.full)
-
--- the letters that are kept are as many as were sent
-pub counted_light : {Q : Type 0} {s : QuorumSystem Q} {f : Q} {steps : List (Step Q)} {st : Step Q} {name : ℕ} {letters : List (Letter Q)} {history : List Event} {marks : List Mark} {new : FullNode Q} {d : Done Q}
-    → Finished s f steps st name letters history marks new d → (came : Option ℕ) → length (lightened (with_letter letters d.letter) came) ≡ length (run s f (steps ++ st ∷ [])).letters
-counted_light {letters = letters} {d = d} h came = light_count (with_letter letters d.letter) came ∙ h.sent.0

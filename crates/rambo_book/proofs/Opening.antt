@@ -1,7 +1,7 @@
 -- Open calls have the answers of the history
-use Rattle.std.proofs.Common.{◌≡◌, List, [], ◌∷◌, ◌++◌, Bool, true, false, if◌then◌else◌, Option, None, Some, is_some, refl, sym, ap, ◌∙◌, subst}
+use Rattle.std.proofs.Common.{◌≡◌, List, [], ◌∷◌, ◌++◌, Bool, true, false, if◌then◌else◌, Option, None, Some, is_some, refl, sym, ap, ◌∙◌}
 use Rattle.std.specs.Map.{lookup}
-use Rattle.std.specs.Option.{option_map, IsSomeAnd}
+use Rattle.std.specs.Option.{option_map}
 use Rattle.rambo_history.specs.declared.operation.Op.{Op}
 use Rattle.rambo_history.specs.declared.operation.Answer.{Answer}
 use Rattle.rambo_history.specs.declared.event.CallId.{CallId}
@@ -32,15 +32,6 @@ open_none h calls e c told is = absurd (none-some told (ap (λ l. lookup (same_c
 
 pub open_kept : (h : List Event) (old new : List (CallId × Option Answer)) → AreOpen h old → KeepsCalls old new → AreOpen h new
 open_kept h old new are keeps c told is = are c told (sym (keeps c) ∙ is)
-
--- what is forgotten is not told
-pub open_fewer : (h : List Event) (old new : List (CallId × Option Answer)) (id : CallId) → AreOpen h old → ((q : CallId) → lookup (same_call q) new ≡ (if same_call id q then None else lookup (same_call q) old)) → AreOpen h new
-open_fewer h old new id are less c told is =
-    by_case (same_call id c) (sym (less c) ∙ is)
-  where
-    by_case : (b : Bool) → (if b then None else lookup (same_call c) old) ≡ Some told → told ≡ answer_in h c
-    by_case true e = absurd (none-some told e)
-    by_case false e = are c told e
 
 either_none : {A : Type 0} (o : Option A) → either o None ≡ o
 either_none None = refl

@@ -1,6 +1,6 @@
 -- What is ready by a keeper's own letters is ready in a run
 use Rattle.std.proofs.Common.{◌≡◌, ◌⊎◌, ℕ, zero, suc, Bool, true, false, nat_eq, eqb-true, if◌then◌else◌, List, [], ◌∷◌, slice_get, length, All, Option, None, Some, refl, sym, ap, ◌∙◌, subst, inl, inr, arith}
-use Rattle.std.proofs.lemmas.Bool.{eqb-false, eq-eqb, ne_eqb, true≢false}
+use Rattle.std.proofs.lemmas.Bool.{eqb-false, ne_eqb, true≢false}
 use mathlib.Core.List.{IsPrefix}
 use Rattle.rambo_names.specs.Quorums.{QuorumSystem}
 use Rattle.rambo_names.specs.Refusals.{least}
@@ -123,10 +123,6 @@ ready_alike s w st k p came half same outline served accepted none ready =
       ready = subst (λ o. IsReadyStep s (roomy k) o found.0.act half) outline (ready_as s (roomy k) (outline_of came) kept.0.act found.0.act half ok (same.changes kept.0 found.0 kept.1 found.1) (ready kept.0 kept.1));
       brings = outline;
     }
-
--- a letter of a number that is in a tray
-pub mail_here : {Q : Type 0} (rest : List (Mail Q)) (m : Mail Q) (others : List (Mail Q)) (n : ℕ) → rest ≡ m ∷ others → m.number ≡ n → mail_in rest n ≡ Some m.letter
-mail_here rest m others n e is = ap (λ ms. mail_in ms n) e ∙ ap (λ b. if b then Some m.letter else mail_in others n) (eq-eqb m.number n is)
 
 pub mail_later : {Q : Type 0} (rest : List (Mail Q)) (m : Mail Q) (others : List (Mail Q)) (n : ℕ) → rest ≡ m ∷ others → (m.number ≡ n → ⊥) → mail_in rest n ≡ mail_in others n
 mail_later rest m others n e is = ap (λ ms. mail_in ms n) e ∙ ap (λ b. if b then Some m.letter else mail_in others n) (ne_eqb m.number n is)

@@ -1,17 +1,14 @@
 -- What is kept of calls and answers stays what the run gives
 use Rattle.std.proofs.Common.{◌≡◌, ℕ, true, false, if◌then◌else◌, List, [], Option, None, Some, is_some, refl, sym, ap, ◌∙◌, true≢false}
-use Rattle.std.specs.Map.{lookup}
 use Rattle.std.specs.Option.{option_map}
-use Rattle.rambo_history.specs.declared.event.CallId.{CallId}
 use Rattle.rambo_history.specs.declared.event.Event.{Event}
-use Rattle.rambo_history.specs.Calls.{same_call}
 use Rattle.rambo_history.specs.Faults.{fault_of}
 use Rattle.rambo_history.specs.Forms.{IsWellFormed}
 use Rattle.rambo_sequence.specs.declared.mark.Mark.{Mark}
 use Rattle.rambo_run.specs.Steps.{with_event, with_mark}
 use Rattle.rambo_run.proofs.Lists.{none-some, some_inj}
 use Rattle.rambo_book.specs.Records.{ChronicleView, RecordView, KeepsAll, KeepsRecord, MoreOfAll, Recorded, IsEmpty, IsRecord}
-use Rattle.rambo_book.proofs.Opening.{open_none, open_kept, open_fewer, open_with}
+use Rattle.rambo_book.proofs.Opening.{open_none, open_kept, open_with}
 
 -- a chronicle that is kept was there, with the same lists
 record Before (old : Option ChronicleView) (c : ChronicleView) : Type 0 where
@@ -99,14 +96,6 @@ pub fits_all : (old new : Option ChronicleView) (history : List Event) (marks : 
 fits_all old new history marks keeps r c e is fits =
     let b = before old new keeps c is in
     ap (λ h. fault_of h e) (b.events ∙ (r.all b.was b.there).0) ∙ fits
-
--- one call less is open
-pub record_fewer : (history : List Event) (marks : List Mark) (old new : RecordView) (id : CallId) → IsRecord history marks old → new.all ≡ old.all
-    → (old.all ≡ None → (q : CallId) → lookup (same_call q) new.calls ≡ (if same_call id q then None else lookup (same_call q) old.calls)) → IsRecord history marks new
-record_fewer history marks old new id r all fewer = record {
-  all = λ c is. r.all c (sym all ∙ is);
-  answers = λ none. let was = sym all ∙ none in open_fewer history old.calls new.calls id (r.answers was) (fewer was);
-}
 
 -- where all is kept something is told of each call
 pub kept_known : {A B : Type 0} (all : Option ChronicleView) (r : Option A) (f : A → B) (told : ChronicleView → B) → is_some all ≡ true → ((c : ChronicleView) → all ≡ Some c → option_map f r ≡ Some (told c)) → is_some r ≡ true

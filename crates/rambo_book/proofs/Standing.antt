@@ -87,10 +87,6 @@ goes_alike l whole held short = ap (λ (l : Letter _). l.addressee) short.rest
 pub outline_alike : {Q : Type 0} (l whole : Letter Q) (held : Copies) → IsShort l whole held → letter_with l map.empty ≡ letter_with whole map.empty
 outline_alike l whole held short = sym (letter_twice l (copies_in whole.kind) map.empty) ∙ ap (λ l. letter_with l map.empty) short.rest
 
--- and comes from there
-pub comes_alike : {Q : Type 0} (l whole : Letter Q) (held : Copies) → IsShort l whole held → l.sender ≡ whole.sender
-comes_alike l whole held short = ap (λ (l : Letter _). l.sender) short.rest
-
 module _ {Q : Type 0} (s : QuorumSystem Q) (x : NodeState Q) where
   pub verdict_alike : (l whole : Letter Q) → IsShort l whole x.registers → refusal_of s x (act.Hear l) ≡ refusal_of s x (act.Hear whole)
   verdict_alike l whole short = ap least (heard_as_whole x l whole short).1

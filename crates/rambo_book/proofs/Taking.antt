@@ -1,5 +1,5 @@
 -- Letters that wait go to a tray one behind another
-use Rattle.std.proofs.Common.{◌≡◌, ℕ, zero, suc, ◌-◌, ◌<◌, ◌≤◌, true, false, Bool, if◌then◌else◌, List, [], ◌∷◌, ◌++◌, length, map, take, drop, slice_get, slice_set, slice_index_or, option_to_list, Option, None, Some, refl, sym, ap, ◌∙◌, append_assoc, append-nil, set-set, arith}
+use Rattle.std.proofs.Common.{◌≡◌, ℕ, zero, suc, ◌-◌, ◌<◌, ◌≤◌, true, false, Bool, if◌then◌else◌, List, [], ◌∷◌, ◌++◌, length, map, take, drop, slice_get, slice_set, slice_index_or, None, Some, refl, sym, ap, ◌∙◌, append_assoc, append-nil, set-set, arith}
 use Rattle.std.proofs.lemmas.List.{set-get_or}
 use Rattle.rambo_run.specs.Worlds.{WorldState}
 use Rattle.rambo_run.proofs.Lists.{none-some, some_inj}
@@ -19,10 +19,6 @@ left_here : (lists : List (List ℕ)) (i count : ℕ) → slice_index_or (slice_
 left_here [] i count = sym (drop_nothing count)
 left_here (x ∷ xs) zero count = refl
 left_here (x ∷ xs) (suc i) count = left_here xs i count
-
-pub unlisted : (o : Option ℕ) → option_to_list o ≡ [] → o ≡ None
-unlisted None e = refl
-unlisted (Some n) e = absurd (omega (arith, ap length e))
 
 -- the first number that is left
 record Next (ns : List ℕ) (count n : ℕ) : Type 0 where

@@ -95,9 +95,6 @@ none_delivered gone st e = ap (λ g. delivers_gone g st) e ∙ none_by (delivere
 pub refused_there : {Q : Type 0} (s : QuorumSystem Q) (endless : Bool) (most : ℕ) (w : WorldState Q) (st : Step Q) → delivers_gone (gone_of endless most w) st ≡ false → refused_in s endless most w st ≡ refusal s w st
 refused_there s endless most w st e = ap (λ b. if b then Some LetterGone else refusal s w st) e
 
-pub refused_gone : {Q : Type 0} (s : QuorumSystem Q) (endless : Bool) (most : ℕ) (w : WorldState Q) (st : Step Q) → delivers_gone (gone_of endless most w) st ≡ true → refused_in s endless most w st ≡ Some LetterGone
-refused_gone s endless most w st e = ap (λ b. if b then Some LetterGone else refusal s w st) e
-
 -- a step that names its node delivers none by its number
 pub named_there : {Q : Type 0} (gone name : ℕ) (st : Step Q) → name_in (meant_in [] st) ≡ Some name → delivers_gone gone st ≡ false
 named_there gone name (step.Deliver zero) e = refl
@@ -201,9 +198,6 @@ within_by all window gone e = omega (arith, e)
 few_by : (all window gone kept : ℕ) → gone ≡ all - window → gone + kept ≡ all → kept ≤ window
 few_by all window gone kept e f = omega (arith, e, f)
 
-rest_by : (all gone kept : ℕ) → gone + kept ≡ all → kept ≡ all - gone
-rest_by all gone kept f = omega (arith, f)
-
 pub after_by : (all more window gone kept past : ℕ) → gone ≡ all - window → all ≤ more → gone + kept ≡ more → past ≡ gone + (kept - window) → past ≡ more - window
 after_by all more window gone kept past e grows counts is = omega (arith, e, grows, counts, is)
 
@@ -220,9 +214,6 @@ module _ {Q : Type 0} (w : WorldState Q) (v : LettersView Q) (window : ℕ) (gon
 
     pub few_kept : length v.kept ≤ window
     few_kept = few_by (length w.letters) window v.gone (length v.kept) gone counted
-
-    pub rest_kept : length v.kept ≡ length w.letters - v.gone
-    rest_kept = rest_by (length w.letters) v.gone (length v.kept) counted
 
 -- no more letters are sent than steps done
 with_count : {Q : Type 0} (ls : List (Letter Q)) (o : Option (Letter Q)) → length (with_letter ls o) ≤ length ls + 1
@@ -275,12 +266,6 @@ bounded_by count all most few fits = omega (arith, few, fits)
 pub bounded_keeps : {Q : Type 0} (s : QuorumSystem Q) (f : Q) (sts : List (Step Q)) (endless : Bool) (most : ℕ) → endless ≡ false → length sts ≤ most → gone_of endless most (run s f sts) ≡ 0
 bounded_keeps s f sts endless most e fits =
     ap (λ b. length (run s f sts).letters - window_of b most) e ∙ bounded_by (length (run s f sts).letters) (length sts) most (few_letters s f sts) fits
-
--- and refuses no step for a letter that is gone
-pub bounded_refused : {Q : Type 0} (s : QuorumSystem Q) (f : Q) (sts : List (Step Q)) (endless : Bool) (most : ℕ) (st : Step Q) → endless ≡ false → length sts ≤ most
-    → refused_in s endless most (run s f sts) st ≡ refusal s (run s f sts) st
-bounded_refused s f sts endless most st e fits =
-    refused_there s endless most (run s f sts) st (none_delivered (gone_of endless most (run s f sts)) st (bounded_keeps s f sts endless most e fits))
 
 -- letters leave out copies behind those that are gone: of such a number none does
 abbrev pub far : ℕ → Option ℕ → Option ℕ

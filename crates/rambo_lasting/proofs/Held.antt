@@ -1,5 +1,5 @@
 -- What a file held that was read to its end, and what is left of it
-use Rattle.std.proofs.Common.{◌≡◌, ℕ, ◌+◌, List, [], ◌++◌, length, take, Option, None, Some, IfSome, option_map, append-nil, refl, sym, ap, ◌∙◌, subst}
+use Rattle.std.proofs.Common.{◌≡◌, ℕ, ◌+◌, List, [], ◌++◌, length, take, Option, None, Some, IfSome, option_map, refl, sym, ap, ◌∙◌, subst}
 use Rattle.std.specs.Io.KnownBytes.{Appends, IsAtEnd}
 use Rattle.rambo_names.specs.Weights.{Weights}
 use Rattle.rambo_atomic.specs.Unreads.{TakesIn}
@@ -19,12 +19,6 @@ pub cut : (old new : Option (List ℕ)) (f : Weights) (steps : List (Step Weight
     → new ≡ option_map (take count) old → IfSome old (λ bytes. bytes ≡ trace_text f steps ++ torn) → new ≡ option_map (λ bytes. trace_text f steps) old
 cut None new f steps torn count is left held = left
 cut (Some bytes) new f steps torn count is left held = left ∙ ap Some (ap (take count) held ∙ whole_cut f steps torn count is)
-
--- nothing is torn
-pub uncut : (old new : Option (List ℕ)) (f : Weights) (steps : List (Step Weights)) (torn : List ℕ) → torn ≡ [] → new ≡ old → IfSome old (λ bytes. bytes ≡ trace_text f steps ++ torn)
-    → new ≡ option_map (λ bytes. trace_text f steps) old
-uncut None new f steps torn none same held = same
-uncut (Some bytes) new f steps torn none same held = same ∙ ap Some (held ∙ ap (λ l. trace_text f steps ++ l) none ∙ append-nil (trace_text f steps))
 
 -- a file that was empty has taken the whole trace
 pub appended : (old new : Option (List ℕ)) (text : List ℕ) → new ≡ option_map (λ bytes. text) old → Appends (option_map (λ bytes. []) old) new text

@@ -9,15 +9,13 @@ use Rattle.rambo_names.specs.WeightLaws.{same_weights}
 use Rattle.rambo_names.specs.Weights.{Weights, weighted_majorities}
 use Rattle.rambo_names.specs.declared.refusal.Refusal.{Refusal}
 use Rattle.rambo_atomic.specs.Unreads.{HasFeed, TakesIn}
-use Rattle.rambo_atomic.specs.declared.whole.StreamFault.{StreamFault}
-use Rattle.rambo_atomic.specs.declared.whole.StreamFault.TheVariants as stream
 use Rattle.rambo_run.specs.declared.step.Step.{Step}
 use Rattle.rambo_lines.specs.Scripts.{steps_text}
 use Rattle.rambo_text.specs.declared.fault.ScriptFault.{ScriptFault}
 use Rattle.rambo_text.specs.declared.version.Version.TheVariants.{Two}
 use Rattle.rambo_text.specs.Versions.{head_text}
 use Rattle.rambo_trace.specs.Traces.{trace_text}
-use Rattle.rambo_retrace.specs.Retraces.{IsFaultAt, IsUnrefused, StopsAt, TellsNone, of_stream, retraced}
+use Rattle.rambo_retrace.specs.Retraces.{IsFaultAt, IsUnrefused, StopsAt, TellsNone, retraced}
 use Rattle.rambo_retrace.specs.declared.fault.RetraceFault.{RetraceFault}
 use Rattle.rambo_retrace.specs.declared.fault.RetraceFault.TheVariants.{Read, Memory, Script, Refused}
 use Rattle.rambo_retrace.proofs.WholeTraces.{trace_read}
@@ -28,12 +26,6 @@ use Rattle.rambo_cluster.specs.declared.fault.ServeFault.{ServeFault}
 use Rattle.rambo_lasting.specs.Resumings.{HoldsTrace, IsOfReading, IsUncut, Stays, WhyUnresumed, last}
 use Rattle.rambo_lasting.specs.declared.fault.ResumeFault.{ResumeFault}
 use Rattle.rambo_lasting.specs.declared.fault.ResumeFault.TheVariants.{Trace, Founders, Uncut, Unserved}
-
--- the stream failed, or there was no room
-pub stream_why : (lose : ℕ) (asked : Option Weights) (held : Option (List ℕ)) (e : StreamFault) → WhyUnresumed lose asked held (Trace (of_stream e))
-stream_why lose asked held stream.Read = inl (inl refl)
-stream_why lose asked held stream.Write = inl (inl refl)
-stream_why lose asked held stream.Memory = inl (inr refl)
 
 -- what was read after some bytes is read from the beginning
 pub from_start : (held one two : Option (List ℕ)) (h1 text : List ℕ) → TakesIn held one [] h1 → TakesIn one two h1 text → TakesIn held two [] text

@@ -1,5 +1,5 @@
 -- Reading a text line by line
-use Rattle.std.proofs.Common.{◌≡◌, ◌≢◌, ◌⊎◌, ℕ, ◌+◌, ◌<◌, List, [], ◌∷◌, ◌++◌, length, inl, inr, refl, sym, ap, subst, ◌∙◌, arith, append_assoc, append-nil, length-append}
+use Rattle.std.proofs.Common.{◌≡◌, ◌≢◌, ◌⊎◌, ℕ, ◌+◌, ◌<◌, List, [], ◌∷◌, ◌++◌, length, inl, inr, refl, sym, ap, subst, ◌∙◌, arith, append_assoc, append-nil}
 use Rattle.std.specs.List.{AllByRecursion}
 use Rattle.rambo_names.specs.Weights.{Weights}
 use Rattle.rambo_run.specs.declared.step.Step.{Step}
@@ -138,14 +138,3 @@ pub told_needs : (NeedsRoom : List ℕ → Type 0) (line : List ℕ) (f : Fault)
     → ((f ≡ OutOfMemory) × NeedsRoom line) ⊎ IsLineFault TellNoStep line f
 told_needs NeedsRoom line f (inl spent) needs = inl (spent, needs spent)
 told_needs NeedsRoom line f (inr fault) needs = inr fault
-
--- less is left
-pub less_left : (rest line more : List ℕ) → rest ≢ [] → IsFirstLine rest line more → length more < length rest
-less_left rest line more some first = elim first.whole [
-  | inl feed ↦ omega (arith, length-append line (10 ∷ more), ap length feed)
-  | inr last ↦ (let none : length more ≡ 0 = ap length last.1 in omega (arith, not_nil rest some))
-]
-  where
-    not_nil : (xs : List ℕ) → xs ≢ [] → 0 < length xs
-    not_nil [] some = absurd (some refl)
-    not_nil (x ∷ xs) some = omega arith

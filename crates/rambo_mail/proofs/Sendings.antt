@@ -5,10 +5,6 @@ use Rattle.rambo_mail.specs.Queues.{QueueState, no_queue, HasRoom}
 use Rattle.rambo_mail.specs.Waiting.{divides, times}
 use Rattle.rambo_mail.proofs.Lists.{any_default}
 
--- how often it waits
-pub lost_times : (lose twice : ℕ) (n : Entry) → divides lose n.number ≡ true → replicate (times lose twice n.number) n ≡ []
-lost_times lose twice n e = ap (λ t. replicate (if t then 0 else if divides twice n.number then 2 else 1) n) e
-
 pub twice_times : (lose twice : ℕ) (n : Entry) → divides lose n.number ≡ false → divides twice n.number ≡ true → replicate (times lose twice n.number) n ≡ n ∷ n ∷ []
 twice_times lose twice n e f = λ i. replicate (if e i then 0 else if f i then 2 else 1) n
 

@@ -1,5 +1,5 @@
 -- How serving ends whose trace stands in a file
-use Rattle.std.proofs.Common.{◌≡◌, ℕ, List, [], Bool, true, false, Option, None, Some, if◌then◌else◌, inl, inr, refl, sym, ap, subst}
+use Rattle.std.proofs.Common.{◌≡◌, ℕ, List, [], true, false, Option, None, Some, if◌then◌else◌, inl, inr, sym, ap, subst}
 use Rattle.std.specs.Prelude.{IfSome}
 use Rattle.rambo_names.specs.Weights.{Weights, weighted_majorities}
 use Rattle.rambo_run.specs.declared.step.Step.{Step}
@@ -16,11 +16,6 @@ use Rattle.rambo_lasting.specs.declared.fault.ResumeFault.TheVariants.{Unserved}
 use Rattle.rambo_lasting.specs.Resumings.{Announced, Begins, Resumes, Unresumed}
 use Rattle.rambo_main.specs.Endings.{Ends, ListensOn, server_line}
 use Rattle.rambo_main.specs.Files.{IsUnresumed, KeepsTo, Serves}
-
--- it doesn't listen
-pub unbound : {E : Type 0} (taken : E → Option (List ℕ)) (failures : E → ℕ) (s : Serving) (founders : Weights) (e : Ending) (file : Taken) (old new : E) (f : ServeFault)
-    → Fails (server_line f) e (stream taken failures old new) → KeepsTo taken failures s founders e file file old new
-unbound taken failures s founders e file old new f fails = inl (f, refl, fails)
 
 -- a trace was begun
 pub begun : {E : Type 0} (taken : E → Option (List ℕ)) (failures : E → ℕ) (s : Serving) (founders : Weights) (e : Ending) (before after : Taken) (old behind new : E) (fault : Option TraceFault) (port : ℕ)

@@ -1,12 +1,9 @@
 -- The places of a client's calls
-use Rattle.std.proofs.Common.{◌≡◌, ◌≢◌, ℕ, zero, suc, ◌<◌, ◌≤◌, List, [], ◌∷◌, length, take, All, subst, arith}
+use Rattle.std.proofs.Common.{◌≡◌, ◌≢◌, ℕ, zero, suc, ◌<◌, ◌≤◌, List, [], ◌∷◌, length, take, arith}
 use Rattle.std.proofs.lemmas.List.Elements.{All-from_recursion, recursion_from_All}
 use Rattle.rambo_history.specs.declared.event.CallId.{CallId}
 use Rattle.rambo_pass.specs.declared.mine.Entry.{Entry}
-use Rattle.rambo_pass.specs.Passes.{entry_at, IsEntry, IsNone}
-
-pub none_at_first : (es : List Entry) (id : CallId) → IsNone (take 0 es) id
-none_at_first es id k d lt = absurd (omega (arith, lt))
+use Rattle.rambo_pass.specs.Passes.{entry_at, IsNone}
 
 -- the next one isn't that of the call either
 pub none_more : (es : List Entry) (id : CallId) (at : ℕ) → at < length es → (entry_at es at).id ≢ id → IsNone (take at es) id → IsNone (take (suc at) es) id

@@ -125,12 +125,6 @@ why_gone s b endless most lose is_short ks number (Err r) is full lost held h = 
       ))
 ]
 
--- and another step that it doesn't
-pub why_told : {Q A : Type 0} (s : QuorumSystem Q) (b : BookView Q) (most lose : ℕ) (st : Step Q) (r : Result A Refusal) → b.capacity ≡ most → IfErr r (Told (refusal s (state s b) st) (length b.steps) b.capacity)
-    → IfErr r (WhyUntaken s b.founders most lose b.steps st)
-why_told s b most lose st (Ok a) full h = tt
-why_told s b most lose st (Err r) full h = inl (subst (λ n. Told (refusal s (state s b) st) (length b.steps) n r) full h)
-
 -- what holds of a success, or of an error, and what follows from it
 pub ok_map : {A E : Type 0} (P R : Type 0) (r : Result A E) → (P → R) → OnOk r P → OnOk r R
 ok_map P R (Ok a) f h = f h

@@ -3,13 +3,12 @@ use Rattle.std.proofs.Common.{◌≡◌, ℕ, List, [], ◌∷◌, ◌++◌, ref
 use Rattle.rambo_names.specs.Weights.{Weights}
 use Rattle.rambo_names.specs.declared.refusal.Refusal.{Refusal}
 use Rattle.rambo_run.specs.declared.step.Step.{Step}
-use Rattle.rambo_text.specs.declared.fault.ScriptFault.{ScriptFault}
 use Rattle.rambo_lines.specs.Fronts.{BeginsWithStep}
 use Rattle.rambo_lines.specs.Scripts.{HasLine}
 use Rattle.rambo_lines.specs.StepLines.{step_line}
 use Rattle.rambo_retrace.specs.declared.fault.RetraceFault.{RetraceFault}
-use Rattle.rambo_retrace.specs.declared.fault.RetraceFault.TheVariants.{Script, Refused}
-use Rattle.rambo_retrace.specs.Retraces.{IsWholeLine, IsUsed, IsFaultAt, IsFaultyStep, StopsAtFirst, TakesFirst}
+use Rattle.rambo_retrace.specs.declared.fault.RetraceFault.TheVariants.{Refused}
+use Rattle.rambo_retrace.specs.Retraces.{IsWholeLine, IsUsed, IsFaultAt, StopsAtFirst, TakesFirst}
 use Rattle.rambo_retrace.proofs.WholeLines.{same_whole}
 
 -- the first line has its line feed, and so many bytes with it
@@ -49,9 +48,3 @@ pub refuses_front : (Refuses : Step Weights → Refusal → Type 0) (number : �
 refuses_front Refuses number lines rest st used f begins fed told =
     let whole = same_whole lines (step_line st) fed.0 rest rest used begins.is_first fed.1 fed.2 in
     refuses_line Refuses number lines (step_line st) rest st f begins.has_line refl whole.0 told
-
--- it tells no step
-pub faulty_line : (Refuses : Step Weights → Refusal → Type 0) (number : ℕ) (lines line rest : List ℕ) (g : ScriptFault) (f : RetraceFault) → f ≡ Script g → IsWholeLine lines line rest → g.line ≡ number
-    → IsFaultyStep line g.fault → StopsAtFirst Refuses number lines f
-faulty_line Refuses number lines line rest g f is whole at bad =
-    record { line = line; rest = rest; is_first = whole; fault = subst (IsFaultAt Refuses number line) (sym is) (at, bad) }

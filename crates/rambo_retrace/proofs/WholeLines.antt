@@ -1,10 +1,10 @@
 -- Lines with their line feed
-use Rattle.std.proofs.Common.{◌≡◌, ◌≢◌, ℕ, ◌≤◌, List, [], ◌∷◌, ◌++◌, length, drop, inl, sym, ap, subst, ◌∙◌, append_assoc, length-append, arith}
+use Rattle.std.proofs.Common.{◌≡◌, ◌≢◌, ℕ, ◌≤◌, List, [], ◌∷◌, ◌++◌, drop, inl, sym, ap, subst, ◌∙◌, append_assoc, length-append}
 use Rattle.std.proofs.lemmas.List.{drop_at}
-use Rattle.rambo_text.specs.Words.{Lacks, IsFirstLine}
+use Rattle.rambo_text.specs.Words.{IsFirstLine}
 use Rattle.rambo_text.specs.Versions.{head_line}
 use Rattle.rambo_text.proofs.Heads.{head_line_lacks, same_lines}
-use Rattle.rambo_text.proofs.WordSplits.{cut, no_cut}
+use Rattle.rambo_text.proofs.WordSplits.{cut}
 use Rattle.rambo_retrace.specs.Retraces.{IsWholeLine, IsUsed, TellsNoHead}
 
 -- the first line is the one that has its line feed
@@ -19,14 +19,6 @@ pub behind_used : (held line rest : List ℕ) (used : ℕ) → IsWholeLine held 
 behind_used held line rest used first is =
     let whole : held ≡ (line ++ 10 ∷ []) ++ rest = first.whole ∙ sym (append_assoc line (10 ∷ []) rest) in
     ap (drop used) whole ∙ drop_at (line ++ 10 ∷ []) rest used (length-append line (10 ∷ []) ∙ sym is)
-
--- no more of a text is used than there is
-pub used_within : (held line rest : List ℕ) (used : ℕ) → IsWholeLine held line rest → IsUsed line used → used ≤ length held
-used_within held line rest used first is = omega (arith, is, ap length first.whole, length-append line (10 ∷ rest))
-
--- a text whose first line is torn doesn't tell version 2
-pub torn_no_head : (held : List ℕ) → Lacks 10 held → TellsNoHead held
-torn_no_head held lacks = λ rest e. no_cut 10 held head_line rest lacks (e ∙ append_assoc head_line (10 ∷ []) rest)
 
 -- nor does one whose first line is another
 pub other_no_head : (held line rest : List ℕ) → IsWholeLine held line rest → line ≢ head_line → TellsNoHead held

@@ -73,7 +73,3 @@ module _ {Q : Type 0} (s : QuorumSystem Q) (founders : Q) (ss : List (Step Q)) w
       let m : ℕ = length ss in
       let here : node_at (moment s founders ss m) n ≡ Some x = ap (λ w. node_at w n) (last_moment s founders ss) ∙ e in
       ap (λ x. x.name) (node_is s founders (moment s founders ss) all m n x here) ∙ names s founders (at s founders (moment s founders ss) all) (run_of s founders (moment s founders ss) all) m n
-
-  -- each name has a node
-  pub name_present : (n : ℕ) → 1 ≤ n → n ≤ 64 → (x : NodeState Q) × (node_at (run s founders ss) n ≡ Some x)
-  name_present n a b = named_at (run s founders ss) n nodes_count a b

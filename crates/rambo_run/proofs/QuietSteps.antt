@@ -8,7 +8,7 @@ use Rattle.rambo_node.specs.declared.prepared.Quiet.{Quiet}
 use Rattle.rambo_node.specs.Acts as act
 use Rattle.rambo_run.specs.declared.step.Step.{Step}
 use Rattle.rambo_run.specs.declared.step.Step.TheVariants as step
-use Rattle.rambo_run.specs.Kinds.{quiet_of, delivered_by}
+use Rattle.rambo_run.specs.Kinds.{quiet_of}
 use Rattle.rambo_run.specs.Steps.{meant_by}
 use Rattle.rambo_run.proofs.Lists.{none-some}
 
@@ -19,11 +19,6 @@ quiet_means o (step.Send n to) p e = absurd (none-some p e)
 quiet_means o (step.Deliver l) p e = absurd (none-some p e)
 quiet_means o (step.Advance id) p e = absurd (none-some p e)
 quiet_means o _ p e = ap (option_map (λ p. record { name = p.0; act = act.Quietly p.1 })) e
-
--- and lets none come
-pub quiet_stays : {Q : Type 0} (st : Step Q) (p : ℕ × Quiet Q) → quiet_of st ≡ Some p → delivered_by st ≡ None
-quiet_stays (step.Deliver l) p e = absurd (none-some p e)
-quiet_stays _ p e = refl
 
 -- every step but a call, its advance, a letter that is sent, and one that comes, means one
 pub quiet_else : {Q A : Type 0} (st : Step Q) → quiet_of st ≡ None → ((n : ℕ) (o : Op) → st ≡ step.Call n o → ⊥) → ((n to : ℕ) → st ≡ step.Send n to → ⊥)

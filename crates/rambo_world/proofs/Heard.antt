@@ -1,5 +1,5 @@
 -- A letter that its addressee hears, by the list of nodes and the logs
-use Rattle.std.proofs.Common.{◌≡◌, ℕ, zero, suc, ◌-◌, ◌≤◌, ◌<◌, List, [], ◌∷◌, ◌++◌, length, get_or, max, None, Some, Result, Ok, Err, slice_get, IfOk, OnOk, OnErr, slice_set, append-nil, refl, sym, ap, ◌∙◌, subst, arith}
+use Rattle.std.proofs.Common.{◌≡◌, ℕ, zero, suc, ◌-◌, ◌≤◌, ◌<◌, List, [], ◌∷◌, ◌++◌, length, get_or, max, None, Some, Result, Ok, Err, slice_get, IfOk, OnOk, OnErr, slice_set, refl, sym, ap, ◌∙◌, subst, arith}
 use Rattle.std.proofs.lemmas.List.{length-set, set-get_or}
 use Rattle.std.proofs.lemmas.Option.{slice_get_within, get_or_from_slice_get}
 use Rattle.std.proofs.lemmas.Result.{IfOk-weaker, on_err_weaker}
@@ -18,7 +18,7 @@ use Rattle.rambo_gossip.specs.declared.letter.Kind.{Kind}
 use Rattle.rambo_gossip.specs.declared.letter.Kind.TheVariants as kind
 use Rattle.rambo_gossip.specs.Letters.{kind_with, letter_with}
 use Rattle.rambo_gossip.specs.Short as short
-use Rattle.rambo_logs.specs.NodeLogs.{extended, part, lacked}
+use Rattle.rambo_logs.specs.NodeLogs.{part, lacked}
 use Rattle.rambo_node.specs.Changes.{refusal_of, made_by}
 use Rattle.rambo_node.specs.Hearing.{heard_kind, heard_letter}
 use Rattle.rambo_node.specs.Nodes.{NodeState, RoomyNode}
@@ -64,12 +64,6 @@ part_past (x ∷ xs) (suc start) (suc end) past = part_past xs start end (omega 
 
 pub lacks_nothing : {Q : Type 0} (ls : List (List KeyedVersion)) (l : Letter Q) (start end : ℕ) → end ≤ start → lacked_of ls l start end ≡ []
 lacks_nothing ls l start end past = ap (lacked (greatest_of (slice_index_or ls (l.addressee - 1) []))) (part_past (slice_index_or ls (l.sender - 1) []) start end past)
-
--- a log that nothing goes to stays
-pub extended_none : (ls : List (List KeyedVersion)) (to : ℕ) (more : List KeyedVersion) → more ≡ [] → extended ls to more ≡ ls
-extended_none ls to more none =
-    let own : List KeyedVersion = slice_index_or ls (to - 1) [] in
-    ap (slice_set ls (to - 1)) (ap (λ more. own ++ more) none ∙ append-nil own) ∙ set-get_or ls (to - 1) []
 
 -- one of three ways out
 pub either_way : {A B E P U G : Type 0} (r : Result (Result A B) E) → IfOk r (λ s. OnOk s P) → IfOk r (λ s. OnErr s U) → OnErr r U → (P → G) → (U → G) → G

@@ -2,16 +2,15 @@
 use Rattle.std.proofs.Common.{◌≡◌, ℕ, zero, suc, ◌-◌, ◌≤◌, ◌<◌, List, [], ◌∷◌, length, get_or, Some, slice_get, slice_set, refl, sym, ap, ◌∙◌, subst, arith}
 use Rattle.std.specs.Prelude.{slice_index_or}
 use Rattle.std.proofs.lemmas.Bool.{false≢true}
-use Rattle.std.proofs.lemmas.List.{length-map}
-use Rattle.std.proofs.lemmas.Option.{slice_get_read, slice_get-map, get_or_from_slice_get}
-use Rattle.std.specs.Option.{is_some, option_map}
+use Rattle.std.proofs.lemmas.Option.{slice_get_read, get_or_from_slice_get}
+use Rattle.std.specs.Option.{is_some}
 use Rattle.rambo_tag.specs.declared.keyed_version.KeyedVersion.{KeyedVersion}
 use Rattle.rambo_tag.specs.Copies.{joined}
 use Rattle.rambo_tag.specs.Logs.{greatest_of}
 use Rattle.rambo_gossip.specs.declared.letter.Letter.{Letter}
 use Rattle.rambo_logs.specs.NodeLogs.{part, lacked}
 use Rattle.rambo_node.specs.Nodes.{NodeState, RoomyNode}
-use Rattle.rambo_world.specs.Kept.{KeptNode, kept_of, kept_at, log_in, log_at, brought, states_of, logs_of, node_state, node_states, state_at, moved, with_node, SameBarRoom, Grows, AllGrow}
+use Rattle.rambo_world.specs.Kept.{KeptNode, kept_of, kept_at, log_in, log_at, brought, states_of, logs_of, node_states, state_at, moved, with_node, SameBarRoom, Grows, AllGrow}
 use Rattle.rambo_letters.proofs.Lists.{some_is}
 use Rattle.rambo_world.proofs.Growth.{put, kept_here, state_here, unchanged, grow}
 
@@ -24,10 +23,6 @@ pub states_of-kept : {Q : Type 0} (xs : List (RoomyNode Q)) (ls : List (List Key
 states_of-kept [] ls = refl
 states_of-kept (x ∷ xs) [] = ap (λ zs. x.state ∷ zs) (states_of-kept xs [])
 states_of-kept (x ∷ xs) (l ∷ ls) = ap (λ zs. x.state ∷ zs) (states_of-kept xs ls)
-
--- the state of the node of a place
-pub state_got : {Q : Type 0} (xs : List (RoomyNode Q)) (place : ℕ) (x : RoomyNode Q) → slice_get xs place ≡ Some x → slice_get (node_states xs) place ≡ Some x.state
-state_got xs place x found = slice_get-map node_state xs place ∙ ap (option_map node_state) found
 
 -- the logs alone
 pub logs_of-kept : {Q : Type 0} (xs : List (RoomyNode Q)) (ls : List (List KeyedVersion)) → length xs ≡ length ls → logs_of (kept_of xs ls) ≡ ls
@@ -77,12 +72,6 @@ module _ {Q : Type 0} (xs : List (RoomyNode Q)) (ls : List (List KeyedVersion)) 
   enough_brought e =
       (λ i. joined (greatest_of (log_is xs ls same l.addressee i)) (brought_is i)) ∙ e
       ∙ sym (λ i. joined (greatest_of (log_is xs ls same l.addressee i)) (greatest_of (part (log_is xs ls same l.sender i) start end)))
-
--- nodes whose states and logs are as before
-pub list_same : {Q : Type 0} (xs ys : List (RoomyNode Q)) (ls ms : List (List KeyedVersion)) → length xs ≡ length ls → node_states ys ≡ node_states xs → ms ≡ ls → SameBarRoom (kept_of xs ls) (kept_of ys ms)
-list_same xs ys ls ms same states logs =
-    let count : length ys ≡ length ms = sym (length-map ys node_state) ∙ ap length states ∙ length-map xs node_state ∙ same ∙ sym (ap length logs) in
-    record { states = states_of-kept ys ms ∙ states ∙ sym (states_of-kept xs ls); logs = logs_of-kept ys ms count ∙ logs ∙ sym (logs_of-kept xs ls same) }
 
 -- another node there, with the same log
 kept_of-set : {Q : Type 0} (xs : List (RoomyNode Q)) (ls : List (List KeyedVersion)) (place : ℕ) (y : RoomyNode Q)
