@@ -60,12 +60,12 @@ Announces {E} taken failures torn steps port old new =
     × Tells (resumed_line (length steps)) (stream taken failures cut resumed)
     × Tells (listening_line port) (stream taken failures resumed new)
 
--- nothing was told; or all of that, or where a server listens that begins a trace
-abbrev pub Announced : {E : Type 0} → (E → Option (List ℕ)) → (E → ℕ) → ℕ → E → E → Type 0
-Announced taken failures port old new =
+-- nothing was told; or where a server listens that begins a trace in a file that held nothing; or all of that, of the trace in it
+abbrev pub Announced : {E : Type 0} → (E → Option (List ℕ)) → (E → ℕ) → Option (List ℕ) → ℕ → E → E → Type 0
+Announced taken failures held port old new =
     (new ≡ old)
-    ⊎ (Tells (listening_line port) (stream taken failures old new)
-    ⊎ ((torn : List ℕ) × (steps : List (Step Weights)) × Announces taken failures torn steps port old new))
+    ⊎ ((IfSome held (λ bytes. bytes ≡ []) × Tells (listening_line port) (stream taken failures old new))
+    ⊎ ((f : Weights) × (steps : List (Step Weights)) × (torn : List ℕ) × HoldsTrace held f steps torn × Announces taken failures torn steps port old new))
 
 -- a server that was to go on from the trace in a file has served clients
 abbrev pub Resumes : {E : Type 0} → (E → Option (List ℕ)) → (E → ℕ) → Taken → Taken → Weights → Option Weights → ℕ → Option TraceFault → E → E → Type 0

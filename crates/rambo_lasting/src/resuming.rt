@@ -70,7 +70,7 @@ where
     requires unread { F.left file ≡ F.taken file }
     ensures served { IfOk result.ended (λ fault. Resumes E.taken E.failures (taken_by F.taken F.failures file) (taken_by F.taken F.failures result.file) options.now.founders (if asked then Some options.now.founders else None) port fault errors.old errors.new) }
     ensures unserved { IfErr result.ended (Unresumed options.now.lose (if asked then Some options.now.founders else None) (taken_by F.taken F.failures file) (taken_by F.taken F.failures result.file)) }
-    ensures told { IsErr result.ended → Announced E.taken E.failures port errors.old errors.new }
+    ensures told { IsErr result.ended → Announced E.taken E.failures (F.taken file) port errors.old errors.new }
 {
     resume_held::<Brand, F, G, E, R>(
         rt, alloc, listener, port, options, asked, gate, file, errors,
@@ -100,7 +100,7 @@ where
     requires unread { F.left file ≡ F.taken file }
     ensures served { IfOk result.ended (λ fault. Resumes E.taken E.failures (taken_by F.taken F.failures file) (taken_by F.taken F.failures result.file) options.now.founders (if asked then Some options.now.founders else None) port fault errors.old errors.new) }
     ensures unserved { IfErr result.ended (Unresumed options.now.lose (if asked then Some options.now.founders else None) (taken_by F.taken F.failures file) (taken_by F.taken F.failures result.file)) }
-    ensures told { IsErr result.ended → Announced E.taken E.failures port errors.old errors.new }
+    ensures told { IsErr result.ended → Announced E.taken E.failures (F.taken file) port errors.old errors.new }
 {
     let mut reading = Reading::<K, F>::new(file);
     let mut unread = Unread::new(alloc);
@@ -205,7 +205,7 @@ where
     ensures served { IfOk result.ended (λ fault. (on : GoesOn (record { bytes = K.held; failures = F.failures reading }) (taken_by F.taken F.failures result.file) (Some found.founders) fault)
         × Announces E.taken E.failures on.torn on.steps port errors.old errors.new) }
     ensures unserved { IfErr result.ended (λ f. (asked : Option Weights) → Unresumed options.now.lose asked (record { bytes = K.held; failures = F.failures reading }) (taken_by F.taken F.failures result.file) f) }
-    ensures told { IsErr result.ended → Announced E.taken E.failures port errors.old errors.new }
+    ensures told { IsErr result.ended → Announced E.taken E.failures K.held port errors.old errors.new }
 {
     let Founded { founders, bytes } = found;
     let Ok(opened) = Opened::new(alloc) else {
@@ -267,7 +267,7 @@ where
     ensures served { IfOk result.ended (λ fault. (on : GoesOn (record { bytes = K.held; failures = F.failures reading }) (taken_by F.taken F.failures result.file) (Some founders) fault)
         × Announces E.taken E.failures on.torn on.steps port errors.old errors.new) }
     ensures unserved { IfErr result.ended (λ f. (asked : Option Weights) → Unresumed options.now.lose asked (record { bytes = K.held; failures = F.failures reading }) (taken_by F.taken F.failures result.file) f) }
-    ensures told { IsErr result.ended → Announced E.taken E.failures port errors.old errors.new }
+    ensures told { IsErr result.ended → Announced E.taken E.failures K.held port errors.old errors.new }
 {
     let (recovery, read) = match read_back::<J, K, F>(
         alloc,
@@ -374,7 +374,7 @@ where
     ensures served { IfOk result.ended (λ fault. (on : GoesOn (taken_by F.taken F.failures file) (taken_by F.taken F.failures result.file) (Some founders) fault)
         × Announces E.taken E.failures on.torn on.steps port errors.old errors.new) }
     ensures unserved { IfErr result.ended (λ f. (asked : Option Weights) → Unresumed options.now.lose asked (taken_by F.taken F.failures file) (taken_by F.taken F.failures result.file) f) }
-    ensures told { IsErr result.ended → Announced E.taken E.failures port errors.old errors.new }
+    ensures told { IsErr result.ended → Announced E.taken E.failures (F.taken file) port errors.old errors.new }
 {
     if let Err(fault) = cut_torn(head, &read, &mut file) {
         return Resumed {

@@ -55,6 +55,6 @@ went_on taken failures s founders e before after old behind new fault port goes_
 
 -- or not
 pub stood : {E : Type 0} (taken : E → Option (List ℕ)) (failures : E → ℕ) (s : Serving) (founders : Weights) (e : Ending) (before after : Taken) (old behind new : E) (f : ResumeFault) (port : ℕ)
-    → Unresumed s.lose (if s.founded then Some founders else None) before after f → Announced taken failures port old behind → IsUnresumed f e (stream taken failures behind new)
+    → Unresumed s.lose (if s.founded then Some founders else None) before after f → Announced taken failures before.bytes port old behind → IsUnresumed f e (stream taken failures behind new)
     → KeepsTo taken failures s founders e before after old new
 stood taken failures s founders e before after old behind new f port stays announced told = inr (inr (f, port, behind, stays, announced, told))

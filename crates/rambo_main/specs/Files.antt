@@ -69,7 +69,7 @@ KeepsTo {E} taken failures s founders e before after old new =
     × Serves taken failures s.resumed before after founders (if s.founded then Some founders else None) port fault old behind
     × Ends fault e (stream taken failures behind new))
     ⊎ ((f : ResumeFault) × (port : ℕ) × (behind : E) × Unresumed s.lose (if s.founded then Some founders else None) before after f
-    × Announced taken failures port old behind × IsUnresumed f e (stream taken failures behind new))
+    × Announced taken failures before.bytes port old behind × IsUnresumed f e (stream taken failures behind new))
 
 -- or the file isn't opened
 abbrev pub LastsTo : {E : Type 0} → (E → Option (List ℕ)) → (E → ℕ) → Serving → Weights → Ending → E → E → Type 0
