@@ -13,7 +13,7 @@ use Rattle.rambo_run.specs.Worlds.{node_at}
 use Rattle.rambo_node.specs.FullNodes.{heard_in}
 use Rattle.rambo_node.specs.Acts as act
 
--- the heard number that a change brings from j: that of a letter of j that comes
+-- the heard number that an act brings from j: that of a letter of j that comes
 abbrev pub brought_by : {Q : Type 0} → ℕ → Act Q → ℕ
 brought_by j (act.Hear l) = if nat_eq l.sender j then heard_in l.kind else 0
 brought_by j _ = 0

@@ -1,4 +1,4 @@
--- The copies that a change brings to a node from another
+-- The copies that an act brings to a node from another
 use Rattle.std.specs.Prelude.{List, [], ◌∷◌, Option, None, Some}
 use Rattle.std.specs.FinMap as copies
 use Rattle.rambo_tag.specs.declared.keyed_version.KeyedVersion.{KeyedVersion}
@@ -13,7 +13,7 @@ abbrev pub copies_in : {Q : Type 0} → Kind Q → Copies
 copies_in kind.Join = copies.empty
 copies_in (kind.Gossip g) = g.copies
 
--- no change but a letter brings any
+-- no act but a letter that comes brings any
 abbrev pub copies_brought : {Q : Type 0} → Act Q → Copies
 copies_brought (act.Hear l) = copies_in l.kind
 copies_brought _ = copies.empty

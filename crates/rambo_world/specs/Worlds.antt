@@ -22,7 +22,7 @@ pub record WorldOf (Q : Type 0) : Type 0 where
 abbrev pub state : {Q : Type 0} → QuorumSystem Q → WorldOf Q → WorldState Q
 state s w = run s w.founders w.steps
 
--- the event of a change of a node, if it has one, can be appended to the history
+-- the event of an act of a node, if it has one, can be appended to the history
 abbrev pub EventFits : {Q : Type 0} → WorldState Q → ℕ → Act Q → Type 0
 EventFits {Q} w n c = (x : NodeState Q) (e : Event) → node_at w n ≡ Some x → (made_by x c).deed.event ≡ Some e → fault_of w.history e ≡ None
 
