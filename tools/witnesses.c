@@ -52,7 +52,8 @@ static int moments[2 * MOST], moment_count;
 static int order[MOST + 1], length, is_told;
 static unsigned order_line;
 
-static struct buffer text, plain, why, said;
+/* The text, what is to be said of it without and with --why, the witness of one order, and what the program says. */
+static struct buffer text, plain, why, witness, said;
 static unsigned lines, blocks, numbers[2];
 static size_t begins[BLOCKS];
 static int input, output, is_any_no;
@@ -64,23 +65,25 @@ static void put(struct buffer *to, const char *word) {
     while (*word) to->bytes[to->length++] = *word++;
 }
 
+static void put_sign(struct buffer *to, int sign) { to->bytes[to->length++] = (char)sign; }
+
 static void put_number(struct buffer *to, unsigned number) {
     char digits[12];
     int at = 12;
     do digits[--at] = '0' + number % 10; while (number /= 10);
-    while (at < 12) to->bytes[to->length++] = digits[at++];
+    while (at < 12) put_sign(to, digits[at++]);
 }
 
 static void end_line(void) {
-    text.bytes[text.length++] = '\n';
+    put_sign(&text, '\n');
     lines += 1;
 }
 
 static void put_line(const char *before, unsigned line) {
-    put(&why, before);
-    put(&why, " (line ");
-    put_number(&why, line);
-    put(&why, ")");
+    put(&witness, before);
+    put(&witness, " (line ");
+    put_number(&witness, line);
+    put(&witness, ")");
 }
 
 static void put_entry(struct buffer *to, int entry) {
@@ -109,21 +112,20 @@ static const char *value_sign(int value) {
 }
 
 /* The sign, and where no byte of it is a space, a quote or not printable, the bytes in quotes too. */
-static void put_shown(const char *sign) {
-    size_t began = why.length;
-    put(&why, sign);
-    put(&why, " \"");
+static void put_shown(struct buffer *to, const char *sign) {
+    char bytes[8];
+    int length_of = 0;
+    put(to, sign);
     for (const char *at = sign; *at && *at != '-'; at += 2) {
         char digits[3] = {at[0], at[1], 0};
         long byte = strtol(digits, NULL, 16);
-        if (byte <= 32 || byte >= 127 || byte == '"') {
-            why.length = began;
-            put(&why, sign);
-            return;
-        }
-        why.bytes[why.length++] = (char)byte;
+        if (byte <= 32 || byte >= 127 || byte == '"') return;
+        bytes[length_of++] = (char)byte;
     }
-    put(&why, "\"");
+    bytes[length_of] = 0;
+    put(to, " \"");
+    put(to, bytes);
+    put(to, "\"");
 }
 
 static void put_history(void) {
@@ -179,10 +181,10 @@ static int breaks_1(int key) {
     for (int entry = 0; entry < count; entry++) {
         struct operation *one = &operations[entry];
         if (!one->is_answered || (key >= 0 && one->key != key) || (is_told && place_of(entry, length) >= 0)) continue;
-        put_entry(&why, entry);
+        put_entry(&witness, entry);
         put_line(" was answered", one->told);
         if (is_told) put_line(" and isn't in the order", order_line);
-        else put(&why, " and no order is told");
+        else put(&witness, " and no order is told");
         return 1;
     }
     return 0;
@@ -192,7 +194,7 @@ static int breaks_1(int key) {
 static int breaks_2(void) {
     for (int at = 0; at < length; at++) {
         if (place_of(order[at], at) < 0) continue;
-        put_entry(&why, order[at]);
+        put_entry(&witness, order[at]);
         put_line(" stands twice in the order", order_line);
         return 1;
     }
@@ -204,9 +206,9 @@ static int breaks_3(void) {
     for (int at = 0; at < length; at++) {
         int entry = order[at];
         if (entry < MOST && (operations[entry].sets || operations[entry].is_answered)) continue;
-        put_entry(&why, entry);
+        put_entry(&witness, entry);
         put_line(" stands in the order", order_line);
-        if (entry == NEVER) put(&why, " and was never called");
+        if (entry == NEVER) put(&witness, " and was never called");
         else if (entry == OTHER) put_line(" and is a call of 00", 1);
         else put_line(" and is a get without an answer", operations[entry].called);
         return 1;
@@ -224,19 +226,19 @@ static int breaks_4(void) {
             if (other->sets && other->key == one->key) latest = other;
         }
         if (one->answer == (latest ? latest->value : NIL)) continue;
-        put_entry(&why, order[at]);
-        put(&why, " answered ");
-        if (one->answer == NIL) put(&why, "nil");
-        else put_shown(value_sign(one->answer));
+        put_entry(&witness, order[at]);
+        put(&witness, " answered ");
+        if (one->answer == NIL) put(&witness, "nil");
+        else put_shown(&witness, value_sign(one->answer));
         put_line("", one->told);
         if (latest) {
-            put(&why, ", and the latest set before it is ");
-            put_entry(&why, (int)(latest - operations));
-            put(&why, " of ");
-            put_shown(value_sign(latest->value));
+            put(&witness, ", and the latest set before it is ");
+            put_entry(&witness, (int)(latest - operations));
+            put(&witness, " of ");
+            put_shown(&witness, value_sign(latest->value));
             put_line("", latest->called);
         } else {
-            put(&why, ", and no set stands before it");
+            put(&witness, ", and no set stands before it");
         }
         return 1;
     }
@@ -253,10 +255,10 @@ static int breaks_5(void) {
             if (one->told < operations[other].called && (late < 0 || operations[late].called < operations[other].called)) late = other;
         }
         if (late < 0) continue;
-        put_entry(&why, order[at]);
+        put_entry(&witness, order[at]);
         put_line(" was answered", one->told);
-        put(&why, " before ");
-        put_entry(&why, late);
+        put(&witness, " before ");
+        put_entry(&witness, late);
         put_line(" was called", operations[late].called);
         put_line(" and stands behind it", order_line);
         return 1;
@@ -264,29 +266,27 @@ static int breaks_5(void) {
     return 0;
 }
 
-/* Puts the verdict: on the order of a key, or of all keys for -1. A key that is only told of has no order. */
+/* Puts the verdict: on the order of a key, or of all keys for -1. A key of which only calls are told has no order. */
 static void put_verdict(const char *sign, int key, int has_order) {
-    size_t began = why.length;
-    put(&why, "no ");
-    if (key < 0) put(&why, sign);
-    else put_shown(sign);
-    size_t named = why.length;
-    put(&why, " 0\n  ");
+    witness.length = 0;
     int rule = breaks_1(key) ? 1 : !has_order ? 0 : breaks_2() ? 2 : breaks_3() ? 3 : breaks_4() ? 4 : breaks_5() ? 5 : 0;
+    char number[] = {' ', (char)('0' + rule), 0};
     put(&plain, rule ? "no " : "yes ");
     put(&plain, sign);
-    if (rule) {
-        char digit[] = {' ', '0' + rule, 0};
-        why.bytes[named + 1] = digit[1];
-        put(&plain, digit);
-        is_any_no = 1;
-    } else {
-        memmove(why.bytes + began + 4, why.bytes + began + 3, named - began - 3);
-        memcpy(why.bytes + began, "yes ", 4);
-        why.length = named + 1;
-    }
+    put(&plain, rule ? number : "");
     put(&plain, "\n");
+    put(&why, rule ? "no " : "yes ");
+    if (key < 0) put(&why, sign);
+    else put_shown(&why, sign);
+    put(&why, rule ? number : "");
     put(&why, "\n");
+    if (rule) {
+        witness.bytes[witness.length] = 0;
+        put(&why, "  ");
+        put(&why, witness.bytes);
+        put(&why, "\n");
+        is_any_no = 1;
+    }
     if (has_order) verdicts[rule] += 1;
 }
 
@@ -403,22 +403,28 @@ static unsigned lot(unsigned below) {
     return (unsigned)((mixed ^ mixed >> 31) >> 32) % below;
 }
 
+static void put_in(int at, int entry) {
+    memmove(order + at + 1, order + at, sizeof *order * (size_t)(length++ - at));
+    order[at] = entry;
+}
+
 /* An order near that of the calls, with those that have to be in it and some that may; in one of three something is wrong. */
 static void order_by_lot(void) {
     static const int later[] = {0, 0, 3, 5};
-    int places[MOST], what = (int)lot(9);
+    int places[MOST];
     length = 0;
     for (int entry = 0; entry < count; entry++) {
         if (!operations[entry].is_answered && (!operations[entry].sets || lot(2))) continue;
-        int place = 2 * entry + later[lot(4)], at = length++;
-        for (; at > 0 && places[at - 1] > place; at--) places[at] = places[at - 1], order[at] = order[at - 1];
-        places[at] = place, order[at] = entry;
+        int at = length;
+        places[entry] = 2 * entry + later[lot(4)];
+        while (at > 0 && places[order[at - 1]] > places[entry]) at--;
+        put_in(at, entry);
     }
-    if (what > 2 || (what < 2 && length == 0)) return;
-    int at = (int)lot((unsigned)length + (what > 0)), entry = what == 1 ? order[lot((unsigned)length)] : (int)lot((unsigned)count + 2);
-    if (what == 2 && entry >= count) entry = entry == count || keys == 2 ? NEVER : OTHER;
-    if (what == 0) memmove(order + at, order + at + 1, sizeof *order * (size_t)(--length - at));
-    else memmove(order + at + 1, order + at, sizeof *order * (size_t)(length++ - at)), order[at] = entry;
+    int wrong = (int)lot(9), at = (int)lot((unsigned)length + 1), other = (int)lot((unsigned)count + 2);
+    if (other >= count) other = other == count || keys == 2 ? NEVER : OTHER;
+    if (wrong == 0 && at < length) memmove(order + at, order + at + 1, sizeof *order * (size_t)(--length - at));
+    if (wrong == 1 && length) put_in(at, order[lot((unsigned)length)]);
+    if (wrong == 2) put_in(at, other);
 }
 
 static void each_answer(int entry, int values) {
