@@ -6,9 +6,9 @@
     bench/compare.py --write RAMBO OTHER
 
 Prints for each script, and for the outcome that RAMBO gives of it, the best of five times and the peak memory of each
-program, the ratios of the two, and how both grow from a script of half the steps. With --count it prints instructions in
-place of times, on scripts of an eighth of the length, by valgrind: these are the same on a busy machine. It asserts
-nothing.
+program, the ratios of the two, and how both grow from a script of half the steps. `check --why` is printed beside RAMBO's own
+`check`. With --count it prints instructions in place of times, on scripts of an eighth of the length, by valgrind: these are
+the same on a busy machine. It asserts nothing.
 
 With --write it does both, and clients.py's part as well, and writes the tables into docs/BENCHMARKS.md and the picture
 docs/img/benchmarks.svg.
@@ -40,6 +40,8 @@ SCRIPTS = [
     ("moves", 1000000, 16, 1.5, 1.5),
 ]
 CHECK_AIMS = (1.5, 1.5)
+# Its other is `check` of the same program; it is printed alone.
+WHY = "check --why"
 # The second is that of a check which says no of some key.
 STATUSES = (0, 3)
 
@@ -68,18 +70,22 @@ def compared(programs, part, measure, shown):
         script = os.path.join(folder, "script")
         for kind, steps, keys, *aims in SCRIPTS:
             steps = steps // part
-            pair = Row("replay", kind, steps, keys, tuple(aims)), Row("check", kind, steps, keys, CHECK_AIMS)
+            row_of = {word: Row(word, kind, steps, keys, of) for word, of in (("replay", tuple(aims)), ("check", CHECK_AIMS), (WHY, None))}
             for length in (steps // 2, steps):
                 with open(script, "w", encoding="ascii") as writer:
                     writer.write(scripts.script(kind, length, keys))
-                for row, source, targets in zip(pair, (script, outcomes[0]), (outcomes, verdicts)):
-                    figures = measure(programs, [row.word], source, targets)
+                for word, row in row_of.items():
+                    source, targets = (script, outcomes) if word == "replay" else (outcomes[0], verdicts)
+                    if word == WHY:
+                        figures = measure(programs[:1], word.split(), source, targets) + figures[:1]
+                    else:
+                        figures = measure(programs, [word], source, targets)
                     if length == steps:
                         row.figures, row.lines = figures, lines_of(source)
-                        print("%-7s %-42s %s" % (row.word, row.name(), shown(row)), flush=True)
+                        print("%-11s %-38s %s" % (word, row.name(), shown(row)), flush=True)
                     else:
                         row.half = figures
-            rows.extend(pair)
+            rows.extend(row_of.values())
     return rows
 
 
