@@ -40,11 +40,11 @@ idle_goes status.Stopped e = absurd (true≢false e)
 -- a node that takes a step hasn't stopped
 quiet_goes : {Q : Type 0} (s : QuorumSystem Q) (x : NodeState Q) (q : Quiet Q) → least (quiet_causes s x q) ≡ None → is_stopped x.status ≡ false
 quiet_goes s x (quiet.Join contacts) e = idle_goes x.status (no_cause (quiet_causes s x (quiet.Join contacts)) e 0 (cause NameUsed (not (is_idle x.status))) refl)
-quiet_goes s x _ e = no_cause (quiet_causes s x _) e 1 (cause Stopped (is_stopped x.status)) refl
+quiet_goes s x q e = no_cause (quiet_causes s x q) e 1 (cause Stopped (is_stopped x.status)) refl
 
 going : {Q : Type 0} (s : QuorumSystem Q) (x : NodeState Q) (a : Act Q) → refusal_of s x a ≡ None → is_stopped x.status ≡ false
 going s x (act.Quietly q) e = quiet_goes s x q e
-going s x _ e = no_cause (causes_in s x _) e 1 (cause Stopped (is_stopped x.status)) refl
+going s x a e = no_cause (causes_in s x a) e 1 (cause Stopped (is_stopped x.status)) refl
 
 judged_by : {Q : Type 0} (s : QuorumSystem Q) (w : WorldState Q) (st : Step Q) → refusal s w st ≡ least (causes_of s w (meant w st))
 unfolding refusal causes
