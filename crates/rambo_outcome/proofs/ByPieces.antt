@@ -1,5 +1,5 @@
 -- Texts that are written piece by piece
-use Rattle.std.proofs.Common.{◌≡◌, ◌≤◌, ◌<◌, ℕ, zero, suc, ◌+◌, min, max, List, [], ◌∷◌, ◌++◌, length, take, drop, get_or, refl, sym, ap, subst, ◌∙◌, append_assoc, append-nil, arith}
+use Rattle.std.proofs.Common.{◌≡◌, ◌⊎◌, inl, inr, ◌≤◌, ◌<◌, ℕ, zero, suc, ◌+◌, min, max, List, [], ◌∷◌, ◌++◌, length, take, drop, get_or, slice_set, slice_index_or, length-append, refl, sym, ap, subst, ◌∙◌, append_assoc, append-nil, arith}
 use Rattle.std.specs.Prelude.{Option}
 use Rattle.std.specs.Io.KnownBytes.{Appends}
 use Rattle.std.proofs.KnownBytes.{Appends-nil, Appends-trans}
@@ -8,7 +8,7 @@ use Rattle.rambo_atomic.specs.Streams.{Begins}
 use Rattle.rambo_history.specs.declared.event.Event.{Event}
 use Rattle.rambo_check.specs.Lines.{Happened, item_line}
 use Rattle.rambo_outcome.specs.declared.notes.Note.{Note}
-use Rattle.rambo_outcome.specs.Notes.{events_text, woven, notes_in, bytes_in, event_bytes, most_bytes, HasRoom, Moves}
+use Rattle.rambo_outcome.specs.Notes.{NoteState, joined, with_text, events_text, woven, notes_in, grown, bytes_in, event_bytes, most_bytes, HasRoom, Moves}
 
 -- nothing was written yet
 pub moves_none : (old : Option (List ℕ)) (text : List ℕ) → Moves old old text text
@@ -166,3 +166,53 @@ notes-append (x ∷ ns) n text line all long =
 pub bytes-append : (ns : List Note) (n : Note) → bytes_in (ns ++ n ∷ []) ≡ bytes_in ns + n.len
 bytes-append [] n = omega arith
 bytes-append (x ∷ ns) n = let rest = bytes-append ns n in omega (arith, rest)
+
+-- the last note of a text is longer
+pub notes-grown : (ns : List Note) (more : ℕ) (text line : List ℕ) → 0 < length ns → bytes_in ns ≡ length text → more ≡ length line
+    → notes_in (grown ns more) (text ++ line) ≡ joined (notes_in ns text) line
+notes-grown [] more text line some all long = absurd (omega (arith, some))
+notes-grown (n ∷ []) more text line some all long =
+    let whole : take (n.len + more) (text ++ line) ≡ text ++ line = take_all (n.len + more) (text ++ line) (let sum = length-append text line in omega (arith, all, long, sum)) in
+    let same : take n.len text ≡ text = take_all n.len text (omega (arith, all)) in
+    (λ i. record { events = n.events; text = whole i } ∷ []) ∙ (λ i. record { events = n.events; text = sym same i ++ line } ∷ [])
+notes-grown (n ∷ m ∷ ns) more text line some all long =
+    let within : n.len ≤ length text = omega (arith, all) in
+    let rest : bytes_in (m ∷ ns) ≡ length (drop n.len text) = (let left = length-drop n.len text in omega (arith, all, left)) in
+    (λ i. record { events = n.events; text = take-append-le n.len text line within i } ∷ notes_in (grown (m ∷ ns) more) (drop-append-le n.len text line within i))
+    ∙ ap (λ l. record { events = n.events; text = take n.len text } ∷ l) (notes-grown (m ∷ ns) more (drop n.len text) line (omega arith) rest long)
+
+pub bytes-grown : (ns : List Note) (more : ℕ) → 0 < length ns → bytes_in (grown ns more) ≡ bytes_in ns + more
+bytes-grown [] more some = absurd (omega (arith, some))
+bytes-grown (n ∷ []) more some = omega arith
+bytes-grown (n ∷ m ∷ ns) more some = let rest = bytes-grown (m ∷ ns) more (omega arith) in omega (arith, rest)
+
+-- the last note is put anew
+pub grown_set : (ns : List Note) (last : ℕ) (d : Note) (more : ℕ) → last + 1 ≡ length ns
+    → slice_set ns last (record { events = (slice_index_or ns last d).events; len = (slice_index_or ns last d).len + more }) ≡ grown ns more
+grown_set [] last d more is = absurd (omega (arith, is))
+grown_set (n ∷ []) zero d more is = refl
+grown_set (n ∷ []) (suc k) d more is = absurd (omega (arith, is))
+grown_set (n ∷ m ∷ ns) zero d more is = absurd (omega (arith, is))
+grown_set (n ∷ m ∷ ns) (suc k) d more is = ap (λ l. n ∷ l) (grown_set (m ∷ ns) k d more (omega (arith, is)))
+
+-- the last note is no longer than all
+pub last_within : (ns : List Note) (last : ℕ) (d : Note) → last < length ns → (slice_index_or ns last d).len ≤ bytes_in ns
+last_within [] last d below = absurd (omega (arith, below))
+last_within (n ∷ ns) zero d below = omega arith
+last_within (n ∷ ns) (suc k) d below = let rest = last_within ns k d (omega (arith, below)) in omega (arith, rest)
+
+-- a first text, or one behind more events
+pub text_first : (ns : List NoteState) (more : ℕ) (text : List ℕ) → (ns ≡ []) ⊎ (0 < more) → with_text ns more text ≡ ns ++ record { events = more; text = text } ∷ []
+text_first ns zero text (inl none) =
+    let n : NoteState = record { events = 0; text = text } in
+    ap (λ l. joined l text) none ∙ ap (λ l. l ++ n ∷ []) (sym none)
+text_first ns (suc k) text (inl none) = refl
+text_first ns zero text (inr some) = absurd (omega (arith, some))
+text_first ns (suc k) text (inr some) = refl
+
+pub text_joined : (ns : List NoteState) (more : ℕ) (text : List ℕ) → more ≡ 0 → with_text ns more text ≡ joined ns text
+text_joined ns more text none = ap (λ k. with_text ns k text) none
+
+pub none_in : (ns : List Note) (text : List ℕ) → length ns ≡ 0 → notes_in ns text ≡ []
+none_in [] text none = refl
+none_in (n ∷ ns) text none = absurd (omega (arith, none))

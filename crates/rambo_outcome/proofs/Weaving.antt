@@ -1,10 +1,10 @@
 -- The events of a history, with notes between them
-use Rattle.std.proofs.Common.{◌≡◌, ◌⊎◌, ◌≤◌, ℕ, ◌+◌, ◌-◌, List, [], ◌∷◌, ◌++◌, map, length, take, drop, refl, sym, ap, subst, ◌∙◌, inl, inr, append_assoc, append-nil, length-append, arith}
+use Rattle.std.proofs.Common.{◌≡◌, ◌⊎◌, ◌≤◌, ℕ, zero, suc, ◌+◌, ◌-◌, List, [], ◌∷◌, ◌++◌, map, length, take, drop, refl, sym, ap, subst, ◌∙◌, inl, inr, append_assoc, append-nil, length-append, arith}
 use Rattle.std.proofs.lemmas.List.{take-append-le, drop-append-le, length-drop, take_all, drop_all, map-append}
 use Rattle.rambo_history.specs.declared.event.Event.{Event}
 use Rattle.rambo_check.specs.Lines.{Item, Happened, items_text}
 use Rattle.rambo_check.proofs.ItemTexts.{items-append}
-use Rattle.rambo_outcome.specs.Notes.{NoteState, events_before, noted, events_text, woven}
+use Rattle.rambo_outcome.specs.Notes.{NoteState, events_before, joined, with_text, noted, events_text, woven}
 
 pub events-append : (xs ys : List Event) → events_text (xs ++ ys) ≡ events_text xs ++ events_text ys
 events-append xs ys = ap items_text (map-append Happened xs ys) ∙ items-append (map Happened xs) (map Happened ys)
@@ -42,15 +42,47 @@ pub before-append : (ns : List NoteState) (n : NoteState) → events_before (ns 
 before-append [] n = omega arith
 before-append (x ∷ ns) n = let rest = before-append ns n in omega (arith, rest)
 
+-- more text behind the last, with no event between
+woven_joined : (es : List Event) (ns : List NoteState) (text : List ℕ) → length es ≡ events_before ns → woven es (joined ns text) ≡ woven es ns ++ text
+woven_joined [] [] text all = append-nil text
+woven_joined (e ∷ es) [] text all = absurd (omega (arith, all))
+woven_joined es (n ∷ []) text all =
+    let front = events_text (take n.events es) in
+    let none : drop n.events es ≡ [] = drop_all n.events es (omega (arith, all)) in
+    (λ i. front ++ ((n.text ++ text) ++ events_text (none i)))
+    ∙ ap (λ t. front ++ t) (append-nil (n.text ++ text)) ∙ sym (append_assoc front n.text text)
+    ∙ ap (λ t. (front ++ t) ++ text) (sym (append-nil n.text)) ∙ (λ i. (front ++ (n.text ++ events_text (sym none i))) ++ text)
+woven_joined es (n ∷ m ∷ ns) text all =
+    let long = length-drop n.events es in
+    let left : length (drop n.events es) ≡ events_before (m ∷ ns) = omega (arith, all, long) in
+    front_on (events_text (take n.events es)) n.text (woven (drop n.events es) (joined (m ∷ ns) text)) (woven (drop n.events es) (m ∷ ns)) text
+    (woven_joined (drop n.events es) (m ∷ ns) text left)
+
+pub before-joined : (ns : List NoteState) (text : List ℕ) → events_before (joined ns text) ≡ events_before ns
+before-joined [] text = omega arith
+before-joined (n ∷ []) text = refl
+before-joined (n ∷ m ∷ ns) text = ap (λ k. n.events + k) (before-joined (m ∷ ns) text)
+
+-- a text behind some more events
+pub before-text : (ns : List NoteState) (more : ℕ) (text : List ℕ) → events_before (with_text ns more text) ≡ events_before ns + more
+before-text ns zero text = let same = before-joined ns text in omega (arith, same)
+before-text ns (suc k) text = before-append ns (record { events = suc k; text = text })
+
+-- behind all events
+woven_text : (es : List Event) (ns : List NoteState) (more : ℕ) (text : List ℕ) → events_before ns ≤ length es → more ≡ length es - events_before ns
+    → woven es (with_text ns more text) ≡ woven es ns ++ text
+woven_text es ns zero text within is = woven_joined es ns text (omega (arith, within, is))
+woven_text es ns (suc k) text within is = woven_note es ns text (suc k) within is
+
 -- items that are noted behind all events
 noted_text : (es : List Event) (ns : List NoteState) (is : List Item) → events_before ns ≤ length es → woven es (noted ns (length es) is) ≡ woven es ns ++ items_text is
 noted_text es ns [] within = sym (append-nil (woven es ns))
-noted_text es ns (i ∷ is) within = woven_note es ns (items_text (i ∷ is)) (length es - events_before ns) within refl
+noted_text es ns (i ∷ is) within = woven_text es ns (length es - events_before ns) (items_text (i ∷ is)) within refl
 
 noted_within : (es : List Event) (ns : List NoteState) (is : List Item) → events_before ns ≤ length es → events_before (noted ns (length es) is) ≤ length es
 noted_within es ns [] within = within
 noted_within es ns (i ∷ is) within =
-    let all = before-append ns (record { events = length es - events_before ns; text = items_text (i ∷ is) }) in
+    let all = before-text ns (length es - events_before ns) (items_text (i ∷ is)) in
     omega (arith, within, all)
 
 -- of what is told of a step a history has all that isn't noted, in the event by which it goes on

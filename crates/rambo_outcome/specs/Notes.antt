@@ -1,5 +1,5 @@
 -- What a run tells besides its history: lines of refused steps, of ended collections and of ended attempts
-use Rattle.std.specs.Prelude.{◌≡◌, ◌≤◌, ℕ, ◌+◌, ◌-◌, ◌*◌, max, List, [], ◌∷◌, ◌++◌, map, length, take, drop, Option, Result, Ok, Err}
+use Rattle.std.specs.Prelude.{◌≡◌, ◌≤◌, ℕ, zero, suc, ◌+◌, ◌-◌, ◌*◌, max, List, [], ◌∷◌, ◌++◌, map, length, take, drop, Option, Result, Ok, Err}
 use Rattle.std.specs.Io.KnownBytes.{Appends}
 use Rattle.rambo_names.specs.declared.refusal.Refusal.{Refusal}
 use Rattle.rambo_names.specs.Refusals.{number_of}
@@ -36,10 +36,21 @@ abbrev pub events_before : List NoteState → ℕ
 events_before [] = 0
 events_before (n ∷ ns) = n.events + events_before ns
 
+-- more text behind the last
+abbrev pub joined : List NoteState → List ℕ → List NoteState
+joined [] text = record { events = 0; text = text } ∷ []
+joined (n ∷ []) text = record { events = n.events; text = n.text ++ text } ∷ []
+joined (n ∷ m ∷ ns) text = n ∷ joined (m ∷ ns) text
+
+-- a text behind some more events, if there are any
+abbrev pub with_text : List NoteState → ℕ → List ℕ → List NoteState
+with_text ns zero text = joined ns text
+with_text ns (suc more) text = ns ++ record { events = suc more; text = text } ∷ []
+
 -- items more, behind so many events in all
 abbrev pub noted : List NoteState → ℕ → List Item → List NoteState
 noted ns count [] = ns
-noted ns count (i ∷ is) = ns ++ record { events = count - events_before ns; text = items_text (i ∷ is) } ∷ []
+noted ns count (i ∷ is) = with_text ns (count - events_before ns) (items_text (i ∷ is))
 
 -- the lines of events
 abbrev pub events_text : List Event → List ℕ
@@ -54,6 +65,12 @@ woven es (n ∷ ns) = events_text (take n.events es) ++ (n.text ++ woven (drop n
 abbrev pub notes_in : List Note → List ℕ → List NoteState
 notes_in [] text = []
 notes_in (n ∷ ns) text = record { events = n.events; text = take n.len text } ∷ notes_in ns (drop n.len text)
+
+-- the last is longer by so many bytes
+abbrev pub grown : List Note → ℕ → List Note
+grown [] more = []
+grown (n ∷ []) more = record { events = n.events; len = n.len + more } ∷ []
+grown (n ∷ m ∷ ns) more = n ∷ grown (m ∷ ns) more
 
 -- how long they are together
 abbrev pub bytes_in : List Note → ℕ

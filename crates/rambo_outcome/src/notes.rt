@@ -1,7 +1,7 @@
 //! What steps tell besides the history.
-ghost use Rattle.std.specs.Prelude.{◌≡◌, ◌++◌, ◌∷◌, ◌-◌, [], length, OnOk, OnErr, IfErr};
+ghost use Rattle.std.specs.Prelude.{◌≡◌, ◌<◌, ◌+◌, ◌-◌, ◌^◌, [], length, OnOk, OnErr, IfErr};
 ghost use Rattle.rambo_check.specs.Lines.{items_text};
-ghost use Rattle.rambo_outcome.specs.Notes.{other_items, events_before, noted};
+ghost use Rattle.rambo_outcome.specs.Notes.{other_items, events_before, noted, with_text, grown, bytes_in};
 
 use crate::step_line::write_other;
 use rambo_history::History;
@@ -10,7 +10,7 @@ use rambo_node::Effect;
 use std::alloc::Global;
 use std::marker::Model;
 
-/// The line of a step, and behind how many events it stands, counted from the line before it.
+/// A line or some, and behind how many events they stand, counted from the line before them.
 #[derive(Clone, Copy)]
 pub(crate) struct Note {
     pub(crate) events: usize,
@@ -94,7 +94,7 @@ impl Notes {
         told: &Result<Effect<Weighted>, Refusal>,
         count: usize,
     ) -> Result<(), Refusal>
-        ensures ok { OnOk result (self.new ≡ self.old ++ record { events = count - events_before self.old; text = items_text (other_items step told.now) } ∷ []) }
+        ensures ok { OnOk result (self.new ≡ with_text self.old (count - events_before self.old) (items_text (other_items step told.now))) }
         ensures err { OnErr result (self.new ≡ self.old) }
         ensures refused { IfErr result (λ r. r ≡ Refusal.OutOfMemory) }
     {
@@ -103,8 +103,26 @@ impl Notes {
         write_other(step, told, &mut self.text)?;
         let events = count.saturating_sub(self.events);
         let len = self.text.len() - before;
-        self.notes.push_reserved(Note { events, len });
-        self.events += events;
+        if self.notes.is_empty() || events > 0 {
+            self.notes.push_reserved(Note { events, len });
+            self.events += events;
+        } else {
+            grow_last(&mut self.notes, len);
+        }
         Ok(())
     }
+}
+
+// Lengthens the last note.
+fn grow_last(notes: &mut Vec<Note>, len: usize)
+    requires some { 0 < length notes.old.items }
+    requires fits { bytes_in notes.old.items + len < 2 ^ 64 }
+    ensures { notes.new.items ≡ grown notes.old.items len }
+{
+    let last = notes.len() - 1;
+    let note = notes[last];
+    notes[last] = Note {
+        events: note.events,
+        len: note.len + len,
+    };
 }
