@@ -1,2 +1,4 @@
 pub mod Loops
+pub mod ByPieces
 pub mod Telling
+pub mod Weaving

@@ -1,15 +1,21 @@
 //! The text of what a run gives.
 //!
 //! - `outcome_text`: what a run gave, in lines of words.
-//! - `write_head`, `write_step`, `write_sequences`, `write_order`, `write_maps`: the same piece by piece, for a run that goes on.
-//! - `write_called`, `write_answered`, `write_refused`: the line of a step by itself.
+//! - `Notes` and `Told`: the same of a run that goes on. The lines of its calls and answers aren't kept, but written from
+//!   its history at the end, piece by piece, with the other lines between them.
+//! - `write_sequences`, `write_order`, `write_maps`: the lines behind those.
 //! - `check_text` and the laws of such texts, which `rambo_check` defines.
 #![tactic(auto)]
 
+mod event_line;
 mod line;
+mod notes;
 mod outcome;
+mod pieces;
 mod step_line;
+mod told;
 
-pub use outcome::{outcome_text, write_head, write_maps, write_order, write_sequences, write_step};
+pub use notes::Notes;
+pub use outcome::{outcome_text, write_maps, write_order, write_sequences};
 pub use rambo_check::{check_text, no_told_is_faulty, one_evidence, one_fault, one_reading};
-pub use step_line::{write_answered, write_called, write_refused};
+pub use told::Told;

@@ -1,87 +1,20 @@
-//! Writing lines.
+//! Writing lines that are no calls and no answers.
 //!
 //! After a refusal the text of an `append_` function is what it was, maybe with some bytes after it.
 ghost use Rattle.std.specs.Prelude.{◌≡◌, ◌++◌, ◌∷◌, map, decimal, OnOk, OnErr, IfErr};
-ghost use Rattle.rambo_history.specs.declared.event.Event.TheVariants as event;
 ghost use Rattle.rambo_text.specs.Words.{more_words};
 ghost use Rattle.rambo_text.specs.Signs.{call_text, Grows};
 ghost use Rattle.rambo_names.specs.Signs.{conf_text};
 ghost use Rattle.rambo_names.specs.Refusals.{number_of};
-ghost use Rattle.rambo_check.specs.Lines.{Happened, Collected, Settled, Refused, Ordered, OrderedAll, op_words, answer_words, item_line};
+ghost use Rattle.rambo_check.specs.Lines.{Collected, Settled, Refused, Ordered, OrderedAll, item_line};
 ghost use Rattle.rambo_outcome.specs.Outcomes.{map_item};
 
-use rambo_history::{Answer, CallId, Op};
+use rambo_history::CallId;
 use rambo_names::{Name, Refusal, Weighted, write_conf};
 use rambo_node::Decided;
 use rambo_run::NodeMap;
 use rambo_sequence::KeySequence;
 use rambo_text::{write_call, write_hex, write_name, write_num, write_standing};
-
-/// Appends the line of a call.
-pub(crate) fn append_called(id: &CallId, op: &Op, out: &mut Vec<u8>) -> Result<(), Refusal>
-    ensures ok { OnOk result (out.new.items ≡ out.old.items ++ item_line (Happened (event.Call id.now op.now))) }
-    ensures err { OnErr result (Grows out.old.items out.new.items) }
-    ensures refused { IfErr result (λ r. r ≡ Refusal.OutOfMemory) }
-{
-    out.extend_from_slice(b"call ")?;
-    write_call(id, out)?;
-    append_op(op, out)?;
-    out.push(b'\n')?;
-    Ok(())
-}
-
-fn append_op(op: &Op, out: &mut Vec<u8>) -> Result<(), Refusal>
-    ensures ok { OnOk result (out.new.items ≡ out.old.items ++ more_words (op_words op.now)) }
-    ensures err { OnErr result (Grows out.old.items out.new.items) }
-    ensures refused { IfErr result (λ r. r ≡ Refusal.OutOfMemory) }
-{
-    match op {
-        Op::Get(key) => {
-            out.extend_from_slice(b" get ")?;
-            write_hex(key.as_slice(), out)?;
-        }
-        Op::Set(key, value) => {
-            out.extend_from_slice(b" set ")?;
-            write_hex(key.as_slice(), out)?;
-            out.push(b' ')?;
-            write_hex(value.as_slice(), out)?;
-        }
-    }
-    Ok(())
-}
-
-/// Appends the line of an answer.
-pub(crate) fn append_answered(
-    id: &CallId,
-    answer: &Answer,
-    out: &mut Vec<u8>,
-) -> Result<(), Refusal>
-    ensures ok { OnOk result (out.new.items ≡ out.old.items ++ item_line (Happened (event.Answer id.now answer.now))) }
-    ensures err { OnErr result (Grows out.old.items out.new.items) }
-    ensures refused { IfErr result (λ r. r ≡ Refusal.OutOfMemory) }
-{
-    out.extend_from_slice(b"answer ")?;
-    write_call(id, out)?;
-    append_answer(answer, out)?;
-    out.push(b'\n')?;
-    Ok(())
-}
-
-fn append_answer(answer: &Answer, out: &mut Vec<u8>) -> Result<(), Refusal>
-    ensures ok { OnOk result (out.new.items ≡ out.old.items ++ more_words (answer_words answer.now)) }
-    ensures err { OnErr result (Grows out.old.items out.new.items) }
-    ensures refused { IfErr result (λ r. r ≡ Refusal.OutOfMemory) }
-{
-    match answer {
-        Answer::Ok => out.extend_from_slice(b" ok")?,
-        Answer::Nil => out.extend_from_slice(b" nil")?,
-        Answer::Value(value) => {
-            out.extend_from_slice(b" value ")?;
-            write_hex(value.as_slice(), out)?;
-        }
-    }
-    Ok(())
-}
 
 // Appends a word with the space after it, a name and a number.
 fn append_front(word: &[u8], name: Name, number: u64, out: &mut Vec<u8>) -> Result<(), Refusal>

@@ -5,10 +5,9 @@ ghost use Rattle.rambo_text.specs.Versions.{head_text};
 ghost use Rattle.rambo_check.specs.Lines.{Ordered, items_text};
 ghost use Rattle.rambo_outcome.specs.Outcomes.{step_items, steps_items, order_items, order_items_in, map_item, outcome_lines};
 
-use crate::line::{
-    append_answered, append_called, append_collected, append_decided, append_map, append_order,
-    append_refused, append_sequence,
-};
+use crate::event_line::{append_answered, append_called};
+use crate::line::{append_map, append_order, append_sequence};
+use crate::step_line::write_other;
 use rambo_history::{CallId, History};
 use rambo_names::{Refusal, Weighted};
 use rambo_node::Effect;
@@ -42,7 +41,7 @@ pub fn outcome_text(
 /// Appends the line that gives the version of a text. Version 1 has none.
 ///
 /// `OutOfMemory` where the text can't grow; it is then unchanged.
-pub fn write_head(version: Version, out: &mut Vec<u8>) -> Result<(), Refusal>
+pub(crate) fn write_head(version: Version, out: &mut Vec<u8>) -> Result<(), Refusal>
     ensures ok { OnOk result (out.new.items ≡ out.old.items ++ head_text version) }
     ensures err { OnErr result (out.new.items ≡ out.old.items) }
     ensures refused { IfErr result (λ r. r ≡ Refusal.OutOfMemory) }
@@ -102,11 +101,9 @@ fn append_steps(
     Ok(())
 }
 
-/// Appends what is reported of a step, by its number: the line of a call, an answer, an ended collection, an ended
-/// attempt or a refusal, or none. What a call asked is looked up in the history.
-///
-/// `OutOfMemory` where the text can't grow; it is then unchanged.
-pub fn write_step(
+// Appends what is reported of a step, by its number: the line of a call, an answer, an ended collection, an ended
+// attempt or a refusal, or none. What a call asked is looked up in the history. A refusal leaves the text unchanged.
+fn write_step(
     step: u64,
     told: &Result<Effect<Weighted>, Refusal>,
     history: &History,
@@ -116,35 +113,20 @@ pub fn write_step(
     ensures err { OnErr result (out.new.items ≡ out.old.items) }
     ensures refused { IfErr result (λ r. r ≡ Refusal.OutOfMemory) }
 {
-    let before = out.len();
-    let written = append_step(step, told, history, out);
-    if written.is_err() {
-        out.truncate(before);
-    }
-    written
-}
-
-// Appends what is told of a step, or after a refusal some bytes.
-fn append_step(
-    step: u64,
-    told: &Result<Effect<Weighted>, Refusal>,
-    history: &History,
-    out: &mut Vec<u8>,
-) -> Result<(), Refusal>
-    ensures ok { OnOk result (out.new.items ≡ out.old.items ++ items_text (step_items history.now.events step told.now)) }
-    ensures err { OnErr result (Grows out.old.items out.new.items) }
-    ensures refused { IfErr result (λ r. r ≡ Refusal.OutOfMemory) }
-{
     match told {
         Ok(Effect::Called(id)) => match history.call(id) {
             Some(op) => append_called(id, op, out),
             None => Ok(()),
         },
         Ok(Effect::Answered(id, answer)) => append_answered(id, answer, out),
-        Ok(Effect::Collected(name, place)) => append_collected(*name, *place, out),
-        Ok(Effect::Decided(name, decided)) => append_decided(*name, decided, out),
-        Ok(Effect::Done | Effect::Sent(_) | Effect::Moved) => Ok(()),
-        Err(refusal) => append_refused(step, *refusal, out),
+        Ok(
+            Effect::Done
+            | Effect::Sent(_)
+            | Effect::Moved
+            | Effect::Collected(_, _)
+            | Effect::Decided(_, _),
+        )
+        | Err(_) => write_other(step, told, out),
     }
 }
 

@@ -16,10 +16,9 @@ known None bytes text is replay = tt
 known (Some b) bytes text is replay = subst (λ x. IsReplay x text) is replay
 
 -- the writer failed
-pub left_after : (f : StreamFault) (input old new : Option (List ℕ)) (bytes text written : List ℕ) → f ≡ stream.Write → IsLeft input bytes → IsReplay bytes text → written ≡ text
-    → Begins old new written → Leaves (of_stream f) input old new
-left_after f input old new bytes text written is all replay shown begins =
-    subst (λ g. Leaves (of_stream g) input old new) (sym is) (record { text = text; is_replay = known input bytes text all replay; written = subst (Begins old new) shown begins })
+pub left_after : (f : StreamFault) (input old new : Option (List ℕ)) (bytes text : List ℕ) → f ≡ stream.Write → IsLeft input bytes → IsReplay bytes text → Begins old new text → Leaves (of_stream f) input old new
+left_after f input old new bytes text is all replay begins =
+    subst (λ g. Leaves (of_stream g) input old new) (sym is) (record { text = text; is_replay = known input bytes text all replay; written = begins })
 
 kept : (old : Option (List ℕ)) → Keeps old old
 kept None = tt

@@ -54,6 +54,13 @@ pub gives_up_where : (version : Version) (first left : Option (List ℕ)) (u : U
     → ((g : ScriptFault) → f ≡ Script g → IsOfWhole (λ bytes. GivesUpBehind version bytes f) u left) → (g : ScriptFault) → f ≡ Script g → (bytes : List ℕ) × IsLeft first bytes × GivesUp bytes f
 gives_up_where version first left u f head told g is = gives_up_of version first left u f head (told g is)
 
+-- and so it is where more of what is behind the head was read before
+pub gives_up_later : (version : Version) (first left new : Option (List ℕ)) (u v : UnreadState) (f : ReplayFault) → TellsHead version first u left → TakesIn left new u.held v.held
+    → (u.ended ≡ true → v ≡ u) → ((g : ScriptFault) → f ≡ Script g → IsOfWhole (λ bytes. GivesUpBehind version bytes f) v new) → (g : ScriptFault) → f ≡ Script g
+    → (bytes : List ℕ) × IsLeft first bytes × GivesUp bytes f
+gives_up_later version first left new u v f head taken same told =
+    gives_up_where version first left u f head (λ g is. whole_before (λ bytes. GivesUpBehind version bytes f) u v left new taken same (told g is))
+
 -- what is behind the head is what is left once as many bytes were used
 pub head_rest : (version : Version) (held behind : List ℕ) → IsBehindHead version held behind → drop (length held - length behind) held ≡ behind
 head_rest One held behind is =

@@ -1,18 +1,23 @@
 //! From a script to the text of what its run gives.
 ghost use Rattle.std.specs.Prelude.{◌≡◌, ◌≢◌, ◌⊎◌, ◌++◌, ℕ, List, [], true, false, OnOk, OnErr, IfOk, IfErr};
-ghost use Rattle.std.specs.Io.KnownBytes.{IsAtEnd};
+ghost use Rattle.std.specs.Io.KnownBytes.{Appends, IsAtEnd};
+ghost use Rattle.rambo_atomic.specs.Streams.{Begins, counted};
+ghost use Rattle.rambo_atomic.specs.declared.whole.StreamFault.TheVariants as stream;
 ghost use Rattle.rambo_atomic.specs.Unreads.{KnowsEnd, TakesIn, HasFeed};
 ghost use Rattle.rambo_text.specs.declared.fault.ScriptFault.{ScriptFault};
 ghost use Rattle.rambo_text.specs.Versions.{IsBehindHead};
 ghost use Rattle.rambo_check.specs.Checks.{IsLeft};
 ghost use Rattle.rambo_check.specs.Readings.{IsMore};
 ghost use Rattle.rambo_lines.specs.Versions.{IsHeadFault};
+ghost use Rattle.rambo_outcome.specs.Notes.{HasRoom, told_text};
 ghost use Rattle.rambo_steps.specs.Replays.{IsReplay, Replays, Leaves, GivesUp, reads_failed, writes_failed};
 ghost use Rattle.rambo_steps.specs.Runs.{IsFounded, GivesUpBehind, IsOfWhole, FoundsNone};
 
-use rambo_atomic::{Sink, Source, Unread, write_all};
+use rambo_atomic::{Sink, Source, StreamFault, Unread};
 use rambo_lines::read_head;
 use rambo_names::Weighted;
+use rambo_outcome::Told;
+use rambo_run::Run;
 use rambo_steps::{founders_in, in_memory, run_through, told_at_end};
 use rambo_tag::Registers;
 use rambo_text::{ReplayFault, Version};
@@ -44,15 +49,46 @@ pub fn replay<R: Source, W: Sink>(
     ensures reads { IfErr result (λ f. R.failures reader.new ≡ reads_failed f (R.failures reader.old)) }
     ensures writes { IfErr result (λ f. W.failures writer.new ≡ writes_failed f (W.failures writer.old)) }
 {
-    let text = replayed(alloc, reader)?;
-    write_all(writer, text.as_slice())?;
+    let ended = replayed(alloc, reader)?;
+    ended.write(writer)?;
     Ok(())
 }
 
-// The text of what the run of the script that a reader has left gives. It is read to its end, also after a fault of the
-// script, and never held as a whole.
-fn replayed<R: Source>(alloc: Global, reader: &mut R) -> Result<Vec<u8>, ReplayFault>
-    ensures ok { IfOk result (λ text. (bytes : List ℕ) × IsLeft (R.left reader.old) bytes × IsReplay bytes text.items) }
+// A run that ended, and what is told of it besides its history.
+struct EndedRun {
+    running: WeightedRun,
+    told: Told,
+}
+
+// By hand, so that those who drop it needn't follow all that is in it.
+impl Drop for EndedRun {
+    fn drop(self) {
+        let EndedRun {
+            running: _running,
+            told: _told,
+        } = self;
+    }
+}
+
+impl EndedRun {
+    // Writes the text of what the run gives, piece by piece. It allocates nothing.
+    fn write<W: Sink>(self, writer: &mut W) -> Result<(), StreamFault>
+        requires room { HasRoom self.told.room self.running.state.history }
+        ensures ok { OnOk result (Appends (W.taken writer.old) (W.taken writer.new) (told_text self.running.state.history self.told)) }
+        ensures err { OnErr result (Begins (W.taken writer.old) (W.taken writer.new) (told_text self.running.state.history self.told)) }
+        ensures fine { OnOk result (W.failures writer.new ≡ W.failures writer.old) }
+        ensures fault { IfErr result (λ f. (f ≡ stream.Write) × (W.failures writer.new ≡ counted (W.failures writer.old))) }
+    {
+        let EndedRun { running, told } = self;
+        told.write(running.history(), writer)
+    }
+}
+
+// The run of the script that a reader has left, and what is told of it. The script is read to its end, also after a fault
+// of it, and never held as a whole.
+fn replayed<R: Source>(alloc: Global, reader: &mut R) -> Result<EndedRun, ReplayFault>
+    ensures ok { IfOk result (λ r. (bytes : List ℕ) × IsLeft (R.left reader.old) bytes × IsReplay bytes (told_text r.running.state.history r.told)) }
+    ensures room { IfOk result (λ r. HasRoom r.told.room r.running.state.history) }
     ensures end { OnOk result (IsAtEnd (R.left reader.new)) }
     ensures fine { OnOk result (R.failures reader.new ≡ R.failures reader.old) }
     ensures script { IfErr result (λ f. (g : ScriptFault) → f ≡ ReplayFault.Script g → (bytes : List ℕ) × IsLeft (R.left reader.old) bytes × GivesUp bytes f) }
@@ -62,7 +98,8 @@ fn replayed<R: Source>(alloc: Global, reader: &mut R) -> Result<Vec<u8>, ReplayF
     let mut unread = Unread::new(alloc);
     let version = read_version(reader, &mut unread)?;
     let mut running = founded(alloc, version, reader, &mut unread)?;
-    run_through(alloc, version, reader, &mut unread, &mut running)
+    let told = run_through(alloc, version, reader, &mut unread, &mut running)?;
+    Ok(EndedRun { running, told })
 }
 
 // The version of the script that a reader has left. Of it the line that tells the version is used, and no more.

@@ -11,7 +11,7 @@ use Rattle.rambo_run.specs.Ongoing.{RunningOf}
 use Rattle.rambo_text.specs.declared.fault.ReplayFault.{ReplayFault}
 use Rattle.rambo_text.specs.declared.version.Version.{Version}
 use Rattle.rambo_text.specs.declared.version.Version.TheVariants.{One, Two}
-use Rattle.rambo_text.specs.Versions.{head_line, head_text, IsBehindHead, IsFirstOf}
+use Rattle.rambo_text.specs.Versions.{head_line, IsBehindHead, IsFirstOf}
 use Rattle.rambo_text.specs.Words.{Lacks, IsFirstLine}
 use Rattle.rambo_text.proofs.Heads.{same_lines}
 use Rattle.rambo_check.specs.Checks.{IsLeft}
@@ -20,7 +20,8 @@ use Rattle.rambo_lines.specs.Places.{place_of}
 use Rattle.rambo_lines.specs.StepLines.{step_line}
 use Rattle.rambo_lines.specs.Scripts.{founders_line, steps_text, script_text}
 use Rattle.rambo_lines.proofs.LineByLine.{Reads, script, steps_text-append}
-use Rattle.rambo_steps.specs.Runs.{IsFounded, TakesFirst, IsFirstFaultAt, IsReplayBehind, GivesUpBehind, ended, IsOfWhole, FoundsNone}
+use Rattle.rambo_outcome.specs.Notes.{NoteState, ToldState, told_text}
+use Rattle.rambo_steps.specs.Runs.{IsFounded, TakesFirst, Tells, IsFirstFaultAt, IsReplayBehind, GivesUpBehind, IsOfWhole, FoundsNone}
 use Rattle.rambo_steps.proofs.RunAlong.{Runs, runs_first, runs_next, runs_all, later_fault}
 
 -- what the source has left, where that is known
@@ -97,9 +98,9 @@ ready_with u more (inl feed) none = inl feed
 ready_with u more (inr e) none = inr (none e)
 
 -- of a script in pieces, whose first line was held at the start, some lines were read and their steps taken
-pub record RunsOn (version : Version) (start : UnreadState) (first left : Option (List ℕ)) (r : RunningOf Weights) (u : UnreadState) (place : Place) (text : List ℕ) : Type 0 where
+pub record RunsOn (version : Version) (start : UnreadState) (first left : Option (List ℕ)) (r : RunningOf Weights) (u : UnreadState) (place : Place) (notes : List NoteState) : Type 0 where
   pub bytes : List ℕ
-  pub runs : Runs version bytes r place text u.held
+  pub runs : Runs version bytes r place notes u.held
   pub fed : (bytes ≡ script_text (script r.founders runs.steps) ++ u.held) ⊎ (u.ended ≡ true)
   pub taken : TakesIn first left start.held bytes
   pub ended : start.ended ≡ true → (u.ended ≡ true) × (taken.0 ≡ [])
@@ -110,14 +111,14 @@ is_last u line rest (inl feed) lacks e = absurd (lacks_no_feed feed.0 feed.1 (su
 is_last u line rest (inr ended) lacks e = ended
 
 -- the first line was read
-pub runs_on_first : (version : Version) (start u : UnreadState) (left : Option (List ℕ)) (line : List ℕ) (r : RunningOf Weights) (place : Place) (text : List ℕ)
-    → HasFeed start.held ⊎ (start.ended ≡ true) → IsFirstLine start.held line u.held → u.ended ≡ start.ended → IsFounded start.held r → text ≡ head_text version → place ≡ place_of version 0
-    → RunsOn version start left left r u place text
-runs_on_first version start u left line r place text ready first same founded head at =
+pub runs_on_first : (version : Version) (start u : UnreadState) (left : Option (List ℕ)) (line : List ℕ) (r : RunningOf Weights) (place : Place) (notes : List NoteState)
+    → HasFeed start.held ⊎ (start.ended ≡ true) → IsFirstLine start.held line u.held → u.ended ≡ start.ended → IsFounded start.held r → notes ≡ [] → place ≡ place_of version 0
+    → RunsOn version start left left r u place notes
+runs_on_first version start u left line r place notes ready first same founded none at =
     let is = (same_lines start.held line u.held founded.0.line founded.0.rest first founded.0.is_first).0 ∙ founded.0.line_is in
     record {
       bytes = start.held;
-      runs = runs_first version start.held line u.held r place text first founded head at;
+      runs = runs_first version start.held line u.held r place notes first founded none at;
       fed = elim first.whole [
         | inl feed ↦ inl (feed ∙ ap (λ l. l ++ 10 ∷ u.held) is ∙ sym (append_assoc (founders_line r.founders) (10 ∷ []) u.held))
         | inr last ↦ inr (same ∙ is_last start line u.held ready first.no_feed last.0)
@@ -145,13 +146,14 @@ reads_more bytes founders steps rest more behind are reads fed =
       ];
     }
 
-abbrev runs_more : (version : Version) (bytes : List ℕ) (r : RunningOf Weights) (place : Place) (text rest more behind : List ℕ) → behind ≡ rest ++ more → (now : Runs version bytes r place text rest)
-    → (bytes ≡ script_text (script r.founders now.steps) ++ rest) ⊎ (more ≡ []) → Runs version (bytes ++ more) r place text behind
-runs_more version bytes r place text rest more behind are now fed = record {
+abbrev runs_more : (version : Version) (bytes : List ℕ) (r : RunningOf Weights) (place : Place) (notes : List NoteState) (rest more behind : List ℕ) → behind ≡ rest ++ more → (now : Runs version bytes r place notes rest)
+    → (bytes ≡ script_text (script r.founders now.steps) ++ rest) ⊎ (more ≡ []) → Runs version (bytes ++ more) r place notes behind
+runs_more version bytes r place notes rest more behind are now fed = record {
   steps = now.steps;
   reads = reads_more bytes r.founders now.steps rest more behind are now.reads fed;
   ran = now.ran;
   told = now.told;
+  within = now.within;
   at = now.at;
 }
 
@@ -164,16 +166,16 @@ fed_more : (text bytes more : List ℕ) (u v : UnreadState) → v.held ≡ u.hel
 fed_more text bytes more u v are kept (inl is) = inl (ap (λ b. b ++ more) is ∙ append_assoc text u.held more ∙ ap (λ h. text ++ h) (sym are))
 fed_more text bytes more u v are kept (inr e) = inr (kept e)
 
-pub runs_on_more : (version : Version) (start : UnreadState) (first left new : Option (List ℕ)) (r : RunningOf Weights) (u v : UnreadState) (place : Place) (text : List ℕ)
-    → RunsOn version start first left r u place text → TakesIn left new u.held v.held → (u.ended ≡ true → v ≡ u) → RunsOn version start first new r v place text
-runs_on_more version start first left new r u v place text now taken same =
+pub runs_on_more : (version : Version) (start : UnreadState) (first left new : Option (List ℕ)) (r : RunningOf Weights) (u v : UnreadState) (place : Place) (notes : List NoteState)
+    → RunsOn version start first left r u place notes → TakesIn left new u.held v.held → (u.ended ≡ true → v ≡ u) → RunsOn version start first new r v place notes
+runs_on_more version start first left new r u v place notes now taken same =
     let given = now.taken.0 in
     let more = taken.0 in
     let none : u.ended ≡ true → more ≡ [] = λ e. no_more u.held more (ap (λ (w : UnreadState). w.held) (sym (same e)) ∙ taken.2) in
     let kept : u.ended ≡ true → v.ended ≡ true = λ e. ap (λ (w : UnreadState). w.ended) (same e) ∙ e in
     record {
       bytes = now.bytes ++ more;
-      runs = runs_more version now.bytes r place text u.held more v.held taken.2 now.runs (fed_or_none _ u more now.fed none);
+      runs = runs_more version now.bytes r place notes u.held more v.held taken.2 now.runs (fed_or_none _ u more now.fed none);
       fed = fed_more (script_text (script r.founders now.runs.steps)) now.bytes more u v taken.2 kept now.fed;
       taken = (given ++ more, Consumes-trans first left new given more now.taken.1 taken.1, ap (λ b. b ++ more) now.taken.2 ∙ append_assoc start.held given more);
       ended = λ e. let before = now.ended e in (kept before.0, (λ i. before.1 i ++ none before.0 i));
@@ -205,21 +207,21 @@ fed_next founders own steps st bytes line u v mine spelt holds same first (inl i
     ]
 
 -- the step of one line more was taken
-pub runs_on_next : (version : Version) (start : UnreadState) (first left : Option (List ℕ)) (r new : RunningOf Weights) (u v : UnreadState) (place next : Place) (text longer : List ℕ)
-    → RunsOn version start first left r u place text → HoldsLine u → next ≡ record { line = place.line + 1; step = place.step + 1 } → TakesFirst u.held next.step r new text longer v.held
+pub runs_on_next : (version : Version) (start : UnreadState) (first left : Option (List ℕ)) (r new : RunningOf Weights) (u v : UnreadState) (place next : Place) (notes longer : List NoteState)
+    → RunsOn version start first left r u place notes → HoldsLine u → next ≡ record { line = place.line + 1; step = place.step + 1 } → TakesFirst u.held next.step r new notes longer v.held
     → v.ended ≡ u.ended → RunsOn version start first left new v next longer
-runs_on_next version start first left r new u v place next text longer now holds is taken same = record {
+runs_on_next version start first left r new u v place next notes longer now holds is taken same = record {
   bytes = now.bytes;
-  runs = runs_next version now.bytes u.held taken.line v.held r new place next text longer now.runs holds.0 taken.is_first is taken.takes;
+  runs = runs_next version now.bytes u.held taken.line v.held r new place next notes longer now.runs holds.0 taken.is_first is taken.takes;
   fed = fed_next r.founders new.founders now.runs.steps taken.takes.step now.bytes taken.line u v (ap (λ (w : RunningOf Weights). w.founders) taken.takes.takes.taken) taken.takes.line_is holds same taken.is_first now.fed;
   taken = now.taken;
   ended = λ e. let before = now.ended e in (same ∙ before.0, before.1);
 }
 
 -- what is so of all that was read and of what is left is so of the whole text
-all_of : (P : List ℕ → Type 0) (version : Version) (start : UnreadState) (first left : Option (List ℕ)) (r : RunningOf Weights) (u : UnreadState) (place : Place) (text : List ℕ)
-    → (now : RunsOn version start first left r u place text) → KnowsEnd u left → P (now.bytes ++ later left) → IsOfWhole P start first
-all_of P version start first left r u place text now known holds =
+all_of : (P : List ℕ → Type 0) (version : Version) (start : UnreadState) (first left : Option (List ℕ)) (r : RunningOf Weights) (u : UnreadState) (place : Place) (notes : List NoteState)
+    → (now : RunsOn version start first left r u place notes) → KnowsEnd u left → P (now.bytes ++ later left) → IsOfWhole P start first
+all_of P version start first left r u place notes now known holds =
     let given = now.taken.0 in (
       given ++ later left,
       (all_left first left given now.taken.1, λ e. let before = now.ended e in (λ i. before.1 i ++ none_later left (known before.0) i)),
@@ -227,26 +229,28 @@ all_of P version start first left r u place text now known holds =
     )
 
 -- all was read
-pub runs_on_end : (version : Version) (start : UnreadState) (first left : Option (List ℕ)) (r : RunningOf Weights) (u : UnreadState) (place : Place) (text whole : List ℕ)
-    → RunsOn version start first left r u place text → IsDone u → KnowsEnd u left → whole ≡ ended version r.state text → IsOfWhole (λ bytes. IsReplayBehind version bytes whole) start first
-runs_on_end version start first left r u place text whole now done known is =
+pub runs_on_end : (version : Version) (start : UnreadState) (first left : Option (List ℕ)) (r : RunningOf Weights) (u : UnreadState) (place : Place) (notes : List NoteState) (told : ToldState)
+    → RunsOn version start first left r u place notes → IsDone u → KnowsEnd u left → Tells version r.state notes told
+    → IsOfWhole (λ bytes. IsReplayBehind version bytes (told_text r.state.history told)) start first
+runs_on_end version start first left r u place notes told now done known is =
+    let text = told_text r.state.history told in
     let all : now.bytes ++ later left ≡ now.bytes = ap (λ l. now.bytes ++ l) (none_later left (known done.1)) ∙ append-nil now.bytes in
-    all_of (λ bytes. IsReplayBehind version bytes whole) version start first left r u place text now known
-    (subst (λ bytes. IsReplayBehind version bytes whole) (sym all) (runs_all version now.bytes u.held r place text whole now.runs (ap length done.0) is))
+    all_of (λ bytes. IsReplayBehind version bytes text) version start first left r u place notes now known
+    (subst (λ bytes. IsReplayBehind version bytes text) (sym all) (runs_all version now.bytes u.held r place notes told now.runs (ap length done.0) is))
 
 still_there : (held more : List ℕ) → held ≢ [] → held ++ more ≢ []
 still_there [] more some e = some refl
 still_there (b ∷ held) more some e = cc
 
 -- the first line that is held has a fault
-pub runs_on_fault : (version : Version) (start : UnreadState) (first left : Option (List ℕ)) (r : RunningOf Weights) (u : UnreadState) (place next : Place) (text : List ℕ) (f : ReplayFault)
-    → RunsOn version start first left r u place text → HoldsLine u → KnowsEnd u left → next ≡ record { line = place.line + 1; step = place.step + 1 } → IsFirstFaultAt next.line u.held f
+pub runs_on_fault : (version : Version) (start : UnreadState) (first left : Option (List ℕ)) (r : RunningOf Weights) (u : UnreadState) (place next : Place) (notes : List NoteState) (f : ReplayFault)
+    → RunsOn version start first left r u place notes → HoldsLine u → KnowsEnd u left → next ≡ record { line = place.line + 1; step = place.step + 1 } → IsFirstFaultAt next.line u.held f
     → IsOfWhole (λ bytes. GivesUpBehind version bytes f) start first
-runs_on_fault version start first left r u place next text f now holds known is fault =
+runs_on_fault version start first left r u place next notes f now holds known is fault =
     let none : u.ended ≡ true → later left ≡ [] = λ e. none_later left (known e) in
-    all_of (λ bytes. GivesUpBehind version bytes f) version start first left r u place text now known
-    (later_fault version (now.bytes ++ later left) (u.held ++ later left) fault.line (fault.rest ++ later left) r place next text f
-    (runs_more version now.bytes r place text u.held (later left) (u.held ++ later left) refl now.runs (fed_or_none _ u (later left) now.fed none))
+    all_of (λ bytes. GivesUpBehind version bytes f) version start first left r u place notes now known
+    (later_fault version (now.bytes ++ later left) (u.held ++ later left) fault.line (fault.rest ++ later left) r place next notes f
+    (runs_more version now.bytes r place notes u.held (later left) (u.held ++ later left) refl now.runs (fed_or_none _ u (later left) now.fed none))
     (still_there u.held (later left) holds.0) (line_more u.held fault.line fault.rest (later left) (ready_with u (later left) holds.1 none) fault.is_first) is fault.fault)
 
 -- each text has a first line

@@ -1,5 +1,5 @@
 -- A run that goes on as the lines of a script are read
-use Rattle.std.specs.Prelude.{◌≡◌, ◌⊎◌, ℕ, List, Option, ◌++◌, map}
+use Rattle.std.specs.Prelude.{◌≡◌, ◌⊎◌, ℕ, List, [], Option, ◌++◌, map, length}
 use Rattle.rambo_names.specs.Weights.{Weights, weighted_majorities}
 use Rattle.rambo_run.specs.declared.step.Step.{Step}
 use Rattle.rambo_run.specs.Worlds.{WorldState, first_world}
@@ -12,12 +12,13 @@ use Rattle.rambo_text.specs.declared.fault.ScriptFault.{ScriptFault}
 use Rattle.rambo_text.specs.declared.fault.ReplayFault.{ReplayFault}
 use Rattle.rambo_text.specs.declared.fault.ReplayFault.TheVariants.{Script, Memory}
 use Rattle.rambo_text.specs.declared.version.Version.{Version}
-use Rattle.rambo_text.specs.Versions.{in_whole}
+use Rattle.rambo_text.specs.Versions.{in_whole, head_text}
 use Rattle.rambo_text.specs.Words.{IsFirstLine}
 use Rattle.rambo_atomic.specs.Unreads.{UnreadState}
 use Rattle.rambo_check.specs.Readings.{IsMore}
 use Rattle.rambo_check.specs.Lines.{Ordered, items_text}
-use Rattle.rambo_outcome.specs.Outcomes.{step_items, order_items_in, map_item}
+use Rattle.rambo_outcome.specs.Outcomes.{order_items_in, map_item}
+use Rattle.rambo_outcome.specs.Notes.{NoteState, ToldState, HasRoom, other_items, noted}
 use Rattle.rambo_lines.specs.declared.kind.StepKind.{StepKind}
 use Rattle.rambo_lines.specs.Parts.{NeedRoom, TellStep, TellUnfit}
 use Rattle.rambo_lines.specs.StepLines.{step_line}
@@ -37,23 +38,23 @@ pub record TellsFounders (bytes : List ℕ) (c : Weights) : Type 0 where
 abbrev pub IsFounded : List ℕ → RunningOf Weights → Type 0
 IsFounded bytes r = TellsFounders bytes r.founders × (r.state ≡ first_world weighted_majorities r.founders)
 
--- a run took a step of this number, and what is reported of it came to the end of a text
-pub record Takes (step : Step Weights) (number : ℕ) (old new : RunningOf Weights) (text longer : List ℕ) : Type 0 where
+-- a run took a step of this number, and what is reported of it that isn't in its history came to some notes
+pub record Takes (step : Step Weights) (number : ℕ) (old new : RunningOf Weights) (notes longer : List NoteState) : Type 0 where
   pub taken : new ≡ record old { state = after weighted_majorities old.state step }
-  pub told : longer ≡ text ++ items_text (step_items new.state.history number (result_of (refusal weighted_majorities old.state step) old.state step))
+  pub told : longer ≡ noted notes (length new.state.history) (other_items number (result_of (refusal weighted_majorities old.state step) old.state step))
 
 -- a line gives it
-pub record TakesStep (line : List ℕ) (number : ℕ) (old new : RunningOf Weights) (text longer : List ℕ) : Type 0 where
+pub record TakesStep (line : List ℕ) (number : ℕ) (old new : RunningOf Weights) (notes longer : List NoteState) : Type 0 where
   pub step : Step Weights
   pub has_line : HasLine step
   pub line_is : line ≡ step_line step
-  pub takes : Takes step number old new text longer
+  pub takes : Takes step number old new notes longer
 
 -- the words after the first one, which is that of a kind, give it
-pub record TakesTold (kind : StepKind) (more : Option (List ℕ)) (number : ℕ) (old new : RunningOf Weights) (text longer : List ℕ) : Type 0 where
+pub record TakesTold (kind : StepKind) (more : Option (List ℕ)) (number : ℕ) (old new : RunningOf Weights) (notes longer : List NoteState) : Type 0 where
   pub step : Step Weights
   pub tell : TellStep kind more step
-  pub takes : Takes step number old new text longer
+  pub takes : Takes step number old new notes longer
 
 -- or they give none, or there is no room for the bytes that they have
 abbrev pub IsPartsFault : StepKind → Option (List ℕ) → Fault → Type 0
@@ -63,6 +64,13 @@ IsPartsFault kind more f = ((f ≡ OutOfMemory) × NeedRoom kind more) ⊎ TellU
 abbrev pub ended : Version → WorldState Weights → List ℕ → List ℕ
 ended version w text =
     ((text ++ items_text (map Ordered (given_sequences w))) ++ items_text (order_items_in version (given_order w))) ++ items_text (map map_item (maps_of w.nodes))
+
+-- what is told of a run that ended, but for its history
+pub record Tells (version : Version) (w : WorldState Weights) (notes : List NoteState) (told : ToldState) : Type 0 where
+  pub head : told.head ≡ head_text version
+  pub notes_are : told.notes ≡ notes
+  pub tail : told.tail ≡ ended version w []
+  pub room : HasRoom told.room w.history
 
 -- what is after a head is a script, and the text is that of its run
 abbrev pub IsReplayBehind : Version → List ℕ → List ℕ → Type 0
@@ -81,10 +89,10 @@ abbrev pub IsFaultyStep : List ℕ → Fault → Type 0
 IsFaultyStep line g = ((g ≡ OutOfMemory) × TellsBytes line) ⊎ IsLineFault TellNoStep line g
 
 -- the first of some lines tells a step, which a run took, and the rest is that of the lines after it
-pub record TakesFirst (lines : List ℕ) (number : ℕ) (old new : RunningOf Weights) (text longer rest : List ℕ) : Type 0 where
+pub record TakesFirst (lines : List ℕ) (number : ℕ) (old new : RunningOf Weights) (notes longer : List NoteState) (rest : List ℕ) : Type 0 where
   pub line : List ℕ
   pub is_first : IsFirstLine lines line rest
-  pub takes : TakesStep line number old new text longer
+  pub takes : TakesStep line number old new notes longer
 
 -- it has a fault, or memory ran out
 pub record IsFirstFaultAt (number : ℕ) (lines : List ℕ) (f : ReplayFault) : Type 0 where

@@ -1,8 +1,7 @@
 //! Scripts, read line by line, and taken by a run of any kind over weighted majorities (`Run`).
 //!
 //! - `founders_in`: the founders on the first line after the head.
-//! - `run_through`: the steps of the other lines are taken, and what is reported of them is written, in the script's
-//!   version.
+//! - `run_through`: the steps of the other lines are taken, and what is reported of them is told, in the script's version.
 //! - `in_memory`: a refusal that can only be `OutOfMemory`.
 #![tactic(auto)]
 

@@ -1,18 +1,19 @@
 //! Scripts over a run of any kind.
-ghost use Rattle.std.specs.Prelude.{◌≡◌, ◌≢◌, ◌⊎◌, ◌<◌, ◌++◌, ℕ, List, [], true, length, Ok, IsOk, OnOk, OnErr, IfOk, IfErr};
+ghost use Rattle.std.specs.Prelude.{◌≡◌, ◌≢◌, ◌⊎◌, ◌<◌, ◌++◌, ◌∷◌, ℕ, List, [], true, length, Ok, IsOk, OnOk, OnErr, IfOk, IfErr};
 ghost use Rattle.std.specs.Io.KnownBytes.{IsAtEnd};
 ghost use Rattle.rambo_atomic.specs.Unreads.{KnowsEnd, HasFeed};
 ghost use Rattle.rambo_text.specs.declared.fault.ScriptFault.{ScriptFault};
 ghost use Rattle.rambo_text.specs.Words.{IsFirstLine};
 ghost use Rattle.rambo_steps.specs.Replays.{reads_failed};
 ghost use Rattle.std.specs.Option.{option_copied};
-ghost use Rattle.rambo_history.specs.Histories.{call_in};
+ghost use Rattle.rambo_names.specs.Refusals.{number_of};
 ghost use Rattle.rambo_run.specs.declared.step.Step.TheVariants as step;
-ghost use Rattle.rambo_check.specs.Lines.{items_text};
-ghost use Rattle.rambo_outcome.specs.Outcomes.{call_items, order_items_in};
+ghost use Rattle.rambo_check.specs.Lines.{Refused, items_text};
+ghost use Rattle.rambo_outcome.specs.Outcomes.{order_items_in};
+ghost use Rattle.rambo_outcome.specs.Notes.{HasRoom, noted, told_text};
 ghost use Rattle.rambo_sequence.specs.StoreOrders.{NoTwice, all_calls, order_of};
 ghost use Rattle.rambo_lines.specs.Fronts.{step_of};
-ghost use Rattle.rambo_steps.specs.Runs.{TellsFounders, IsFounded, Takes, TakesStep, TakesTold, IsPartsFault, IsReplayBehind, GivesUpBehind, ended, IsFaultAt, IsFaultyStep, TakesFirst, IsFirstFaultAt, IsOfWhole, FoundsNone};
+ghost use Rattle.rambo_steps.specs.Runs.{TellsFounders, IsFounded, Takes, TakesStep, TakesTold, Tells, IsPartsFault, IsReplayBehind, GivesUpBehind, ended, IsFaultAt, IsFaultyStep, TakesFirst, IsFirstFaultAt, IsOfWhole, FoundsNone};
 
 use rambo_atomic::{Source, Unread};
 use rambo_history::{CallId, History, Op};
@@ -21,10 +22,7 @@ use rambo_lines::{
     read_kind, read_parts, set_asked,
 };
 use rambo_names::{Name, Refusal, Weighted};
-use rambo_outcome::{
-    write_answered, write_called, write_head, write_maps, write_order, write_refused,
-    write_sequences, write_step,
-};
+use rambo_outcome::{Notes, Told, write_maps, write_order, write_sequences};
 use rambo_run::Run;
 use rambo_sequence::{KeySequence, one_order};
 use rambo_text::{ReplayFault, Version, next_line};
@@ -43,8 +41,9 @@ pub fn founders_in(version: Version, input: &[u8]) -> Result<Weighted, ReplayFau
     Ok(founders)
 }
 
-/// Takes the steps that the lines after that of the founders tell: the text of what the run gives, in the version of
-/// the script, of which what is held and what the reader has left is what stands behind the head.
+/// Takes the steps that the lines after that of the founders tell: what is told of the run, in the version of the script,
+/// of which what is held and what the reader has left is what stands behind the head. With the run's history it is the
+/// text of what the run gives.
 ///
 /// The first line is held whole, and the run is that of its founders, before any step. The script is read piece by
 /// piece, and no more of it is held than the lines of a piece. `Script` where a line after theirs is faulty, or where
@@ -57,19 +56,19 @@ pub fn run_through<S: Source, R: Run<Weighted>>(
     reader: &mut S,
     unread: &mut Unread,
     running: &mut R,
-) -> Result<Vec<u8>, ReplayFault>
+) -> Result<Told, ReplayFault>
     requires knows { KnowsEnd unread.old (S.left reader.old) }
     requires line { HasFeed unread.old.held ⊎ (unread.old.ended ≡ true) }
     requires founded { IsFounded unread.old.held (R.running running.old) }
-    ensures ok { IfOk result (λ text. IsOfWhole (λ bytes. IsReplayBehind version bytes text.items) unread.old (S.left reader.old)) }
+    ensures ok { IfOk result (λ told. IsOfWhole (λ bytes. IsReplayBehind version bytes (told_text (R.running running.new).state.history told)) unread.old (S.left reader.old)) }
+    ensures room { IfOk result (λ told. HasRoom told.room (R.running running.new).state.history) }
     ensures end { OnOk result (IsAtEnd (S.left reader.new)) }
     ensures fine { OnOk result (S.failures reader.new ≡ S.failures reader.old) }
     ensures script { IfErr result (λ f. (g : ScriptFault) → f ≡ ReplayFault.Script g → IsOfWhole (λ bytes. GivesUpBehind version bytes f) unread.old (S.left reader.old)) }
     ensures reads { IfErr result (λ f. S.failures reader.new ≡ reads_failed f (S.failures reader.old)) }
     ensures unwritten { IfErr result (λ f. f ≢ ReplayFault.Write) }
 {
-    let mut text = Vec::new(alloc);
-    in_memory(write_head(version, &mut text))?;
+    let mut notes = Notes::new(alloc);
     forget_line(unread);
     let mut place = Place::first(version);
     while unread.find_line(reader)? {
@@ -77,12 +76,11 @@ pub fn run_through<S: Source, R: Run<Weighted>>(
             return Err(ReplayFault::Memory);
         }
         place = place.next();
-        if let Err(fault) = take_held(alloc, place, unread, running, &mut text) {
+        if let Err(fault) = take_held(alloc, place, unread, running, &mut notes) {
             return Err(told_at_end(fault, unread, reader));
         }
     }
-    end(alloc, version, running, &mut text)?;
-    Ok(text)
+    told_of(alloc, version, running, notes)
 }
 
 /// The fault that is told where what was read of a script has this one: the script is read to its end before, and where
@@ -116,7 +114,7 @@ fn forget_line(unread: &mut Unread)
     unread.forget(used);
 }
 
-// Takes the step that the first line that is held tells, which stands at a place, appends what is told of it, and forgets
+// Takes the step that the first line that is held tells, which stands at a place, notes what is told of it, and forgets
 // the line.
 #[inline(always)]
 fn take_held<R: Run<Weighted>>(
@@ -124,23 +122,23 @@ fn take_held<R: Run<Weighted>>(
     place: Place,
     unread: &mut Unread,
     running: &mut R,
-    text: &mut Vec<u8>,
+    notes: &mut Notes,
 ) -> Result<(), ReplayFault>
     requires { unread.old.held ≢ [] }
-    ensures taken { OnOk result (TakesFirst unread.old.held place.step (R.running running.old) (R.running running.new) text.old.items text.new.items unread.new.held) }
+    ensures taken { OnOk result (TakesFirst unread.old.held place.step (R.running running.old) (R.running running.new) notes.old notes.new unread.new.held) }
     ensures ended { unread.new.ended ≡ unread.old.ended }
     ensures less { OnOk result (length unread.new.held < length unread.old.held) }
     ensures kept { OnErr result (unread.new ≡ unread.old) }
     ensures fault { IfErr result (λ f. IsFirstFaultAt place.line unread.old.held f) }
 {
     let held = unread.as_slice();
-    let rest = take_first(alloc, place, held, running, text)?;
+    let rest = take_first(alloc, place, held, running, notes)?;
     let used = held.len() - rest.len();
     unread.forget(used);
     Ok(())
 }
 
-// Takes the step that the first of some lines tells, which stands at a place, and appends what is told of it: the lines
+// Takes the step that the first of some lines tells, which stands at a place, and notes what is told of it: the lines
 // after it.
 #[inline(always)]
 fn take_first<'a, R: Run<Weighted>>(
@@ -148,174 +146,176 @@ fn take_first<'a, R: Run<Weighted>>(
     place: Place,
     lines: &'a [u8],
     running: &mut R,
-    text: &mut Vec<u8>,
+    notes: &mut Notes,
 ) -> Result<&'a [u8], ReplayFault>
-    ensures taken { IfOk result (λ rest. TakesFirst lines.now place.step (R.running running.old) (R.running running.new) text.old.items text.new.items rest.now) }
+    ensures taken { IfOk result (λ rest. TakesFirst lines.now place.step (R.running running.old) (R.running running.new) notes.old notes.new rest.now) }
     ensures fault { IfErr result (λ f. IsFirstFaultAt place.line lines.now f) }
 {
     if let Some((step, rest)) = frequent_step(lines) {
-        take_frequent(place, step, running, text)?;
+        take_frequent(place, step, running, notes)?;
         return Ok(rest);
     }
     if let Some((name, op, rest)) = frequent_call(lines) {
-        take_call(place, name, op, running, text)?;
+        take_call(place, name, op, running, notes)?;
         return Ok(rest);
     }
     let (line, rest) = next_line(lines);
-    take_line(alloc, place, line, running, text)?;
+    take_line(alloc, place, line, running, notes)?;
     Ok(rest)
 }
 
-// Takes a step of a frequent kind, and appends what is told of it.
+// Takes a step of a frequent kind, and notes what is told of it.
 #[inline(always)]
 fn take_frequent<R: Run<Weighted>>(
     place: Place,
     step: Frequent,
     running: &mut R,
-    text: &mut Vec<u8>,
+    notes: &mut Notes,
 ) -> Result<(), ReplayFault>
-    ensures taken { OnOk result (Takes (step_of step) place.step (R.running running.old) (R.running running.new) text.old.items text.new.items) }
+    ensures taken { OnOk result (Takes (step_of step) place.step (R.running running.old) (R.running running.new) notes.old notes.new) }
     ensures fault { IfErr result (λ f. f ≡ ReplayFault.Memory) }
 {
     match step {
-        Frequent::Send(from, to) => take_send(place, from, to, running, text),
-        Frequent::Deliver(letter) => take_deliver(place, letter, running, text),
-        Frequent::Advance(id) => take_advance(place, id, running, text),
+        Frequent::Send(from, to) => take_send(place, from, to, running, notes),
+        Frequent::Deliver(letter) => take_deliver(place, letter, running, notes),
+        Frequent::Advance(id) => take_advance(place, id, running, notes),
     }
 }
 
-// Takes a sending, and appends what is told of it.
+// Takes a sending, and notes what is told of it.
 #[inline(always)]
 fn take_send<R: Run<Weighted>>(
     place: Place,
     from: Name,
     to: Name,
     running: &mut R,
-    text: &mut Vec<u8>,
+    notes: &mut Notes,
 ) -> Result<(), ReplayFault>
-    ensures taken { OnOk result (Takes (step.Send from to) place.step (R.running running.old) (R.running running.new) text.old.items text.new.items) }
+    ensures taken { OnOk result (Takes (step.Send from to) place.step (R.running running.old) (R.running running.new) notes.old notes.new) }
     ensures fault { IfErr result (λ f. f ≡ ReplayFault.Memory) }
 {
     match in_memory(running.send(from, to))? {
         Ok(_) => Ok(()),
-        Err(refusal) => in_memory(write_refused(place.step, refusal, text)),
+        Err(refusal) => note_refused(place, refusal, running.history(), notes),
     }
 }
 
-// Takes a delivery, and appends what is told of it.
+// Takes a delivery, and notes what is told of it.
 #[inline(always)]
 fn take_deliver<R: Run<Weighted>>(
     place: Place,
     letter: u64,
     running: &mut R,
-    text: &mut Vec<u8>,
+    notes: &mut Notes,
 ) -> Result<(), ReplayFault>
-    ensures taken { OnOk result (Takes (step.Deliver letter) place.step (R.running running.old) (R.running running.new) text.old.items text.new.items) }
+    ensures taken { OnOk result (Takes (step.Deliver letter) place.step (R.running running.old) (R.running running.new) notes.old notes.new) }
     ensures fault { IfErr result (λ f. f ≡ ReplayFault.Memory) }
 {
     match in_memory(running.deliver(letter))? {
         Ok(()) => Ok(()),
-        Err(refusal) => in_memory(write_refused(place.step, refusal, text)),
+        Err(refusal) => note_refused(place, refusal, running.history(), notes),
     }
 }
 
-// Takes the advance of a call, and appends what is told of it.
+// Takes the advance of a call, and notes what is told of it.
 #[inline(always)]
 fn take_advance<R: Run<Weighted>>(
     place: Place,
     id: CallId,
     running: &mut R,
-    text: &mut Vec<u8>,
+    notes: &mut Notes,
 ) -> Result<(), ReplayFault>
-    ensures taken { OnOk result (Takes (step.Advance id) place.step (R.running running.old) (R.running running.new) text.old.items text.new.items) }
+    ensures taken { OnOk result (Takes (step.Advance id) place.step (R.running running.old) (R.running running.new) notes.old notes.new) }
     ensures fault { IfErr result (λ f. f ≡ ReplayFault.Memory) }
 {
     match in_memory(running.advance(id))? {
-        Ok(Some(answer)) => in_memory(write_answered(&id, &answer, text)),
-        Ok(None) => Ok(()),
-        Err(refusal) => in_memory(write_refused(place.step, refusal, text)),
+        Ok(_) => Ok(()),
+        Err(refusal) => note_refused(place, refusal, running.history(), notes),
     }
 }
 
-// Takes the step that the line at a place tells, and appends what is told of it.
+// Takes the step that the line at a place tells, and notes what is told of it.
 #[inline(never)]
 fn take_line<R: Run<Weighted>>(
     alloc: Global,
     place: Place,
     line: &[u8],
     running: &mut R,
-    text: &mut Vec<u8>,
+    notes: &mut Notes,
 ) -> Result<(), ReplayFault>
-    ensures taken { OnOk result (TakesStep line.now place.step (R.running running.old) (R.running running.new) text.old.items text.new.items) }
+    ensures taken { OnOk result (TakesStep line.now place.step (R.running running.old) (R.running running.new) notes.old notes.new) }
     ensures fault { IfErr result (λ f. IsFaultAt (place.line) (IsFaultyStep line.now) f) }
 {
     let (kind, more) = at_line(place.line, read_kind(line))?;
     match kind {
-        StepKind::Get => take_get(alloc, place, more, running, text),
-        StepKind::Set => take_put(alloc, place, more, running, text),
-        _ => take_step(alloc, kind, place, more, running, text),
+        StepKind::Get => take_get(alloc, place, more, running, notes),
+        StepKind::Set => take_put(alloc, place, more, running, notes),
+        _ => take_step(alloc, kind, place, more, running, notes),
     }
 }
 
-// Takes the get that the words after the first tell, and appends what is told of it.
+// Takes the get that the words after the first tell, and notes what is told of it.
 fn take_get<R: Run<Weighted>>(
     alloc: Global,
     place: Place,
     more: Option<&[u8]>,
     running: &mut R,
-    text: &mut Vec<u8>,
+    notes: &mut Notes,
 ) -> Result<(), ReplayFault>
-    ensures taken { OnOk result (TakesTold StepKind.Get (option_copied more.entry) place.step (R.running running.old) (R.running running.new) text.old.items text.new.items) }
+    ensures taken { OnOk result (TakesTold StepKind.Get (option_copied more.entry) place.step (R.running running.old) (R.running running.new) notes.old notes.new) }
     ensures fault { IfErr result (λ f. IsFaultAt (place.line) (IsPartsFault StepKind.Get (option_copied more.entry)) f) }
 {
     let (name, op) = at_line(place.line, get_asked(alloc, more))?;
-    take_call(place, name, op, running, text)
+    take_call(place, name, op, running, notes)
 }
 
-// Takes the set that the words after the first tell, and appends what is told of it.
+// Takes the set that the words after the first tell, and notes what is told of it.
 fn take_put<R: Run<Weighted>>(
     alloc: Global,
     place: Place,
     more: Option<&[u8]>,
     running: &mut R,
-    text: &mut Vec<u8>,
+    notes: &mut Notes,
 ) -> Result<(), ReplayFault>
-    ensures taken { OnOk result (TakesTold StepKind.Set (option_copied more.entry) place.step (R.running running.old) (R.running running.new) text.old.items text.new.items) }
+    ensures taken { OnOk result (TakesTold StepKind.Set (option_copied more.entry) place.step (R.running running.old) (R.running running.new) notes.old notes.new) }
     ensures fault { IfErr result (λ f. IsFaultAt (place.line) (IsPartsFault StepKind.Set (option_copied more.entry)) f) }
 {
     let (name, op) = at_line(place.line, set_asked(alloc, more))?;
-    take_call(place, name, op, running, text)
+    take_call(place, name, op, running, notes)
 }
 
-// Takes the call of an operation, and appends what is told of it.
+// Takes the call of an operation, and notes what is told of it.
 fn take_call<R: Run<Weighted>>(
     place: Place,
     name: Name,
     op: Op,
     running: &mut R,
-    text: &mut Vec<u8>,
+    notes: &mut Notes,
 ) -> Result<(), ReplayFault>
-    ensures taken { OnOk result (Takes (step.Call name op) place.step (R.running running.old) (R.running running.new) text.old.items text.new.items) }
+    ensures taken { OnOk result (Takes (step.Call name op) place.step (R.running running.old) (R.running running.new) notes.old notes.new) }
     ensures fault { IfErr result (λ f. f ≡ ReplayFault.Memory) }
 {
     match in_memory(running.call(name, op))? {
-        Ok(id) => in_memory(write_call(&id, running.history(), text)),
-        Err(refusal) => in_memory(write_refused(place.step, refusal, text)),
+        Ok(_) => Ok(()),
+        Err(refusal) => note_refused(place, refusal, running.history(), notes),
     }
 }
 
-// Appends the line of a call, with what the history says that it asked.
-fn write_call(id: &CallId, history: &History, text: &mut Vec<u8>) -> Result<(), Refusal>
-    ensures ok { OnOk result (text.new.items ≡ text.old.items ++ items_text (call_items id.now (call_in history.now.events id.now))) }
-    ensures refused { IfErr result (λ r. r ≡ Refusal.OutOfMemory) }
+// Notes that a step was refused, after which the run has this history.
+#[inline(never)]
+fn note_refused(
+    place: Place,
+    refusal: Refusal,
+    history: &History,
+    notes: &mut Notes,
+) -> Result<(), ReplayFault>
+    ensures ok { OnOk result (notes.new ≡ noted notes.old (length history.now.events) (Refused place.step (number_of refusal) ∷ [])) }
+    ensures fault { IfErr result (λ f. f ≡ ReplayFault.Memory) }
 {
-    match history.call(id) {
-        Some(op) => write_called(id, op, text),
-        None => Ok(()),
-    }
+    in_memory(notes.add(place.step, &Err(refusal), history))
 }
 
-// Takes a step of any kind that the words after the first tell, and appends what is told of it. (a step is large, and
+// Takes a step of any kind that the words after the first tell, and notes what is told of it. (a step is large, and
 // where this is inlined the other kinds pay for its room)
 #[inline(never)]
 fn take_step<R: Run<Weighted>>(
@@ -324,14 +324,29 @@ fn take_step<R: Run<Weighted>>(
     place: Place,
     more: Option<&[u8]>,
     running: &mut R,
-    text: &mut Vec<u8>,
+    notes: &mut Notes,
 ) -> Result<(), ReplayFault>
-    ensures taken { OnOk result (TakesTold kind (option_copied more.entry) place.step (R.running running.old) (R.running running.new) text.old.items text.new.items) }
+    ensures taken { OnOk result (TakesTold kind (option_copied more.entry) place.step (R.running running.old) (R.running running.new) notes.old notes.new) }
     ensures fault { IfErr result (λ f. IsFaultAt (place.line) (IsPartsFault kind (option_copied more.entry)) f) }
 {
     let step = at_line(place.line, read_parts(alloc, kind, more))?;
     let told = in_memory(running.take(&step))?;
-    in_memory(write_step(place.step, &told, running.history(), text))
+    in_memory(notes.add(place.step, &told, running.history()))
+}
+
+// What is told of a run, with these notes.
+fn told_of<R: Run<Weighted>>(
+    alloc: Global,
+    version: Version,
+    running: &R,
+    notes: Notes,
+) -> Result<Told, ReplayFault>
+    ensures ok { IfOk result (λ told. Tells version (R.running running.now).state notes told) }
+    ensures fault { IfErr result (λ f. f ≡ ReplayFault.Memory) }
+{
+    let mut tail = Vec::new(alloc);
+    end(alloc, version, running, &mut tail)?;
+    in_memory(Told::new(alloc, version, running.history(), notes, tail))
 }
 
 // Appends the sequences, the order of all keys and the maps of a run.

@@ -128,7 +128,9 @@ fn push_pair(number: u64, out: &mut Vec<u8>)
 /// Appends the two digits of each byte, to base 16, to a text that has room for them.
 pub(crate) fn push_pairs(bytes: &[u8], out: &mut Vec<u8>)
     requires { vec_len out.old + 2 * length bytes.now ≤ vec_capacity out.old }
-    ensures { out.new.items ≡ out.old.items ++ pairs_text bytes.now }
+    ensures items { out.new.items ≡ out.old.items ++ pairs_text bytes.now }
+    ensures len { vec_len out.new ≤ vec_len out.old + 2 * length bytes.now }
+    ensures capacity { vec_capacity out.old ≤ vec_capacity out.new }
 {
     let mut rest = bytes;
     while let Some((sixteen, others)) = rest.split_first_chunk::<16>() {

@@ -2,6 +2,7 @@
 //!
 //! - `Fault`, `ScriptFault` and `ReplayFault`: what is wrong with a text, in which line, and why nothing was made of it.
 //! - `write_num`, `write_name`, `write_call`, `write_hex`, `write_standing`: the one spelling of each sign.
+//! - `push_call`, `push_hex`, `push_bytes`: the same into a text that has room, which allocates nothing.
 //! - `read_name`, `read_call`, `read_hex`, `read_standing`: the inverses.
 //! - `leading_num`, `leading_name`, `leading_call`, `leading_hex`: the sign that a line begins with, and what follows
 //!   it.
@@ -25,4 +26,6 @@ pub use rambo_names::leading_num;
 pub use reading::{leading_hex, read_call, read_hex, read_name, read_standing};
 pub use version::Version;
 pub use words::{next_line, next_word, one_word, three_words, two_words};
-pub use writing::{write_call, write_hex, write_name, write_num, write_standing};
+pub use writing::{
+    push_bytes, push_call, push_hex, write_call, write_hex, write_name, write_num, write_standing,
+};

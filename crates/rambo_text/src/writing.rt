@@ -1,5 +1,5 @@
 //! Writing signs.
-ghost use Rattle.std.specs.Prelude.{◌≡◌, ◌++◌, decimal, OnOk, OnErr, IfErr};
+ghost use Rattle.std.specs.Prelude.{◌≡◌, ◌+◌, ◌*◌, ◌≤◌, ◌++◌, length, decimal, vec_len, vec_capacity, OnOk, OnErr, IfErr};
 ghost use Rattle.rambo_text.specs.Signs.{hex_text, call_text, standing_text};
 
 use crate::digits::{MOST_DIGITS, push_num, push_pairs};
@@ -9,6 +9,9 @@ use std::alloc::AllocError;
 
 // How many digits the greatest name has.
 const NAME_DIGITS: usize = 2;
+
+// How many bytes the longest call has.
+const CALL_ROOM: usize = NAME_DIGITS + 1 + MOST_DIGITS;
 
 /// Appends a number in plain decimal.
 ///
@@ -39,11 +42,21 @@ pub fn write_call(id: &CallId, out: &mut Vec<u8>) -> Result<(), AllocError>
     ensures ok { OnOk result (out.new.items ≡ out.old.items ++ call_text id.now) }
     ensures err { OnErr result (out.new.items ≡ out.old.items) }
 {
-    out.reserve(NAME_DIGITS + 1 + MOST_DIGITS)?;
+    out.reserve(CALL_ROOM)?;
+    push_call(id, out);
+    Ok(())
+}
+
+/// Appends a call to a text that has room for 23 bytes. It allocates nothing.
+pub fn push_call(id: &CallId, out: &mut Vec<u8>)
+    requires { vec_len out.old + 23 ≤ vec_capacity out.old }
+    ensures items { out.new.items ≡ out.old.items ++ call_text id.now }
+    ensures len { vec_len out.new ≤ vec_len out.old + 23 }
+    ensures capacity { vec_capacity out.old ≤ vec_capacity out.new }
+{
     push_num(id.name.number(), out);
     out.push_reserved(b'.');
     push_num(id.number, out);
-    Ok(())
 }
 
 /// Appends bytes as pairs of digits, `0` to `9` and `a` to `f`, or a dash where there is none.
@@ -60,6 +73,30 @@ pub fn write_hex(bytes: &[u8], out: &mut Vec<u8>) -> Result<(), AllocError>
     out.reserve(2 * bytes.len())?;
     push_pairs(bytes, out);
     Ok(())
+}
+
+/// Appends bytes as `write_hex` does, to a text that has room for two for each, and one more. It allocates nothing.
+pub fn push_hex(bytes: &[u8], out: &mut Vec<u8>)
+    requires { vec_len out.old + 2 * length bytes.now + 1 ≤ vec_capacity out.old }
+    ensures items { out.new.items ≡ out.old.items ++ hex_text bytes.now }
+    ensures len { vec_len out.new ≤ vec_len out.old + 2 * length bytes.now + 1 }
+    ensures capacity { vec_capacity out.old ≤ vec_capacity out.new }
+{
+    if bytes.is_empty() {
+        out.push_reserved(b'-');
+    } else {
+        push_pairs(bytes, out);
+    }
+}
+
+/// Appends some bytes to a text that has room for them. It allocates nothing.
+pub fn push_bytes(bytes: &[u8], out: &mut Vec<u8>)
+    requires { vec_len out.old + length bytes.now ≤ vec_capacity out.old }
+    ensures items { out.new.items ≡ out.old.items ++ bytes.now }
+    ensures len { vec_len out.new ≡ vec_len out.old + length bytes.now }
+    ensures capacity { vec_capacity out.old ≤ vec_capacity out.new }
+{
+    let _ = out.extend_from_slice(bytes);
 }
 
 /// Appends what is at a place: its configuration, or `removed` for none.

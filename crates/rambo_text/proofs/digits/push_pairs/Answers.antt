@@ -12,6 +12,8 @@ loop-sixteen-preserved c =
     record {
       items = pairs_on _ _ c.in-Some.sixteen.now rest c.in-Some.others.now _ c.push_sixteen.ensures.items whole c.loop-sixteen.invariant.items;
       room = omega (arith, parts.2, c.push_sixteen.ensures.len, c.push_sixteen.ensures.capacity, c.loop-sixteen.invariant.room);
+      len = omega (arith, parts.2, c.push_sixteen.ensures.len, c.loop-sixteen.invariant.len);
+      capacity = omega (arith, c.push_sixteen.ensures.capacity, c.loop-sixteen.invariant.capacity);
     }
 
 pub push_sixteen-requires : goal.push_sixteen-requires
@@ -25,6 +27,8 @@ loop-eight-preserved c =
     record {
       items = pairs_on _ _ c.in-Some-split_first_chunk.eight.now rest c.in-Some-split_first_chunk.others.now _ c.push_eight.ensures.items whole c.loop-eight.invariant.items;
       room = omega (arith, parts.2, c.push_eight.ensures.len, c.push_eight.ensures.capacity, c.loop-eight.invariant.room);
+      len = omega (arith, parts.2, c.push_eight.ensures.len, c.loop-eight.invariant.len);
+      capacity = omega (arith, c.push_eight.ensures.capacity, c.loop-eight.invariant.capacity);
     }
 
 pub loop-byte-preserved : goal.loop-byte-preserved
@@ -35,6 +39,8 @@ loop-byte-preserved c =
     record {
       items = pairs_on _ _ (get_or rest n 0 ∷ []) (drop n rest) (drop (n + 1) rest) _ c.push_byte.ensures.items next c.loop-byte.invariant.items;
       room = (let long = ap length next in omega (arith, long, c.push_byte.ensures.len, c.push_byte.ensures.capacity, c.loop-byte.invariant.room));
+      len = (let long = ap length next in omega (arith, long, c.push_byte.ensures.len, c.loop-byte.invariant.len));
+      capacity = omega (arith, c.push_byte.ensures.capacity, c.loop-byte.invariant.capacity);
     }
 
 pub push_eight-requires : goal.push_eight-requires
@@ -48,8 +54,8 @@ push_byte-requires c =
     let long = ap length (drop_more c.loop-eight.rest.now c.loop-byte.byte-index 0 c.loop-byte-test.true) in
     omega (arith, long, c.loop-byte.invariant.room)
 
-pub returns : goal.returns
-returns c =
+pub returns-clause-items : goal.returns-clause-items
+returns-clause-items c =
     let out = c.loop-byte.out.items in
     sym (append-nil out)
     ∙ ap (λ l. out ++ pairs_text l) (sym (drop_all c.loop-byte.byte-index c.loop-eight.rest.now c.loop-byte-test.false))

@@ -7,6 +7,8 @@ abbrev pub invariant-loop-sixteen : goal.invariant-loop-sixteen
 invariant-loop-sixteen l = record {
   items : l.out.items ++ pairs_text l.rest ≡ l.fn.out.items ++ pairs_text l.bytes;
   room : vec_len l.out + 2 * length l.rest ≤ vec_capacity l.out;
+  len : vec_len l.out + 2 * length l.rest ≤ vec_len l.fn.out + 2 * length l.bytes;
+  capacity : vec_capacity l.fn.out ≤ vec_capacity l.out;
 }
 
 abbrev pub decreases-loop-sixteen : goal.decreases-loop-sixteen
@@ -16,6 +18,8 @@ abbrev pub invariant-loop-eight : goal.invariant-loop-eight
 invariant-loop-eight l = record {
   items : l.out.items ++ pairs_text l.rest ≡ l.fn.out.items ++ pairs_text l.bytes;
   room : vec_len l.out + 2 * length l.rest ≤ vec_capacity l.out;
+  len : vec_len l.out + 2 * length l.rest ≤ vec_len l.fn.out + 2 * length l.bytes;
+  capacity : vec_capacity l.fn.out ≤ vec_capacity l.out;
 }
 
 abbrev pub decreases-loop-eight : goal.decreases-loop-eight
@@ -25,4 +29,6 @@ abbrev pub invariant-loop-byte : goal.invariant-loop-byte
 invariant-loop-byte l = record {
   items : l.out.items ++ pairs_text (drop l.byte-index l.byte-items) ≡ l.fn.out.items ++ pairs_text l.bytes;
   room : vec_len l.out + 2 * length (drop l.byte-index l.byte-items) ≤ vec_capacity l.out;
+  len : vec_len l.out + 2 * length (drop l.byte-index l.byte-items) ≤ vec_len l.fn.out + 2 * length l.bytes;
+  capacity : vec_capacity l.fn.out ≤ vec_capacity l.out;
 }
