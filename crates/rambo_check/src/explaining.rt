@@ -32,10 +32,10 @@ pub(crate) fn explained_lines(
     ensures text { IfOk result (λ text. IsWritten true evidence.now verdicts.now.entries on_all text.items) }
     ensures refused { IfErr result (λ r. r ≡ Refusal.OutOfMemory) }
 {
-    let witnesses = Witnesses::new(evidence.history())?;
-    let mut lines = explained_text(alloc, &witnesses, evidence, verdicts)?;
+    let mut witnesses = Witnesses::new(evidence.history());
+    let mut lines = explained_text(alloc, &mut witnesses, evidence, verdicts)?;
     if let Some(verdict) = on_all {
-        explain_all(&witnesses, evidence, verdict, &mut lines)?;
+        explain_all(&mut witnesses, evidence, verdict, &mut lines)?;
     }
     Ok(lines)
 }
@@ -43,14 +43,15 @@ pub(crate) fn explained_lines(
 // The line of each verdict, and behind each no the line that tells why.
 fn explained_text(
     alloc: Global,
-    witnesses: &Witnesses,
+    witnesses: &mut Witnesses,
     evidence: &Evidence,
     verdicts: &IndexMap<Bytes, Verdict>,
 ) -> Result<Vec<u8>, Refusal>
-    requires history { witnesses.now ≡ evidence.now.events }
+    requires history { witnesses.old ≡ evidence.now.events }
     requires right { AreVerdicts evidence.now verdicts.now.entries }
     ensures text { IfOk result (λ text. AreExplained evidence.now verdicts.now.entries text.items) }
     ensures refused { IfErr result (λ r. r ≡ Refusal.OutOfMemory) }
+    ensures same { witnesses.new ≡ witnesses.old }
 {
     let mut out = Vec::new(alloc);
     let mut rest = verdicts.as_slice();
@@ -64,15 +65,16 @@ fn explained_text(
 
 // Appends the line of the verdict on the order of all keys, and if it is no the line that tells why.
 fn explain_all(
-    witnesses: &Witnesses,
+    witnesses: &mut Witnesses,
     evidence: &Evidence,
     verdict: Verdict,
     out: &mut Vec<u8>,
 ) -> Result<(), Refusal>
-    requires history { witnesses.now ≡ evidence.now.events }
+    requires history { witnesses.old ≡ evidence.now.events }
     requires right { IsVerdictWithin evidence.now None verdict }
     ensures told { OnOk result ((text : List ℕ) × IsExplainedOnAll evidence.now (Some verdict) text × (out.new.items ≡ out.old.items ++ text)) }
     ensures refused { IfErr result (λ r. r ≡ Refusal.OutOfMemory) }
+    ensures same { witnesses.new ≡ witnesses.old }
 {
     write_order_verdict(verdict, out)?;
     explain(witnesses, evidence, None, verdict, out)
@@ -80,16 +82,17 @@ fn explain_all(
 
 // Appends the line that tells why, after a no.
 fn explain(
-    witnesses: &Witnesses,
+    witnesses: &mut Witnesses,
     evidence: &Evidence,
     key: Option<&Bytes>,
     verdict: Verdict,
     out: &mut Vec<u8>,
 ) -> Result<(), Refusal>
-    requires history { witnesses.now ≡ evidence.now.events }
+    requires history { witnesses.old ≡ evidence.now.events }
     requires right { IsVerdictWithin evidence.now (option_copied key) verdict }
     ensures told { OnOk result ((reason : List ℕ) × IsReason evidence.now (option_copied key.entry) verdict reason × (out.new.items ≡ out.old.items ++ reason)) }
     ensures refused { IfErr result (λ r. r ≡ Refusal.OutOfMemory) }
+    ensures same { witnesses.new ≡ witnesses.old }
 {
     let Verdict::No(rule) = verdict else {
         return Ok(());
@@ -103,14 +106,15 @@ fn explain(
 
 // The first witness that the order of the key, or where no key is told that of all keys, breaks a rule.
 fn witness(
-    witnesses: &Witnesses,
+    witnesses: &mut Witnesses,
     evidence: &Evidence,
     key: Option<&Bytes>,
     rule: Rule,
 ) -> Result<Option<Witness>, Refusal>
-    requires history { witnesses.now ≡ evidence.now.events }
+    requires history { witnesses.old ≡ evidence.now.events }
     ensures found { IfOk result (Decides rule evidence.now.events (option_copied key.entry) (order_within evidence.now (option_copied key.entry))) }
     ensures refused { IfErr result (λ r. r ≡ Refusal.OutOfMemory) }
+    ensures same { witnesses.new ≡ witnesses.old }
 {
     let order = order(evidence, key);
     match key {

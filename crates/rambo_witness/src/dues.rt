@@ -2,7 +2,6 @@
 ghost use Rattle.std.specs.Prelude.{◌≡◌, ◌++◌, ◌∷◌, [], ℕ, List, None, Some, IfOk, IfErr, OnOk, if◌then◌else◌};
 ghost use Rattle.std.specs.Option.{option_copied};
 ghost use Rattle.std.specs.Str.{bytes_eq};
-ghost use Rattle.rambo_history.specs.Forms.{IsWellFormed};
 ghost use Rattle.rambo_witness.specs.Dues.{HasDues, calls_at, dues_among};
 
 use indexmap::IndexMap;
@@ -14,7 +13,6 @@ use rambo_names::{Bytes, Refusal};
 /// `OutOfMemory` where there is no room for them.
 pub(crate) fn dues_of_keys(history: &History) -> Result<IndexMap<Bytes, Vec<CallId>>, Refusal>
     ensures dues { IfOk result (λ dues. HasDues history.now.events dues.entries) }
-    ensures well_formed { IsWellFormed history.now.events }
     ensures refused { IfErr result (λ r. r ≡ Refusal.OutOfMemory) }
 {
     let mut dues = IndexMap::new(history.allocator());

@@ -1,4 +1,4 @@
-use Rattle.std.proofs.Common.{rules, ◌≡◌, ◌++◌, ◌∷◌, [], ℕ, List, Some, refl, sym, subst, append-nil}
+use Rattle.std.proofs.Common.{rules, ◌≡◌, ◌++◌, ◌∷◌, [], ℕ, List, Some, refl, sym, ◌∙◌, subst, append-nil}
 use Rattle.std.specs.List.{AllByRecursion}
 use Rattle.rambo_atomic.specs.declared.verdict.Verdict.{Verdict}
 use Rattle.rambo_check.specs.Reasons.{AreExplained, IsVerdictWithin}
@@ -12,6 +12,7 @@ loop-key-init c =
       λ text told.
           subst (λ l. AreExplained s entries (l ++ text)) (sym c.new-out.ensures.items) (subst (λ vs. AreExplained s vs text) c.as_slice-rest.ensures.entries told),
       subst (AllByRecursion (λ (v : List ℕ × Verdict). IsVerdictWithin s (Some v.0) v.1)) (sym c.as_slice-rest.ensures.entries) (each-right s entries c.requires.right),
+      c.requires.history,
     )
 
 pub loop-key-preserved : goal.loop-key-preserved
@@ -23,6 +24,7 @@ loop-key-preserved c =
       told-more s entries c.in-Some.others c.in-Some.key.now c.in-Some.verdict.now c.loop-key.out.items c.write_shown_verdict.new.out.items c.explain.new.out.items told.0
           (λ text is. c.loop-key.invariant.0 text (subst (λ vs. AreExplained s vs text) (sym parts) is)) c.in_ok-write_shown_verdict.ensures.ok told.1 told.2,
       (subst (AllByRecursion (λ (v : List ℕ × Verdict). IsVerdictWithin s (Some v.0) v.1)) parts c.loop-key.invariant.1).1,
+      c.explain.ensures.same ∙ c.loop-key.invariant.2,
     )
 
 pub returns-clause-text : goal.returns-clause-text
