@@ -26,28 +26,28 @@ other_items n (Ok (effect.Collected name place)) = Collected name place ∷ []
 other_items n (Ok (effect.Decided name d)) = Settled name d.place d.config ∷ []
 other_items n (Err r) = Refused n (number_of r) ∷ []
 
--- a text behind some events, counted from the text before it
+-- a text after some events, counted from the text before it
 pub record NoteState : Type 0 where
   pub events : ℕ
   pub text : List ℕ
 
--- behind how many events the last text is
+-- how many events come before the last text
 abbrev pub events_before : List NoteState → ℕ
 events_before [] = 0
 events_before (n ∷ ns) = n.events + events_before ns
 
--- more text behind the last
+-- more text after the last
 abbrev pub joined : List NoteState → List ℕ → List NoteState
 joined [] text = record { events = 0; text = text } ∷ []
 joined (n ∷ []) text = record { events = n.events; text = n.text ++ text } ∷ []
 joined (n ∷ m ∷ ns) text = n ∷ joined (m ∷ ns) text
 
--- a text behind some more events, if there are any
+-- a text after some more events, if there are any
 abbrev pub with_text : List NoteState → ℕ → List ℕ → List NoteState
 with_text ns zero text = joined ns text
 with_text ns (suc more) text = ns ++ record { events = suc more; text = text } ∷ []
 
--- items more, behind so many events in all
+-- more items, after so many events in all
 abbrev pub noted : List NoteState → ℕ → List Item → List NoteState
 noted ns count [] = ns
 noted ns count (i ∷ is) = with_text ns (count - events_before ns) (items_text (i ∷ is))
@@ -106,7 +106,7 @@ pub record Moves (old new : Option (List ℕ)) (text waits : List ℕ) : Type 0 
   pub written : Appends old new gone
   pub whole : text ≡ gone ++ waits
 
--- what is told of a run, but for its history: the line before it, the texts between its events, and the lines behind it.
+-- what is told of a run, but for its history: the line before it, the texts between its events, and the lines after it.
 -- `room`: how long the line before it may grow without allocating
 pub record ToldState : Type 0 where
   pub head : List ℕ

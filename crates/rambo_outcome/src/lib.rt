@@ -3,7 +3,7 @@
 //! - `outcome_text`: what a run gave, in lines of words.
 //! - `Notes` and `Told`: the same of a run that goes on. The lines of its calls and answers aren't kept, but written from
 //!   its history at the end, piece by piece, with the other lines between them.
-//! - `write_sequences`, `write_order`, `write_maps`: the lines behind those.
+//! - `write_sequences`, `write_order`, `write_maps`: the lines that come after those.
 //! - `check_text` and the laws of such texts, which `rambo_check` defines.
 #![tactic(auto)]
 

@@ -10,15 +10,15 @@ use rambo_node::Effect;
 use std::alloc::Global;
 use std::marker::Model;
 
-/// A line or some, and behind how many events they stand, counted from the line before them.
+/// Lines that no event parts: how many events come before them, after the lines before, and how many bytes they have.
 #[derive(Clone, Copy)]
 pub(crate) struct Note {
     pub(crate) events: usize,
     pub(crate) len: usize,
 }
 
-/// The lines of steps that are no calls and no answers: those that were refused, and ends of collections and of
-/// attempts. Calls and answers stand in the history; of each line it is known behind how many of them it stands.
+/// The lines of steps that are no calls and no answers: of refused steps, ended collections and ended attempts. Calls and
+/// answers are in the history. Of each line it is known how many of them come before it.
 pub struct Notes {
     pub(crate) text: Vec<u8>,
     pub(crate) notes: Vec<Note>,
@@ -60,7 +60,7 @@ impl Notes {
     }
 
     /// Adds what is reported of a step, by its number, if the history doesn't have it: the line of an ended collection,
-    /// an ended attempt or a refusal. It stands behind all events of the history.
+    /// an ended attempt or a refusal. It comes after all events of the history.
     ///
     /// `OutOfMemory` where there is no room for the line; then nothing changes.
     pub fn add(
@@ -87,7 +87,7 @@ impl Notes {
         }
     }
 
-    // Adds it behind so many events.
+    // Adds it after so many events.
     fn put(
         &mut self,
         step: u64,

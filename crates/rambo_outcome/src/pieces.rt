@@ -41,7 +41,7 @@ fn most_bytes_of(events: &[Event]) -> usize
     most
 }
 
-/// Writes the lines of some events behind a piece: some of it may wait in the piece. It allocates nothing.
+/// Writes a piece and the lines of some events after it. The end may stay in the piece. It allocates nothing.
 ///
 /// `Write` where the writer fails.
 pub(crate) fn write_events<W: Sink>(
@@ -63,7 +63,7 @@ pub(crate) fn write_events<W: Sink>(
     Ok(())
 }
 
-/// Writes some bytes behind a piece: some of it may wait in the piece. It allocates nothing.
+/// Writes a piece and some bytes after it. The end may stay in the piece. It allocates nothing.
 ///
 /// `Write` where the writer fails.
 pub(crate) fn write_bytes<W: Sink>(
@@ -117,7 +117,7 @@ fn write_piece<W: Sink>(piece: &mut Vec<u8>, writer: &mut W) -> Result<(), Strea
     Ok(())
 }
 
-/// Writes the lines of some events behind a piece, with notes between them: some of it may wait in the piece. It
+/// Writes a piece, and the lines of some events after it with notes between them. The end may stay in the piece. It
 /// allocates nothing.
 ///
 /// `Write` where the writer fails.
@@ -145,7 +145,7 @@ pub(crate) fn write_woven<W: Sink>(
     write_events(rest, piece, writer)
 }
 
-// Writes the lines of some events behind a piece, and other bytes behind them.
+// Writes a piece, the lines of some events after it, and other bytes after these.
 fn write_note<W: Sink>(
     front: &[Event],
     line: &[u8],

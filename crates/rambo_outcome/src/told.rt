@@ -16,8 +16,8 @@ use rambo_text::Version;
 use std::alloc::Global;
 use std::marker::Model;
 
-/// What is told of a run that ended, but for its calls and answers, which stand in its history. All memory that it takes
-/// to write the text is taken.
+/// What is told of a run that ended, but for its calls and answers, which are in its history. All memory that writing the
+/// text takes is taken.
 pub struct Told {
     piece: Vec<u8>,
     notes: Notes,
@@ -45,7 +45,7 @@ impl Model for Told {
 }
 
 impl Told {
-    /// The notes of a run with this history, and the lines behind all steps.
+    /// What is told of a run with this history: its notes, and the lines that come after those of its steps.
     ///
     /// `OutOfMemory` where there is no room to write their text in pieces.
     pub fn new(
@@ -97,7 +97,7 @@ fn piece_for(alloc: Global, version: Version, events: &[Event]) -> Result<Vec<u8
     Ok(piece)
 }
 
-// Writes all behind a piece, and the piece.
+// Writes a piece and all that comes after it.
 fn write_all_told<W: Sink>(
     events: &[Event],
     notes: &Notes,
