@@ -3,7 +3,7 @@ use Rattle.std.specs.Prelude.{Option, Some, IfErr}
 use Rattle.std.proofs.lemmas.Result.{IfErr-weaker, IfOk-weaker}
 use Rattle.rambo_names.specs.Weights.{Weights}
 use Rattle.rambo_scribe.specs.Traced.{Taken, taken_by}
-use Rattle.rambo_lasting.specs.Resumings.{Unresumed}
+use Rattle.rambo_lasting.specs.Resumings.{Announced, Unresumed}
 use Rattle.rambo_lasting.proofs.GoingOn.{goes_on_from, same_file, taken}
 use Rattle.rambo_lasting.proofs.Untaken.{stays_read}
 use Rattle.rambo_lasting.proofs.resuming.go_on_named.Goals as goal
@@ -31,3 +31,7 @@ returns-clause-unserved g c =
     let after = taken_by g.F.Sink.taken g.F.Sink.failures c.serve_recovered.result.file in
     let same = same_file _ _ _ _ c.into_inner-file.ensures.held (ap g.F.Sink.failures c.into_inner-file.ensures.same ∙ c.in-Ok.ensures.fine) in
     IfErr-weaker c.serve_recovered.result.ended _ _ (λ f un asked. subst (λ (before : Taken). Unresumed c.args.options.now.lose asked before after f) same (un asked)) c.serve_recovered.ensures.unserved
+
+pub returns-clause-told : goal.returns-clause-told
+returns-clause-told g c = λ bad.
+    subst (λ held. Announced g.E.Sink.taken g.E.Sink.failures held c.args.port c.args.errors.now c.serve_recovered.new.errors) c.into_inner-file.ensures.held (c.serve_recovered.ensures.told bad)

@@ -5,7 +5,7 @@ use Rattle.rambo_scribe.specs.Traced.{Taken, taken_by}
 use Rattle.rambo_names.specs.WeightLaws.{same_weights, same_weights-path}
 use Rattle.rambo_atomic.specs.Unreads.{UnreadState}
 use Rattle.rambo_retrace.specs.Retraces.{reads_failed}
-use Rattle.rambo_lasting.specs.Resumings.{Unresumed}
+use Rattle.rambo_lasting.specs.Resumings.{Announced, Unresumed}
 use Rattle.rambo_lasting.proofs.Untaken.{from_start, head_why, others, read_first}
 use Rattle.rambo_lasting.proofs.GoingOn.{asked_so, goes_on_from, not_so, same_file}
 use Rattle.rambo_lasting.proofs.resuming.resume_held.Goals.{else-asked-via-then-asked+else-ne, else-asked-via-else-asked}
@@ -78,3 +78,7 @@ returns-clause-unserved g c =
     let same = same_file _ _ _ _ (sym c.requires.held) (c.in-Ok.ensures.fine ∙ c.in-Ok-true.ensures.fine ∙ ap g.F.Sink.failures c.new-reading.ensures) in
     IfErr-weaker c.go_on.result.ended _ _
     (λ f un. subst (λ (before : Taken). Unresumed c.args.options.now.lose asked before (taken c.go_on.result.file) f) same (un asked)) c.go_on.ensures.unserved
+
+pub returns-clause-told : goal.returns-clause-told
+returns-clause-told g c = λ bad.
+    subst (λ held. Announced g.E.Sink.taken g.E.Sink.failures held c.args.port c.args.errors.now c.go_on.new.errors) (sym c.requires.held) (c.go_on.ensures.told bad)

@@ -51,3 +51,8 @@ returns-clause-unserved g c =
       failed = ap g.F.Sink.failures is ∙ c.in_default.ensures.fine;
       why = tt;
     })
+
+pub returns-clause-told : goal.returns-clause-told
+returns-clause-told g c =
+    let held = c.requires.held in
+    λ bad. inr (inr (c.args.founders, c.args.recovery, held.0, held.2, c.announce.ensures c.args.recovery held.0 held.1))
