@@ -34,10 +34,10 @@ begun taken failures s founders e before after old behind new fault port anew li
 
 -- nobody was served where a trace was to begin
 pub unbegun : {E : Type 0} (taken : E → Option (List ℕ)) (failures : E → ℕ) (s : Serving) (founders : Weights) (e : Ending) (before after : Taken) (old behind new : E) (f : ServeFault) (port : ℕ)
-    → after ≡ before → Tells (listening_line port) (stream taken failures old behind) → Fails (server_line f) e (stream taken failures behind new) → KeepsTo taken failures s founders e before after old new
-unbegun taken failures s founders e before after old behind new f port same told fails =
+    → IfSome before.bytes (λ bytes. bytes ≡ []) → after ≡ before → Tells (listening_line port) (stream taken failures old behind) → Fails (server_line f) e (stream taken failures behind new) → KeepsTo taken failures s founders e before after old new
+unbegun taken failures s founders e before after old behind new f port empty same told fails =
     let stays : Unresumed s.lose (if s.founded then Some founders else None) before after (Unserved f) = record { stays = inl (ap (λ (t : Taken). t.bytes) same); failed = ap (λ (t : Taken). t.failures) same; why = tt } in
-    inr (inr (Unserved f, port, behind, stays, inr (inl told), record { status_is = fails.status_is; no_trace = fails.no_trace; line_told = fails.line_told }))
+    inr (inr (Unserved f, port, behind, stays, inr (inl (empty, told)), record { status_is = fails.status_is; no_trace = fails.no_trace; line_told = fails.line_told }))
 
 -- a trace went on
 pub went_on : {E : Type 0} (taken : E → Option (List ℕ)) (failures : E → ℕ) (s : Serving) (founders : Weights) (e : Ending) (before after : Taken) (old behind new : E) (fault : Option TraceFault) (port : ℕ)

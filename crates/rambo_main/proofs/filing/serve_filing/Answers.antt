@@ -31,7 +31,7 @@ returns-then-not-serving g c =
           (subst (λ errors. KeepsTo E-taken E-failures s c.args.founders w.ended_by-ending.result before after old errors) (sym w.errors-is) ends)
       | in-Err w ↦
           let same = ap (taken_by g.F.Sink.taken g.F.Sink.failures) (subst (λ r. OnErr r (c.serve_endless-writer.result.writer ≡ c.args.file)) w.in-Err.is c.serve_endless-writer.ensures.unwritten) in
-          let ends = unbegun E-taken E-failures s c.args.founders w.unserved-ending.result before after old behind w.unserved-ending.new.errors w.in-Err.fault c.in-Ok.port same c.tell_listening.ensures.line w.unserved-ending.ensures in
+          let ends = unbegun E-taken E-failures s c.args.founders w.unserved-ending.result before after old behind w.unserved-ending.new.errors w.in-Err.fault c.in-Ok.port (c.requires.empty c.if-not-serving.true) same c.tell_listening.ensures.line w.unserved-ending.ensures in
           subst (λ e. KeepsTo E-taken E-failures s c.args.founders e before after old c.match-ended.errors) (sym w.ending-is)
           (subst (λ errors. KeepsTo E-taken E-failures s c.args.founders w.unserved-ending.result before after old errors) (sym w.errors-is) ends)
     ]
