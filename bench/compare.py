@@ -40,6 +40,8 @@ SCRIPTS = [
     ("moves", 1000000, 16, 1.5, 1.5),
 ]
 CHECK_AIMS = (1.5, 1.5)
+# The document has the instructions of these kinds.
+COUNTED_KINDS = ("calls", "letters")
 # Its other is `check` of the same program; it is printed alone.
 WHY = "check --why"
 # The second is that of a check which says no of some key.
@@ -114,6 +116,14 @@ def in_order(rows):
     return [row for word in ("replay", "check") for row in rows if row.word == word]
 
 
+def first_of_kinds(rows):
+    """Those rows that the document has: of each kind of script the first number of keys."""
+    firsts = {}
+    for row in in_order(rows):
+        firsts.setdefault((row.word, row.kind), row)
+    return list(firsts.values())
+
+
 def machine():
     """What the figures were taken on."""
     with open("/proc/cpuinfo", encoding="ascii", errors="replace") as reader:
@@ -135,14 +145,14 @@ def time_table(rows):
         ["`%s` %s" % (row.word, row.name())]
         + ["%.3f s" % row.figures[0][0], "%.3f s" % row.figures[1][0], "**%.2f**" % (row.figures[0][0] / row.figures[1][0]), "%.1f" % row.aims[0]]
         + [megabytes(row.figures[0][1]) + " MB", megabytes(row.figures[1][1]) + " MB", "**%.2f**" % (row.figures[0][1] / row.figures[1][1]), "%.1f" % row.aims[1]]
-        for row in in_order(rows)])
+        for row in first_of_kinds(rows)])
 
 
 def count_table(rows):
     return table(["Work", "Instructions a line", "of the other", "ratio"], [
         ["`%s` %s" % (row.word, row.name())] + ["{:,}".format(figure // row.lines) for figure in row.figures] + [
          "**%.2f**" % ratio(row.figures)]
-        for row in in_order(rows)])
+        for row in first_of_kinds(rows) if row.kind in COUNTED_KINDS])
 
 
 def around_figures(path):
@@ -153,19 +163,20 @@ def around_figures(path):
 
 
 def write(programs):
-    """All figures, into the document between its two marks, and the picture."""
+    """The figures into the document between its two marks, of clients the first and the last; and those of all scripts into the
+    picture."""
     path = os.path.join(DOCS, "BENCHMARKS.md")
     # before the long part, so that a document without the marks is told at once
     around_figures(path)
     taken_on = machine()
     rows = timed(programs)
     lines = [taken_on, "", "## Replay and check", ""] + time_table(rows)
-    lines += ["", "![The ratios of the table as bars: of time and of memory, for each work.](img/benchmarks.svg)"]
+    lines += ["", "![The ratios as bars: of time and of memory, for each script.](img/benchmarks.svg)"]
     clients_rows = clients.timed(programs)
-    lines += ["", "## Commands of a client", "", clients.ABOUT, ""] + clients.time_table(clients_rows)
+    lines += ["", "## Commands of a client", "", clients.ABOUT, ""] + clients.time_table(clients_rows[::len(clients_rows) - 1])
     if shutil.which("valgrind"):
         lines += ["", "## Instructions", "", "Scripts of an eighth of the length; the same on a busy machine:", ""] + count_table(counted(programs))
-        lines += ["", "The client's commands, %s of them:" % "{:,}".format(clients.COUNTED), ""] + clients.count_table(clients.counted(programs))
+        lines += ["", "The client's commands, %s of them:" % "{:,}".format(clients.COUNTED), ""] + clients.count_table(clients.counted(programs)[::len(clients_rows) - 1])
     before, after = around_figures(path)
     with open(path, "w", encoding="utf-8") as writer:
         writer.write(before + "<!-- figures -->\n" + "\n".join(lines) + "\n<!-- end of figures -->\n" + after)
