@@ -16,7 +16,7 @@ use Rattle.rambo_text.proofs.WordSplits.{cut, same_words}
 use Rattle.rambo_lines.specs.StepLines.{forms_of, step_line}
 use Rattle.rambo_lines.specs.Scripts.{HasLine, founders_line, steps_text}
 use Rattle.rambo_lines.specs.Faults.{AreUnfit, IsLineFault, TellNoStep, TellNoFounders, IsScriptFault, IsFirstFault, IsLaterFault}
-use Rattle.rambo_lines.proofs.StepShapes.{same_kind, step_lacks}
+use Rattle.rambo_lines.proofs.StepShapes.{same_forms, step_lacks}
 use Rattle.rambo_lines.proofs.Texts.{founders_lack, good_founders, good_step}
 
 same_unfit : (ms : List Form) (ws : List (List ℕ)) (f g : Fault) → AreUnfit ms ws f → AreUnfit ms ws g → f ≡ g
@@ -32,9 +32,8 @@ no_step_once words f g (inl a) (inr b) = absurd (a.0 b.0 b.1 b.2)
 no_step_once words f g (inr a) (inl b) = absurd (b.0 a.0 a.1 a.2)
 no_step_once words f g (inr a) (inr b) =
     let both = sym b.2 ∙ a.2 in
-    let kinds : b.0 ≡ a.0 = same_kind b.0 a.0 (cc) in
     let others : b.1 ≡ a.1 = cc in
-    same_unfit (forms_of a.0) a.1 f g a.3 (subst (λ k. AreUnfit (forms_of k) a.1 g) kinds (subst (λ o. AreUnfit (forms_of b.0) o g) others b.3))
+    same_unfit (forms_of a.0) a.1 f g a.3 (subst (λ ms. AreUnfit ms a.1 g) (same_forms b.0 a.0 (cc)) (subst (λ o. AreUnfit (forms_of b.0) o g) others b.3))
 
 dash_fits : (others : List (List ℕ)) (f : Fault) → others ≡ codes "-" ∷ [] → AreUnfit (Conf ∷ []) others f → ⊥
 dash_fits others f is (inl many) = many.0 (ap length is)

@@ -43,7 +43,7 @@ pub first_delivery : (more : List ℕ) (n : ℕ) (behind rest : List ℕ) → n 
     → BeginsWithStep (codes "deliver " ++ more) (step.Deliver n) rest
 first_delivery more n behind rest small is feed =
     let few = few_digits n small in
-    first_step _ (step.Deliver n) rest (record { is_step = small; short = omega (arith, few, length-append (decimal n) []) })
+    first_step _ (step.Deliver n) rest (record { is_step = (small, tt); short = omega (arith, few, length-append (decimal n) []) })
     (ap (λ m. codes "deliver " ++ m) (last_word (decimal n) more behind rest is feed))
 
 pub first_advance : (more : List ℕ) (c : CallId) (behind rest : List ℕ) → IsCall c → more ≡ call_text c ++ behind → behind ≡ 10 ∷ rest
@@ -51,7 +51,7 @@ pub first_advance : (more : List ℕ) (c : CallId) (behind rest : List ℕ) → 
 first_advance more c behind rest call is feed =
     let name = few_digits c.name (let small = call.0 in omega (arith, small)) in
     let number = few_digits c.number call.2 in
-    first_step _ (step.Advance c) rest (record { is_step = call; short = omega (arith, name, number, length-append (decimal c.name) (46 ∷ decimal c.number), length-append (call_text c) []) })
+    first_step _ (step.Advance c) rest (record { is_step = (call, tt); short = omega (arith, name, number, length-append (decimal c.name) (46 ∷ decimal c.number), length-append (call_text c) []) })
     (ap (λ m. codes "advance " ++ m) (last_word (call_text c) more behind rest is feed))
 
 pub first_sending : (more names : List ℕ) (n to : ℕ) (behind_from name behind rest : List ℕ) → IsName n → IsName to → more ≡ 32 ∷ names → names ≡ decimal n ++ behind_from
@@ -61,7 +61,7 @@ first_sending more names n to behind_from name behind rest from_name to_name spa
     let others = few_digits to (omega (arith, to_name)) in
     let last = last_word (decimal to) name behind rest too feed in
     first_step _ (step.Send n to) rest (record {
-      is_step = (from_name, to_name);
+      is_step = (from_name, (to_name, tt));
       short = omega (arith, few, others, length-append (decimal to) [], length-append (decimal n) (32 ∷ (decimal to ++ [])));
     })
     (ap (λ m. codes "send" ++ m) (space ∙ ap (λ m. 32 ∷ m) (word_before (decimal n) (decimal to ++ []) names behind_from name rest from between last)))
@@ -77,7 +77,7 @@ first_get more n key behind_name word behind rest name bytes few is space hex fe
     let pairs = few_pairs key few in
     let last = last_word (hex_text key) word behind rest hex feed in
     first_step _ (step.Call n (op.Get key)) rest (record {
-      is_step = (name, bytes);
+      is_step = (name, (bytes, tt));
       short = omega (arith, digits, pairs, length-append (hex_text key) [], length-append (decimal n) (32 ∷ (hex_text key ++ [])));
     })
     (ap (λ m. codes "get " ++ m) (word_before (decimal n) (hex_text key ++ []) more behind_name word rest is space last))
@@ -92,7 +92,7 @@ first_set more n key value behind_name words behind_key word behind rest name by
     let last = last_word (hex_text value) word behind rest its_hex feed in
     let both = word_before (hex_text key) (hex_text value ++ []) words behind_key word rest hex between last in
     first_step _ (step.Call n (op.Set key value)) rest (record {
-      is_step = (name, (bytes, its_bytes));
+      is_step = (name, (bytes, (its_bytes, tt)));
       short = omega (arith, digits, pairs, its_pairs, length-append (hex_text value) [], length-append (hex_text key) (32 ∷ (hex_text value ++ [])), length-append (decimal n) (32 ∷ (hex_text key ++ 32 ∷ (hex_text value ++ []))));
     })
     (ap (λ m. codes "set " ++ m) (word_before (decimal n) (hex_text key ++ 32 ∷ (hex_text value ++ [])) more behind_name words rest is space both))

@@ -1,5 +1,5 @@
 -- Reading a text line by line
-use Rattle.std.proofs.Common.{◌≡◌, ◌≢◌, ◌⊎◌, ℕ, ◌+◌, ◌<◌, List, [], ◌∷◌, ◌++◌, length, inl, inr, refl, sym, ap, subst, ◌∙◌, arith, append_assoc, append-nil}
+use Rattle.std.proofs.Common.{◌≡◌, ◌≢◌, ◌⊎◌, ℕ, ◌+◌, List, [], ◌∷◌, ◌++◌, length, inl, inr, refl, sym, ap, subst, ◌∙◌, arith, append_assoc, append-nil}
 use Rattle.std.specs.List.{AllByRecursion}
 use Rattle.rambo_names.specs.Weights.{Weights}
 use Rattle.rambo_run.specs.declared.step.Step.{Step}
@@ -12,7 +12,6 @@ use Rattle.rambo_lines.proofs.Placing.{fault_there}
 use Rattle.rambo_lines.specs.StepLines.{step_line}
 use Rattle.rambo_lines.specs.Scripts.{ScriptState, HasLine, HasLines, AreFounders, IsScript, founders_line, steps_text, script_text}
 use Rattle.rambo_lines.specs.Faults.{IsNextLine, IsLineFault, TellNoFounders, TellNoStep, IsScriptFault, RanOut}
-use Rattle.rambo_text.specs.declared.fault.Fault.{Fault}
 use Rattle.rambo_text.specs.declared.fault.Fault.TheVariants.{OutOfMemory}
 use Rattle.rambo_text.specs.declared.fault.ScriptFault.{ScriptFault}
 use Rattle.rambo_lines.specs.Pushes.{PushesStep}
@@ -132,9 +131,3 @@ pub later_in_whole : (NeedsRoom : List ℕ → Type 0) (version : Version) (byte
 later_in_whole NeedsRoom version bytes rest line more founders steps place f now some first at is fault =
     let there : ScriptFault = record { fault = f.fault; line = length steps + 1 + 1 } in
     (there, reads-fault NeedsRoom bytes rest line more founders steps there now some first (omega arith) fault, fault_there version (length steps + 1) place f at is)
-
--- the line has a fault, or no room where it needs some
-pub told_needs : (NeedsRoom : List ℕ → Type 0) (line : List ℕ) (f : Fault) → (f ≡ OutOfMemory) ⊎ IsLineFault TellNoStep line f → (f ≡ OutOfMemory → NeedsRoom line)
-    → ((f ≡ OutOfMemory) × NeedsRoom line) ⊎ IsLineFault TellNoStep line f
-told_needs NeedsRoom line f (inl spent) needs = inl (spent, needs spent)
-told_needs NeedsRoom line f (inr fault) needs = inr fault

@@ -1,12 +1,14 @@
 -- A text is that of one script, and has no fault then
-use Rattle.std.proofs.Common.{◌≡◌, ◌≢◌, ℕ, List, [], ◌∷◌, ◌++◌, length, codes, inl, inr, refl, sym, ap, subst, ◌∙◌, arith, lit<, append_assoc}
+use Rattle.std.proofs.Common.{◌≡◌, ◌≢◌, ℕ, List, [], ◌∷◌, ◌++◌, length, map, codes, inl, inr, refl, sym, ap, subst, ◌∙◌, arith, lit<, append_assoc}
 use Rattle.std.specs.List.{AllByRecursion}
 use Rattle.rambo_names.specs.Names.{count_of}
 use Rattle.rambo_names.specs.Signs.{conf_text}
 use Rattle.rambo_names.specs.Weights.{Weights, members_of}
 use Rattle.rambo_names.proofs.ConfOnce.{one_conf_is}
 use Rattle.rambo_names.proofs.ConfTexts.{text_none}
+use Rattle.rambo_history.specs.declared.operation.Op.TheVariants as op
 use Rattle.rambo_run.specs.declared.step.Step.{Step}
+use Rattle.rambo_run.specs.declared.step.Step.TheVariants as step
 use Rattle.rambo_text.specs.declared.fault.Fault.{Fault}
 use Rattle.rambo_text.specs.declared.fault.ScriptFault.{ScriptFault}
 use Rattle.rambo_text.specs.Forms.{Conf, IsBadWord}
@@ -14,13 +16,12 @@ use Rattle.rambo_text.specs.Words.{Lacks, AreWords, IsFirstLine}
 use Rattle.rambo_text.proofs.FirstLines.{no_nothing, first_line_is}
 use Rattle.rambo_text.proofs.SpeltWords.{not_bad, as_many}
 use Rattle.rambo_text.proofs.WordSplits.{cut, same_words}
-use Rattle.rambo_lines.specs.declared.kind.StepKind.{StepKind}
-use Rattle.rambo_lines.specs.declared.kind.StepKind.TheVariants as kind
-use Rattle.rambo_lines.specs.StepLines.{word_of, forms_of, step_words, step_line, IsStep}
+use Rattle.rambo_lines.specs.StepLines.{word_of, parts_of, forms_of, step_words, step_line, IsStep}
+use Rattle.rambo_lines.specs.StepParts.{part_text}
 use Rattle.rambo_lines.specs.Scripts.{ScriptState, HasLine, HasLines, AreFounders, IsTextOf, IsScript, founders_words, founders_line, steps_text, script_text}
 use Rattle.rambo_lines.specs.Faults.{IsLineFault, TellNoStep, TellNoFounders, AreUnfit, IsScriptFault}
 use Rattle.rambo_text.proofs.Plain.{lacks-conf, lacks-tested, lacks-words}
-use Rattle.rambo_lines.proofs.StepShapes.{kind_of, parts_of, words_are, spelt, same_kind, step_are_words, step_lacks, same_step}
+use Rattle.rambo_lines.proofs.StepShapes.{spelt, same_forms, step_are_words, step_lacks, same_step}
 
 pub founders_are_words : (s : Weights) → AreWords (founders_line s) (founders_words s)
 founders_are_words s = record { some = λ e. cc; no_space = (lacks-tested 32 (codes "founders") (lit< tt) refl, (lacks-conf 32 s (lit< tt), tt)); whole = refl }
@@ -37,15 +38,16 @@ same_steps (x ∷ xs) (y ∷ ys) a b e =
     let parts = cut 10 (step_line x) (step_line y) (steps_text xs) (steps_text ys) (step_lacks x a.0.is_step) (step_lacks y b.0.is_step) e in
     (λ i. same_step x y a.0.is_step b.0.is_step parts.0 i ∷ same_steps xs ys a.1 b.1 parts.1 i)
 
-word_there : (k : StepKind) → word_of k ≡ [] → ⊥
-word_there kind.Join e = cc
+word_there : (st : Step Weights) → word_of st ≡ [] → ⊥
+word_there (step.Call n (op.Get key)) e = cc
+word_there (step.Call n (op.Set key value)) e = cc
 word_there _ e = cc
 
 -- a line of a step isn't empty
 not_empty : (y : Step Weights) → IsStep y → [] ≡ step_line y → ⊥
 not_empty y is e =
     let words = same_words (step_line y) (step_words y) ([] ∷ []) (step_are_words y is) (record { some = λ n. cc; no_space = (tt, tt); whole = sym e }) in
-    word_there (kind_of y) (let both = sym (words_are y) ∙ words in cc)
+    word_there y (cc)
 
 no_line_more : (xs ys : List (Step Weights)) → AllByRecursion HasLine xs → AllByRecursion HasLine ys → steps_text xs ++ 10 ∷ [] ≡ steps_text ys → ⊥
 no_line_more [] [] a b e = cc
@@ -135,18 +137,18 @@ good_founders s f are (inl long) = let some = long.0 in let short = are.short in
 good_founders s f are (inr fault) =
     founders_told s f fault.1.0 are (same_words (founders_line s) fault.1.0 (founders_words s) fault.1.1 (founders_are_words s)) fault.1.2
 
-step_fit : (st : Step Weights) (f : Fault) (k : StepKind) (others : List (List ℕ)) → IsStep st → k ≡ kind_of st → others ≡ parts_of st → AreUnfit (forms_of k) others f → ⊥
-step_fit st f k others is kinds same (inl many) =
-    many.0 (ap length same ∙ as_many (forms_of (kind_of st)) (parts_of st) (spelt st is) ∙ ap (λ j. length (forms_of j)) (sym kinds))
-step_fit st f k others is kinds same (inr bad) =
-    not_bad (forms_of (kind_of st)) (parts_of st) f (spelt st is)
-    (subst (λ j. IsBadWord (forms_of j) (parts_of st) f) kinds (subst (λ o. IsBadWord (forms_of k) o f) same bad.1))
+step_fit : (st su : Step Weights) (f : Fault) (others : List (List ℕ)) → IsStep st → forms_of su ≡ forms_of st → others ≡ map part_text (parts_of st) → AreUnfit (forms_of su) others f → ⊥
+step_fit st su f others is forms same (inl many) =
+    many.0 (ap length same ∙ as_many (forms_of st) (map part_text (parts_of st)) (spelt (parts_of st) is) ∙ ap length (sym forms))
+step_fit st su f others is forms same (inr bad) =
+    not_bad (forms_of st) (map part_text (parts_of st)) f (spelt (parts_of st) is)
+    (subst (λ ms. IsBadWord ms (map part_text (parts_of st)) f) forms (subst (λ o. IsBadWord (forms_of su) o f) same bad.1))
 
 step_told : (st : Step Weights) (f : Fault) (words : List (List ℕ)) → IsStep st → words ≡ step_words st → TellNoStep words f → ⊥
-step_told st f words is same (inl none) = none.0 (kind_of st) (parts_of st) (same ∙ words_are st)
+step_told st f words is same (inl none) = none.0 st (map part_text (parts_of st)) same
 step_told st f words is same (inr unfit) =
-    let both = sym unfit.2 ∙ same ∙ words_are st in
-    step_fit st f unfit.0 unfit.1 is (same_kind unfit.0 (kind_of st) (cc)) (cc) unfit.3
+    let both = sym unfit.2 ∙ same in
+    step_fit st unfit.0 f unfit.1 is (same_forms unfit.0 st (cc)) (cc) unfit.3
 
 pub good_step : (st : Step Weights) (f : Fault) → HasLine st → IsLineFault TellNoStep (step_line st) f → ⊥
 good_step st f has (inl long) = let some = long.0 in let short = has.short in omega arith

@@ -1,25 +1,26 @@
 -- The first faulty line of a text, and its first fault
 use Rattle.std.specs.Prelude.{◌≡◌, ◌≢◌, ◌⊎◌, ℕ, ◌+◌, ◌<◌, ◌++◌, List, [], ◌∷◌, length, codes}
 use Rattle.rambo_names.specs.Weights.{Weights}
+use Rattle.rambo_history.specs.declared.operation.Op.{Op}
 use Rattle.rambo_run.specs.declared.step.Step.{Step}
+use Rattle.rambo_run.specs.declared.step.Step.TheVariants as step
 use Rattle.rambo_text.specs.declared.fault.Fault.{Fault}
 use Rattle.rambo_text.specs.declared.fault.Fault.TheVariants.{NoFounders, UnknownWord, WrongCount, LineTooLong, OutOfMemory}
 use Rattle.rambo_text.specs.declared.fault.ScriptFault.{ScriptFault}
 use Rattle.rambo_text.specs.Forms.{Form, Name, Conf, IsSpelt, IsBadWord}
 use Rattle.rambo_text.specs.Words.{AreWords, IsFirstLine}
-use Rattle.rambo_lines.specs.declared.kind.StepKind.{StepKind}
-use Rattle.rambo_lines.specs.StepLines.{word_of, forms_of, step_line, HoldsBytes}
+use Rattle.rambo_lines.specs.StepLines.{word_of, forms_of, step_line}
 use Rattle.rambo_lines.specs.Scripts.{ScriptState, script_text, IsShort, HasLine, HasLines}
 
 -- words aren't of these forms: there is another number of them, or one isn't in its form
 abbrev pub AreUnfit : List Form → List (List ℕ) → Fault → Type 0
 AreUnfit forms words f = ((length words ≢ length forms) × (f ≡ WrongCount)) ⊎ ((length words ≡ length forms) × IsBadWord forms words f)
 
--- words give no step: the first has no meaning, or those after it are unfit
+-- words give no step: the first begins none, or those after it are unfit to the steps that it begins
 abbrev pub TellNoStep : List (List ℕ) → Fault → Type 0
 TellNoStep words f =
-    (((kind : StepKind) (others : List (List ℕ)) → words ≢ word_of kind ∷ others) × (f ≡ UnknownWord))
-    ⊎ ((kind : StepKind) × (others : List (List ℕ)) × (words ≡ word_of kind ∷ others) × AreUnfit (forms_of kind) others f)
+    (((st : Step Weights) (others : List (List ℕ)) → words ≢ word_of st ∷ others) × (f ≡ UnknownWord))
+    ⊎ ((st : Step Weights) × (others : List (List ℕ)) × (words ≡ word_of st ∷ others) × AreUnfit (forms_of st) others f)
 
 -- words give no founders: the first is another one, those after it are unfit, or there is no founder
 abbrev pub TellNoFounders : List (List ℕ) → Fault → Type 0
@@ -38,17 +39,22 @@ abbrev pub AreNamed : List (List ℕ) → Type 0
 AreNamed [] = ⊥
 AreNamed (w ∷ ws) = IsSpelt Name w
 
--- words after the first have bytes: they are as many as a get or a set has, and a name comes before the bytes
-abbrev pub TellBytes : StepKind → List (List ℕ) → Type 0
-TellBytes kind others = HoldsBytes kind × (length others ≡ length (forms_of kind)) × AreNamed others
+-- words after the first have bytes: they are as many as these forms, and a name comes before the bytes
+abbrev pub TellBytes : List Form → List (List ℕ) → Type 0
+TellBytes forms others = (length others ≡ length forms) × AreNamed others
 
--- a line has bytes, and has no fault before them
+-- a line has the bytes of a call, and has no fault before them
 pub record TellsBytes (line : List ℕ) : Type 0 where
   pub short : IsShort line
-  pub kind : StepKind
+  pub name : ℕ
+  pub op : Op
   pub others : List (List ℕ)
-  pub words : AreWords line (word_of kind ∷ others)
-  pub tell : TellBytes kind others
+  pub words : AreWords line (word_of (step.Call name op) ∷ others)
+  pub tell : TellBytes (forms_of (step.Call name op)) others
+
+-- a line tells no step, or there is no room for the bytes that it tells
+abbrev pub IsFaultyStep : List ℕ → Fault → Type 0
+IsFaultyStep line f = ((f ≡ OutOfMemory) × TellsBytes line) ⊎ IsLineFault TellNoStep line f
 
 -- a line has bytes, or a whole step
 abbrev pub TellsBytesOrStep : List ℕ → Type 0

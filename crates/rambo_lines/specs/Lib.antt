@@ -1,3 +1,4 @@
+pub mod StepParts
 pub mod StepLines
 pub mod Scripts
 pub mod Faults

@@ -1,7 +1,7 @@
 //! The lines of scripts: how they are written and read.
 //!
-//! - `Script`: the founders and steps of a text, by `read_script`; `read_head`, `Place`, `read_founders`, `read_kind`
-//!   and the readers of the words after the first are for code that takes a script line by line.
+//! - `Script`: the founders and steps of a text, by `read_script`; `read_head`, `Place`, `read_founders` and
+//!   `read_step` are for code that takes a script line by line.
 //! - `frequent_step`, `frequent_call`: a step of a frequent kind at the front of a text, with no search for its line's end.
 //! - `step_text`: the line of a step.
 //! - `one_reading`, `written_reads_back`, `no_script_is_faulty` and `one_fault`: no text is two scripts, or one in two
@@ -10,7 +10,6 @@
 
 mod front;
 mod head;
-mod kind;
 mod laws;
 mod parts;
 mod place;
@@ -20,9 +19,8 @@ mod writing;
 
 pub use front::{Frequent, frequent_call, frequent_step};
 pub use head::read_head;
-pub use kind::StepKind;
 pub use laws::{no_script_is_faulty, one_fault, one_reading, written_reads_back};
 pub use place::Place;
-pub use reading::{get_asked, read_kind, read_parts, set_asked};
+pub use reading::read_step;
 pub use script::{LINE_LIMIT, Script, at_line, read_founders, read_script};
 pub use writing::step_text;

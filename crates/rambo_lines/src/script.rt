@@ -105,8 +105,7 @@ pub fn read_founders(line: &[u8]) -> Result<Weighted, Fault>
 fn push_step(alloc: Global, line: &[u8], steps: &mut Vec<Step<Weighted>>) -> Result<(), Fault>
     ensures ok { OnOk result (PushesStep steps.old.items steps.new.items line.now) }
     ensures err { OnErr result (steps.new.items ≡ steps.old.items) }
-    ensures fault { IfErr result (λ f. (f ≡ Fault.OutOfMemory) ⊎ IsLineFault TellNoStep line.now f) }
-    ensures memory { IfErr result (λ f. f ≡ Fault.OutOfMemory → TellsBytesOrStep line.now) }
+    ensures fault { IfErr result (λ f. ((f ≡ Fault.OutOfMemory) × TellsBytesOrStep line.now) ⊎ IsLineFault TellNoStep line.now f) }
 {
     let step = read_step(alloc, line)?;
     keep_step(step, steps)

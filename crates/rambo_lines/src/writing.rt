@@ -2,13 +2,13 @@
 ghost use Rattle.std.specs.Prelude.{◌≡◌, ◌++◌, ◌∷◌, [], decimal, OnOk, OnErr, IfErr};
 ghost use Rattle.rambo_names.specs.Signs.{set_text, conf_text};
 ghost use Rattle.rambo_text.specs.Signs.{Grows, call_text, hex_text};
-ghost use Rattle.rambo_text.specs.Words.{words_text};
-ghost use Rattle.rambo_lines.specs.StepLines.{word_of, step_line, call_words};
+ghost use Rattle.rambo_run.specs.declared.step.Step.TheVariants as step;
+ghost use Rattle.rambo_lines.specs.StepLines.{step_line, quiet_line, quiet_word};
 
-use crate::kind::StepKind;
 use rambo_history::{CallId, Op};
 use rambo_names::{Bytes, Members, Name, Refusal, Weighted, write_conf, write_set};
-use rambo_run::Step;
+use rambo_node::Quiet;
+use rambo_run::{Step, quiet_of};
 use rambo_text::{write_call, write_hex, write_name, write_num};
 
 /// Appends the line of a step, with its line feed.
@@ -44,78 +44,102 @@ fn append_step(step: &Step<Weighted>, out: &mut Vec<u8>) -> Result<(), Refusal>
     ensures refused { IfErr result (λ r. r ≡ Refusal.OutOfMemory) }
 {
     match step {
-        Step::Join(name, contacts) => {
-            append_named(StepKind::Join, *name, out)?;
-            append_set(contacts, out)
-        }
         Step::Call(name, op) => append_call(*name, op, out),
         Step::Send(from, to) => {
-            append_named(StepKind::Send, *from, out)?;
+            append_named(b"send", *from, out)?;
             append_name(*to, out)
         }
         Step::Deliver(letter) => {
-            append_kind(StepKind::Deliver, out)?;
+            append_word(b"deliver", out)?;
             append_number(*letter, out)
         }
-        Step::Advance(id) => append_called(StepKind::Advance, id, out),
-        Step::Again(id) => append_called(StepKind::Again, id, out),
-        Step::Collect(name) => append_named(StepKind::Collect, *name, out),
-        Step::AdvanceCollect(name) => append_named(StepKind::AdvanceCollect, *name, out),
-        Step::Recon(name, wish) => {
-            append_named(StepKind::Recon, *name, out)?;
-            append_conf(wish, out)
-        }
-        Step::Rebid(name) => append_named(StepKind::Rebid, *name, out),
-        Step::AdvanceRecon(name) => append_named(StepKind::AdvanceRecon, *name, out),
-        Step::Stop(name) => append_named(StepKind::Stop, *name, out),
+        Step::Advance(id) => append_called(b"advance", id, out),
+        _ => match quiet_of(step) {
+            Some((name, quiet)) => append_quiet(name, &quiet, out),
+            None => unreachable!(),
+        },
     }
 }
 
 fn append_call(name: Name, op: &Op, out: &mut Vec<u8>) -> Result<(), Refusal>
-    ensures ok { OnOk result (out.new.items ≡ out.old.items ++ words_text (call_words name op.now)) }
+    ensures ok { OnOk result (out.new.items ≡ out.old.items ++ step_line (step.Call name op.now)) }
     ensures err { OnErr result (Grows out.old.items out.new.items) }
     ensures refused { IfErr result (λ r. r ≡ Refusal.OutOfMemory) }
 {
     match op {
         Op::Get(key) => {
-            append_named(StepKind::Get, name, out)?;
+            append_named(b"get", name, out)?;
             append_bytes(key, out)
         }
         Op::Set(key, value) => {
-            append_named(StepKind::Set, name, out)?;
+            append_named(b"set", name, out)?;
             append_bytes(key, out)?;
             append_bytes(value, out)
         }
     }
 }
 
-// The first word of a line.
-fn append_kind(kind: StepKind, out: &mut Vec<u8>) -> Result<(), Refusal>
-    ensures ok { OnOk result (out.new.items ≡ out.old.items ++ word_of kind) }
+fn append_quiet(name: Name, quiet: &Quiet<Weighted>, out: &mut Vec<u8>) -> Result<(), Refusal>
+    ensures ok { OnOk result (out.new.items ≡ out.old.items ++ quiet_line name quiet.now) }
     ensures err { OnErr result (Grows out.old.items out.new.items) }
     ensures refused { IfErr result (λ r. r ≡ Refusal.OutOfMemory) }
 {
-    out.extend_from_slice(kind.word())?;
+    match quiet {
+        Quiet::Join(contacts) => {
+            append_named(quiet_word(quiet), name, out)?;
+            append_set(contacts, out)
+        }
+        Quiet::Again(id) => append_called(quiet_word(quiet), id, out),
+        Quiet::Recon(wish) => {
+            append_named(quiet_word(quiet), name, out)?;
+            append_conf(wish, out)
+        }
+        _ => append_named(quiet_word(quiet), name, out),
+    }
+}
+
+fn quiet_word(quiet: &Quiet<Weighted>) -> &'static [u8]
+    ensures { result.now ≡ quiet_word quiet.now }
+{
+    match quiet {
+        Quiet::Join(_) => b"join",
+        Quiet::Again(_) => b"again",
+        Quiet::Collect => b"collect",
+        Quiet::AdvanceCollect => b"advance-collect",
+        Quiet::Recon(_) => b"recon",
+        Quiet::Rebid => b"rebid",
+        Quiet::AdvanceRecon => b"advance-recon",
+        Quiet::Stop => b"stop",
+    }
+}
+
+// The first word of a line.
+fn append_word(word: &[u8], out: &mut Vec<u8>) -> Result<(), Refusal>
+    ensures ok { OnOk result (out.new.items ≡ out.old.items ++ word.now) }
+    ensures err { OnErr result (Grows out.old.items out.new.items) }
+    ensures refused { IfErr result (λ r. r ≡ Refusal.OutOfMemory) }
+{
+    out.extend_from_slice(word)?;
     Ok(())
 }
 
 // The first word of a line, and a name.
-fn append_named(kind: StepKind, name: Name, out: &mut Vec<u8>) -> Result<(), Refusal>
-    ensures ok { OnOk result (out.new.items ≡ out.old.items ++ word_of kind ++ 32 ∷ decimal name) }
+fn append_named(word: &[u8], name: Name, out: &mut Vec<u8>) -> Result<(), Refusal>
+    ensures ok { OnOk result (out.new.items ≡ out.old.items ++ word.now ++ 32 ∷ decimal name) }
     ensures err { OnErr result (Grows out.old.items out.new.items) }
     ensures refused { IfErr result (λ r. r ≡ Refusal.OutOfMemory) }
 {
-    append_kind(kind, out)?;
+    append_word(word, out)?;
     append_name(name, out)
 }
 
 // The first word of a line, and a call.
-fn append_called(kind: StepKind, id: &CallId, out: &mut Vec<u8>) -> Result<(), Refusal>
-    ensures ok { OnOk result (out.new.items ≡ out.old.items ++ word_of kind ++ 32 ∷ call_text id.now) }
+fn append_called(word: &[u8], id: &CallId, out: &mut Vec<u8>) -> Result<(), Refusal>
+    ensures ok { OnOk result (out.new.items ≡ out.old.items ++ word.now ++ 32 ∷ call_text id.now) }
     ensures err { OnErr result (Grows out.old.items out.new.items) }
     ensures refused { IfErr result (λ r. r ≡ Refusal.OutOfMemory) }
 {
-    append_kind(kind, out)?;
+    append_word(word, out)?;
     append_id(id, out)
 }
 

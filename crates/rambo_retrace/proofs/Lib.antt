@@ -1,4 +1,3 @@
-mod Faults
 mod FirstSteps
 mod Heads
 mod StepByStep

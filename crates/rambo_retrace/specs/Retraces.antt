@@ -9,12 +9,12 @@ use Rattle.rambo_atomic.specs.declared.whole.StreamFault.{StreamFault}
 use Rattle.rambo_atomic.specs.declared.whole.StreamFault.TheVariants as stream
 use Rattle.rambo_run.specs.declared.step.Step.{Step}
 use Rattle.rambo_text.specs.declared.fault.Fault.{Fault}
-use Rattle.rambo_text.specs.declared.fault.Fault.TheVariants.{NoFounders, OutOfMemory}
+use Rattle.rambo_text.specs.declared.fault.Fault.TheVariants.{NoFounders}
 use Rattle.rambo_text.specs.declared.fault.ScriptFault.{ScriptFault}
 use Rattle.rambo_text.specs.declared.version.Version.TheVariants.{Two}
 use Rattle.rambo_text.specs.Versions.{head_text}
 use Rattle.rambo_text.specs.Words.{Lacks}
-use Rattle.rambo_lines.specs.Faults.{IsLineFault, TellNoFounders, TellNoStep, TellsBytes}
+use Rattle.rambo_lines.specs.Faults.{IsLineFault, TellNoFounders, IsFaultyStep}
 use Rattle.rambo_lines.specs.Scripts.{HasLine, steps_text}
 use Rattle.rambo_lines.specs.StepLines.{step_line}
 use Rattle.rambo_retrace.specs.declared.fault.RetraceFault.{RetraceFault}
@@ -75,10 +75,6 @@ pub record Retraces (old new : List (Step Weights)) (first left : Option (List �
 -- what is told of these steps, and of the bytes behind them
 abbrev pub retraced : List (Step Weights) → List ℕ → Retraced
 retraced steps torn = record { steps = length steps; bytes = length (steps_text steps); torn = length torn }
-
--- a line tells no step, or there is no room for the bytes that it tells
-abbrev pub IsFaultyStep : List ℕ → Fault → Type 0
-IsFaultyStep line f = ((f ≡ OutOfMemory) × TellsBytes line) ⊎ IsLineFault TellNoStep line f
 
 -- a line of this number tells no step, or one that may be refused so
 abbrev pub IsFaultAt : (Step Weights → Refusal → Type 0) → ℕ → List ℕ → RetraceFault → Type 0

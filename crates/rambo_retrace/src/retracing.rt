@@ -5,19 +5,16 @@ ghost use Rattle.rambo_atomic.specs.Unreads.{KnowsEnd};
 ghost use Rattle.rambo_text.specs.Words.{Lacks};
 ghost use Rattle.rambo_names.specs.declared.refusal.Refusal.{Refusal};
 ghost use Rattle.rambo_lines.specs.Fronts.{BeginsWithStep, step_of};
-ghost use Rattle.rambo_lines.specs.Scripts.{HasLine};
-ghost use Rattle.rambo_lines.specs.StepLines.{step_line};
-ghost use Rattle.rambo_retrace.specs.Retraces.{Retraces, RefusedBy, StopsAt, IsFaultyStep, TakesFirst, StopsAtFirst, retraced, reads_failed};
+ghost use Rattle.rambo_retrace.specs.Retraces.{Retraces, RefusedBy, StopsAt, TakesFirst, StopsAtFirst, retraced, reads_failed};
 ghost use Rattle.rambo_retrace.specs.declared.fault.RetraceFault.TheVariants as fault;
 
 use crate::fault::RetraceFault;
 use crate::lines::{used_of, whole_line};
 use crate::taker::Taker;
 use rambo_atomic::{Source, Unread};
-use rambo_lines::{Frequent, at_line, frequent_call, frequent_step, read_kind, read_parts};
+use rambo_lines::{Frequent, at_line, frequent_call, frequent_step, read_step};
 use rambo_names::{Refusal, Weighted};
 use rambo_run::Step;
-use rambo_text::ScriptFault;
 use std::alloc::Global;
 
 // Once so many bytes of lines were read, no further line is.
@@ -137,18 +134,9 @@ fn take_line<T: Taker>(
     let Some((line, used)) = whole_line(lines) else {
         return Ok(None);
     };
-    let step = read_step(alloc, number, line)?;
+    let step = at_line(number, read_step(alloc, line))?;
     give(number, step, taker)?;
     Ok(Some(used))
-}
-
-// The step that a line of this number tells.
-fn read_step(alloc: Global, number: u64, line: &[u8]) -> Result<Step<Weighted>, ScriptFault>
-    ensures found { IfOk result (λ step. HasLine step × (line.now ≡ step_line step)) }
-    ensures fault { IfErr result (λ g. (g.line ≡ number) × IsFaultyStep line.now g.fault) }
-{
-    let (kind, more) = at_line(number, read_kind(line))?;
-    at_line(number, read_parts(alloc, kind, more))
 }
 
 // Gives a taker the step of the line of a number.

@@ -1,5 +1,5 @@
 -- A run that goes on as the lines of a script are read
-use Rattle.std.proofs.Common.{◌≡◌, ◌≢◌, ◌⊎◌, ℕ, ◌+◌, ◌-◌, ◌<◌, ◌≤◌, ◌^◌, List, [], ◌∷◌, ◌++◌, Option, length, inl, inr, refl, sym, ap, subst, ◌∙◌, arith, append_assoc, map}
+use Rattle.std.proofs.Common.{◌≡◌, ◌≢◌, ℕ, ◌+◌, ◌-◌, ◌<◌, ◌≤◌, ◌^◌, List, [], ◌∷◌, ◌++◌, length, inl, inr, refl, sym, ap, subst, ◌∙◌, arith, append_assoc, map}
 use Rattle.rambo_names.specs.Weights.{Weights, weighted_majorities}
 use Rattle.rambo_history.specs.declared.event.Event.{Event}
 use Rattle.rambo_history.specs.Forms.{IsWellFormed}
@@ -15,26 +15,20 @@ use Rattle.rambo_run.specs.Runs.{after, given_sequences, given_order, maps_of, r
 use Rattle.rambo_run.specs.Ongoing.{RunningOf}
 use Rattle.rambo_run.proofs.Runs.{run_from-more, run_from-none}
 use Rattle.rambo_run.proofs.WellFormed.{run_well_formed}
-use Rattle.rambo_text.specs.declared.fault.Fault.{Fault}
-use Rattle.rambo_text.specs.declared.fault.Fault.TheVariants.{OutOfMemory}
 use Rattle.rambo_text.specs.declared.fault.ReplayFault.{ReplayFault}
 use Rattle.rambo_text.specs.declared.fault.ReplayFault.TheVariants.{Script}
 use Rattle.rambo_text.specs.declared.fault.ScriptFault.{ScriptFault}
 use Rattle.rambo_text.specs.declared.version.Version.{Version}
 use Rattle.rambo_text.specs.Versions.{head_text}
-use Rattle.rambo_text.specs.Words.{IsFirstLine, IsFirstWord}
+use Rattle.rambo_text.specs.Words.{IsFirstLine}
 use Rattle.rambo_text.proofs.Heads.{same_lines}
-use Rattle.rambo_text.proofs.WordSplits.{words_joined}
 use Rattle.rambo_check.specs.Lines.{Ordered, items_text}
 use Rattle.rambo_outcome.specs.Outcomes.{order_items_in, map_item}
 use Rattle.rambo_outcome.specs.Notes.{NoteState, ToldState, HasRoom, events_before, woven, told_text}
 use Rattle.rambo_outcome.proofs.Telling.{told_along, woven_next, text_whole}
-use Rattle.rambo_lines.specs.declared.kind.StepKind.{StepKind}
-use Rattle.rambo_lines.specs.StepLines.{word_of}
-use Rattle.rambo_lines.specs.Scripts.{founders_line, IsShort}
-use Rattle.rambo_lines.specs.Faults.{IsLineFault, TellNoFounders, TellNoStep, TellsBytes}
-use Rattle.rambo_steps.specs.Runs.{IsFounded, TakesStep, Tells, IsPartsFault, IsFaultAt, IsReplayBehind, GivesUpBehind, FoundsNone, ended}
-use Rattle.rambo_lines.proofs.Fitting.{line_needs}
+use Rattle.rambo_lines.specs.Scripts.{founders_line}
+use Rattle.rambo_lines.specs.Faults.{IsLineFault, TellNoFounders, TellsBytes, IsFaultyStep}
+use Rattle.rambo_steps.specs.Runs.{IsFounded, TakesStep, Tells, IsFaultAt, IsReplayBehind, GivesUpBehind, FoundsNone, ended}
 use Rattle.rambo_lines.proofs.LineByLine.{Reads, script, nothing, reads-first, reads-next, reads-all, later_in_whole}
 use Rattle.rambo_lines.proofs.Placing.{place_next, place_pushed, fault_there}
 use Rattle.rambo_lines.specs.declared.place.Place.{Place}
@@ -160,20 +154,8 @@ first_fault version bytes line rest place g first at number fault =
 -- a later line has one, or there was no room for its step
 pub later_fault : (version : Version) (bytes rest line more : List ℕ) (r : RunningOf Weights) (place next : Place) (notes : List NoteState) (f : ReplayFault) → Runs version bytes r place notes rest → rest ≢ []
     → IsFirstLine rest line more → next ≡ record { line = place.line + 1; step = place.step + 1 }
-    → IsFaultAt next.line (λ g. ((g ≡ OutOfMemory) × TellsBytes line) ⊎ IsLineFault TellNoStep line g) f → GivesUpBehind version bytes f
+    → IsFaultAt next.line (IsFaultyStep line) f → GivesUpBehind version bytes f
 later_fault version bytes rest line more r place next notes f now some first is (inl spent) = inl spent
 later_fault version bytes rest line more r place next notes f now some first is (inr found) =
     let there = later_in_whole TellsBytes version bytes rest line more r.founders now.steps next found.0 now.reads some first (place_next version (length now.steps) place next now.at is) found.2 found.3 in
     inr (there.0, found.1 ∙ ap Script there.2, there.1)
-
--- the words behind the first are unfit, or there is no room for the bytes that they tell
-line_fault : (line : List ℕ) (kind : StepKind) (more : Option (List ℕ)) (g : Fault) → IsShort line → IsFirstWord line (word_of kind) more → IsPartsFault kind more g
-    → ((g ≡ OutOfMemory) × TellsBytes line) ⊎ IsLineFault TellNoStep line g
-line_fault line kind more g short first (inl spent) = inl (spent.0, line_needs line (word_of kind) more kind short first refl spent.1)
-line_fault line kind more g short first (inr unfit) =
-    inr (inr (short, (word_of kind ∷ unfit.0, words_joined line (word_of kind) more unfit.0 first unfit.1, inr (kind, unfit.0, refl, unfit.2))))
-
-pub parts_fault : (line : List ℕ) (kind : StepKind) (more : Option (List ℕ)) (number : ℕ) (f : ReplayFault) → IsShort line → IsFirstWord line (word_of kind) more
-    → IsFaultAt number (IsPartsFault kind more) f → IsFaultAt number (λ g. ((g ≡ OutOfMemory) × TellsBytes line) ⊎ IsLineFault TellNoStep line g) f
-parts_fault line kind more number f short first (inl spent) = inl spent
-parts_fault line kind more number f short first (inr found) = inr (found.0, found.1, found.2, line_fault line kind more found.0.fault short first found.3)

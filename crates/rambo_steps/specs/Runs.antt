@@ -7,7 +7,6 @@ use Rattle.rambo_run.specs.Steps.{refusal}
 use Rattle.rambo_run.specs.Runs.{after, maps_of, given_sequences, given_order, result_of}
 use Rattle.rambo_run.specs.Ongoing.{RunningOf}
 use Rattle.rambo_text.specs.declared.fault.Fault.{Fault}
-use Rattle.rambo_text.specs.declared.fault.Fault.TheVariants.{OutOfMemory}
 use Rattle.rambo_text.specs.declared.fault.ScriptFault.{ScriptFault}
 use Rattle.rambo_text.specs.declared.fault.ReplayFault.{ReplayFault}
 use Rattle.rambo_text.specs.declared.fault.ReplayFault.TheVariants.{Script, Memory}
@@ -19,10 +18,8 @@ use Rattle.rambo_check.specs.Readings.{IsMore}
 use Rattle.rambo_check.specs.Lines.{Ordered, items_text}
 use Rattle.rambo_outcome.specs.Outcomes.{order_items_in, map_item}
 use Rattle.rambo_outcome.specs.Notes.{NoteState, ToldState, HasRoom, other_items, noted}
-use Rattle.rambo_lines.specs.declared.kind.StepKind.{StepKind}
-use Rattle.rambo_lines.specs.Parts.{NeedRoom, TellStep, TellUnfit}
 use Rattle.rambo_lines.specs.StepLines.{step_line}
-use Rattle.rambo_lines.specs.Faults.{IsFirstFault, IsLineFault, TellNoStep, TellsBytes}
+use Rattle.rambo_lines.specs.Faults.{IsFirstFault, IsFaultyStep}
 use Rattle.rambo_lines.specs.Scripts.{ScriptState, AreFounders, HasLine, IsScript, founders_line}
 use Rattle.rambo_steps.specs.Replays.{replayed, IsFaultyBehind}
 
@@ -50,16 +47,6 @@ pub record TakesStep (line : List ℕ) (number : ℕ) (old new : RunningOf Weigh
   pub line_is : line ≡ step_line step
   pub takes : Takes step number old new notes longer
 
--- the words after the first one, which is that of a kind, give it
-pub record TakesTold (kind : StepKind) (more : Option (List ℕ)) (number : ℕ) (old new : RunningOf Weights) (notes longer : List NoteState) : Type 0 where
-  pub step : Step Weights
-  pub tell : TellStep kind more step
-  pub takes : Takes step number old new notes longer
-
--- or they give none, or there is no room for the bytes that they have
-abbrev pub IsPartsFault : StepKind → Option (List ℕ) → Fault → Type 0
-IsPartsFault kind more f = ((f ≡ OutOfMemory) × NeedRoom kind more) ⊎ TellUnfit kind more f
-
 -- a text, with the sequences, the order of all keys and the maps after it
 abbrev pub ended : Version → WorldState Weights → List ℕ → List ℕ
 ended version w text =
@@ -83,10 +70,6 @@ GivesUpBehind version bytes f = (f ≡ Memory) ⊎ ((g : ScriptFault) × (f ≡ 
 -- a line has a fault, or memory ran out
 abbrev pub IsFaultAt : ℕ → (Fault → Type 0) → ReplayFault → Type 0
 IsFaultAt line IsFaulty f = (f ≡ Memory) ⊎ ((g : ScriptFault) × (f ≡ Script g) × (g.line ≡ line) × IsFaulty g.fault)
-
--- a line tells no step, or there is no room for the bytes that it tells
-abbrev pub IsFaultyStep : List ℕ → Fault → Type 0
-IsFaultyStep line g = ((g ≡ OutOfMemory) × TellsBytes line) ⊎ IsLineFault TellNoStep line g
 
 -- the first of some lines tells a step, which a run took, and the rest is that of the lines after it
 pub record TakesFirst (lines : List ℕ) (number : ℕ) (old new : RunningOf Weights) (notes longer : List NoteState) (rest : List ℕ) : Type 0 where

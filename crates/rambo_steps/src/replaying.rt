@@ -5,25 +5,24 @@ ghost use Rattle.rambo_atomic.specs.Unreads.{KnowsEnd, HasFeed};
 ghost use Rattle.rambo_text.specs.declared.fault.ScriptFault.{ScriptFault};
 ghost use Rattle.rambo_text.specs.Words.{IsFirstLine};
 ghost use Rattle.rambo_steps.specs.Replays.{reads_failed};
-ghost use Rattle.std.specs.Option.{option_copied};
 ghost use Rattle.rambo_names.specs.Refusals.{number_of};
 ghost use Rattle.rambo_run.specs.declared.step.Step.TheVariants as step;
 ghost use Rattle.rambo_check.specs.Lines.{Refused, items_text};
 ghost use Rattle.rambo_outcome.specs.Outcomes.{order_items_in};
 ghost use Rattle.rambo_outcome.specs.Notes.{HasRoom, noted, told_text};
 ghost use Rattle.rambo_sequence.specs.StoreOrders.{NoTwice, all_calls, order_of};
+ghost use Rattle.rambo_lines.specs.Faults.{IsFaultyStep};
 ghost use Rattle.rambo_lines.specs.Fronts.{step_of};
-ghost use Rattle.rambo_steps.specs.Runs.{TellsFounders, IsFounded, Takes, TakesStep, TakesTold, Tells, IsPartsFault, IsReplayBehind, GivesUpBehind, ended, IsFaultAt, IsFaultyStep, TakesFirst, IsFirstFaultAt, IsOfWhole, FoundsNone};
+ghost use Rattle.rambo_steps.specs.Runs.{TellsFounders, IsFounded, Takes, TakesStep, Tells, IsReplayBehind, GivesUpBehind, ended, IsFaultAt, TakesFirst, IsFirstFaultAt, IsOfWhole, FoundsNone};
 
 use rambo_atomic::{Source, Unread};
 use rambo_history::{CallId, History, Op};
 use rambo_lines::{
-    Frequent, Place, StepKind, at_line, frequent_call, frequent_step, get_asked, read_founders,
-    read_kind, read_parts, set_asked,
+    Frequent, Place, at_line, frequent_call, frequent_step, read_founders, read_step,
 };
 use rambo_names::{Name, Refusal, Weighted};
 use rambo_outcome::{Notes, Told, write_maps, write_order, write_sequences};
-use rambo_run::Run;
+use rambo_run::{Run, Step};
 use rambo_sequence::{KeySequence, one_order};
 use rambo_text::{ReplayFault, Version, next_line};
 use std::alloc::Global;
@@ -246,42 +245,8 @@ fn take_line<R: Run<Weighted>>(
     ensures taken { OnOk result (TakesStep line.now place.step (R.running running.old) (R.running running.new) notes.old notes.new) }
     ensures fault { IfErr result (λ f. IsFaultAt (place.line) (IsFaultyStep line.now) f) }
 {
-    let (kind, more) = at_line(place.line, read_kind(line))?;
-    match kind {
-        StepKind::Get => take_get(alloc, place, more, running, notes),
-        StepKind::Set => take_put(alloc, place, more, running, notes),
-        _ => take_step(alloc, kind, place, more, running, notes),
-    }
-}
-
-// Takes the get that the words after the first tell, and notes what is told of it.
-fn take_get<R: Run<Weighted>>(
-    alloc: Global,
-    place: Place,
-    more: Option<&[u8]>,
-    running: &mut R,
-    notes: &mut Notes,
-) -> Result<(), ReplayFault>
-    ensures taken { OnOk result (TakesTold StepKind.Get (option_copied more.entry) place.step (R.running running.old) (R.running running.new) notes.old notes.new) }
-    ensures fault { IfErr result (λ f. IsFaultAt (place.line) (IsPartsFault StepKind.Get (option_copied more.entry)) f) }
-{
-    let (name, op) = at_line(place.line, get_asked(alloc, more))?;
-    take_call(place, name, op, running, notes)
-}
-
-// Takes the set that the words after the first tell, and notes what is told of it.
-fn take_put<R: Run<Weighted>>(
-    alloc: Global,
-    place: Place,
-    more: Option<&[u8]>,
-    running: &mut R,
-    notes: &mut Notes,
-) -> Result<(), ReplayFault>
-    ensures taken { OnOk result (TakesTold StepKind.Set (option_copied more.entry) place.step (R.running running.old) (R.running running.new) notes.old notes.new) }
-    ensures fault { IfErr result (λ f. IsFaultAt (place.line) (IsPartsFault StepKind.Set (option_copied more.entry)) f) }
-{
-    let (name, op) = at_line(place.line, set_asked(alloc, more))?;
-    take_call(place, name, op, running, notes)
+    let step = at_line(place.line, read_step(alloc, line))?;
+    take_step(place, &step, running, notes)
 }
 
 // Takes the call of an operation, and notes what is told of it.
@@ -315,22 +280,17 @@ fn note_refused(
     in_memory(notes.add(place.step, &Err(refusal), history))
 }
 
-// Takes a step of any kind that the words after the first tell, and notes what is told of it. (a step is large, and
-// where this is inlined the other kinds pay for its room)
-#[inline(never)]
+// Takes a step of any kind, and notes what is told of it.
 fn take_step<R: Run<Weighted>>(
-    alloc: Global,
-    kind: StepKind,
     place: Place,
-    more: Option<&[u8]>,
+    step: &Step<Weighted>,
     running: &mut R,
     notes: &mut Notes,
 ) -> Result<(), ReplayFault>
-    ensures taken { OnOk result (TakesTold kind (option_copied more.entry) place.step (R.running running.old) (R.running running.new) notes.old notes.new) }
-    ensures fault { IfErr result (λ f. IsFaultAt (place.line) (IsPartsFault kind (option_copied more.entry)) f) }
+    ensures taken { OnOk result (Takes step.now place.step (R.running running.old) (R.running running.new) notes.old notes.new) }
+    ensures fault { IfErr result (λ f. f ≡ ReplayFault.Memory) }
 {
-    let step = at_line(place.line, read_parts(alloc, kind, more))?;
-    let told = in_memory(running.take(&step))?;
+    let told = in_memory(running.take(step))?;
     in_memory(notes.add(place.step, &told, running.history()))
 }
 

@@ -5,7 +5,7 @@ use Rattle.std.proofs.lemmas.Result.{IfOk-at_ok, IfErr-at_err}
 use Rattle.rambo_lines.specs.declared.place.Place.{Place}
 use Rattle.rambo_lines.specs.Faults.{TellsBytesOrStep}
 use Rattle.rambo_lines.specs.Places.{place_of}
-use Rattle.rambo_lines.proofs.LineByLine.{Reads, nothing, reads-first, reads-next, reads-all, told_needs, first_in_whole, later_in_whole}
+use Rattle.rambo_lines.proofs.LineByLine.{Reads, nothing, reads-first, reads-next, reads-all, first_in_whole, later_in_whole}
 use Rattle.rambo_lines.proofs.Placing.{few_heads, place_next, place_pushed}
 use Rattle.rambo_lines.proofs.script.read_behind.Goals as goal
 
@@ -24,7 +24,7 @@ returns-in_err-at_line-clause-fault c =
       later_in_whole TellsBytesOrStep c.args.version _ _ _ _ _ _ c.next-place.result c.in_err-at_line.field-0.0 c.loop-rest.invariant.reads
           (λ none. let z : length c.loop-rest.rest.now ≡ 0 = ap length none in grind (arith, nat_tests)) c.next_line-in-loop-rest.ensures
           (place_next c.args.version _ _ _ c.loop-rest.invariant.place c.next-place.ensures) c.in_err-at_line.ensures.fault.0
-          (told_needs TellsBytesOrStep _ _ (IfErr-at_err _ c.in_err-at_line.ensures.fault.1 c.push_step.ensures.fault) (IfErr-at_err _ c.in_err-at_line.ensures.fault.1 c.push_step.ensures.memory)),
+          (IfErr-at_err _ c.in_err-at_line.ensures.fault.1 c.push_step.ensures.fault),
     )
 
 pub loop-rest-preserved : goal.loop-rest-preserved

@@ -1,6 +1,6 @@
 use Rattle.std.proofs.lemmas.Grind.{common_steps}
 use Rattle.std.proofs.Common.{arith}
-use Rattle.rambo_lines.proofs.writing.append_kind.Goals as goal
+use Rattle.rambo_lines.proofs.writing.append_word.Goals as goal
 
 pub returns-in_err-extend_from_slice-clause-ok : goal.returns-in_err-extend_from_slice-clause-ok
 returns-in_err-extend_from_slice-clause-ok c = grind (arith, common_steps)

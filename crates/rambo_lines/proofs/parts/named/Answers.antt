@@ -1,0 +1,7 @@
+use Rattle.std.proofs.Common.{rules, [], ◌∷◌}
+use Rattle.rambo_text.specs.Forms.{Name}
+use Rattle.rambo_lines.proofs.Fitting.{count_fault}
+use Rattle.rambo_lines.proofs.parts.named.Goals as goal
+
+pub returns-in_err-one-clause-fault : goal.returns-in_err-one-clause-fault
+returns-in_err-one-clause-fault c = search (rules, count_fault (Name ∷ []) _ _ c.in_err-one.ensures.fault.0 c.in_err-one.ensures.fault.1)

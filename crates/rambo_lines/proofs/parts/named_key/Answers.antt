@@ -1,0 +1,12 @@
+use Rattle.std.proofs.Common.{inl, inr, refl, rules, [], ◌∷◌}
+use Rattle.rambo_text.specs.Forms.{Name, Hex}
+use Rattle.rambo_lines.proofs.Fitting.{count_fault, hex_fault}
+use Rattle.rambo_lines.proofs.parts.named_key.Goals as goal
+
+pub returns-in_err-name-clause-fault : goal.returns-in_err-name-clause-fault
+returns-in_err-name-clause-fault c = search (rules, count_fault (Name ∷ Hex ∷ []) _ _ c.in_err-name.ensures.fault.0 c.in_err-name.ensures.fault.1)
+
+pub returns-in_err-key-clause-fault : goal.returns-in_err-key-clause-fault
+returns-in_err-key-clause-fault c =
+    let name = c.in_ok-name-2.ensures.found in
+    search (rules, hex_fault (Name ∷ Hex ∷ []) _ _ _ _ c.in_ok-name.ensures.found refl (_, name.0, name.1) (λ none is. inr ((_, name.0, name.1), inl (none, is))) c.in_err-key.ensures.fault)

@@ -1,7 +1,0 @@
-use Rattle.std.proofs.Common.{rules}
-use Rattle.rambo_lines.specs.declared.kind.StepKind.TheVariants.{AdvanceCollect}
-use Rattle.rambo_lines.proofs.Fitting.{count_fault}
-use Rattle.rambo_lines.proofs.reading.read_advance_collect.Goals as goal
-
-pub returns-in_err-name-clause-fault : goal.returns-in_err-name-clause-fault
-returns-in_err-name-clause-fault c = search (rules, count_fault AdvanceCollect _ _ c.in_err-name.ensures.fault.0 c.in_err-name.ensures.fault.1)

@@ -1,7 +1,0 @@
-use Rattle.std.proofs.Common.{rules}
-use Rattle.rambo_lines.specs.declared.kind.StepKind.TheVariants.{Rebid}
-use Rattle.rambo_lines.proofs.Fitting.{count_fault}
-use Rattle.rambo_lines.proofs.reading.read_rebid.Goals as goal
-
-pub returns-in_err-name-clause-fault : goal.returns-in_err-name-clause-fault
-returns-in_err-name-clause-fault c = search (rules, count_fault Rebid _ _ c.in_err-name.ensures.fault.0 c.in_err-name.ensures.fault.1)
