@@ -4,3 +4,4 @@ pub mod Right
 pub mod Beginnings
 pub mod Gains
 pub mod Pieces
+pub mod Fronts

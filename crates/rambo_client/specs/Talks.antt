@@ -7,7 +7,7 @@ use Rattle.rambo_resp.specs.declared.fault.Fault.{Fault}
 use Rattle.rambo_resp.specs.Decoders.{DecoderState}
 use Rattle.rambo_resp.specs.Streams.{Ending, open_at, faulty, Reads}
 use Rattle.rambo_client.specs.Maps.{no_values}
-use Rattle.rambo_client.specs.Replies.{requests, replies, text_of}
+use Rattle.rambo_client.specs.Replies.{after_all, requests, replies, text_of}
 use Rattle.rambo_client.specs.Calls.{lowest}
 use Rattle.rambo_client.specs.Courses.{Course, HasDone, HasBegun}
 
@@ -74,6 +74,19 @@ pub record Answers (name : ℕ) (founders : Weights) (d : DecoderState) (took : 
   pub commands_now : List (List (List ℕ))
   pub talk : IsTalk name founders d took stream commands_now
   pub text : text_of commands_now d.ending ≡ replies no_values (requests commands) ++ new
+
+-- the same where these replies were appended
+abbrev pub AppendsAnswers : ℕ → Weights → DecoderState → (Course → Type 0) → List ℕ → List (List (List ℕ)) → List ℕ → List ℕ → Type 0
+AppendsAnswers name founders d took stream commands out out_now =
+    (new : List ℕ) × Answers name founders d took stream commands new × (out_now ≡ out ++ new)
+
+-- the commands at the front of one more piece were carried out, and this is left of it. The replies to them were appended
+pub record CarriesFront (name : ℕ) (founders : Weights) (d : DecoderState) (took : Course → Type 0) (stream : List ℕ) (commands : List (List (List ℕ))) (piece rest out out_now : List ℕ) : Type 0 where
+  pub front : List ℕ
+  pub new : List (List (List ℕ))
+  pub split : piece ≡ front ++ rest
+  pub talk : IsTalk name founders d took (stream ++ front) (commands ++ new)
+  pub written : out_now ≡ out ++ replies (after_all no_values (requests commands)) (requests new)
 
 -- one more piece was carried out in part
 pub record BreaksOff (name : ℕ) (founders : Weights) (took : Course → Type 0) (stream : List ℕ) (commands : List (List (List ℕ))) : Type 0 where

@@ -1,6 +1,7 @@
 //! Serving a client.
-ghost use Rattle.std.specs.Prelude.{◌≡◌, ◌<◌, ◌++◌, ◌∷◌, [], ℕ, List, length, IfOk, IfErr, OnOk, OnErr};
-ghost use Rattle.rambo_resp.specs.Decoders.{HasTaken};
+ghost use Rattle.std.specs.Prelude.{◌≡◌, ◌≢◌, ◌<◌, ◌++◌, ◌∷◌, [], ℕ, List, length, IfOk, IfErr, OnOk, OnErr};
+ghost use Rattle.rambo_resp.specs.BriefCommands.{items_of};
+ghost use Rattle.rambo_resp.specs.Decoders.{HasTaken, HasTakenFront};
 ghost use Rattle.rambo_resp.specs.Replies.{reply_spelling};
 ghost use Rattle.rambo_resp.specs.Streams.{open_at};
 ghost use Rattle.rambo_commands.specs.declared.request.Request.{Request as AnyRequest};
@@ -10,7 +11,7 @@ ghost use Rattle.rambo_client.specs.Courses.{HasDone, HasBegun, no_steps};
 ghost use Rattle.rambo_client.specs.Faults.{reads_failed, writes_failed};
 ghost use Rattle.rambo_client.specs.Maps.{no_values};
 ghost use Rattle.rambo_client.specs.Replies.{reply_to, after_all, replies, requests};
-ghost use Rattle.rambo_client.specs.Talks.{Answers, BreaksOff, IsTalk, ServesAt, StopsAt, fault_in, is_faulty};
+ghost use Rattle.rambo_client.specs.Talks.{Answers, AppendsAnswers, BreaksOff, CarriesFront, IsTalk, ServesAt, StopsAt, fault_in, is_faulty};
 
 use crate::client::Client;
 use crate::cluster::Cluster;
@@ -19,7 +20,7 @@ use bytes::BytesMut;
 use rambo_atomic::{Sink, Source, write_all};
 use rambo_commands::{Request, append_reply, fault_reply, telling};
 use rambo_names::Refusal;
-use rambo_resp::{Command, Decoder, Fault, Reply};
+use rambo_resp::{BriefCommand, Command, Decoder, Fault, Reply};
 use std::alloc::Global;
 
 /// How many bytes are asked for at once.
@@ -121,8 +122,106 @@ fn take<By, C: Cluster<By>>(
     ensures over { IfOk result (λ over. over ≡ is_faulty decoder.new.ending) }
     ensures refused { IfErr result (λ f. f ≡ LocalFault.Memory) }
 {
-    feed(decoder, piece)?;
     out.clear();
+    let rest = answer_front(client, alloc, cluster, decoder, piece, out)?;
+    take_rest(client, alloc, cluster, decoder, rest, out)
+}
+
+// Carries out the command that has begun, and the brief commands that follow it at the front of a piece of the input, and
+// appends the replies to them. Returns what follows them.
+fn answer_front<'a, By, C: Cluster<By>>(
+    client: &Client,
+    alloc: Global,
+    cluster: &mut C,
+    decoder: &mut Decoder,
+    piece: &'a [u8],
+    out: &mut BytesMut,
+) -> Result<&'a [u8], LocalFault>
+    ensures ok { (stream : List ℕ) (commands : List (List (List ℕ)))
+        → IsTalk client.now.name client.now.founders decoder.old (C.took cluster.old) stream commands
+        → IfOk result (λ rest. CarriesFront client.now.name client.now.founders decoder.new (C.took cluster.new) stream commands piece.now rest.now out.old.items out.new.items) }
+    ensures err { (stream : List ℕ) (commands : List (List (List ℕ)))
+        → IsTalk client.now.name client.now.founders decoder.old (C.took cluster.old) stream commands
+        → OnErr result (BreaksOff client.now.name client.now.founders (C.took cluster.new) (stream ++ piece.now) commands) }
+    ensures refused { IfErr result (λ f. f ≡ LocalFault.Memory) }
+{
+    let mut rest = answer_begun(client, alloc, cluster, decoder, piece, out)?;
+    while let Some((command, behind)) = decoder.next_in(rest) {
+        answer_brief(client, alloc, cluster, command, out)?;
+        rest = behind;
+    }
+    Ok(rest)
+}
+
+// Takes a piece of the input as far as it belongs to the command that has begun, carries that out if it is whole, and
+// appends the reply to it. Returns what follows it.
+fn answer_begun<'a, By, C: Cluster<By>>(
+    client: &Client,
+    alloc: Global,
+    cluster: &mut C,
+    decoder: &mut Decoder,
+    piece: &'a [u8],
+    out: &mut BytesMut,
+) -> Result<&'a [u8], LocalFault>
+    ensures ok { (stream : List ℕ) (commands : List (List (List ℕ)))
+        → IsTalk client.now.name client.now.founders decoder.old (C.took cluster.old) stream commands
+        → IfOk result (λ rest. CarriesFront client.now.name client.now.founders decoder.new (C.took cluster.new) stream commands piece.now rest.now out.old.items out.new.items) }
+    ensures err { (stream : List ℕ) (commands : List (List (List ℕ)))
+        → IsTalk client.now.name client.now.founders decoder.old (C.took cluster.old) stream commands
+        → OnErr result (BreaksOff client.now.name client.now.founders (C.took cluster.new) (stream ++ piece.now) commands) }
+    ensures refused { IfErr result (λ f. f ≡ LocalFault.Memory) }
+{
+    let rest = feed_begun(decoder, piece)?;
+    let _fault = answer_all(client, alloc, cluster, decoder, out)?;
+    Ok(rest)
+}
+
+// Has a decoder take of a piece of the input what belongs to the command that has begun. Returns what follows it, which
+// is nothing after a fault.
+fn feed_begun<'a>(decoder: &mut Decoder, piece: &'a [u8]) -> Result<&'a [u8], LocalFault>
+    ensures ok { (stream : List ℕ) (given : ℕ) → HasTaken decoder.old stream given
+        → IfOk result (λ rest. HasTakenFront decoder.new stream piece.now rest.now given) }
+    ensures refused { IfErr result (λ f. f ≡ LocalFault.Memory) }
+{
+    match decoder.feed_begun(piece) {
+        Ok(rest) => Ok(rest),
+        Err(fault) => {
+            is_of_stream(fault)?;
+            Ok(b"")
+        }
+    }
+}
+
+// `Memory` where memory ran out: any other fault is one of the stream.
+fn is_of_stream(fault: Fault) -> Result<(), LocalFault>
+    ensures ok { OnOk result (fault ≢ Fault.OutOfMemory) }
+    ensures refused { IfErr result (λ f. f ≡ LocalFault.Memory) }
+{
+    match fault {
+        Fault::OutOfMemory => Err(LocalFault::Memory),
+        _ => Ok(()),
+    }
+}
+
+// Does what `take` does with what is left of a piece, and appends the replies.
+fn take_rest<By, C: Cluster<By>>(
+    client: &Client,
+    alloc: Global,
+    cluster: &mut C,
+    decoder: &mut Decoder,
+    piece: &[u8],
+    out: &mut BytesMut,
+) -> Result<bool, LocalFault>
+    ensures ok { (stream : List ℕ) (commands : List (List (List ℕ)))
+        → IsTalk client.now.name client.now.founders decoder.old (C.took cluster.old) stream commands
+        → OnOk result (AppendsAnswers client.now.name client.now.founders decoder.new (C.took cluster.new) (stream ++ piece.now) commands out.old.items out.new.items) }
+    ensures err { (stream : List ℕ) (commands : List (List (List ℕ)))
+        → IsTalk client.now.name client.now.founders decoder.old (C.took cluster.old) stream commands
+        → OnErr result (BreaksOff client.now.name client.now.founders (C.took cluster.new) (stream ++ piece.now) commands) }
+    ensures over { IfOk result (λ over. over ≡ is_faulty decoder.new.ending) }
+    ensures refused { IfErr result (λ f. f ≡ LocalFault.Memory) }
+{
+    feed(decoder, piece)?;
     match answer_all(client, alloc, cluster, decoder, out)? {
         Some(fault) => {
             write_fault(alloc, fault, out)?;
@@ -166,7 +265,7 @@ fn answer_all<By, C: Cluster<By>>(
 {
     loop {
         match decoder.next() {
-            Ok(Some(command)) => answer(client, alloc, cluster, &command, out)?,
+            Ok(Some(command)) => answer_command(client, alloc, cluster, &command, out)?,
             Ok(None) => return Ok(None),
             Err(fault) => return Ok(Some(fault)),
         }
@@ -174,7 +273,7 @@ fn answer_all<By, C: Cluster<By>>(
 }
 
 // Carries out a command, and appends the reply to it.
-fn answer<By, C: Cluster<By>>(
+fn answer_command<By, C: Cluster<By>>(
     client: &Client,
     alloc: Global,
     cluster: &mut C,
@@ -189,26 +288,64 @@ fn answer<By, C: Cluster<By>>(
         → OnErr result (HasBegun client.now.name client.now.founders (qs ++ request_of command.now ∷ []) (C.took cluster.new)) }
     ensures refused { IfErr result (λ f. f ≡ LocalFault.Memory) }
 {
-    let reply = reply_of(client, alloc, cluster, command)?;
+    let request = Request::of(alloc, command)?;
+    answer(client, cluster, request, out)
+}
+
+// Carries out a command that lies in a piece, and appends the reply to it.
+fn answer_brief<By, C: Cluster<By>>(
+    client: &Client,
+    alloc: Global,
+    cluster: &mut C,
+    command: BriefCommand,
+    out: &mut BytesMut,
+) -> Result<(), LocalFault>
+    ensures ok { (qs : List AnyRequest) → HasDone client.now.name client.now.founders qs (C.took cluster.old)
+        → OnOk result (HasDone client.now.name client.now.founders (qs ++ request_of (items_of command.entry) ∷ []) (C.took cluster.new)) }
+    ensures written { (qs : List AnyRequest) → HasDone client.now.name client.now.founders qs (C.took cluster.old)
+        → OnOk result (out.new.items ≡ out.old.items ++ reply_spelling (reply_to (after_all no_values qs) (request_of (items_of command.entry)))) }
+    ensures err { (qs : List AnyRequest) → HasDone client.now.name client.now.founders qs (C.took cluster.old)
+        → OnErr result (HasBegun client.now.name client.now.founders (qs ++ request_of (items_of command.entry) ∷ []) (C.took cluster.new)) }
+    ensures refused { IfErr result (λ f. f ≡ LocalFault.Memory) }
+{
+    let request = Request::of_brief(alloc, command)?;
+    answer(client, cluster, request, out)
+}
+
+// Carries out a request, and appends the reply to it.
+fn answer<By, C: Cluster<By>>(
+    client: &Client,
+    cluster: &mut C,
+    request: Request,
+    out: &mut BytesMut,
+) -> Result<(), LocalFault>
+    ensures ok { (qs : List AnyRequest) → HasDone client.now.name client.now.founders qs (C.took cluster.old)
+        → OnOk result (HasDone client.now.name client.now.founders (qs ++ request ∷ []) (C.took cluster.new)) }
+    ensures written { (qs : List AnyRequest) → HasDone client.now.name client.now.founders qs (C.took cluster.old)
+        → OnOk result (out.new.items ≡ out.old.items ++ reply_spelling (reply_to (after_all no_values qs) request)) }
+    ensures err { (qs : List AnyRequest) → HasDone client.now.name client.now.founders qs (C.took cluster.old)
+        → OnErr result (HasBegun client.now.name client.now.founders (qs ++ request ∷ []) (C.took cluster.new)) }
+    ensures refused { IfErr result (λ f. f ≡ LocalFault.Memory) }
+{
+    let reply = reply_of(client, cluster, request)?;
     append_reply(&reply, out)?;
     Ok(())
 }
 
-// Carries out a command, and gives the reply to it.
+// Carries out a request, and gives the reply to it.
 fn reply_of<By, C: Cluster<By>>(
     client: &Client,
-    alloc: Global,
     cluster: &mut C,
-    command: &Command,
+    request: Request,
 ) -> Result<Reply, Refusal>
     ensures reply { (qs : List AnyRequest) → HasDone client.now.name client.now.founders qs (C.took cluster.old)
-        → IfOk result (λ r. r ≡ reply_to (after_all no_values qs) (request_of command.now)) }
+        → IfOk result (λ r. r ≡ reply_to (after_all no_values qs) request) }
     ensures ok { (qs : List AnyRequest) → HasDone client.now.name client.now.founders qs (C.took cluster.old)
-        → OnOk result (HasDone client.now.name client.now.founders (qs ++ request_of command.now ∷ []) (C.took cluster.new)) }
+        → OnOk result (HasDone client.now.name client.now.founders (qs ++ request ∷ []) (C.took cluster.new)) }
     ensures err { (qs : List AnyRequest) → HasDone client.now.name client.now.founders qs (C.took cluster.old)
-        → OnErr result (HasBegun client.now.name client.now.founders (qs ++ request_of command.now ∷ []) (C.took cluster.new)) }
+        → OnErr result (HasBegun client.now.name client.now.founders (qs ++ request ∷ []) (C.took cluster.new)) }
 {
-    match Request::of(alloc, command)? {
+    match request {
         Request::Says(reply) => Ok(reply),
         Request::Does(op) => {
             let answer = client.operate(cluster, op)?;

@@ -8,3 +8,5 @@ pub mod Runs
 pub mod Items
 pub mod Giving
 pub mod Feeding
+pub mod Briefs
+pub mod Begun

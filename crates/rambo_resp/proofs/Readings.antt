@@ -40,17 +40,17 @@ not_open r b h e o =
     let two : drive fresh (o.text ++ []) ≡ stuck = ap (drive fresh) text ∙ rest_drive r (b ∷ o.more) h ∙ drive_stuck r b o.more e in
     cc
 
-parts_push : (ps : List Part) (p : Part) → AllByRecursion IsPart ps → IsPart p → AllByRecursion IsPart (ps ++ p ∷ [])
+pub parts_push : (ps : List Part) (p : Part) → AllByRecursion IsPart ps → IsPart p → AllByRecursion IsPart (ps ++ p ∷ [])
 parts_push [] p h k = (k, tt)
 parts_push (x ∷ xs) p h k = (h.0, parts_push xs p h.1 k)
 
-texts_push : (ps : List Part) (p : Part) → texts (ps ++ p ∷ []) ≡ texts ps ++ p.text
+pub texts_push : (ps : List Part) (p : Part) → texts (ps ++ p ∷ []) ≡ texts ps ++ p.text
 texts_push ps p = flat_map-append text_of ps (p ∷ []) ∙ ap (λ t. texts ps ++ t) (append-nil p.text)
 
 pub commands_cons : (p : Part) (ps : List Part) → commands_of (p ∷ ps) ≡ option_to_list p.tells ++ commands_of ps
 commands_cons p ps = elim p.tells as (λ o. filter_map command_of (record { text = p.text; tells = o } ∷ ps) ≡ option_to_list o ++ commands_of ps) [ None ↦ refl | Some c ↦ refl ]
 
-commands_push : (ps : List Part) (p : Part) → commands_of (ps ++ p ∷ []) ≡ commands_of ps ++ option_to_list p.tells
+pub commands_push : (ps : List Part) (p : Part) → commands_of (ps ++ p ∷ []) ≡ commands_of ps ++ option_to_list p.tells
 commands_push ps p = filter_map-append command_of ps (p ∷ []) ∙ ap (λ t. commands_of ps ++ t) (commands_cons p [] ∙ append-nil (option_to_list p.tells))
 
 -- a progress is that of a stream of which so many commands were given
@@ -70,7 +70,7 @@ next p b a = record { waiting = p.waiting ++ whole p.rest; place = place_of (p.p
 next_place : (n m : ℕ) (s : List ℕ) (b : ℕ) → n ≡ place_of (length s) → place_of (n + 1) ≡ place_of (length (s ++ b ∷ []))
 next_place n m s b e = omega (arith, e, length-append s (b ∷ []))
 
-waits : (given : ℕ) (old cs : List (List (List ℕ))) (new : List (List (List ℕ))) → given ≤ length cs → old ≡ drop given cs → old ++ new ≡ drop given (cs ++ new)
+pub waits : (given : ℕ) (old cs : List (List (List ℕ))) (new : List (List (List ℕ))) → given ≤ length cs → old ≡ drop given cs → old ++ new ≡ drop given (cs ++ new)
 waits given old cs new h e = ap (λ t. t ++ new) e ∙ sym (drop-append-le given cs new h)
 
 stands_next : (given : ℕ) (p : ProgressState) (s : List ℕ) (b : ℕ) (a : Awaited) → Stands given p s → after p.rest.awaited b ≡ Some a → Stands given (next p b a) (s ++ b ∷ [])

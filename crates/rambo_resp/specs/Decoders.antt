@@ -1,5 +1,5 @@
 -- Decoders, and the streams that they have taken
-use Rattle.std.specs.Prelude.{◌≡◌, ◌≢◌, ℕ, ◌≤◌, List, [], ◌∷◌, length, drop, Option, Some, None, Result, Ok, Err}
+use Rattle.std.specs.Prelude.{◌≡◌, ◌≢◌, ℕ, ◌≤◌, List, [], ◌∷◌, ◌++◌, length, drop, Option, Some, None, Result, Ok, Err}
 use Rattle.rambo_resp.specs.Streams.{Ending, open_at, faulty, Reads}
 use Rattle.rambo_resp.specs.declared.fault.Fault.{Fault}
 use Rattle.rambo_resp.specs.declared.fault.Fault.TheVariants.{OutOfMemory}
@@ -19,6 +19,24 @@ pub record HasTaken (d : DecoderState) (stream : List ℕ) (given : ℕ) : Type 
 -- the same decoder, which answers this fault for good
 abbrev pub failed : DecoderState → Fault → DecoderState
 failed d fault = record d { ending = faulty fault }
+
+-- a decoder has taken the front of a piece that follows the stream, and this is left of it
+pub record HasTakenFront (d : DecoderState) (stream piece rest : List ℕ) (given : ℕ) : Type 0 where
+  pub front : List ℕ
+  pub split : piece ≡ front ++ rest
+  pub taken : HasTaken d (stream ++ front) given
+
+-- a decoder has taken some of a piece, and then memory ran out
+pub record HasFailedWithin (d : DecoderState) (stream piece : List ℕ) (given : ℕ) : Type 0 where
+  pub before : DecoderState
+  pub rest : List ℕ
+  pub took : HasTakenFront before stream piece rest given
+  pub fails : d ≡ failed before OutOfMemory
+
+-- no command has begun
+abbrev pub HasNoneBegun : Ending → Type 0
+HasNoneBegun (open_at bytes place) = bytes ≡ []
+HasNoneBegun (faulty fault) = Unit {0}
 
 -- what a decoder answers to a piece that follows the stream. Nothing is wrong with what it has now; or it has the fault
 -- that it answers; or memory ran out, and nothing of the piece was taken

@@ -1,3 +1,4 @@
+pub mod BriefCommands
 pub mod Decoders
 pub mod Endings
 pub mod Faults

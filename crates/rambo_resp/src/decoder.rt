@@ -1,10 +1,14 @@
 //! Decoders.
-ghost use Rattle.std.specs.Prelude.{◌≡◌, ◌++◌, ◌+◌, [], ℕ, List, IfErr};
-ghost use Rattle.rambo_resp.specs.Decoders.{DecoderState, HasTaken, Takes, failed, oldest, without_oldest, given_by};
+ghost use Rattle.std.specs.Prelude.{◌≡◌, ◌≢◌, ◌++◌, ◌+◌, [], ℕ, ◌≤◌, List, length, IfOk, IfErr, IfNone, IfSome};
+ghost use Rattle.rambo_resp.specs.Spellings.{command_spelling};
+ghost use Rattle.rambo_resp.specs.BriefCommands.{IsBetween, IsBriefCommand, items_of, with_waiting};
+ghost use Rattle.rambo_resp.specs.Decoders.{DecoderState, HasTaken, HasTakenFront, HasFailedWithin, HasNoneBegun, Takes, failed, oldest, without_oldest, given_by};
 ghost use Rattle.rambo_resp.specs.Streams.{open_at, faulty};
 
+use crate::brief_command::BriefCommand;
 use crate::command::Command;
 use crate::fault::Fault;
+use crate::front::brief_command;
 use crate::progress::Progress;
 use std::alloc::Global;
 use std::marker::Model;
@@ -69,6 +73,52 @@ impl Decoder {
             self.fault = Some(fault);
         }
         read
+    }
+
+    /// Takes of the next piece what belongs to the command that has begun, and returns what follows it: all of the piece
+    /// where none has.
+    ///
+    /// A fault is answered where what is taken leads to one, and `OutOfMemory` where memory ran out. Either is answered
+    /// again from then on, after the commands that were whole before it.
+    pub fn feed_begun<'a>(&mut self, piece: &'a [u8]) -> Result<&'a [u8], Fault>
+        ensures taken { (stream : List ℕ) (given : ℕ) → HasTaken self.old stream given → IfOk result (λ rest. HasTakenFront self.new stream piece.now rest.now given) }
+        ensures whole { IfOk result (λ rest. 1 ≤ length rest.now → HasNoneBegun self.new.ending) }
+        ensures fault { (stream : List ℕ) (given : ℕ) → HasTaken self.old stream given
+            → IfErr result (λ f. f ≢ Fault.OutOfMemory → HasTaken self.new (stream ++ piece.now) given × (self.new.ending ≡ faulty f)) }
+        ensures memory { (stream : List ℕ) (given : ℕ) → HasTaken self.old stream given → IfErr result (λ f. f ≡ Fault.OutOfMemory → HasFailedWithin self.new stream piece.now given) }
+        ensures none { HasNoneBegun self.old.ending → self.new ≡ self.old }
+    {
+        let mut rest = piece;
+        loop {
+            let count = self.progress.begun(rest.len());
+            if count == 0 {
+                return Ok(rest);
+            }
+            self.feed(&rest[..count])?;
+            rest = &rest[count..];
+        }
+    }
+
+    /// Takes and gives the command that the next piece begins with, if that has two or three items of at most 99 bytes.
+    /// What follows it in the piece isn't taken yet. It allocates nothing.
+    ///
+    /// None exactly where the piece doesn't begin with such a command, whole, or another one has begun or wasn't given yet,
+    /// or the stream has a fault. Then nothing is taken.
+    #[inline(always)]
+    pub fn next_in<'a>(&mut self, piece: &'a [u8]) -> Option<(BriefCommand<'a>, &'a [u8])>
+        ensures spelled { IfSome result (λ r. piece.now ≡ command_spelling (items_of r.0) ++ r.1.now) }
+        ensures taken { (stream : List ℕ) (given : ℕ) → HasTaken self.old stream given
+            → IfSome result (λ r. HasTaken (with_waiting self.new (items_of r.0)) (stream ++ command_spelling (items_of r.0)) given) }
+        ensures given { IfSome result (λ _. (self.old.waiting ≡ []) × (self.new.waiting ≡ [])) }
+        ensures unchanged { IfNone result (self.new ≡ self.old) }
+        ensures none { IfNone result (IsBetween self.old → (items : List (List ℕ)) (rest : List ℕ) → IsBriefCommand items → piece.now ≢ command_spelling items ++ rest) }
+    {
+        if self.fault.is_some() || !self.progress.is_between() {
+            return None;
+        }
+        let (command, rest) = brief_command(piece)?;
+        self.progress.skip(piece.len() - rest.len());
+        Some((command, rest))
     }
 
     /// Gives the oldest command that wasn't given yet, which is moved out. It allocates nothing.

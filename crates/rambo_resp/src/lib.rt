@@ -2,6 +2,7 @@
 //!
 //! - `Decoder`: takes a stream piece by piece, and gives its commands.
 //! - `Command`: the items of a command.
+//! - `BriefCommand`: the same of a command that lies in a piece of the stream.
 //! - `Fault`: what is wrong with a stream.
 //! - `Reply`, `write_reply`: how a command is answered.
 //!
@@ -10,6 +11,7 @@
 #![tactic(auto)]
 
 mod awaited;
+mod brief_command;
 mod command;
 mod decoder;
 mod fault;
@@ -18,6 +20,7 @@ mod laws;
 mod progress;
 mod reply;
 
+pub use brief_command::BriefCommand;
 pub use command::Command;
 pub use decoder::Decoder;
 pub use fault::Fault;

@@ -1,6 +1,9 @@
 //! How far a stream was read.
-ghost use Rattle.std.specs.Prelude.{◌≡◌, ◌≤◌, ◌++◌, false, OnErr, ◌∷◌, [], ℕ, List, length, take, drop, OnOk, IfOk, IfErr};
+ghost use Rattle.std.specs.Prelude.{◌≡◌, ◌≤◌, ◌++◌, true, false, OnErr, ◌∷◌, ◌+◌, [], ℕ, List, length, take, drop, OnOk, IfOk, IfErr};
 ghost use Rattle.std.specs.Option.{option_to_list};
+ghost use Rattle.rambo_resp.specs.Streams.{place_of};
+ghost use Rattle.rambo_resp.specs.Endings.{is_star};
+ghost use Rattle.rambo_resp.specs.BriefCommands.{is_between};
 ghost use Rattle.rambo_resp.specs.Progresses.{ProgressState, running, run, step, fresh, are_bytes, with_item, item_read, line_read, Extends, Stops};
 
 use crate::awaited::{Awaited, after, fault_of};
@@ -55,6 +58,33 @@ impl Progress {
         ensures kept { self.new ≡ record self.old { waiting = drop 1 self.old.waiting } }
     {
         self.waiting.pop_front()
+    }
+
+    /// Whether no command has begun, and none is whole.
+    pub fn is_between(&self) -> bool
+        ensures { result ≡ is_between self.now }
+    {
+        self.waiting.is_empty() && matches!(self.awaited, Awaited::Star)
+    }
+
+    /// How many of the next bytes surely belong to the command that has begun: 0 where none has.
+    pub fn begun(&self, most: usize) -> usize
+        ensures few { result ≤ most }
+        ensures none { is_star self.now.rest.awaited ≡ true → result ≡ 0 }
+        ensures some { is_star self.now.rest.awaited ≡ false → 1 ≤ most → 1 ≤ result }
+    {
+        match self.awaited {
+            Awaited::Star => 0,
+            Awaited::Bytes(_, more) if more > 0 => most.min(usize::from(more)),
+            _ => most.min(1),
+        }
+    }
+
+    /// Goes past this many bytes, after which it stands as before them.
+    pub fn skip(&mut self, bytes: usize)
+        ensures { self.new ≡ record self.old { place = place_of (self.old.place + bytes) } }
+    {
+        self.place = self.place.saturating_add(bytes as u64);
     }
 
     /// How many whole commands there are.

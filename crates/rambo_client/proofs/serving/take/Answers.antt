@@ -1,58 +1,31 @@
-use Rattle.std.proofs.Common.{◌++◌, length, sym, ap, ◌∙◌, subst, append-nil}
-use Rattle.rambo_client.specs.Replies.{requests, replies, after_all}
-use Rattle.rambo_client.specs.Maps.{no_values}
-use Rattle.rambo_client.specs.Talks.{Answers}
-use Rattle.rambo_names.proofs.Errors.{on_err}
-use Rattle.rambo_client.proofs.Gains.{begins-whole}
-use Rattle.rambo_client.proofs.Pieces.{taken_of, untaken, begun, served, no_last, some_last}
+use Rattle.std.proofs.Common.{◌++◌, Result, Ok, Err, OnOk, OnErr}
+use Rattle.rambo_client.proofs.Fronts.{rest_answers, rest_breaks}
 use Rattle.rambo_client.proofs.serving.take.Goals as goal
 
-pub returns-in_err-feed-clause-err : goal.returns-in_err-feed-clause-err
-returns-in_err-feed-clause-err g c = λ stream commands talk.
-    on_err c.from_residual.result (untaken c.args.client.now.name c.args.client.now.founders c.args.decoder.now (g.C.Cluster.took c.args.cluster.now) stream c.args.piece.now commands talk)
+on_ok-then : {A E : Type 0} (r : Result A E) (P Q : Type 0) → (P → Q) → OnOk r P → OnOk r Q
+on_ok-then (Ok x) P Q f p = f p
+on_ok-then (Err e) P Q f p = tt
 
-pub returns-in_err-fault-clause-err : goal.returns-in_err-fault-clause-err
-returns-in_err-fault-clause-err g c = λ stream commands talk.
+on_err-then : {A E : Type 0} (r : Result A E) (P Q : Type 0) → (P → Q) → OnErr r P → OnErr r Q
+on_err-then (Ok x) P Q f p = tt
+on_err-then (Err e) P Q f p = f p
+
+pub returns-clause-ok : goal.returns-clause-ok
+returns-clause-ok g c = λ stream commands talk.
     let name = c.args.client.now.name in
     let founders = c.args.client.now.founders in
-    let h = g.C.Cluster.took c.args.cluster.now in
-    let taken = c.in_ok-feed.ensures.ok stream (length commands) (taken_of name founders c.args.decoder.now h stream commands talk) in
-    on_err c.from_residual-in_err-fault.result
-    (begun name founders c.args.decoder.now h stream c.args.piece.now commands talk c.feed.new.decoder taken (g.C.Cluster.took c.answer_all.new.cluster)
-    (c.in_err-fault.ensures.err (requests commands) talk.calls))
+    let front = c.in_ok-rest.ensures.ok stream commands talk in
+    on_ok-then c.take_rest.result _ _
+    (rest_answers name founders c.answer_front.new.decoder (g.C.Cluster.took c.answer_front.new.cluster) stream commands c.args.piece.now c.in_ok-rest.rest.now c.clear.new.self.items c.answer_front.new.out.items front
+    c.take_rest.new.decoder (g.C.Cluster.took c.take_rest.new.cluster) c.take_rest.new.out.items c.clear.ensures.items)
+    (c.take_rest.ensures.ok (stream ++ front.front) (commands ++ front.new) front.talk)
 
-pub returns-in_err-write_fault-in-Some-clause-err : goal.returns-in_err-write_fault-in-Some-clause-err
-returns-in_err-write_fault-in-Some-clause-err g c = λ stream commands talk.
+pub returns-clause-err : goal.returns-clause-err
+returns-clause-err g c = λ stream commands talk.
     let name = c.args.client.now.name in
     let founders = c.args.client.now.founders in
-    let h = g.C.Cluster.took c.args.cluster.now in
-    let taken = c.in_ok-feed.ensures.ok stream (length commands) (taken_of name founders c.args.decoder.now h stream commands talk) in
-    on_err c.from_residual-in_err-write_fault-in-Some.result
-    (begun name founders c.args.decoder.now h stream c.args.piece.now commands talk c.feed.new.decoder taken (g.C.Cluster.took c.answer_all.new.cluster)
-    (begins-whole name founders (requests commands ++ requests c.feed.new.decoder.waiting) (g.C.Cluster.took c.answer_all.new.cluster) (c.in_ok-fault.ensures.ok (requests commands) talk.calls)))
-
-pub returns-in_ok-write_fault-in-Some-clause-ok : goal.returns-in_ok-write_fault-in-Some-clause-ok
-returns-in_ok-write_fault-in-Some-clause-ok g c = λ stream commands talk.
-    let name = c.args.client.now.name in
-    let founders = c.args.client.now.founders in
-    let h = g.C.Cluster.took c.args.cluster.now in
-    let taken = c.in_ok-feed.ensures.ok stream (length commands) (taken_of name founders c.args.decoder.now h stream commands talk) in
-    let out = c.answer_all.new.out.items in
-    let last = some_last c.feed.new.decoder.ending c.in-Some.fault (sym c.in-Some.is ∙ c.in_ok-fault.ensures.fault) in
-    subst (Answers name founders c.answer_all.new.decoder (g.C.Cluster.took c.answer_all.new.cluster) (stream ++ c.args.piece.now) commands)
-    (ap (λ l. out ++ l) last ∙ sym c.in_ok-write_fault-in-Some.ensures.ok)
-    (served name founders c.args.decoder.now h stream c.args.piece.now commands talk c.feed.new.decoder taken c.answer_all.new.decoder (g.C.Cluster.took c.answer_all.new.cluster) out
-    c.in_ok-fault.ensures.given (c.in_ok-fault.ensures.ok (requests commands) talk.calls) (c.in_ok-fault.ensures.written (requests commands) talk.calls ∙ ap (λ l. l ++ replies (after_all no_values (requests commands)) (requests c.feed.new.decoder.waiting)) c.clear.ensures.items))
-
-pub returns-in-None-clause-ok : goal.returns-in-None-clause-ok
-returns-in-None-clause-ok g c = λ stream commands talk.
-    let name = c.args.client.now.name in
-    let founders = c.args.client.now.founders in
-    let h = g.C.Cluster.took c.args.cluster.now in
-    let taken = c.in_ok-feed.ensures.ok stream (length commands) (taken_of name founders c.args.decoder.now h stream commands talk) in
-    let out = c.answer_all.new.out.items in
-    let last = no_last c.feed.new.decoder.ending (sym c.in-None.is ∙ c.in_ok-fault.ensures.fault) in
-    subst (Answers name founders c.answer_all.new.decoder (g.C.Cluster.took c.answer_all.new.cluster) (stream ++ c.args.piece.now) commands)
-    (ap (λ l. out ++ l) last ∙ append-nil out)
-    (served name founders c.args.decoder.now h stream c.args.piece.now commands talk c.feed.new.decoder taken c.answer_all.new.decoder (g.C.Cluster.took c.answer_all.new.cluster) out
-    c.in_ok-fault.ensures.given (c.in_ok-fault.ensures.ok (requests commands) talk.calls) (c.in_ok-fault.ensures.written (requests commands) talk.calls ∙ ap (λ l. l ++ replies (after_all no_values (requests commands)) (requests c.feed.new.decoder.waiting)) c.clear.ensures.items))
+    let front = c.in_ok-rest.ensures.ok stream commands talk in
+    on_err-then c.take_rest.result _ _
+    (rest_breaks name founders c.answer_front.new.decoder (g.C.Cluster.took c.answer_front.new.cluster) stream commands c.args.piece.now c.in_ok-rest.rest.now c.clear.new.self.items c.answer_front.new.out.items front
+    (g.C.Cluster.took c.take_rest.new.cluster))
+    (c.take_rest.ensures.err (stream ++ front.front) (commands ++ front.new) front.talk)
