@@ -4,18 +4,19 @@ use Rattle.std.proofs.lemmas.List.{length-append}
 use Rattle.std.specs.Option.{option_map}
 use mathlib.Core.List.{IsPrefix}
 use Rattle.rambo_names.specs.Quorums.{QuorumSystem}
-use Rattle.rambo_gossip.specs.declared.letter.Letter.{Letter}
+use Rattle.rambo_gossip.specs.Letters.{LetterState}
 use Rattle.rambo_node.specs.FullNodes.{FullNode}
-use Rattle.rambo_run.specs.declared.step.Step.{Step}
-use Rattle.rambo_run.specs.declared.step.Step.TheVariants as step
+use Rattle.rambo_node.specs.Steps.{Step}
+use Rattle.rambo_node.specs.declared.step.StepOf.TheVariants as step
 use Rattle.rambo_run.specs.Runs.{run}
-use Rattle.rambo_run.specs.Steps.{meant_in, with_letter, with_event, with_mark, letter_in, meant_by}
+use Rattle.rambo_node.specs.Acts.{meant_by}
+use Rattle.rambo_run.specs.Steps.{meant_in, with_letter, with_event, with_mark, letter_in}
 use Rattle.rambo_run.specs.Actors.{actor}
 use Rattle.rambo_run.proofs.WellFormed.{run_well_formed}
 use Rattle.rambo_roll.specs.Rolls.{Idle}
 use Rattle.rambo_roll.specs.Stocks.{StockView}
-use Rattle.rambo_deeds.specs.declared.mail.Mail.{Mail}
-use Rattle.rambo_deeds.specs.Deeds.{Done}
+use Rattle.rambo_mail.specs.declared.mail.Mail.{Mail}
+use Rattle.rambo_book.specs.Done.{Done}
 use Rattle.rambo_run.proofs.Lists.{none-some}
 use Rattle.rambo_book.specs.Kept.{AreSent, BookView, IsKeeper, IsBook, lightened, state}
 use Rattle.rambo_book.specs.Windows.{LettersView, among, beyond, completed, delivers_gone, gone_of, kept_in, window_of}
@@ -118,12 +119,12 @@ sent_then mid last g k few =
     sent_by mid.gone (length mid.kept) mid.window last.gone (length last.kept) _ g count few
 
 -- what becomes of the letters in a step, before the oldest goes
-pub record Passed {Q : Type 0} (old mid : LettersView Q) (l : Option (Letter Q)) (came : Option ℕ) : Type 0 where
+pub record Passed {Q : Type 0} (old mid : LettersView Q) (l : Option (LetterState Q)) (came : Option ℕ) : Type 0 where
   pub gone : mid.gone ≡ old.gone
   pub window : mid.window ≡ old.window
   pub kept : mid.kept ≡ lightened (with_letter old.kept l) (option_map (λ n. n - old.gone) came)
 
-pub passed : {Q : Type 0} (old roomy sent mid : LettersView Q) (l : Option (Letter Q)) (came : Option ℕ) → roomy ≡ record old { room = roomy.room } → sent.kept ≡ with_letter roomy.kept l → sent.gone ≡ roomy.gone → sent.window ≡ roomy.window
+pub passed : {Q : Type 0} (old roomy sent mid : LettersView Q) (l : Option (LetterState Q)) (came : Option ℕ) → roomy ≡ record old { room = roomy.room } → sent.kept ≡ with_letter roomy.kept l → sent.gone ≡ roomy.gone → sent.window ≡ roomy.window
     → mid ≡ record sent { kept = lightened sent.kept (among sent came) } → Passed old mid l came
 passed old roomy sent mid l came room k g w light =
     let gone : sent.gone ≡ old.gone = g ∙ ap (λ (v : LettersView _). v.gone) room in
@@ -171,14 +172,14 @@ module _ {Q : Type 0} {s : QuorumSystem Q} {agreed : Option Q} {most : ℕ} {end
   kept_few = (let few = few_kept (run s f steps) letters (window_of endless most) b.gone b.sent in subst (λ n. length letters.kept ≤ n) (sym b.window) few)
 
   -- one that was sent is kept behind the others, and one may have left out its copies
-  pub one_past : (mid : LettersView Q) (o : Option (Letter Q)) (came : Option ℕ) → mid.kept ≡ lightened (with_letter letters.kept o) came → mid.window ≡ letters.window → length mid.kept ≤ mid.window + 1
+  pub one_past : (mid : LettersView Q) (o : Option (LetterState Q)) (came : Option ℕ) → mid.kept ≡ lightened (with_letter letters.kept o) came → mid.window ≡ letters.window → length mid.kept ≤ mid.window + 1
   one_past mid o came k w =
       let few = kept_few in
       let more = count_more letters.kept o came in
       let same = ap length k in
       omega (arith, few, more, same, w)
 
-  pub few_past : (mid : LettersView Q) (o : Option (Letter Q)) (came : Option ℕ) → mid.gone ≡ letters.gone → mid.kept ≡ lightened (with_letter letters.kept o) came → mid.gone + length mid.kept ≤ length steps + 1
+  pub few_past : (mid : LettersView Q) (o : Option (LetterState Q)) (came : Option ℕ) → mid.gone ≡ letters.gone → mid.kept ≡ lightened (with_letter letters.kept o) came → mid.gone + length mid.kept ≤ length steps + 1
   few_past mid o came g k =
       let few = all_few in
       let more = count_more letters.kept o came in

@@ -2,7 +2,7 @@
 use Rattle.std.proofs.Common.{◌≡◌, ℕ, zero, suc, ◌<◌, ◌≤◌, nat_eq, true, false, if◌then◌else◌, List, [], ◌∷◌, ◌++◌, length, take, drop, slice_index_or, All, refl, sym, ap, arith}
 use Rattle.std.specs.List.{remove}
 use Rattle.std.proofs.lemmas.List.Elements.{All-append, All-take, All-drop}
-use Rattle.rambo_deeds.specs.declared.mail.Mail.{Mail}
+use Rattle.rambo_mail.specs.declared.mail.Mail.{Mail}
 use Rattle.rambo_book.specs.Mailing.{without}
 
 -- one that has the number, the first from a place on

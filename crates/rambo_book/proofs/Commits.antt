@@ -6,24 +6,25 @@ use Rattle.rambo_names.specs.declared.refusal.Refusal.{Refusal}
 use Rattle.rambo_names.specs.declared.refusal.Refusal.TheVariants.{HistoryFull}
 use Rattle.rambo_names.specs.Quorums.{QuorumSystem}
 use Rattle.rambo_history.specs.declared.event.Event.{Event}
-use Rattle.rambo_gossip.specs.declared.letter.Letter.{Letter}
+use Rattle.rambo_gossip.specs.Letters.{LetterState}
 use Rattle.rambo_node.specs.declared.effect.Effect.{Effect}
 use Rattle.rambo_node.specs.Changes.{made_by}
 use Rattle.rambo_node.specs.FullNodes.{FullNode, beside_after, full}
 use Rattle.rambo_node.specs.Nodes.{Room, RoomyNode}
 use Rattle.rambo_node.proofs.Besides.{full_after_is}
-use Rattle.rambo_run.specs.declared.step.Step.{Step}
-use Rattle.rambo_run.specs.declared.step.Step.TheVariants as step
-use Rattle.rambo_run.specs.Steps.{Meant, meant, effect_in, refusal, with_letter, with_event, with_mark, letter_in, meant_by}
+use Rattle.rambo_node.specs.Steps.{Step}
+use Rattle.rambo_node.specs.declared.step.StepOf.TheVariants as step
+use Rattle.rambo_node.specs.Acts.{Meant, meant_by}
+use Rattle.rambo_run.specs.Steps.{meant, effect_in, refusal, with_letter, with_event, with_mark, letter_in, meant_in}
 use Rattle.rambo_run.specs.Runs.{run}
 use Rattle.rambo_roll.specs.Rolls.{Idle}
 use Rattle.rambo_sequence.specs.declared.mark.Mark.{Mark}
-use Rattle.rambo_deeds.specs.declared.half.Half.{Half}
-use Rattle.rambo_deeds.specs.declared.mail.Mail.{Mail}
+use Rattle.rambo_node.specs.declared.half.Half.{Half}
+use Rattle.rambo_mail.specs.declared.mail.Mail.{Mail}
 use Rattle.rambo_run.specs.Legal.{IsLegal}
 use Rattle.rambo_run.specs.Actors.{actor}
-use Rattle.rambo_run.specs.Steps.{meant_in}
-use Rattle.rambo_deeds.specs.Deeds.{Done, IsReadyStep, done, event_of, judged, letter_of, mark_of, outline_of}
+use Rattle.rambo_book.specs.Done.{Done, done}
+use Rattle.rambo_node.specs.Halves.{IsReadyStep, event_of, judged, letter_of, mark_of, outline_of}
 use Rattle.rambo_book.specs.Kept.{BookView, KeeperView, AreSent, IsKeeper, IsServedBy, Told, lightened, state}
 use Rattle.rambo_book.proofs.Whole.{IsWhole}
 use Rattle.rambo_book.specs.declared.readied.Ready.{Ready}
@@ -58,8 +59,8 @@ pub with_room : {Q : Type 0} (k u : KeeperView Q) → u ≡ k → u ≡ record k
 with_room k u e = e ∙ (λ i. record k { room = sym (ap (λ (k : KeeperView _). k.room) e) i })
 
 -- the lists of a book are the same ones
-pub book_same : {Q : Type 0} {s : QuorumSystem Q} {agreed : Option Q} {most : ℕ} {rolled : List (Step Q)} {f : Q} {steps : List (Step Q)} {letters : List (Letter Q)} {history : List Event} {marks : List Mark} {capacity : ℕ}
-    (rolled' steps' : List (Step Q)) (letters' : List (Letter Q)) (history' : List Event) (marks' : List Mark) → IsWhole s agreed most rolled f steps letters history marks capacity
+pub book_same : {Q : Type 0} {s : QuorumSystem Q} {agreed : Option Q} {most : ℕ} {rolled : List (Step Q)} {f : Q} {steps : List (Step Q)} {letters : List (LetterState Q)} {history : List Event} {marks : List Mark} {capacity : ℕ}
+    (rolled' steps' : List (Step Q)) (letters' : List (LetterState Q)) (history' : List Event) (marks' : List Mark) → IsWhole s agreed most rolled f steps letters history marks capacity
     → rolled' ≡ rolled → steps' ≡ steps → letters' ≡ letters → history' ≡ history → marks' ≡ marks → IsWhole s agreed most rolled' f steps' letters' history' marks' capacity
 book_same {s = s} {f = f} {steps = steps} {capacity = capacity} rolled' steps' letters' history' marks' b r e l h m = record {
   founded = b.founded;
@@ -72,24 +73,24 @@ book_same {s = s} {f = f} {steps = steps} {capacity = capacity} rolled' steps' l
   marked = m ∙ b.marked ∙ ap (λ steps. (run s f steps).marks) (sym e);
 }
 
-module _ {Q : Type 0} {s : QuorumSystem Q} {agreed : Option Q} {most : ℕ} {rolled : List (Step Q)} {f : Q} {steps : List (Step Q)} {letters : List (Letter Q)} {history : List Event} {marks : List Mark} {capacity : ℕ}
+module _ {Q : Type 0} {s : QuorumSystem Q} {agreed : Option Q} {most : ℕ} {rolled : List (Step Q)} {f : Q} {steps : List (Step Q)} {letters : List (LetterState Q)} {history : List Event} {marks : List Mark} {capacity : ℕ}
     {holds name : ℕ} {node : FullNode Q} {tray : List (Mail Q)} {seen : List (Step Q)}
     (b : IsWhole s agreed most rolled f steps letters history marks capacity) (k : IsKeeper s agreed most holds name node tray seen) (idle : Idle actor holds seen rolled)
     (st : Step Q) (served : IsServedBy (run s f steps) st name) where
   judged_here : Judged s f steps st name node.state letters
   judged_here = judged_by s agreed most rolled f steps letters history marks capacity holds name node tray seen b k idle st served
 
-  pub verdict : (o : Option (Letter Q)) (ls : List (Letter Q)) → ls ≡ letters → meant_by o st ≡ meant_in ls st → refusal s (run s f steps) st ≡ judged s node.state (meant_by o st)
+  pub verdict : (o : Option (LetterState Q)) (ls : List (LetterState Q)) → ls ≡ letters → meant_by o st ≡ meant_in ls st → refusal s (run s f steps) st ≡ judged s node.state (meant_by o st)
   verdict o ls e named = judged_here.verdict ∙ ap (λ ls. judged s node.state (meant_in ls st)) (sym e) ∙ ap (judged s node.state) (sym named)
 
-  pub told_refused : (o : Option (Letter Q)) (ls : List (Letter Q)) (r : Refusal) → ls ≡ letters → meant_by o st ≡ meant_in ls st → judged s node.state (meant_by o st) ≡ Some r → Told (refusal s (run s f steps) st) (length steps) capacity r
+  pub told_refused : (o : Option (LetterState Q)) (ls : List (LetterState Q)) (r : Refusal) → ls ≡ letters → meant_by o st ≡ meant_in ls st → judged s node.state (meant_by o st) ≡ Some r → Told (refusal s (run s f steps) st) (length steps) capacity r
   told_refused o ls r e named h = subst (λ o. Told o (length steps) capacity r) (sym (verdict o ls e named ∙ h)) refl
 
-  pub told_full : (o : Option (Letter Q)) (ls : List (Letter Q)) → ls ≡ letters → meant_by o st ≡ meant_in ls st → judged s node.state (meant_by o st) ≡ None → capacity ≤ length steps → Told (refusal s (run s f steps) st) (length steps) capacity HistoryFull
+  pub told_full : (o : Option (LetterState Q)) (ls : List (LetterState Q)) → ls ≡ letters → meant_by o st ≡ meant_in ls st → judged s node.state (meant_by o st) ≡ None → capacity ≤ length steps → Told (refusal s (run s f steps) st) (length steps) capacity HistoryFull
   told_full o ls e named h full = subst (λ o. Told o (length steps) capacity HistoryFull) (sym (verdict o ls e named ∙ h)) (inl (refl, omega (arith, full, b.fits)))
 
   -- where it isn't refused, what is ready by the letter of the book is ready
-  pub ready_here : (o : Option (Letter Q)) (half : Half Q) (v : RoomyNode Q) (held : List (Mail Q)) (looked : List (Step Q)) → v.state ≡ node.state → o ≡ letter_in letters st → meant_by o st ≡ meant_in letters st
+  pub ready_here : (o : Option (LetterState Q)) (half : Half Q) (v : RoomyNode Q) (held : List (Mail Q)) (looked : List (Step Q)) → v.state ≡ node.state → o ≡ letter_in letters st → meant_by o st ≡ meant_in letters st
       → refusal s (run s f steps) st ≡ None → ((m : Meant Q) → meant_by o st ≡ Some m → IsReadyStep s v (outline_of o) m.act half)
       → IsReadyIn s (run s f steps) (record { name = name; node = v.state; room = v.room; beside = v.beside; tray = held; seen = looked }) (record { step = st; half = half; letter = o; asks = false })
   ready_here o half v held looked same letter named none ready =
@@ -101,7 +102,7 @@ module _ {Q : Type 0} {s : QuorumSystem Q} {agreed : Option Q} {most : ℕ} {rol
       let ok : judged s x (meant_in letters st) ≡ None = ap (λ x. judged s x (meant_in letters st)) same ∙ sym j.verdict ∙ none in
       ready_alike s w st (record { name = name; node = x; room = v.room; beside = v.beside; tray = held; seen = looked }) (meant_in letters st) o half alike outline served none ok (λ m is. ready m (named ∙ is))
 
-module _ {Q : Type 0} {s : QuorumSystem Q} {agreed : Option Q} {most : ℕ} {rolled : List (Step Q)} {f : Q} {steps : List (Step Q)} {letters : List (Letter Q)} {history : List Event} {marks : List Mark} {capacity : ℕ}
+module _ {Q : Type 0} {s : QuorumSystem Q} {agreed : Option Q} {most : ℕ} {rolled : List (Step Q)} {f : Q} {steps : List (Step Q)} {letters : List (LetterState Q)} {history : List Event} {marks : List Mark} {capacity : ℕ}
     {holds name : ℕ} {node : FullNode Q} {tray : List (Mail Q)} {seen : List (Step Q)}
     (b : IsWhole s agreed most rolled f steps letters history marks capacity) (k : IsKeeper s agreed most holds name node tray seen) (idle : Idle actor holds seen rolled)
     (st : Step Q) where
@@ -110,7 +111,7 @@ module _ {Q : Type 0} {s : QuorumSystem Q} {agreed : Option Q} {most : ℕ} {rol
     abbrev kept : RoomyNode Q
     kept = record { state = node.state; room = room; beside = record { stamps = node.stamps; bases = node.bases } }
 
-    module _ {asks : Bool} {letter : Option (Letter Q)} (ready : IsReadyIn s (run s f steps) (record { name = name; node = node.state; room = room; beside = kept.beside; tray = held; seen = looked }) (record { step = st; half = half; letter = letter; asks = asks })) (came : Option (Letter Q)) (brought : came ≡ letter) where
+    module _ {asks : Bool} {letter : Option (LetterState Q)} (ready : IsReadyIn s (run s f steps) (record { name = name; node = node.state; room = room; beside = kept.beside; tray = held; seen = looked }) (record { step = st; half = half; letter = letter; asks = asks })) (came : Option (LetterState Q)) (brought : came ≡ letter) where
       -- a step whose first half is made, which the letter that it brings along tells
       pub half_here : IsReadyStep s kept (outline_of came) ready.act half
       half_here = subst (λ o. IsReadyStep s kept o ready.act half) (sym ready.brings ∙ sym (ap outline_of brought)) ready.ready
@@ -136,7 +137,7 @@ module _ {Q : Type 0} {s : QuorumSystem Q} {agreed : Option Q} {most : ℕ} {rol
           (letter_goes s f steps (steps ++ st ∷ []) (st ∷ [], refl) name named kept whole ready.act (letter_of half) ready.ready.letter)
 
   module _ {new : FullNode Q} {d : Done Q} (h : Finished s f steps st name letters history marks new d) where
-    pub book_after : (rolled' steps' : List (Step Q)) (letters' : List (Letter Q)) (history' : List Event) (marks' : List Mark) → length steps < capacity
+    pub book_after : (rolled' steps' : List (Step Q)) (letters' : List (LetterState Q)) (history' : List Event) (marks' : List Mark) → length steps < capacity
         → (came : Option ℕ) → ((n : ℕ) → came ≡ Some n → st ≡ step.Deliver n)
         → rolled' ≡ rolled ++ st ∷ [] → steps' ≡ steps ++ st ∷ [] → letters' ≡ lightened (with_letter letters d.letter) came → history' ≡ with_event history d.event → marks' ≡ with_mark marks d.mark
         → IsWhole s agreed most rolled' f steps' letters' history' marks' capacity

@@ -3,21 +3,21 @@ use Rattle.std.proofs.Common.{◌≡◌, ℕ, zero, suc, List, [], length, Optio
 use Rattle.rambo_names.specs.Names.{IsName}
 use Rattle.rambo_names.specs.Quorums.{QuorumSystem}
 use Rattle.rambo_history.specs.declared.event.Event.{Event}
-use Rattle.rambo_gossip.specs.declared.letter.Letter.{Letter}
+use Rattle.rambo_gossip.specs.Letters.{LetterState}
 use Rattle.rambo_node.specs.FullNodes.{FullNode, first_full}
 use Rattle.rambo_node.specs.Nodes.{NodeState, first_node}
-use Rattle.rambo_run.specs.declared.step.Step.{Step}
+use Rattle.rambo_node.specs.Steps.{Step}
 use Rattle.rambo_run.specs.Worlds.{WorldState, node_at, first_world}
-use Rattle.rambo_run.specs.Steps.{Meant, meant, meant_in}
+use Rattle.rambo_node.specs.Acts.{Meant, name_in}
+use Rattle.rambo_run.specs.Steps.{meant, meant_in}
 use Rattle.rambo_run.specs.Journals.{journal, journal_from}
 use Rattle.rambo_run.specs.Runs.{run}
 use Rattle.rambo_run.proofs.FirstWorlds.{first_named}
 use Rattle.rambo_run.proofs.Lists.{none-some, some_inj, there_below}
 use Rattle.rambo_sequence.specs.declared.mark.Mark.{Mark}
 use Rattle.rambo_deltas.specs.Deltas.{full_at}
-use Rattle.rambo_deeds.specs.declared.mail.Mail.{Mail}
+use Rattle.rambo_mail.specs.declared.mail.Mail.{Mail}
 use Rattle.rambo_run.specs.Legal.{IsLegal}
-use Rattle.rambo_deeds.specs.Deeds.{name_in}
 use Rattle.rambo_book.specs.Kept.{AreSent, IsMailOf, IsKeeper, IsServedBy}
 use Rattle.rambo_book.proofs.Whole.{IsWhole}
 use Rattle.rambo_run.proofs.GoingOn.{run_none}
@@ -36,10 +36,10 @@ no_marks : {Q : Type 0} (s : QuorumSystem Q) (f : Q) → (first_world s f).marks
 unfolding first_world
 no_marks s f = refl
 
-none_sent : {Q : Type 0} (w : WorldState Q) (letters : List (Letter Q)) → letters ≡ [] → w.letters ≡ [] → AreSent w letters
+none_sent : {Q : Type 0} (w : WorldState Q) (letters : List (LetterState Q)) → letters ≡ [] → w.letters ≡ [] → AreSent w letters
 none_sent w letters l n = (ap length l ∙ sym (ap length n), λ place a b e h. absurd (none-some a (sym (ap (λ ls. slice_get ls place) l) ∙ e)))
 
-pub first_book : {Q : Type 0} (s : QuorumSystem Q) (agreed : Option Q) (most : ℕ) (rolled : List (Step Q)) (f : Q) (steps : List (Step Q)) (letters : List (Letter Q)) (history : List Event) (marks : List Mark) (capacity : ℕ)
+pub first_book : {Q : Type 0} (s : QuorumSystem Q) (agreed : Option Q) (most : ℕ) (rolled : List (Step Q)) (f : Q) (steps : List (Step Q)) (letters : List (LetterState Q)) (history : List Event) (marks : List Mark) (capacity : ℕ)
     → agreed ≡ Some f → capacity ≡ most → rolled ≡ [] → steps ≡ [] → letters ≡ [] → history ≡ [] → marks ≡ [] → IsWhole s agreed most rolled f steps letters history marks capacity
 first_book s agreed most rolled f steps letters history marks capacity founded terms r e l h m = record {
   founded = founded;
@@ -69,10 +69,10 @@ first_keeper s agreed most f holds name node tray seen founded is same first emp
   mail = λ g e. subst (All (IsMailOf (run s g seen) name)) (sym empty) (λ k d lt. absurd (omega (arith, lt)));
 }
 
-pub serving : {Q : Type 0} (w : WorldState Q) (ls : List (Letter Q)) (st : Step Q) (own name : ℕ) → AreSent w ls → Some own ≡ name_in (meant_in ls st) → own ≡ name → IsServedBy w st name
+pub serving : {Q : Type 0} (w : WorldState Q) (ls : List (LetterState Q)) (st : Step Q) (own name : ℕ) → AreSent w ls → Some own ≡ name_in (meant_in ls st) → own ≡ name → IsServedBy w st name
 serving w ls st own name sent is same m e = some_inj m.name name (sym (ap Some (sym same) ∙ is ∙ same_name w ls st sent ∙ ap name_in e))
 
-pub unserved : {Q : Type 0} (w : WorldState Q) (ls : List (Letter Q)) (st : Step Q) (name : ℕ) → AreSent w ls → None ≡ name_in (meant_in ls st) → IsServedBy w st name
+pub unserved : {Q : Type 0} (w : WorldState Q) (ls : List (LetterState Q)) (st : Step Q) (name : ℕ) → AreSent w ls → None ≡ name_in (meant_in ls st) → IsServedBy w st name
 unserved w ls st name sent is m e = absurd (none-some m.name (is ∙ same_name w ls st sent ∙ ap name_in e))
 
 -- what has a name means it
@@ -81,17 +81,17 @@ means_one None n e = absurd (none-some n (sym e))
 means_one (Some m) n e = (m, (refl, some_inj m.name n (sym e)))
 
 -- and the other way round, the name that serves it is that of the node which the letters tell
-pub served_own : {Q : Type 0} (w : WorldState Q) (ls : List (Letter Q)) (st : Step Q) (own name : ℕ) → AreSent w ls → Some own ≡ name_in (meant_in ls st) → IsServedBy w st name → own ≡ name
+pub served_own : {Q : Type 0} (w : WorldState Q) (ls : List (LetterState Q)) (st : Step Q) (own name : ℕ) → AreSent w ls → Some own ≡ name_in (meant_in ls st) → IsServedBy w st name → own ≡ name
 served_own w ls st own name sent is served =
     let one = means_one (meant w st) own (is ∙ same_name w ls st sent) in
     sym one.1.1 ∙ served one.0 one.1.0
 
 -- a step without a name means none
-pub unnamed : {Q : Type 0} (w : WorldState Q) (ls : List (Letter Q)) (st : Step Q) (m : Meant Q) → AreSent w ls → None ≡ name_in (meant_in ls st) → meant w st ≡ Some m → ⊥
+pub unnamed : {Q : Type 0} (w : WorldState Q) (ls : List (LetterState Q)) (st : Step Q) (m : Meant Q) → AreSent w ls → None ≡ name_in (meant_in ls st) → meant w st ≡ Some m → ⊥
 unnamed w ls st m sent is e = none-some m.name (is ∙ same_name w ls st sent ∙ ap name_in e)
 
 -- a step that means none has no name
-pub none_named : {Q A : Type 0} (w : WorldState Q) (ls : List (Letter Q)) (st : Step Q) (own : ℕ) → AreSent w ls → Some own ≡ name_in (meant_in ls st) → meant w st ≡ None → A
+pub none_named : {Q A : Type 0} (w : WorldState Q) (ls : List (LetterState Q)) (st : Step Q) (own : ℕ) → AreSent w ls → Some own ≡ name_in (meant_in ls st) → meant w st ≡ None → A
 none_named w ls st own sent is none = absurd (none-some own (sym (is ∙ same_name w ls st sent ∙ ap name_in none)))
 
 -- who has a node in a run has a name

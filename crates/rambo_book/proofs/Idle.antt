@@ -3,11 +3,11 @@ use Rattle.std.proofs.Common.{◌≡◌, ℕ, if◌then◌else◌, List, [], ◌
 use Rattle.std.proofs.lemmas.Bool.{ne_eqb}
 use Rattle.rambo_names.specs.declared.refusal.Refusal.{Refusal}
 use Rattle.rambo_names.specs.Quorums.{QuorumSystem}
-use Rattle.rambo_node.specs.Acts.{Act}
+use Rattle.rambo_node.specs.Acts.{Act, Meant}
 use Rattle.rambo_node.specs.FullNodes.{full_after, fully_replayed, first_full}
-use Rattle.rambo_run.specs.declared.step.Step.{Step}
+use Rattle.rambo_node.specs.Steps.{Step}
 use Rattle.rambo_run.specs.Worlds.{WorldState, node_at, first_world}
-use Rattle.rambo_run.specs.Steps.{Meant, meant, refusal}
+use Rattle.rambo_run.specs.Steps.{meant, refusal}
 use Rattle.rambo_run.specs.Runs.{after, run_from, run}
 use Rattle.rambo_run.specs.Journals.{entered_unless, journal_from, journal}
 use Rattle.rambo_run.specs.Legal.{IsLegal}

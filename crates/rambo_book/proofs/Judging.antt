@@ -6,22 +6,22 @@ use Rattle.rambo_names.specs.Quorums.{QuorumSystem}
 use Rattle.rambo_names.specs.Refusals.{least}
 use Rattle.rambo_history.specs.declared.event.Event.{Event}
 use Rattle.rambo_history.specs.Faults.{fault_of}
-use Rattle.rambo_gossip.specs.declared.letter.Letter.{Letter}
-use Rattle.rambo_gossip.specs.declared.letter.Kind.{Kind}
-use Rattle.rambo_gossip.specs.declared.letter.Kind.TheVariants as kind
+use Rattle.rambo_gossip.specs.Letters.{LetterState}
+use Rattle.rambo_gossip.specs.Kinds.{Kind}
+use Rattle.rambo_gossip.specs.Kinds as kind
 use Rattle.rambo_gossip.specs.Short.{copies_in}
 use Rattle.rambo_tag.specs.Copies.{joined}
 use Rattle.rambo_tag.proofs.Joins.{joined-empty, joined-again}
-use Rattle.rambo_node.specs.Acts.{Act}
+use Rattle.rambo_node.specs.Acts.{Act, Meant, delivery}
 use Rattle.rambo_node.specs.Changes.{made_by}
 use Rattle.rambo_node.specs.Hearing.{heard_kind, heard_join, heard_gossip}
 use Rattle.rambo_node.specs.FullNodes.{FullNode, full_after}
 use Rattle.rambo_node.specs.Nodes.{NodeState}
 use Rattle.rambo_node.specs.Acts as act
-use Rattle.rambo_run.specs.declared.step.Step.{Step}
-use Rattle.rambo_run.specs.declared.step.Step.TheVariants as step
+use Rattle.rambo_node.specs.Steps.{Step}
+use Rattle.rambo_node.specs.declared.step.StepOf.TheVariants as step
 use Rattle.rambo_run.specs.Worlds.{WorldState, node_at, copies_of, held_by, letter_at}
-use Rattle.rambo_run.specs.Steps.{Meant, meant, meant_in, delivery, causes_at, causes_of, causes, refusal, with_letter, with_event, with_mark, Turn, turn_by, turn_at, turn_of, turn}
+use Rattle.rambo_run.specs.Steps.{meant, meant_in, causes_at, causes_of, causes, refusal, with_letter, with_event, with_mark, Turn, turn_by, turn_at, turn_of, turn}
 use Rattle.rambo_run.specs.Runs.{run}
 use Rattle.rambo_run.specs.Legal.{IsLegal}
 use Rattle.rambo_run.specs.Actors.{actor}
@@ -33,8 +33,9 @@ use Rattle.rambo_run.proofs.Actors.{acts, addressees}
 use Rattle.rambo_deltas.specs.Deltas.{full_at}
 use Rattle.rambo_roll.specs.Rolls.{Idle}
 use Rattle.rambo_sequence.specs.declared.mark.Mark.{Mark}
-use Rattle.rambo_deeds.specs.declared.mail.Mail.{Mail}
-use Rattle.rambo_deeds.specs.Deeds.{Done, judged, done}
+use Rattle.rambo_mail.specs.declared.mail.Mail.{Mail}
+use Rattle.rambo_book.specs.Done.{Done, done}
+use Rattle.rambo_node.specs.Halves.{judged}
 use Rattle.rambo_book.specs.Kept.{AreSent, IsKeeper, IsServedBy}
 use Rattle.rambo_book.proofs.Whole.{IsWhole}
 use Rattle.rambo_book.proofs.Idle.{idle_node, idle_full, full-more}
@@ -51,12 +52,12 @@ refusal_is s w st = refl
 
 -- the keeper's node is the one of the book's run, and so it judges as that says, and makes of the kept letters what it
 -- would make of those that were sent
-pub record Judged {Q : Type 0} (s : QuorumSystem Q) (f : Q) (steps : List (Step Q)) (st : Step Q) (name : ℕ) (node : NodeState Q) (letters : List (Letter Q)) : Type 0 where
+pub record Judged {Q : Type 0} (s : QuorumSystem Q) (f : Q) (steps : List (Step Q)) (st : Step Q) (name : ℕ) (node : NodeState Q) (letters : List (LetterState Q)) : Type 0 where
   pub here : node_at (run s f steps) name ≡ Some node
   pub verdict : refusal s (run s f steps) st ≡ judged s node (meant_in letters st)
   pub same : Alike s node (meant_in letters st) (meant (run s f steps) st)
 
-module _ {Q : Type 0} (s : QuorumSystem Q) (agreed : Option Q) (most : ℕ) (rolled : List (Step Q)) (f : Q) (steps : List (Step Q)) (letters : List (Letter Q)) (history : List Event) (marks : List Mark) (capacity : ℕ)
+module _ {Q : Type 0} (s : QuorumSystem Q) (agreed : Option Q) (most : ℕ) (rolled : List (Step Q)) (f : Q) (steps : List (Step Q)) (letters : List (LetterState Q)) (history : List Event) (marks : List Mark) (capacity : ℕ)
     (holds name : ℕ) (node : FullNode Q) (tray : List (Mail Q)) (seen : List (Step Q))
     (b : IsWhole s agreed most rolled f steps letters history marks capacity) (k : IsKeeper s agreed most holds name node tray seen) (idle : Idle actor holds seen rolled) where
   legal_rolled : IsLegal s f rolled
@@ -96,7 +97,7 @@ some_meant s x None e = absurd (true≢false (ap is_some e))
 some_meant s x (Some m) e = (m, refl)
 
 -- what holds once the step is done
-pub record Finished {Q : Type 0} (s : QuorumSystem Q) (f : Q) (steps : List (Step Q)) (st : Step Q) (name : ℕ) (letters : List (Letter Q)) (history : List Event) (marks : List Mark) (new : FullNode Q) (d : Done Q) : Type 0 where
+pub record Finished {Q : Type 0} (s : QuorumSystem Q) (f : Q) (steps : List (Step Q)) (st : Step Q) (name : ℕ) (letters : List (LetterState Q)) (history : List Event) (marks : List Mark) (new : FullNode Q) (d : Done Q) : Type 0 where
   pub accepted : refusal s (run s f steps) st ≡ None
   pub legal : IsLegal s f (steps ++ st ∷ [])
   pub sent : AreSent (run s f (steps ++ st ∷ [])) (with_letter letters d.letter)
@@ -107,10 +108,10 @@ pub record Finished {Q : Type 0} (s : QuorumSystem Q) (f : Q) (steps : List (Ste
   pub node : node_at (run s f (steps ++ st ∷ [])) name ≡ Some new.state
   pub full : full_at s f (steps ++ st ∷ []) name ≡ new
   pub acts : actor steps st ≡ name
-  pub heard : (n : ℕ) (whole : Letter Q) → st ≡ step.Deliver n → letter_at (run s f (steps ++ st ∷ [])).letters n ≡ Some whole → IsHeard (run s f (steps ++ st ∷ [])) whole
+  pub heard : (n : ℕ) (whole : LetterState Q) → st ≡ step.Deliver n → letter_at (run s f (steps ++ st ∷ [])).letters n ≡ Some whole → IsHeard (run s f (steps ++ st ∷ [])) whole
 
 -- what is delivered is a letter that was sent
-delivered_letter : {Q : Type 0} (o : Option (Letter Q)) (m : Meant Q) → delivery o ≡ Some m → (l : Letter Q) × (o ≡ Some l) × (record { name = l.addressee; act = act.Hear l } ≡ m)
+delivered_letter : {Q : Type 0} (o : Option (LetterState Q)) (m : Meant Q) → delivery o ≡ Some m → (l : LetterState Q) × (o ≡ Some l) × (record { name = l.addressee; act = act.Hear l } ≡ m)
 delivered_letter None m e = absurd (true≢false (sym (ap is_some e)))
 delivered_letter (Some l) m e = (l, refl, some_inj _ m e)
 
@@ -120,11 +121,11 @@ unfolding heard_join heard_gossip
 heard_joined x j kind.Join = sym (joined-empty x.registers)
 heard_joined x j (kind.Gossip g) = refl
 
-pub made_joined : {Q : Type 0} (x : NodeState Q) (l : Letter Q) → (made_by x (act.Hear l)).node.registers ≡ joined x.registers (copies_in l.kind)
+pub made_joined : {Q : Type 0} (x : NodeState Q) (l : LetterState Q) → (made_by x (act.Hear l)).node.registers ≡ joined x.registers (copies_in l.kind)
 unfolding made_by
 made_joined x l = heard_joined x l.sender l.kind
 
-holds_heard : {Q : Type 0} (x new : NodeState Q) (l : Letter Q) → new ≡ (made_by x (act.Hear l)).node → joined new.registers (copies_in l.kind) ≡ new.registers
+holds_heard : {Q : Type 0} (x new : NodeState Q) (l : LetterState Q) → new ≡ (made_by x (act.Hear l)).node → joined new.registers (copies_in l.kind) ≡ new.registers
 holds_heard x new l is =
     let e : new.registers ≡ joined x.registers (copies_in l.kind) = ap (λ x. x.registers) is ∙ made_joined x l in
     ap (λ r. joined r (copies_in l.kind)) e ∙ joined-again x.registers (copies_in l.kind) ∙ sym e
@@ -137,7 +138,7 @@ state_after : {Q : Type 0} (v : FullNode Q) (c : Act Q) → (full_after v c).sta
 unfolding full_after
 state_after v c = refl
 
-module _ {Q : Type 0} (s : QuorumSystem Q) (f : Q) (steps : List (Step Q)) (st : Step Q) (name : ℕ) (node : FullNode Q) (letters : List (Letter Q)) (history : List Event) (marks : List Mark) (new : FullNode Q) (d : Done Q) where
+module _ {Q : Type 0} (s : QuorumSystem Q) (f : Q) (steps : List (Step Q)) (st : Step Q) (name : ℕ) (node : FullNode Q) (letters : List (LetterState Q)) (history : List Event) (marks : List Mark) (new : FullNode Q) (d : Done Q) where
   pub finished : node_at (run s f steps) name ≡ Some node.state → full_at s f steps name ≡ node → (c : Act Q) → meant (run s f steps) st ≡ Some (record { name = name; act = c }) → refusal s (run s f steps) st ≡ None → IsLegal s f steps
       → AreSent (run s f steps) letters → history ≡ (run s f steps).history → marks ≡ (run s f steps).marks
       → new ≡ full_after node c → d ≡ record (done letters (made_by node.state c)) { letter = d.letter } → GoesFor (run s f (steps ++ st ∷ [])) d.letter (made_by node.state c).letter
@@ -171,7 +172,7 @@ module _ {Q : Type 0} (s : QuorumSystem Q) (f : Q) (steps : List (Step Q)) (st :
         heard = λ n whole is there.
             let it = delivered_letter (letter_at w.letters n) m (ap (meant w) (sym is) ∙ means) in
             let same : it.0 ≡ whole = some_inj it.0 whole (sym (letter-left s f steps (steps ++ st ∷ []) (st ∷ [], refl) n it.0 it.1) ∙ there) in
-            let to : whole.addressee ≡ name = ap (λ (l : Letter _). l.addressee) (sym same) ∙ ap (λ (m : Meant _). m.name) it.2 in
+            let to : whole.addressee ≡ name = ap (λ (l : LetterState _). l.addressee) (sym same) ∙ ap (λ (m : Meant _). m.name) it.2 in
             let after_it : new.state ≡ (made_by x (act.Hear whole)).node =
             state ∙ ap (λ (m : Meant _). (made_by x m.act).node) (sym it.2) ∙ ap (λ l. (made_by x (act.Hear l)).node) same in
             let held : held_by (run s f (steps ++ st ∷ [])) whole.addressee ≡ new.state.registers = ap (held_by (run s f (steps ++ st ∷ []))) to ∙ ap copies_of there_after in

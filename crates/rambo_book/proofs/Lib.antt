@@ -6,7 +6,7 @@ pub mod Readying
 pub mod Commits
 pub mod Refused
 pub mod Firsts
-pub mod Halves
+pub mod Ending
 pub mod Trays
 pub mod Taking
 pub mod Clearing

@@ -7,7 +7,7 @@ use Rattle.rambo_history.specs.Proper.{IsProperForAll}
 use Rattle.rambo_sequence.specs.declared.mark.Mark.{Mark}
 use Rattle.rambo_sequence.specs.Sequences.{SequenceOf, sequences_of}
 use Rattle.rambo_sequence.specs.StoreOrders.{NoTwice, all_calls, order_of}
-use Rattle.rambo_run.specs.declared.step.Step.{Step}
+use Rattle.rambo_node.specs.Steps.{Step}
 use Rattle.rambo_run.specs.Runs.{run, given_sequences, given_order}
 use Rattle.rambo_run.proofs.StoreOrder.{calls_once, has_one_order}
 

@@ -1,7 +1,7 @@
 -- What the mail of a book comes to with a step, by the numbers of the letters
 use Rattle.std.proofs.Common.{◌≡◌, ℕ, zero, suc, ◌-◌, Bool, true, false, nat_le, if◌then◌else◌, List, [], ◌∷◌, ◌++◌, map, length, drop, replicate, slice_get, slice_set, slice_index_or, Option, None, Some, option_map, option_to_list, refl, sym, ap, ◌∙◌, arith}
 use Rattle.std.proofs.lemmas.List.{map-append}
-use Rattle.rambo_run.specs.declared.step.Step.{Step}
+use Rattle.rambo_node.specs.Steps.{Step}
 use Rattle.rambo_mail.specs.declared.entry.Entry.{Entry}
 use Rattle.rambo_mail.specs.declared.posting.Posting.{Posting}
 use Rattle.rambo_mail.specs.Waiting.{MailState, drop_gone, drop_gone_numbers, number_of, numbers_of, waiting_for, with_waiting, times, sent_if, posted}

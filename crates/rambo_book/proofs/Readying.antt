@@ -4,32 +4,31 @@ use Rattle.std.proofs.lemmas.Bool.{eqb-false, ne_eqb, true≢false}
 use mathlib.Core.List.{IsPrefix}
 use Rattle.rambo_names.specs.Quorums.{QuorumSystem}
 use Rattle.rambo_names.specs.Refusals.{least}
-use Rattle.rambo_gossip.specs.declared.letter.Letter.{Letter}
+use Rattle.rambo_gossip.specs.Letters.{LetterState}
 use Rattle.rambo_gossip.specs.Short.{copies_in, IsShort}
 use Rattle.rambo_tag.specs.Copies.{joined}
 use Rattle.rambo_tag.proofs.StampLaws.{stamped_alike}
-use Rattle.rambo_node.specs.Acts.{Act}
+use Rattle.rambo_node.specs.Acts.{Act, Meant, delivery, meant_by}
 use Rattle.rambo_node.specs.declared.prepared.Hearing.{Hearing}
 use Rattle.rambo_node.specs.Changes.{Made, made_by, refusal_of}
-use Rattle.rambo_node.specs.FullNodes.{FullNode, beside_after, full, full_after}
+use Rattle.rambo_node.specs.FullNodes.{FullNode}
 use Rattle.rambo_node.specs.Nodes.{NodeState, RoomyNode}
 use Rattle.rambo_node.specs.Prepared.{IsHearing, IsReadyKind}
 use Rattle.rambo_node.proofs.Readiness.{ready_apart}
 use Rattle.rambo_node.specs.Acts as act
-use Rattle.rambo_run.specs.declared.step.Step.{Step}
-use Rattle.rambo_run.specs.declared.step.Step.TheVariants as step
+use Rattle.rambo_node.specs.Steps.{Step}
+use Rattle.rambo_node.specs.declared.step.StepOf.TheVariants as step
 use Rattle.rambo_run.specs.Worlds.{WorldState, node_at, letter_at}
-use Rattle.rambo_run.specs.Steps.{Meant, meant, meant_in, delivery, causes_at, causes_of, refusal, letter_in, meant_by}
+use Rattle.rambo_run.specs.Steps.{meant, meant_in, causes_at, causes_of, refusal, letter_in}
 use Rattle.rambo_run.specs.Runs.{run}
 use Rattle.rambo_run.specs.Legal.{IsLegal}
 use Rattle.rambo_run.specs.Actors.{actor}
 use Rattle.rambo_run.proofs.Lists.{none-some, some_inj}
-use Rattle.rambo_deltas.proofs.Alike.{short_letters_are_replayed_alike}
 use Rattle.rambo_roll.specs.Rolls.{Idle}
-use Rattle.rambo_deeds.specs.declared.half.Half.{Half}
-use Rattle.rambo_deeds.specs.declared.half.Half.TheVariants as half
-use Rattle.rambo_deeds.specs.declared.mail.Mail.{Mail}
-use Rattle.rambo_deeds.specs.Deeds.{IsHalf, IsReadyDelivery, IsReadyStep, SendsFor, judged, letter_of, outline_of}
+use Rattle.rambo_node.specs.declared.half.Half.{Half}
+use Rattle.rambo_node.specs.declared.half.Half.TheVariants as half
+use Rattle.rambo_mail.specs.declared.mail.Mail.{Mail}
+use Rattle.rambo_node.specs.Halves.{IsHalf, IsReadyDelivery, IsReadyStep, SendsFor, judged, letter_of, outline_of}
 use Rattle.rambo_book.specs.declared.readied.Ready.{Ready}
 use Rattle.rambo_book.specs.Kept.{KeeperView, IsKeeper, IsMailOf, IsServedBy}
 use Rattle.rambo_book.specs.Readying.{IsIn, mail_in, came_in, roomy, IsReadyIn, IsReadyFor}
@@ -42,28 +41,23 @@ abbrev comes : {Q : Type 0} → Act Q → Bool
 comes (act.Hear l) = true
 comes c = false
 
-abbrev letter_coming : {Q : Type 0} → Letter Q → Act Q → Letter Q
+abbrev letter_coming : {Q : Type 0} → LetterState Q → Act Q → LetterState Q
 letter_coming none (act.Hear l) = l
 letter_coming none c = none
 
 module _ {Q : Type 0} (s : QuorumSystem Q) (v : RoomyNode Q) where
   -- what may be heard of a letter may be heard of the one for which it stands
-  hearing_as : (l whole : Letter Q) (h : Hearing) → IsShort l whole v.state.registers → IsHearing v l h → IsHearing v whole h
+  hearing_as : (l whole : LetterState Q) (h : Hearing) → IsShort l whole v.state.registers → IsHearing v l h → IsHearing v whole h
   hearing_as l whole h short e =
       let alike : joined v.state.registers h.copies ≡ joined v.state.registers (copies_in whole.kind) =
       e.alike ∙ sym (made_joined v.state l) ∙ ap (λ (m : Made Q). m.node.registers) (made_alike s v.state l whole short) ∙ made_joined v.state whole in
       record {
-        ready = subst (λ (n : Letter Q). IsReadyKind v n.kind h.copies h.number) short.rest (ready_apart v l.kind (copies_in whole.kind) h.copies h.number e.ready);
+        ready = subst (λ (n : LetterState Q). IsReadyKind v n.kind h.copies h.number) short.rest (ready_apart v l.kind (copies_in whole.kind) h.copies h.number e.ready);
         alike = alike;
         stamped = stamped_alike v.state.registers h.copies (copies_in whole.kind) alike;
       }
 
-  -- what is kept beside after a letter is what is kept after the one for which it stands
-  short_beside : (l whole : Letter Q) → IsShort l whole v.state.registers → beside_after v.state v.beside (act.Hear l) ≡ beside_after v.state v.beside (act.Hear whole)
-  unfolding full_after
-  short_beside l whole short = ap (λ (x : FullNode Q). record { stamps = x.stamps; bases = x.bases }) (short_letters_are_replayed_alike (full v) l whole short)
-
-  module _ (o : Option (Letter Q)) (c d : Act Q) (short : IsShortDelivery v.state c d) where
+  module _ (o : Option (LetterState Q)) (c d : Act Q) (short : IsShortDelivery v.state c d) where
     delivery_as : (h : Hearing) → IsReadyDelivery v o c h → IsReadyDelivery v o d h
     delivery_as h e =
         let same : short.letter ≡ e.letter = ap (letter_coming short.letter) (sym short.delivers ∙ e.delivers) in
@@ -78,24 +72,15 @@ module _ {Q : Type 0} (s : QuorumSystem Q) (v : RoomyNode Q) where
     made_as : made_by v.state c ≡ made_by v.state d
     made_as = ap (made_by v.state) short.delivers ∙ made_alike s v.state short.letter short.whole short.short ∙ sym (ap (made_by v.state) short.delivered)
 
-    beside_as : beside_after v.state v.beside c ≡ beside_after v.state v.beside d
-    beside_as = ap (beside_after v.state v.beside) short.delivers ∙ short_beside short.letter short.whole short.short ∙ sym (ap (beside_after v.state v.beside) short.delivered)
-
     half_as : (h : Half Q) → IsHalf s v o c h → IsHalf s v o d h
     half_as (half.Send l) e = absurd (true≢false (sym (ap comes short.delivers) ∙ ap comes e.1))
     half_as (half.Hear h) e = delivery_as h e
-    half_as (half.Call p) e = record {
-      prepared = e.prepared;
-      same = e.same ∙ made_as;
-      beside = e.beside ∙ beside_as;
-      event = e.event ∙ ap (λ (m : Made Q). m.deed.event) made_as;
-      mark = e.mark ∙ ap (λ (m : Made Q). m.deed.mark) made_as;
-      copy = e.copy ∙ ap (λ (m : Made Q). m.deed.copy) made_as;
-    }
+    half_as (half.Call g) e = absurd (true≢false (sym (ap comes short.delivers) ∙ ap comes e.calls))
+    half_as (half.Advance g) e = absurd (true≢false (sym (ap comes short.delivers) ∙ ap comes e.advances))
     half_as (half.Quiet q) e = absurd (true≢false (sym (ap comes short.delivers) ∙ ap comes e))
 
   -- of two changes that come to the same both are ready
-  ready_as : (o : Option (Letter Q)) (c d : Act Q) (h : Half Q) → refusal_of s v.state d ≡ None → (c ≡ d) ⊎ IsShortDelivery v.state c d → IsReadyStep s v o c h → IsReadyStep s v o d h
+  ready_as : (o : Option (LetterState Q)) (c d : Act Q) (h : Half Q) → refusal_of s v.state d ≡ None → (c ≡ d) ⊎ IsShortDelivery v.state c d → IsReadyStep s v o c h → IsReadyStep s v o d h
   ready_as o c d h ok (inl same) e = subst (λ c. IsReadyStep s v o c h) same e
   ready_as o c d h ok (inr short) e =
       let made = made_as o c d short in
@@ -108,7 +93,7 @@ module _ {Q : Type 0} (s : QuorumSystem Q) (v : RoomyNode Q) where
       }
 
 -- so what is ready as it is seen is ready in a world, where it comes to what the step means there
-pub ready_alike : {Q : Type 0} (s : QuorumSystem Q) (w : WorldState Q) (st : Step Q) (k : KeeperView Q) (p : Option (Meant Q)) (came : Option (Letter Q)) (half : Half Q) → Alike s k.node p (meant w st)
+pub ready_alike : {Q : Type 0} (s : QuorumSystem Q) (w : WorldState Q) (st : Step Q) (k : KeeperView Q) (p : Option (Meant Q)) (came : Option (LetterState Q)) (half : Half Q) → Alike s k.node p (meant w st)
     → outline_of came ≡ outline_of (letter_in w.letters st) → IsServedBy w st k.name → refusal s w st ≡ None → judged s k.node p ≡ None → ((m : Meant Q) → p ≡ Some m → IsReadyStep s (roomy k) (outline_of came) m.act half)
     → IsReadyIn s w k (record { step = st; half = half; letter = came; asks = false })
 ready_alike s w st k p came half same outline served accepted none ready =
@@ -132,7 +117,7 @@ mail_none [] n e = refl
 mail_none (m ∷ ms) n e = absurd (omega (arith, e))
 
 record Found {Q : Type 0} (w : WorldState Q) (name : ℕ) (tray : List (Mail Q)) (n : ℕ) : Type 0 where
-  pub letter : Letter Q
+  pub letter : LetterState Q
   pub asks : Bool
   pub there : mail_in tray n ≡ Some letter
   pub sent : IsMailOf w name (record { number = n; asks = asks; letter = letter })
@@ -198,7 +183,7 @@ meant_is w _ = refl
 
 -- what is ready in the run of what a keeper has seen is so in a longer one, where nothing more is its own
 module _ {Q : Type 0} (s : QuorumSystem Q) (f : Q) (xs ys : List (Step Q)) (p : IsPrefix xs ys) where
-  letter_longer : (n : ℕ) (m : Meant Q) (o : Option (Letter Q)) → letter_at (run s f xs).letters n ≡ o → delivery (letter_at (run s f xs).letters n) ≡ Some m
+  letter_longer : (n : ℕ) (m : Meant Q) (o : Option (LetterState Q)) → letter_at (run s f xs).letters n ≡ o → delivery (letter_at (run s f xs).letters n) ≡ Some m
       → letter_at (run s f xs).letters n ≡ letter_at (run s f ys).letters n
   letter_longer n m None at e = absurd (none-some m (sym (ap delivery at) ∙ e))
   letter_longer n m (Some l) at e = at ∙ sym (letter-left s f xs ys p n l at)
@@ -240,10 +225,10 @@ keeper_roomy {s = s} {agreed = agreed} {most = most} {held = held} {name = name}
 -- what a keeper makes ready by its tray is ready
 module _ {Q : Type 0} {s : QuorumSystem Q} {agreed : Option Q} {most holds name : ℕ} {node : FullNode Q} {tray : List (Mail Q)} {seen : List (Step Q)} (k : IsKeeper s agreed most holds name node tray seen) (st : Step Q)
     (own : (f : Q) → agreed ≡ Some f → (m : Meant Q) → meant_in [] st ≡ Some m → m.name ≡ name) (there : (n : ℕ) → st ≡ step.Deliver n → IsIn tray n) where
-  pub tray_judged : (o : Option (Letter Q)) → o ≡ came_in tray st → (f : Q) → agreed ≡ Some f → refusal s (run s f seen) st ≡ judged s node.state (meant_by o st)
+  pub tray_judged : (o : Option (LetterState Q)) → o ≡ came_in tray st → (f : Q) → agreed ≡ Some f → refusal s (run s f seen) st ≡ judged s node.state (meant_by o st)
   tray_judged o is f e = tray_verdict s (run s f seen) name node.state tray (k.replays f e) (k.mail f e) st (own f e) there ∙ ap (λ o. judged s node.state (meant_by o st)) (sym is)
 
-  pub tray_ready : (o : Option (Letter Q)) → o ≡ came_in tray st → (half : Half Q) (v : RoomyNode Q) → v.state ≡ node.state → judged s node.state (meant_by o st) ≡ None
+  pub tray_ready : (o : Option (LetterState Q)) → o ≡ came_in tray st → (half : Half Q) (v : RoomyNode Q) → v.state ≡ node.state → judged s node.state (meant_by o st) ≡ None
       → ((m : Meant Q) → meant_by o st ≡ Some m → IsReadyStep s v (outline_of o) m.act half)
       → IsReadyFor s agreed (record { name = name; node = v.state; room = v.room; beside = v.beside; tray = tray; seen = seen }) (record { step = st; half = half; letter = o; asks = false })
   tray_ready o is half v same none ready = λ f e.

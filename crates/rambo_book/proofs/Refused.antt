@@ -5,10 +5,10 @@ use Rattle.rambo_names.specs.declared.refusal.Refusal.TheVariants.{OutOfMemory, 
 use Rattle.rambo_names.specs.Quorums.{QuorumSystem}
 use Rattle.rambo_names.specs.Refusals.{IsRefusal}
 use Rattle.rambo_node.specs.Nodes.{NodeState}
-use Rattle.rambo_run.specs.Steps.{Meant}
+use Rattle.rambo_node.specs.Acts.{Meant}
 use Rattle.rambo_run.proofs.Causes.{never_memory, no_letter_differs}
 use Rattle.rambo_run.proofs.Lists.{some_inj, none-some}
-use Rattle.rambo_deeds.specs.Deeds.{judged}
+use Rattle.rambo_node.specs.Halves.{judged}
 use Rattle.rambo_book.specs.Kept.{Told}
 
 pub refused_never_memory : {Q : Type 0} (s : QuorumSystem Q) (x : NodeState Q) (o : Option (Meant Q)) (r : Refusal) → judged s x o ≡ Some r → r ≢ OutOfMemory

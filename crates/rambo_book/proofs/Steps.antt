@@ -1,8 +1,8 @@
 -- The list of all steps, as a book has it
-use Rattle.std.proofs.Common.{◌≡◌, ℕ, List, [], ◌∷◌, ◌++◌, ap, ◌∙◌}
+use Rattle.std.proofs.Common.{◌≡◌, ℕ, [], ◌∷◌, ◌++◌, ap, ◌∙◌}
 use Rattle.rambo_mail.specs.Waiting.{MailState, numbers_of}
 use Rattle.rambo_roll.specs.Stocks.{StockView}
-use Rattle.rambo_run.specs.declared.step.Step.{Step}
+use Rattle.rambo_node.specs.Steps.{Step}
 use Rattle.rambo_book.specs.Kept.{BookView}
 
 -- a book of these founders, this list, these bounds and this mail

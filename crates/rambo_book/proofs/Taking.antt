@@ -3,7 +3,7 @@ use Rattle.std.proofs.Common.{◌≡◌, ℕ, zero, suc, ◌-◌, ◌<◌, ◌�
 use Rattle.std.proofs.lemmas.List.{set-get_or}
 use Rattle.rambo_run.specs.Worlds.{WorldState}
 use Rattle.rambo_run.proofs.Lists.{none-some, some_inj}
-use Rattle.rambo_deeds.specs.declared.mail.Mail.{Mail}
+use Rattle.rambo_mail.specs.declared.mail.Mail.{Mail}
 use Rattle.rambo_mail.specs.Waiting.{waiting_for, with_waiting}
 use Rattle.rambo_book.specs.Mailing.{comes_to, sent_to, IsBehind, AreTaken}
 

@@ -8,22 +8,19 @@ use mathlib.Core.List.{IsPrefix}
 use Rattle.rambo_names.specs.declared.refusal.Refusal.{Refusal}
 use Rattle.rambo_names.specs.declared.refusal.Refusal.TheVariants.{LetterGone}
 use Rattle.rambo_names.specs.Quorums.{QuorumSystem}
-use Rattle.rambo_gossip.specs.declared.letter.Letter.{Letter}
-use Rattle.rambo_gossip.specs.Letters.{letter_with}
+use Rattle.rambo_gossip.specs.Letters.{LetterState, letter_with}
 use Rattle.rambo_node.specs.Changes.{made_by}
 use Rattle.rambo_node.specs.Nodes.{NodeState}
-use Rattle.rambo_node.specs.Acts.{Act}
+use Rattle.rambo_node.specs.Acts.{Act, Meant, meant_by, name_in}
 use Rattle.rambo_node.proofs.Short.{whole_is_short}
-use Rattle.rambo_run.specs.declared.step.Step.{Step}
-use Rattle.rambo_run.specs.declared.step.Step.TheVariants as step
-use Rattle.rambo_run.specs.Kinds.{delivered_by}
+use Rattle.rambo_node.specs.Steps.{Step, delivered_by}
+use Rattle.rambo_node.specs.declared.step.StepOf.TheVariants as step
 use Rattle.rambo_run.specs.Runs.{after, run, run_from, unless_refused}
-use Rattle.rambo_run.specs.Steps.{Meant, meant_in, refusal, turn, turn_at, turn_of, meant, with_letter, letter_in, meant_by}
+use Rattle.rambo_run.specs.Steps.{meant_in, refusal, turn, turn_at, turn_of, meant, with_letter, letter_in}
 use Rattle.rambo_run.specs.Worlds.{WorldState, first_world, held_by, letter_at, node_at}
 use Rattle.rambo_run.proofs.GoingOn.{run_is}
 use Rattle.rambo_run.proofs.Legal.{run-grows}
 use Rattle.rambo_run.proofs.Lists.{none-some, some_inj}
-use Rattle.rambo_deeds.specs.Deeds.{name_in}
 use Rattle.rambo_book.specs.Kept.{AreSent, IsLetterOf, IsServedBy, StandsFor, lightened, lightened_at}
 use Rattle.rambo_book.specs.Windows.{LettersView, completed, delivers_gone, gone_of, is_gone, kept_at, kept_in, refused_in, window_of}
 use Rattle.rambo_book.proofs.Firsts.{none_named, served_own}
@@ -102,7 +99,7 @@ named_there gone name (step.Deliver (suc i)) e = absurd (none-some name e)
 named_there gone name _ e = refl
 
 -- a step means what it does by the letter that it lets come
-pub meant_by_letters : {Q : Type 0} (ls : List (Letter Q)) (st : Step Q) → meant_by (letter_in ls st) st ≡ meant_in ls st
+pub meant_by_letters : {Q : Type 0} (ls : List (LetterState Q)) (st : Step Q) → meant_by (letter_in ls st) st ≡ meant_in ls st
 meant_by_letters ls (step.Deliver n) = refl
 meant_by_letters ls _ = refl
 
@@ -115,7 +112,7 @@ at_gone v (suc i) e =
     ap (letter_at v.kept) first
 
 pub gone_unnamed : {Q : Type 0} (v : LettersView Q) (st : Step Q) → delivers_gone v.gone st ≡ true → name_in (meant_by (kept_in v st) st) ≡ None
-gone_unnamed v (step.Deliver n) e = ap (λ o. name_in (Rattle.rambo_run.specs.Steps.delivery o)) (at_gone v n e)
+gone_unnamed v (step.Deliver n) e = ap (λ o. name_in (Rattle.rambo_node.specs.Acts.delivery o)) (at_gone v n e)
 gone_unnamed v _ e = absurd (true≢false (sym e))
 
 module _ {Q : Type 0} (w : WorldState Q) (v : LettersView Q) (within : v.gone ≤ length w.letters) where
@@ -127,7 +124,7 @@ module _ {Q : Type 0} (w : WorldState Q) (v : LettersView Q) (within : v.gone �
       let next : suc i - v.gone ≡ suc (i - v.gone) = omega (arith, past) in
       ap (letter_at v.kept) next ∙ sym (get_kept v.gone w.letters v.kept i within (omega (arith, past)))
 
-  pub kept_is : (n : ℕ) (l : Letter Q) → kept_at v n ≡ Some l → letter_at (completed w v) n ≡ Some l
+  pub kept_is : (n : ℕ) (l : LetterState Q) → kept_at v n ≡ Some l → letter_at (completed w v) n ≡ Some l
   kept_is n l e = by_case (is_gone v.gone n) refl
     where
       by_case : (b : Bool) → is_gone v.gone n ≡ b → letter_at (completed w v) n ≡ Some l
@@ -147,7 +144,7 @@ module _ {Q : Type 0} (w : WorldState Q) (v : LettersView Q) (within : v.gone �
 
   -- a kept one represents that of its number
   module _ (sent : AreSent w (completed w v)) where
-    pub kept_sent : (n : ℕ) (l : Letter Q) → kept_at v n ≡ Some l → IsLetterOf w n l
+    pub kept_sent : (n : ℕ) (l : LetterState Q) → kept_at v n ≡ Some l → IsLetterOf w n l
     kept_sent n l e = by_case (is_gone v.gone n) refl
       where
         by_case : (b : Bool) → is_gone v.gone n ≡ b → IsLetterOf w n l
@@ -216,7 +213,7 @@ module _ {Q : Type 0} (w : WorldState Q) (v : LettersView Q) (window : ℕ) (gon
     few_kept = few_by (length w.letters) window v.gone (length v.kept) gone counted
 
 -- no more letters are sent than steps done
-with_count : {Q : Type 0} (ls : List (Letter Q)) (o : Option (Letter Q)) → length (with_letter ls o) ≤ length ls + 1
+with_count : {Q : Type 0} (ls : List (LetterState Q)) (o : Option (LetterState Q)) → length (with_letter ls o) ≤ length ls + 1
 with_count ls None = omega arith
 with_count ls (Some l) = (let e = length-append ls (l ∷ []) in omega (arith, e))
 
@@ -280,8 +277,8 @@ pub far_is : (gone : ℕ) (o : Option ℕ) (n : ℕ) → far gone o ≡ Some n �
 far_is gone None n e = absurd (none-some n e)
 far_is gone (Some m) n e = ap Some (far_by (nat_le m gone) m n e)
 
-module _ {Q : Type 0} (xs ys : List (Letter Q)) where
-  light_both : (i : ℕ) (o : Option (Letter Q)) → length xs ≤ i → lightened_at (xs ++ ys) (suc i) o ≡ xs ++ lightened_at ys (suc i - length xs) o
+module _ {Q : Type 0} (xs ys : List (LetterState Q)) where
+  light_both : (i : ℕ) (o : Option (LetterState Q)) → length xs ≤ i → lightened_at (xs ++ ys) (suc i) o ≡ xs ++ lightened_at ys (suc i - length xs) o
   light_both i None past = refl
   light_both i (Some l) past =
       let at : suc i - 1 ≡ length xs + ((suc i - length xs) - 1) = omega (arith, past) in
@@ -305,7 +302,7 @@ module _ {Q : Type 0} (xs ys : List (Letter Q)) where
   light_completed gone None e = refl
   light_completed gone (Some n) e = subst (λ g. lightened (xs ++ ys) (if nat_le n g then None else Some n) ≡ xs ++ lightened ys (Some (n - g))) e (light_by n (nat_le n (length xs)) refl)
 
-with_behind : {Q : Type 0} (xs ys : List (Letter Q)) (o : Option (Letter Q)) → with_letter (xs ++ ys) o ≡ xs ++ with_letter ys o
+with_behind : {Q : Type 0} (xs ys : List (LetterState Q)) (o : Option (LetterState Q)) → with_letter (xs ++ ys) o ≡ xs ++ with_letter ys o
 with_behind xs ys None = refl
 with_behind xs ys (Some l) = append_assoc xs ys (l ∷ [])
 
@@ -322,7 +319,7 @@ module _ {Q : Type 0} (s : QuorumSystem Q) (f : Q) (xs ys : List (Step Q)) (p : 
     same_gone : take v.gone (run s f xs).letters ≡ take v.gone (run s f ys).letters
     same_gone = (let g = (run-grows s f xs ys p).letters in sym (take_more v.gone (run s f xs).letters g.0 within) ∙ ap (take v.gone) g.1)
 
-    pub longer_by : (o : Option (Letter Q)) (came : Option ℕ)
+    pub longer_by : (o : Option (LetterState Q)) (came : Option ℕ)
         → lightened (with_letter (completed (run s f xs) v) o) (far v.gone came) ≡ take v.gone (run s f ys).letters ++ lightened (with_letter v.kept o) (option_map (λ n. n - v.gone) came)
     longer_by o came =
         ap (λ ls. lightened ls (far v.gone came)) (with_behind (take v.gone (run s f xs).letters) v.kept o)
@@ -330,7 +327,7 @@ module _ {Q : Type 0} (s : QuorumSystem Q) (f : Q) (xs ys : List (Step Q)) (p : 
         ∙ ap (λ ls. ls ++ lightened (with_letter v.kept o) (option_map (λ n. n - v.gone) came)) same_gone
 
 -- the oldest go, in whose place those are that were sent
-module _ {Q : Type 0} (w : WorldState Q) (g e : ℕ) (ks : List (Letter Q)) (sent : AreSent w (take g w.letters ++ ks)) (within : g + e ≤ length w.letters) where
+module _ {Q : Type 0} (w : WorldState Q) (g e : ℕ) (ks : List (LetterState Q)) (sent : AreSent w (take g w.letters ++ ks)) (within : g + e ≤ length w.letters) where
   less : g ≤ length w.letters
   less = omega (arith, within)
 
@@ -343,7 +340,7 @@ module _ {Q : Type 0} (w : WorldState Q) (g e : ℕ) (ks : List (Letter Q)) (sen
       let all = length-append (take g w.letters) ks in
       omega (arith, first, both, rest, old, all, sent.0, within)
 
-  place_fewer : (place : ℕ) (l whole : Letter Q) (b : Bool) → nat_lt place (g + e) ≡ b → slice_get (take (g + e) w.letters ++ drop e ks) place ≡ Some l → slice_get w.letters place ≡ Some whole → StandsFor w l whole
+  place_fewer : (place : ℕ) (l whole : LetterState Q) (b : Bool) → nat_lt place (g + e) ≡ b → slice_get (take (g + e) w.letters ++ drop e ks) place ≡ Some l → slice_get w.letters place ≡ Some whole → StandsFor w l whole
   place_fewer place l whole true below there sent_there =
       let is : whole ≡ l = some_inj whole l (sym sent_there ∙ sym (get_before (g + e) w.letters (drop e ks) place within (ltb-true place (g + e) below)) ∙ there) in
       subst (λ l. StandsFor w l whole) is (whole_is_short whole (held_by w whole.addressee))
@@ -358,5 +355,5 @@ module _ {Q : Type 0} (w : WorldState Q) (g e : ℕ) (ks : List (Letter Q)) (sen
   sent_fewer = (count_fewer, λ place l whole there sent_there. place_fewer place l whole (nat_lt place (g + e)) refl there sent_there)
 
 -- a letter more, and copies less
-pub count_more : {Q : Type 0} (ls : List (Letter Q)) (o : Option (Letter Q)) (came : Option ℕ) → length (lightened (with_letter ls o) came) ≤ length ls + 1
+pub count_more : {Q : Type 0} (ls : List (LetterState Q)) (o : Option (LetterState Q)) (came : Option ℕ) → length (lightened (with_letter ls o) came) ≤ length ls + 1
 count_more ls o came = (let same = light_count (with_letter ls o) came in let more = with_count ls o in omega (arith, same, more))

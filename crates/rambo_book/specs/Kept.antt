@@ -4,21 +4,21 @@ use Rattle.std.specs.FinMap as copies
 use Rattle.rambo_names.specs.declared.refusal.Refusal.{Refusal}
 use Rattle.rambo_names.specs.declared.refusal.Refusal.TheVariants.{HistoryFull, OutOfMemory}
 use Rattle.rambo_names.specs.Quorums.{QuorumSystem}
-use Rattle.rambo_gossip.specs.declared.letter.Letter.{Letter}
-use Rattle.rambo_gossip.specs.Letters.{letter_with}
+use Rattle.rambo_gossip.specs.Letters.{LetterState, letter_with}
 use Rattle.rambo_gossip.specs.Short.{IsShort}
 use Rattle.rambo_names.specs.Names.{IsName}
 use Rattle.rambo_tag.specs.declared.version.Version.{Version}
 use Rattle.rambo_node.specs.FullNodes.{FullNode}
 use Rattle.rambo_node.specs.Nodes.{NodeState, Room, Beside, heard_from}
-use Rattle.rambo_run.specs.declared.step.Step.{Step}
+use Rattle.rambo_node.specs.Steps.{Step}
 use Rattle.rambo_run.specs.Worlds.{WorldState, node_at, held_by, letter_at}
-use Rattle.rambo_run.specs.Steps.{Meant, meant}
+use Rattle.rambo_node.specs.Acts.{Meant}
+use Rattle.rambo_run.specs.Steps.{meant}
 use Rattle.rambo_run.specs.Journals.{journal}
 use Rattle.rambo_run.specs.Runs.{run}
 use Rattle.rambo_deltas.specs.Bases.{IsLastChange, base_in}
 use Rattle.rambo_deltas.specs.Deltas.{full_at}
-use Rattle.rambo_deeds.specs.declared.mail.Mail.{Mail}
+use Rattle.rambo_mail.specs.declared.mail.Mail.{Mail}
 use Rattle.rambo_run.specs.Legal.{IsLegal}
 use Rattle.rambo_book.specs.Records.{RecordView, IsRecord}
 use Rattle.rambo_book.specs.Windows.{LettersView, completed, gone_of, window_of}
@@ -50,31 +50,31 @@ abbrev pub state : {Q : Type 0} → QuorumSystem Q → BookView Q → WorldState
 state s b = run s b.founders b.steps
 
 -- a stored letter represents this one of a world: it may leave out copies that the addressee holds there
-abbrev pub StandsFor : {Q : Type 0} → WorldState Q → Letter Q → Letter Q → Type 0
+abbrev pub StandsFor : {Q : Type 0} → WorldState Q → LetterState Q → LetterState Q → Type 0
 StandsFor w l whole = IsShort l whole (held_by w whole.addressee)
 
 -- the stored letters represent those that were sent in a world, one for one
-abbrev pub AreSent : {Q : Type 0} → WorldState Q → List (Letter Q) → Type 0
+abbrev pub AreSent : {Q : Type 0} → WorldState Q → List (LetterState Q) → Type 0
 AreSent {Q} w letters =
     (length letters ≡ length w.letters)
-    × ((place : ℕ) (l whole : Letter Q) → slice_get letters place ≡ Some l → slice_get w.letters place ≡ Some whole → StandsFor w l whole)
+    × ((place : ℕ) (l whole : LetterState Q) → slice_get letters place ≡ Some l → slice_get w.letters place ≡ Some whole → StandsFor w l whole)
 
 -- kept letters, once that of a number, if there is one, has left out its copies
-abbrev pub lightened_at : {Q : Type 0} → List (Letter Q) → ℕ → Option (Letter Q) → List (Letter Q)
+abbrev pub lightened_at : {Q : Type 0} → List (LetterState Q) → ℕ → Option (LetterState Q) → List (LetterState Q)
 lightened_at letters number None = letters
 lightened_at letters number (Some l) = slice_set letters (number - 1) (letter_with l copies.empty)
 
-abbrev pub lightened : {Q : Type 0} → List (Letter Q) → Option ℕ → List (Letter Q)
+abbrev pub lightened : {Q : Type 0} → List (LetterState Q) → Option ℕ → List (LetterState Q)
 lightened letters None = letters
 lightened letters (Some number) = lightened_at letters number (letter_at letters number)
 
 -- a letter represents that of this number
-abbrev pub IsLetterOf : {Q : Type 0} → WorldState Q → ℕ → Letter Q → Type 0
-IsLetterOf {Q} w number l = (whole : Letter Q) × (letter_at w.letters number ≡ Some whole) × StandsFor w l whole
+abbrev pub IsLetterOf : {Q : Type 0} → WorldState Q → ℕ → LetterState Q → Type 0
+IsLetterOf {Q} w number l = (whole : LetterState Q) × (letter_at w.letters number ≡ Some whole) × StandsFor w l whole
 
 -- a letter to this name, which represents that of its number
 abbrev pub IsMailOf : {Q : Type 0} → WorldState Q → ℕ → Mail Q → Type 0
-IsMailOf {Q} w name m = (whole : Letter Q) × (letter_at w.letters m.number ≡ Some whole) × StandsFor w m.letter whole × (whole.addressee ≡ name)
+IsMailOf {Q} w name m = (whole : LetterState Q) × (letter_at w.letters m.number ≡ Some whole) × StandsFor w m.letter whole × (whole.addressee ≡ name)
 
 -- what a keeper has seen is legal, and at most as many steps as are agreed; its node, with its stamps and bases, is
 -- that of their run, and its letters were sent to it there

@@ -4,3 +4,4 @@ pub mod OpenCalls
 pub mod Readying
 pub mod Records
 pub mod Windows
+pub mod Done

@@ -1,13 +1,13 @@
 -- Which letters went to a tray, and which left it
 use Rattle.std.specs.Prelude.{◌≡◌, ℕ, Bool, false, nat_eq, nat_le, if◌then◌else◌, List, [], ◌∷◌, ◌++◌, map, take, drop, replicate, length, Option, None, Some}
-use Rattle.rambo_gossip.specs.declared.letter.Letter.{Letter}
+use Rattle.rambo_gossip.specs.Letters.{LetterState}
 use Rattle.rambo_joiner.specs.Statuses.{is_stopped}
 use Rattle.rambo_run.specs.Worlds.{WorldState, letter_at}
 use Rattle.rambo_mail.specs.Waiting.{drop_gone_numbers, waiting_for, with_waiting, times}
-use Rattle.rambo_deeds.specs.declared.mail.Mail.{Mail}
+use Rattle.rambo_mail.specs.declared.mail.Mail.{Mail}
 use Rattle.rambo_book.specs.Kept.{BookView, KeeperView}
 
-abbrev pub goes_to : {Q : Type 0} → ℕ → Option (Letter Q) → Bool
+abbrev pub goes_to : {Q : Type 0} → ℕ → Option (LetterState Q) → Bool
 goes_to name None = false
 goes_to name (Some l) = nat_eq l.addressee name
 

@@ -2,16 +2,15 @@
 use Rattle.std.specs.Prelude.{◌≡◌, ℕ, nat_eq, if◌then◌else◌, List, [], ◌∷◌, slice_get, Option, None, Some}
 use Rattle.std.specs.Option.{option_and_then}
 use Rattle.rambo_names.specs.Quorums.{QuorumSystem}
-use Rattle.rambo_gossip.specs.declared.letter.Letter.{Letter}
+use Rattle.rambo_gossip.specs.Letters.{LetterState}
 use Rattle.rambo_node.specs.Acts.{Act}
 use Rattle.rambo_node.specs.Nodes.{RoomyNode}
-use Rattle.rambo_run.specs.declared.step.Step.{Step}
-use Rattle.rambo_run.specs.Kinds.{delivered_by}
+use Rattle.rambo_node.specs.Steps.{Step, delivered_by}
 use Rattle.rambo_run.specs.Worlds.{WorldState}
 use Rattle.rambo_run.specs.Steps.{meant, refusal, letter_in}
 use Rattle.rambo_run.specs.Runs.{run}
-use Rattle.rambo_deeds.specs.declared.mail.Mail.{Mail}
-use Rattle.rambo_deeds.specs.Deeds.{IsReadyStep, outline_of}
+use Rattle.rambo_mail.specs.declared.mail.Mail.{Mail}
+use Rattle.rambo_node.specs.Halves.{IsReadyStep, outline_of}
 use Rattle.rambo_book.specs.declared.readied.Ready.{Ready}
 use Rattle.rambo_book.specs.Kept.{KeeperView}
 
@@ -20,12 +19,12 @@ abbrev pub IsIn : {Q : Type 0} → List (Mail Q) → ℕ → Type 0
 IsIn {Q} tray number = (place : ℕ) × (m : Mail Q) × (slice_get tray place ≡ Some m) × (m.number ≡ number)
 
 -- the oldest one
-abbrev pub mail_in : {Q : Type 0} → List (Mail Q) → ℕ → Option (Letter Q)
+abbrev pub mail_in : {Q : Type 0} → List (Mail Q) → ℕ → Option (LetterState Q)
 mail_in [] number = None
 mail_in (m ∷ ms) number = if nat_eq m.number number then Some m.letter else mail_in ms number
 
 -- the letter of a tray that a step delivers, if it delivers one
-abbrev pub came_in : {Q : Type 0} → List (Mail Q) → Step Q → Option (Letter Q)
+abbrev pub came_in : {Q : Type 0} → List (Mail Q) → Step Q → Option (LetterState Q)
 came_in tray st = option_and_then (mail_in tray) (delivered_by st)
 
 -- the node of a keeper, with the room that is in it

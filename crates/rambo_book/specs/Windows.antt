@@ -1,12 +1,11 @@
 -- Which letters a book keeps: those that were sent last
-use Rattle.std.specs.Prelude.{ℕ, zero, suc, ◌-◌, ◌++◌, Bool, false, nat_lt, if◌then◌else◌, List, length, take, drop, Option, Some}
+use Rattle.std.specs.Prelude.{ℕ, zero, suc, ◌-◌, ◌++◌, Bool, false, nat_lt, if◌then◌else◌, List, length, take, Option, Some}
 use Rattle.std.specs.Option.{option_and_then, option_map, option_map_or}
 use Rattle.rambo_names.specs.declared.refusal.Refusal.{Refusal}
 use Rattle.rambo_names.specs.declared.refusal.Refusal.TheVariants.{LetterGone}
 use Rattle.rambo_names.specs.Quorums.{QuorumSystem}
-use Rattle.rambo_gossip.specs.declared.letter.Letter.{Letter}
-use Rattle.rambo_run.specs.declared.step.Step.{Step}
-use Rattle.rambo_run.specs.Kinds.{delivered_by}
+use Rattle.rambo_gossip.specs.Letters.{LetterState}
+use Rattle.rambo_node.specs.Steps.{Step, delivered_by}
 use Rattle.rambo_run.specs.Steps.{refusal}
 use Rattle.rambo_run.specs.Worlds.{WorldState, letter_at}
 
@@ -34,16 +33,16 @@ refused_in s endless most w st = if delivers_gone (gone_of endless most w) st th
 -- how many letters are gone, the others, how many of these are kept at most, and for how many more there is room
 pub record LettersView (Q : Type 0) : Type 0 where
   pub gone : ℕ
-  pub kept : List (Letter Q)
+  pub kept : List (LetterState Q)
   pub window : ℕ
   pub room : ℕ
 
 -- the letter of a number, if it was sent and is kept
-abbrev pub kept_at : {Q : Type 0} → LettersView Q → ℕ → Option (Letter Q)
+abbrev pub kept_at : {Q : Type 0} → LettersView Q → ℕ → Option (LetterState Q)
 kept_at v number = letter_at v.kept (number - v.gone)
 
 -- the one that a step delivers, if it delivers one that is
-abbrev pub kept_in : {Q : Type 0} → LettersView Q → Step Q → Option (Letter Q)
+abbrev pub kept_in : {Q : Type 0} → LettersView Q → Step Q → Option (LetterState Q)
 kept_in v st = option_and_then (kept_at v) (delivered_by st)
 
 -- the number of a letter among those that are kept
@@ -55,5 +54,5 @@ abbrev pub beyond : {Q : Type 0} → LettersView Q → ℕ
 beyond v = length v.kept - v.window
 
 -- with those that are gone as they were sent
-abbrev pub completed : {Q : Type 0} → WorldState Q → LettersView Q → List (Letter Q)
+abbrev pub completed : {Q : Type 0} → WorldState Q → LettersView Q → List (LetterState Q)
 completed w v = take v.gone w.letters ++ v.kept

@@ -8,7 +8,8 @@ ghost use Rattle.rambo_book.specs.Windows.{delivers_gone, gone_of, is_gone};
 ghost use Rattle.rambo_roll.specs.Rolls.{Idle};
 ghost use Rattle.rambo_run.specs.Actors.{actor};
 ghost use Rattle.rambo_run.specs.Runs.{run};
-ghost use Rattle.rambo_run.specs.Steps.{Meant, meant};
+ghost use Rattle.rambo_node.specs.Acts.{Meant};
+ghost use Rattle.rambo_run.specs.Steps.{meant};
 ghost use Rattle.rambo_run.specs.Worlds.{letter_at, node_at};
 ghost use Rattle.rambo_run.specs.Legal.{IsLegal};
 
@@ -17,7 +18,7 @@ use crate::letters::{Letters, window_for};
 use crate::passes::Passes;
 use crate::record::Record;
 use crate::terms::Terms;
-use rambo_deeds::SharedLetter;
+use rambo_gossip::Letter;
 use rambo_history::{Answer, CallId};
 use rambo_mail::Mails;
 use rambo_names::{Name, Quorums, Refusal};
@@ -161,7 +162,7 @@ impl<J: Terms<Q>, Q: Quorums> Book<J, Q> {
 
     /// The letter of a number as it is stored, if it was sent and isn't gone. It represents that of its number in the run of
     /// the steps, and may leave out copies that its addressee holds there.
-    pub fn letter(&self, number: u64) -> Option<&SharedLetter<Q>>
+    pub fn letter(&self, number: u64) -> Option<&Letter<Q>>
         ensures sent { IfSome result (λ l. IsLetterOf (state Q.system self.now) number l.now) }
         ensures none { result ≡ None → is_gone (gone_of J.endless J.capacity (state Q.system self.now)) number ≡ false → letter_at (state Q.system self.now).letters number ≡ None }
         ensures gone { is_gone (gone_of J.endless J.capacity (state Q.system self.now)) number ≡ true → result ≡ None }

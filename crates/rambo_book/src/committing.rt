@@ -24,7 +24,7 @@ use rambo_mail::{Mails, Posting};
 use rambo_names::{Quorums, Refusal};
 use rambo_node::Effect;
 use rambo_roll::Stock;
-use rambo_run::Step;
+use rambo_run::{Step, StepOf};
 use rambo_tag::Replica;
 
 /// Why a step of the keeper's node is refused, if it is: 25 where it delivers a letter that is gone; else what the rules of its
@@ -66,7 +66,7 @@ fn judge<J: Terms<Q>, Q: Quorums, S: Replica>(
 {
     book.steps.agree(&mut keeper.holder);
     let letter = book.letters.named(step);
-    if let Err(refusal) = keeper.worker.judge(letter, step) {
+    if let Err(refusal) = keeper.node.judge(step, letter) {
         return Err(refusal);
     }
     if book.steps.len() >= book.capacity {
@@ -187,7 +187,9 @@ fn ready_by_book<J: Terms<Q>, Q: Quorums, S: Replica>(
     book.steps.agree(&mut keeper.holder);
     let alloc = book.allocator();
     let letter = book.letters.named(&step);
-    let half = keeper.worker.ready(alloc, letter, &step)?;
+    let half = keeper
+        .node
+        .begin(alloc, &mut keeper.workspace, &step, letter)?;
     let letter = share(letter)?;
     Ok(Ready {
         step,
@@ -241,7 +243,14 @@ fn enter<J: Terms<Q>, Q: Quorums, S: Replica>(
     };
     let posting = Posting::new(&step, asks);
     let came = delivered(&step);
-    let effect = finish(letters, kept, &mut keeper.worker, letter.as_ref(), half);
+    let effect = finish(
+        letters,
+        kept,
+        &mut keeper.node,
+        &mut keeper.workspace,
+        letter.as_ref(),
+        half,
+    );
     letters.leave_out_copies(came);
     letters.trim();
     mails.post(&posting, letters.sent(), letters.gone());
@@ -269,7 +278,7 @@ fn make_room<J: Terms<Q>, Q: Quorums>(
 
 // The number of the letter that a step lets come, if it lets one come.
 fn delivered<Q: Quorums>(step: &Step<Q>) -> Option<u64>
-    ensures { (number : ℕ) → result ≡ Some number → step.now ≡ Step.Deliver number }
+    ensures { (number : ℕ) → result ≡ Some number → step.now ≡ StepOf.Deliver number }
 {
     match step {
         Step::Deliver(number) => Some(*number),

@@ -1,58 +1,79 @@
-//! The second half of a step: its node changes, and what it reports goes to where it belongs.
+//! The second half of a step: its node changes, and what it leaves goes to where it belongs.
 //!
 //! Nothing here allocates, and nothing fails.
 ghost use Rattle.std.specs.Prelude.{◌≡◌, ◌+◌, ◌<◌, ◌^◌, ◌++◌, ◌∷◌, [], List, None, Some, length};
 ghost use Rattle.std.specs.Option.{option_copied};
-ghost use Rattle.rambo_gossip.specs.declared.letter.Letter.{Letter};
+ghost use Rattle.rambo_gossip.specs.Letters.{LetterState};
 ghost use Rattle.rambo_history.specs.Faults.{fault_of};
+ghost use Rattle.rambo_node.specs.Acts.{Act};
 ghost use Rattle.rambo_node.specs.Changes.{made_by};
 ghost use Rattle.rambo_node.specs.FullNodes.{beside_after};
-ghost use Rattle.rambo_node.specs.Prepared.{IsPrepared, act_in};
-ghost use Rattle.rambo_node.specs.Acts.{Act};
+ghost use Rattle.rambo_node.specs.Halves.{IsReadyStep, event_in, event_of, letter_of, mark_in, mark_of, outline_of};
 ghost use Rattle.rambo_run.specs.Steps.{effect_in, with_letter};
 ghost use Rattle.rambo_book.specs.Records.{ChronicleView, Recorded};
-ghost use Rattle.rambo_deeds.specs.Deeds.{IsReadyDelivery, IsReadyStep, event_of, letter_of, mark_of, outline_of};
 
 use crate::letters::Letters;
 use crate::record::Record;
-use rambo_deeds::{Half, SharedLetter, Worker};
+use rambo_gossip::Letter;
 use rambo_history::Event;
 use rambo_names::Quorums;
-use rambo_node::{Effect, Hearing, Prepared};
+use rambo_node::{Effect, Ended, Going, Half, Node, Workspace};
 use rambo_tag::Replica;
 
 // The second half of a step whose first half is made: what is told of it. A letter that comes is this one.
 pub(crate) fn finish<Q: Quorums, S: Replica>(
     letters: &mut Letters<Q>,
     kept: &mut Record,
-    worker: &mut Worker<Q, S>,
-    letter: Option<&SharedLetter<Q>>,
+    node: &mut Node<Q, S>,
+    workspace: &mut Workspace<Q>,
+    letter: Option<&Letter<Q>>,
     half: Half<Q>,
 ) -> Effect<Q>
-    requires ready { (c : Act Q) × IsReadyStep Q.system worker.old (outline_of (option_copied letter)) c half }
+    requires ready { (c : Act _) × IsReadyStep Q.system node.old (outline_of (option_copied letter)) c half }
     requires few { letters.old.gone + length letters.old.kept + 1 < 2 ^ 64 }
     requires room { (0 < letters.old.room) × (0 < kept.old.room) }
     requires fits { (c : ChronicleView) (e : Event) → kept.old.all ≡ Some c → event_of half ≡ Some e → fault_of c.events e ≡ None }
-    ensures node { (c : Act Q) → IsReadyStep Q.system worker.old (outline_of (option_copied letter.entry)) c half → worker.new.state ≡ (made_by worker.old.state c).node }
-    ensures beside { (c : Act Q) → IsReadyStep Q.system worker.old (outline_of (option_copied letter.entry)) c half → worker.new.beside ≡ beside_after worker.old.state worker.old.beside c }
-    ensures effect { (c : Act Q) (ls : List (Letter Q)) → IsReadyStep Q.system worker.old (outline_of (option_copied letter.entry)) c half → length ls ≡ letters.old.gone + length letters.old.kept → result ≡ effect_in ls (made_by worker.old.state c).deed.effect (made_by worker.old.state c).letter }
+    ensures node { (c : Act _) → IsReadyStep Q.system node.old (outline_of (option_copied letter.entry)) c half → node.new.state ≡ (made_by node.old.state c).node }
+    ensures beside { (c : Act _) → IsReadyStep Q.system node.old (outline_of (option_copied letter.entry)) c half → node.new.beside ≡ beside_after node.old.state node.old.beside c }
+    ensures effect { (c : Act _) (ls : List (LetterState _)) → IsReadyStep Q.system node.old (outline_of (option_copied letter.entry)) c half → length ls ≡ letters.old.gone + length letters.old.kept → result ≡ effect_in ls (made_by node.old.state c).deed.effect (made_by node.old.state c).letter }
     ensures letters { letters.new.kept ≡ with_letter letters.old.kept (letter_of half) }
     ensures window { (letters.new.gone ≡ letters.old.gone) × (letters.new.window ≡ letters.old.window) }
     ensures kept { Recorded (event_of half) (mark_of half) kept.old kept.new }
 {
-    match half {
-        Half::Send(letter) => send(letters, letter),
-        Half::Hear(hearing) => {
-            hear(worker, letter, hearing);
-            Effect::Done
-        }
-        Half::Call(prepared) => finish_call(kept, worker, Box::into_inner(prepared)),
-        Half::Quiet(quiet) => worker.do_quiet(quiet),
+    let ended = node.end(half, letter);
+    enter_ended(letters, kept, workspace, ended)
+}
+
+// The letter that goes out, the event and the mark go into the book, and the box of a call to the node's workspace. Returns what is
+// reported.
+fn enter_ended<Q: Quorums>(
+    letters: &mut Letters<Q>,
+    kept: &mut Record,
+    workspace: &mut Workspace<Q>,
+    ended: Ended<Q>,
+) -> Effect<Q>
+    requires few { letters.old.gone + length letters.old.kept + 1 < 2 ^ 64 }
+    requires room { (0 < letters.old.room) × (0 < kept.old.room) }
+    requires fits { (c : ChronicleView) (e : Event) → kept.old.all ≡ Some c → event_in ended.going ≡ Some e → fault_of c.events e ≡ None }
+    ensures effect { (ls : List (LetterState _)) → length ls ≡ letters.old.gone + length letters.old.kept → result ≡ effect_in ls ended.effect ended.letter }
+    ensures letters { letters.new.kept ≡ with_letter letters.old.kept ended.letter }
+    ensures window { (letters.new.gone ≡ letters.old.gone) × (letters.new.window ≡ letters.old.window) }
+    ensures kept { Recorded (event_in ended.going) (mark_in ended.going) kept.old kept.new }
+{
+    let Ended {
+        effect,
+        letter,
+        going,
+    } = ended;
+    record(kept, workspace, going);
+    match letter {
+        Some(letter) => send(letters, letter),
+        None => effect,
     }
 }
 
 // A letter goes out: its number.
-fn send<Q: Quorums>(letters: &mut Letters<Q>, letter: SharedLetter<Q>) -> Effect<Q>
+fn send<Q: Quorums>(letters: &mut Letters<Q>, letter: Letter<Q>) -> Effect<Q>
     requires few { letters.old.gone + length letters.old.kept + 1 < 2 ^ 64 }
     requires room { 0 < letters.old.room }
     ensures effect { result ≡ Effect.Sent (letters.old.gone + length letters.old.kept + 1) }
@@ -64,39 +85,16 @@ fn send<Q: Quorums>(letters: &mut Letters<Q>, letter: SharedLetter<Q>) -> Effect
     Effect::Sent(number)
 }
 
-// The letter that comes is heard.
-fn hear<Q: Quorums, S: Replica>(
-    worker: &mut Worker<Q, S>,
-    letter: Option<&SharedLetter<Q>>,
-    hearing: Hearing,
-)
-    requires { (c : Act Q) × IsReadyDelivery worker.old (outline_of (option_copied letter)) c hearing }
-    ensures node { (c : Act Q) → IsReadyDelivery worker.old (outline_of (option_copied letter.entry)) c hearing → worker.new.state ≡ (made_by worker.old.state c).node }
-    ensures beside { (c : Act Q) → IsReadyDelivery worker.old (outline_of (option_copied letter.entry)) c hearing → worker.new.beside ≡ beside_after worker.old.state worker.old.beside c }
+// A call that began or went on is recorded, if one did.
+fn record<Q: Quorums>(kept: &mut Record, workspace: &mut Workspace<Q>, going: Option<Box<Going<Q>>>)
+    requires room { 0 < kept.old.room }
+    requires fits { (c : ChronicleView) (e : Event) → kept.old.all ≡ Some c → event_in going ≡ Some e → fault_of c.events e ≡ None }
+    ensures kept { Recorded (event_in going) (mark_in going) kept.old kept.new }
 {
-    let Some(letter) = letter else {
+    let Some(going) = going else {
         return;
     };
-    worker.finish_delivery(letter, hearing);
-}
-
-// A call is made, or goes on.
-// (what is prepared is large, and where this is inlined the other kinds clear its room)
-#[inline(never)]
-fn finish_call<Q: Quorums, S: Replica>(
-    kept: &mut Record,
-    worker: &mut Worker<Q, S>,
-    prepared: Prepared<Q>,
-) -> Effect<Q>
-    requires prepared { IsPrepared Q.system worker.old prepared }
-    requires room { 0 < kept.old.room }
-    requires fits { (c : ChronicleView) (e : Event) → kept.old.all ≡ Some c → prepared.event ≡ Some e → fault_of c.events e ≡ None }
-    ensures node { worker.new.state ≡ (made_by worker.old.state (act_in prepared)).node }
-    ensures beside { worker.new.beside ≡ beside_after worker.old.state worker.old.beside (act_in prepared) }
-    ensures effect { result ≡ (made_by worker.old.state (act_in prepared)).deed.effect }
-    ensures kept { Recorded prepared.event prepared.mark kept.old kept.new }
-{
-    let mut prepared = prepared;
-    kept.take(prepared.event.take(), prepared.mark.take());
-    worker.finish(prepared)
+    let mut going = going;
+    kept.take(going.deed.event.take(), going.deed.mark.take());
+    workspace.keep(going);
 }

@@ -3,15 +3,17 @@ ghost use Rattle.std.specs.Prelude.{◌≡◌, ℕ, [], Some, IfOk, IfErr};
 ghost use Rattle.std.specs.Option.{option_copied};
 ghost use Rattle.rambo_names.specs.Refusals.{IsRefusal};
 ghost use Rattle.rambo_run.specs.Runs.{run};
-ghost use Rattle.rambo_run.specs.Steps.{Meant, meant_in, refusal};
+ghost use Rattle.rambo_node.specs.Acts.{Meant};
+ghost use Rattle.rambo_run.specs.Steps.{meant_in, refusal};
 ghost use Rattle.rambo_book.specs.Readying.{IsIn, mail_in, came_in, IsReadyFor};
 
 use crate::keeper::Keeper;
 use crate::readied::Ready;
 use crate::terms::Terms;
-use rambo_deeds::{Mail, SharedLetter};
+use rambo_gossip::Letter;
+use rambo_mail::Mail;
 use rambo_names::{Quorums, Refusal};
-use rambo_run::Step;
+use rambo_run::{Step, StepOf};
 use rambo_tag::Replica;
 use std::alloc::Global;
 
@@ -29,14 +31,16 @@ pub fn ready<J: Terms<Q>, Q: Quorums, S: Replica>(
     step: Step<Q>,
 ) -> Result<Ready<Q>, Refusal>
     requires own { (f : Q) → J.founders ≡ Some f → (m : Meant _) → meant_in [] step ≡ Some m → m.name ≡ keeper.old.name }
-    requires in_tray { (number : ℕ) → step ≡ Step.Deliver number → IsIn keeper.old.tray number }
+    requires in_tray { (number : ℕ) → step ≡ StepOf.Deliver number → IsIn keeper.old.tray number }
     ensures same { keeper.new ≡ record keeper.old { room = keeper.new.room } }
     ensures step { IfOk result (λ r. r.step ≡ step) }
     ensures ready { IfOk result (IsReadyFor Q.system J.founders keeper.new) }
     ensures refused { (f : Q) → J.founders ≡ Some f → IfErr result (IsRefusal (refusal Q.system (run Q.system f keeper.old.seen) step)) }
 {
     let letter = letter_in(keeper.tray.as_slice(), &step);
-    let half = keeper.worker.ready(alloc, letter, &step)?;
+    let half = keeper
+        .node
+        .begin(alloc, &mut keeper.workspace, &step, letter)?;
     let letter = share(letter)?;
     Ok(Ready {
         step,
@@ -47,20 +51,18 @@ pub fn ready<J: Terms<Q>, Q: Quorums, S: Replica>(
 }
 
 // One that is shared, if there is one.
-pub(crate) fn share<Q: Quorums>(
-    letter: Option<&SharedLetter<Q>>,
-) -> Result<Option<SharedLetter<Q>>, Refusal>
+pub(crate) fn share<Q: Quorums>(letter: Option<&Letter<Q>>) -> Result<Option<Letter<Q>>, Refusal>
     ensures same { IfOk result (λ l. l ≡ option_copied letter.entry) }
     ensures refused { IfErr result (λ r. r ≡ Refusal.OutOfMemory) }
 {
     match letter {
-        Some(letter) => Ok(Some(letter.share()?)),
+        Some(letter) => Ok(Some(letter.clone()?)),
         None => Ok(None),
     }
 }
 
 // The letter of a tray that a step lets come, if it lets one come that is there.
-fn letter_in<'a, Q: Quorums>(tray: &'a [Mail<Q>], step: &Step<Q>) -> Option<&'a SharedLetter<Q>>
+fn letter_in<'a, Q: Quorums>(tray: &'a [Mail<Q>], step: &Step<Q>) -> Option<&'a Letter<Q>>
     ensures { option_copied result ≡ came_in tray.now step.now }
 {
     match step {
@@ -70,7 +72,7 @@ fn letter_in<'a, Q: Quorums>(tray: &'a [Mail<Q>], step: &Step<Q>) -> Option<&'a 
 }
 
 // The oldest letter of this number in a tray, if there is one.
-fn mail_of<Q: Quorums>(tray: &[Mail<Q>], number: u64) -> Option<&SharedLetter<Q>>
+fn mail_of<Q: Quorums>(tray: &[Mail<Q>], number: u64) -> Option<&Letter<Q>>
     ensures { option_copied result ≡ mail_in tray.now number }
 {
     let mut rest = tray;

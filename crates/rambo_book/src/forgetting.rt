@@ -5,7 +5,7 @@ ghost use Rattle.rambo_book.specs.Mailing.{without};
 
 use crate::keeper::Keeper;
 use crate::terms::Terms;
-use rambo_deeds::Mail;
+use rambo_mail::Mail;
 use rambo_names::Quorums;
 use rambo_tag::Replica;
 

@@ -14,9 +14,9 @@ ghost use Rattle.rambo_book.specs.Kept.{AreBasesOf, AreStampsOf, IsMailOf};
 
 use crate::terms::Terms;
 use rambo_config_map::ConfigMap;
-use rambo_deeds::{Mail, Worker};
-use rambo_names::{Members, Name, Quorums};
-use rambo_node::Node;
+use rambo_mail::Mail;
+use rambo_names::{Members, Name, Quorums, Refusal};
+use rambo_node::{Node, Quiet, Workspace};
 use rambo_roll::{Acts, Holder};
 use rambo_run::Step;
 use rambo_tag::Replica;
@@ -37,7 +37,9 @@ pub struct Keeper<J: Terms<Q>, Q: Quorums, S: Replica> {
     pub(crate) name: Name,
     pub(crate) tray: Vec<Mail<Q>>,
     pub(crate) holder: Holder<J, Step<Q>>,
-    pub(crate) worker: Worker<Q, S>,
+    // What its node uses again.
+    pub(crate) workspace: Workspace<Q>,
+    pub(crate) node: Node<Q, S>,
 }
 
 // By hand, so that those who drop it needn't follow all that is in it.
@@ -47,7 +49,8 @@ impl<J: Terms<Q>, Q: Quorums, S: Replica> Drop for Keeper<J, Q, S> {
             name: _name,
             tray: _tray,
             holder: _holder,
-            worker: _worker,
+            workspace: _workspace,
+            node: _node,
         } = self;
     }
 }
@@ -63,9 +66,9 @@ impl<J: Terms<Q>, Q: Quorums, S: Replica> Model for Keeper<J, Q, S> {
 
     ghost coded = { Prim.hlevel (codes, names_code, copies_code, stamps_code, Q.code) };
 
-    ghost view = { λ k. record { name = k.name; node = k.worker.state; room = k.worker.room; beside = k.worker.beside; tray = k.tray.items; seen = k.holder.1 } };
+    ghost view = { λ k. record { name = k.name; node = k.node.state; room = k.node.room; beside = k.node.beside; tray = k.tray.items; seen = k.holder.1 } };
 
-    ghost invariant = { λ k. IsKeeper Q.system J.founders J.capacity k.holder.0 k.name (record { state = k.worker.state; stamps = k.worker.beside.stamps; bases = k.worker.beside.bases }) k.tray.items k.holder.1 };
+    ghost invariant = { λ k. IsKeeper Q.system J.founders J.capacity k.holder.0 k.name (record { state = k.node.state; stamps = k.node.beside.stamps; bases = k.node.beside.bases }) k.tray.items k.holder.1 };
 }
 
 impl<J: Terms<Q>, Q: Quorums, S: Replica> Keeper<J, Q, S> {
@@ -85,7 +88,8 @@ impl<J: Terms<Q>, Q: Quorums, S: Replica> Keeper<J, Q, S> {
         ensures { result ≡ record { name = name; node = first_node Q.system founders name; room = result.room; beside = first_beside; tray = []; seen = [] } }
     {
         Keeper {
-            worker: Worker::new(Node::new(alloc, name, founders, registers)),
+            node: Node::new(alloc, name, founders, registers),
+            workspace: Workspace::new(),
             name,
             tray: Vec::new(alloc),
             holder,
@@ -106,7 +110,7 @@ impl<J: Terms<Q>, Q: Quorums, S: Replica> Keeper<J, Q, S> {
         ensures bases { (f : Q) → J.founders ≡ Some f → AreBasesOf Q.system f self.now }
         ensures tray { (f : Q) → J.founders ≡ Some f → All (IsMailOf (run Q.system f self.now.seen) self.now.name) self.now.tray }
     {
-        let _ = &self.worker;
+        let _ = &self.node;
     }
 
     /// The name of its node.
@@ -116,11 +120,11 @@ impl<J: Terms<Q>, Q: Quorums, S: Replica> Keeper<J, Q, S> {
         self.name
     }
 
-    /// Its node, as it takes steps.
-    pub fn worker(&self) -> &Worker<Q, S>
+    /// Its node.
+    pub fn node(&self) -> &Node<Q, S>
         ensures { result.now ≡ record { state = self.now.node; room = self.now.room; beside = self.now.beside } }
     {
-        &self.worker
+        &self.node
     }
 
     /// The letters that came for its node, the oldest first.
@@ -134,29 +138,51 @@ impl<J: Terms<Q>, Q: Quorums, S: Replica> Keeper<J, Q, S> {
     pub fn map(&self) -> ConfigMap<Q>
         ensures { result ≡ self.now.node.map }
     {
-        self.worker.map()
+        self.node.map().copy()
     }
 
     /// Whether its letters carried so many copies since its node's phase number last rose that a step by which that rises would
     /// have cost less.
     pub fn carries_much(&self) -> bool {
-        self.worker.carries_much()
+        self.workspace.carries_much()
     }
 
     /// Whether its node is joining, or has a call, a collection or an attempt open.
     pub fn is_open(&self) -> bool {
-        self.worker.is_open()
+        let status = self.node.status();
+        if status.is_early() {
+            return !status.is_idle();
+        }
+        !self.node.calls().is_empty()
+            || goes_on(self.node.may_quiet(&Quiet::AdvanceCollect))
+            || goes_on(self.node.may_quiet(&Quiet::AdvanceRecon))
     }
 
     /// The names that its node can write to.
     pub fn known(&self) -> Members {
-        self.worker.known()
+        let mut known = Members::empty();
+        for number in 1..65u64 {
+            if let Ok(name) = Name::new(number) {
+                if self.node.may_send(name).is_ok() {
+                    known = known.with(name);
+                }
+            }
+        }
+        known
     }
 
     /// Whether its node has stopped, for good.
     pub fn has_stopped(&self) -> bool
         ensures { result ≡ is_stopped self.now.node.status }
     {
-        self.worker.has_stopped()
+        self.node.status().is_stopped()
+    }
+}
+
+// Whether this is the verdict on something open.
+fn goes_on(verdict: Result<(), Refusal>) -> bool {
+    match verdict {
+        Ok(()) => true,
+        Err(refusal) => refusal == Refusal::NotYet || refusal == Refusal::NumbersSpent,
     }
 }

@@ -1,12 +1,11 @@
 //! The letters that were sent last.
 ghost use Rattle.std.specs.Prelude.{◌≡◌, ◌+◌, ◌≤◌, ◌<◌, ◌^◌, ◌++◌, ◌∷◌, [], drop, length, not, OnOk, IfErr};
 ghost use Rattle.std.specs.Option.{option_copied};
-ghost use Rattle.rambo_run.specs.Steps.{meant_by};
-ghost use Rattle.rambo_deeds.specs.Deeds.{name_in};
+ghost use Rattle.rambo_node.specs.Acts.{meant_by, name_in};
 ghost use Rattle.rambo_book.specs.Kept.{lightened};
 ghost use Rattle.rambo_book.specs.Windows.{among, beyond, delivers_gone, is_gone, kept_at, kept_in, window_of};
 
-use rambo_deeds::{SharedLetter, named_by};
+use rambo_gossip::Letter;
 use rambo_names::{Name, Quorums, Refusal};
 use rambo_run::Step;
 use std::alloc::Global;
@@ -30,7 +29,7 @@ pub(crate) fn window_for(keeps_all: bool, capacity: usize) -> usize
 #[derive(Drop)]
 pub(crate) struct Letters<Q: Quorums> {
     gone: usize,
-    kept: VecDeque<SharedLetter<Q>>,
+    kept: VecDeque<Letter<Q>>,
     window: usize,
 }
 
@@ -108,7 +107,7 @@ impl<Q: Quorums> Letters<Q> {
     }
 
     /// The letter of a number, if it was sent and is kept.
-    pub(crate) fn of(&self, number: u64) -> Option<&SharedLetter<Q>>
+    pub(crate) fn of(&self, number: u64) -> Option<&Letter<Q>>
         ensures { option_copied result ≡ kept_at self.now number }
     {
         if number as usize <= self.gone {
@@ -118,7 +117,7 @@ impl<Q: Quorums> Letters<Q> {
     }
 
     /// The letter that a step delivers, if it delivers one that is kept.
-    pub(crate) fn named(&self, step: &Step<Q>) -> Option<&SharedLetter<Q>>
+    pub(crate) fn named(&self, step: &Step<Q>) -> Option<&Letter<Q>>
         ensures { option_copied result ≡ kept_in self.now step.now }
     {
         match step {
@@ -136,10 +135,7 @@ impl<Q: Quorums> Letters<Q> {
                 Some(letter) => Some(letter.addressee()),
                 None => None,
             },
-            _ => {
-                let letters: [SharedLetter<Q>; 0] = [];
-                named_by(&letters, step)
-            }
+            _ => step.name(),
         }
     }
 
@@ -155,7 +151,7 @@ impl<Q: Quorums> Letters<Q> {
     }
 
     /// One more was sent, for which there is room. It may be one too many.
-    pub(crate) fn push(&mut self, letter: SharedLetter<Q>)
+    pub(crate) fn push(&mut self, letter: Letter<Q>)
         ensures gone { self.new.gone ≡ self.old.gone }
         ensures window { self.new.window ≡ self.old.window }
         ensures kept { 0 < self.old.room → self.new.kept ≡ self.old.kept ++ letter ∷ [] }

@@ -8,8 +8,7 @@ ghost use Rattle.rambo_book.specs.Mailing.{sent_to, IsBehind, AreTaken, all_for}
 use crate::book::Book;
 use crate::keeper::Keeper;
 use crate::terms::Terms;
-use rambo_deeds::Mail;
-use rambo_mail::Entry;
+use rambo_mail::{Entry, Mail};
 use rambo_names::{Name, Quorums, Refusal};
 use rambo_tag::Replica;
 
@@ -45,7 +44,7 @@ pub fn take_letter<J: Terms<Q>, Q: Quorums, S: Replica>(
     if letter.addressee() != keeper.name {
         return Ok(());
     }
-    let letter = letter.share()?;
+    let letter = letter.clone()?;
     keeper.tray.reserve(1)?;
     keeper.tray.push_reserved(Mail {
         number: entry.number,

@@ -3,8 +3,9 @@ ghost use Rattle.std.specs.Prelude.{◌≡◌, Option, true};
 ghost use Rattle.rambo_book.specs.Kept.{KeeperView};
 ghost use Rattle.rambo_book.specs.Readying.{IsReadyFor};
 
-use rambo_deeds::{Half, SharedLetter};
+use rambo_gossip::Letter;
 use rambo_names::Quorums;
+use rambo_node::Half;
 use rambo_run::Step;
 
 /// A step of a keeper's node that isn't refused, for which the node has room, and what it will do. It brings along the letter that
@@ -14,7 +15,7 @@ pub struct Ready<Q: Quorums> {
     pub step: Step<Q>,
     pub(crate) half: Half<Q>,
     // The letter that it delivers, if it delivers one.
-    pub(crate) letter: Option<SharedLetter<Q>>,
+    pub(crate) letter: Option<Letter<Q>>,
     // Whether the letter that it sends, if it sends one, asks for one in return.
     pub(crate) asks: bool,
 }

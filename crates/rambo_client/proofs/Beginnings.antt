@@ -3,8 +3,8 @@ use Rattle.std.proofs.Common.{◌≡◌, ℕ, ◌+◌, true, false, cond, not, n
 use Rattle.rambo_names.specs.Weights.{Weights}
 use Rattle.rambo_history.specs.declared.operation.Op.{Op}
 use Rattle.rambo_history.specs.declared.event.CallId.{CallId}
-use Rattle.rambo_run.specs.declared.step.Step.{Step}
-use Rattle.rambo_run.specs.declared.step.Step.TheVariants as step
+use Rattle.rambo_node.specs.Steps.{Step}
+use Rattle.rambo_node.specs.declared.step.StepOf.TheVariants as step
 use Rattle.rambo_client.specs.Courses.{Course, IsBeginning, Ends, stepped, lettered, exchanged, others, phase, operated}
 
 pub begins-itself : (c : Course) → IsBeginning c c

@@ -8,7 +8,7 @@ use Rattle.rambo_history.specs.declared.operation.Answer.{Answer}
 use Rattle.rambo_history.specs.declared.event.CallId.{CallId}
 use Rattle.rambo_history.specs.declared.event.Event.{Event}
 use Rattle.rambo_history.specs.declared.event.Event.TheVariants as event
-use Rattle.rambo_run.specs.declared.step.Step.TheVariants as step
+use Rattle.rambo_node.specs.declared.step.StepOf.TheVariants as step
 use Rattle.rambo_resp.specs.declared.reply.Reply.{Reply}
 use Rattle.rambo_resp.specs.Replies.{reply_spelling}
 use Rattle.rambo_commands.specs.declared.request.Request.{Request}

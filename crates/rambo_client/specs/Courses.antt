@@ -7,8 +7,8 @@ use Rattle.rambo_names.specs.Weights.{Weights, members_of, weighted_majorities}
 use Rattle.rambo_history.specs.declared.operation.Op.{Op}
 use Rattle.rambo_history.specs.declared.event.CallId.{CallId}
 use Rattle.rambo_history.specs.declared.event.Event.{Event}
-use Rattle.rambo_run.specs.declared.step.Step.{Step}
-use Rattle.rambo_run.specs.declared.step.Step.TheVariants as step
+use Rattle.rambo_node.specs.Steps.{Step}
+use Rattle.rambo_node.specs.declared.step.StepOf.TheVariants as step
 use Rattle.rambo_run.specs.Runs.{run}
 use Rattle.rambo_commands.specs.declared.request.Request.{Request}
 use Rattle.rambo_commands.specs.declared.request.Request.TheVariants.{Says, Does}

@@ -2,7 +2,7 @@
 ghost use Rattle.std.specs.Prelude.{◌≡◌, ◌++◌, ◌∷◌, [], List, IfOk, OnErr};
 ghost use Rattle.rambo_history.specs.declared.event.Event.{Event};
 ghost use Rattle.rambo_history.specs.declared.event.Event.TheVariants as event;
-ghost use Rattle.rambo_run.specs.declared.step.Step.TheVariants as step;
+ghost use Rattle.rambo_node.specs.declared.step.StepOf.TheVariants as step;
 ghost use Rattle.rambo_client.specs.Calls.{answered, id_at};
 ghost use Rattle.rambo_client.specs.Courses.{Course, Ends, exchanged, history_of, stepped};
 

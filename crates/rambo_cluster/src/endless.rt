@@ -2,7 +2,7 @@
 ghost use Rattle.std.specs.Prelude.{◌≡◌, List, Option, None, Some, is_some, true, false, IsOk, IfOk, IfErr, OnErr};
 ghost use mathlib.Core.List.{IsPrefix};
 ghost use Rattle.rambo_names.specs.Weights.{Weights, weighted_majorities};
-ghost use Rattle.rambo_run.specs.declared.step.Step.{Step as AnyStep};
+ghost use Rattle.rambo_node.specs.Steps.{Step as AnyStep};
 ghost use Rattle.rambo_run.specs.Legal.{IsLegal};
 ghost use Rattle.rambo_scribe.specs.Traced.{HasWritten, Taken, taken_by};
 

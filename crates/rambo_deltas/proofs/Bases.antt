@@ -8,12 +8,12 @@ use Rattle.rambo_tag.specs.Tags.{tag_of, is_newer}
 use Rattle.rambo_tag.proofs.TagOrder.{TagLe, TagLe-trans, TagLe-antisymm}
 use Rattle.rambo_tag.proofs.CopyOrder.{is_below, is_below-irrefl, is_below-asymm, is_newer-is_below, TagLe-from_not_below}
 use Rattle.rambo_joiner.specs.Statuses.{is_active}
-use Rattle.rambo_gossip.specs.declared.letter.Letter.{Letter}
-use Rattle.rambo_gossip.specs.declared.letter.Kind.TheVariants as kind
+use Rattle.rambo_gossip.specs.Letters.{LetterState}
+use Rattle.rambo_gossip.specs.Kinds as kind
 use Rattle.rambo_node.specs.Acts.{Act}
 use Rattle.rambo_node.specs.Letters.{letter_for, gossip_for}
 use Rattle.rambo_node.specs.Nodes.{NodeState, heard_from}
-use Rattle.rambo_run.specs.declared.step.Step.{Step}
+use Rattle.rambo_node.specs.Steps.{Step}
 use Rattle.rambo_run.specs.Worlds.{node_at}
 use Rattle.rambo_run.specs.Journals.{journal}
 use Rattle.rambo_run.proofs.Lists.{Member, pick}
@@ -37,7 +37,7 @@ base_some j (c ∷ cs) a h = elim (cases_lt a (brought_by j c)) [
 ]
 
 -- it was a letter of j
-letter_of : {Q : Type 0} (j : ℕ) (c : Act Q) (a : ℕ) → a < brought_by j c → (l : Letter Q) × (c ≡ act.Hear l) × (l.sender ≡ j) × (a < heard_in l.kind)
+letter_of : {Q : Type 0} (j : ℕ) (c : Act Q) (a : ℕ) → a < brought_by j c → (l : LetterState Q) × (c ≡ act.Hear l) × (l.sender ≡ j) × (a < heard_in l.kind)
 letter_of j (act.Hear l) a h = elim (pick (nat_eq l.sender j) (heard_in l.kind) 0) [
   | inl p ↦ (l, refl, eqb-true l.sender j p.0, omega (arith, h, p.1))
   | inr p ↦ absurd (omega (arith, h, p.1))
@@ -91,7 +91,7 @@ module _ {Q : Type 0} (s : QuorumSystem Q) (founders : Q) (steps : List (Step Q)
       let l = letter_of j b.0 (node m n).number b.2 in
       let d = delivered s founders steps n l.0 (subst (λ (c : Act Q). Member c (journal s founders n steps)) l.1 b.1) in
       let heard : (node m n).number < heard_from (node d.moment l.0.sender).heard n =
-      carried (node d.moment l.0.sender) n (node m n).number (subst (λ (l : Letter Q). (node m n).number < heard_in l.kind) (sym d.content) l.3) in
+      carried (node d.moment l.0.sender) n (node m n).number (subst (λ (l : LetterState Q). (node m n).number < heard_in l.kind) (sym d.content) l.3) in
       (d.moment, d.before, subst (λ j. (node m n).number < heard_from (node d.moment j).heard n) l.2 heard)
 
 pub old_copies_are_held : {Q : Type 0} (s : QuorumSystem Q) → OldCopiesAreHeld s

@@ -2,7 +2,7 @@
 use Rattle.std.proofs.Common.{◌≡◌, ℕ, ◌-◌, ◌≤◌, max, if◌then◌else◌, nat_eq, List, [], ◌∷◌, length, refl, sym, ap, ◌∙◌, inl, inr, arith, replicate, eqb-true, eq-eqb, true≢false}
 use Rattle.std.proofs.lemmas.List.{length-set, get_or-set_other, get_or-set_same}
 use Rattle.rambo_names.specs.Quorums.{QuorumSystem}
-use Rattle.rambo_gossip.specs.declared.letter.Letter.{Letter}
+use Rattle.rambo_gossip.specs.Letters.{LetterState}
 use Rattle.rambo_node.specs.Acts.{Act}
 use Rattle.rambo_node.specs.Nodes.{heard_from, raised}
 use Rattle.rambo_run.specs.Journals.{journal}
@@ -31,9 +31,9 @@ raised_to b k j h one named there = elim (pick (nat_eq k j) h 0) [
 
 -- the letters of a list have senders
 abbrev HaveSenders : {Q : Type 0} → List (Act Q) → Type 0
-HaveSenders {Q} cs = (l : Letter Q) → Member (act.Hear l) cs → 1 ≤ l.sender
+HaveSenders {Q} cs = (l : LetterState Q) → Member (act.Hear l) cs → 1 ≤ l.sender
 
-brought : {Q : Type 0} (b : List ℕ) (c : Act Q) (j : ℕ) → 1 ≤ j → j ≤ length b → ((l : Letter Q) → c ≡ act.Hear l → 1 ≤ l.sender) → heard_from (bases_after b c) j ≡ max (heard_from b j) (brought_by j c)
+brought : {Q : Type 0} (b : List ℕ) (c : Act Q) (j : ℕ) → 1 ≤ j → j ≤ length b → ((l : LetterState Q) → c ≡ act.Hear l → 1 ≤ l.sender) → heard_from (bases_after b c) j ≡ max (heard_from b j) (brought_by j c)
 brought b (act.Hear l) j one there f = raised_to b l.sender j (heard_in l.kind) (f l refl) one there
 brought b _ j one there f = omega arith
 

@@ -2,10 +2,10 @@
 use Rattle.std.proofs.Common.{◌≡◌, ◌⊎◌, ℕ, suc, ◌<◌, nat_eq, List, [], ◌∷◌, length, take, Option, Some, None, subst, inl, inr, arith, eqb-true}
 use Rattle.rambo_names.specs.declared.refusal.Refusal.{Refusal}
 use Rattle.rambo_names.specs.Quorums.{QuorumSystem}
-use Rattle.rambo_node.specs.Acts.{Act}
-use Rattle.rambo_run.specs.declared.step.Step.{Step}
+use Rattle.rambo_node.specs.Acts.{Act, Meant}
+use Rattle.rambo_node.specs.Steps.{Step}
 use Rattle.rambo_run.specs.Worlds.{WorldState}
-use Rattle.rambo_run.specs.Steps.{Meant, meant, refusal}
+use Rattle.rambo_run.specs.Steps.{meant, refusal}
 use Rattle.rambo_run.specs.Runs.{after, run_from}
 use Rattle.rambo_run.specs.Journals.{entered, entered_unless, journal_from}
 use Rattle.rambo_run.proofs.Lists.{Member, pick}

@@ -8,9 +8,8 @@ use Rattle.rambo_tag.specs.Tags.{is_newer}
 use Rattle.rambo_tag.proofs.CopyOrder.{is_below, is_newer-is_below, not_below-trans, greater-right}
 use Rattle.rambo_tag.proofs.Joins.{get-joined}
 use Rattle.rambo_joiner.specs.Statuses.{is_active}
-use Rattle.rambo_gossip.specs.declared.letter.Letter.{Letter}
-use Rattle.rambo_gossip.specs.declared.letter.Kind.TheVariants as kind
-use Rattle.rambo_gossip.specs.Letters.{letter_with}
+use Rattle.rambo_gossip.specs.Kinds as kind
+use Rattle.rambo_gossip.specs.Letters.{LetterState, letter_with}
 use Rattle.rambo_gossip.specs.Short as letters
 use Rattle.rambo_node.specs.Letters.{letter_for, gossip_for}
 use Rattle.rambo_node.specs.Nodes.{NodeState, heard_from}
@@ -65,7 +64,7 @@ short_longer p whole held more grows short = record {
 -- a letter of short copies is short for the whole letter
 module _ {Q : Type 0} (x : NodeState Q) (to : ℕ) (p held : Copies) (short : IsShort p x.registers held) where
   -- the whole letter of a node that is active, and of one that isn't
-  abbrev whole : Bool → Letter Q
+  abbrev whole : Bool → LetterState Q
   whole active = record { sender = x.name; addressee = to; kind = if active then kind.Gossip (gossip_for x to) else kind.Join }
 
   of_kind : (active : Bool) → letters.IsShort (letter_with (whole active) p) (whole active) held

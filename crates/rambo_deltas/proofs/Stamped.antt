@@ -8,12 +8,12 @@ use Rattle.rambo_names.specs.declared.refusal.Refusal.{Refusal}
 use Rattle.rambo_names.specs.Names.{IsName}
 use Rattle.rambo_names.specs.Quorums.{QuorumSystem}
 use Rattle.rambo_tag.specs.declared.version.Version.{Version}
-use Rattle.rambo_node.specs.Acts.{Act}
+use Rattle.rambo_node.specs.Acts.{Act, Meant}
 use Rattle.rambo_node.specs.Changes.{replayed}
 use Rattle.rambo_node.specs.Nodes.{NodeState, first_node}
-use Rattle.rambo_run.specs.declared.step.Step.{Step}
+use Rattle.rambo_node.specs.Steps.{Step}
 use Rattle.rambo_run.specs.Worlds.{WorldState, node_at, first_world}
-use Rattle.rambo_run.specs.Steps.{Meant, meant, refusal}
+use Rattle.rambo_run.specs.Steps.{meant, refusal}
 use Rattle.rambo_run.specs.Runs.{after, run_from, run}
 use Rattle.rambo_run.specs.Journals.{entered, entered_unless, journal_from, journal}
 use Rattle.rambo_run.proofs.Lists.{pick, some_inj, none-some, below_there}

@@ -6,7 +6,7 @@ use Rattle.rambo_tag.specs.declared.version.Version.{Version}
 use Rattle.rambo_tag.specs.Tags.{is_newer}
 use Rattle.rambo_node.specs.Acts.{Act}
 use Rattle.rambo_node.specs.Nodes.{NodeState}
-use Rattle.rambo_run.specs.declared.step.Step.{Step}
+use Rattle.rambo_node.specs.Steps.{Step}
 use Rattle.rambo_run.specs.Journals.{journal}
 use Rattle.rambo_run.specs.Runs.{run}
 use Rattle.rambo_run.specs.Worlds.{node_at}

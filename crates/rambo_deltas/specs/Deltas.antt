@@ -9,7 +9,7 @@ use Rattle.rambo_tag.specs.Copies.{Copies}
 use Rattle.rambo_gossip.specs.Short as letters
 use Rattle.rambo_node.specs.Letters.{letter_for}
 use Rattle.rambo_node.specs.Nodes.{NodeState, heard_from}
-use Rattle.rambo_run.specs.declared.step.Step.{Step}
+use Rattle.rambo_node.specs.Steps.{Step}
 use Rattle.rambo_run.specs.Journals.{journal}
 use Rattle.rambo_run.specs.Runs.{run}
 use Rattle.rambo_run.specs.Worlds.{node_at, held_by}

@@ -5,8 +5,8 @@ use Rattle.rambo_history.specs.declared.operation.Op.{Op}
 use Rattle.rambo_history.specs.declared.event.CallId.{CallId}
 use Rattle.rambo_history.specs.declared.event.Event.{Event}
 use Rattle.rambo_history.specs.declared.event.Event.TheVariants as event
-use Rattle.rambo_gossip.specs.declared.letter.Letter.{Letter}
-use Rattle.rambo_node.specs.Acts.{Act}
+use Rattle.rambo_gossip.specs.Letters.{LetterState}
+use Rattle.rambo_node.specs.Acts.{Act, delivery}
 use Rattle.rambo_node.specs.declared.effect.Effect.{Effect}
 use Rattle.rambo_node.specs.declared.effect.Effect.TheVariants as effect
 use Rattle.rambo_calls.specs.declared.stage.Stage.{Stage}
@@ -16,10 +16,10 @@ use Rattle.rambo_node.specs.Changes.{stage_met, advanced, made_by}
 use Rattle.rambo_node.specs.Letters.{letter_for}
 use Rattle.rambo_node.specs.Nodes.{NodeState, open_call}
 use Rattle.rambo_node.specs.Acts as act
-use Rattle.rambo_run.specs.declared.step.Step.TheVariants as step
+use Rattle.rambo_node.specs.declared.step.StepOf.TheVariants as step
 use Rattle.rambo_run.specs.Worlds.{WorldState, node_at, letter_at}
 use Rattle.rambo_run.proofs.Unsent.{unsent}
-use Rattle.rambo_run.specs.Steps.{delivery, sends, with_letter, turn_by, turn_at, turn_of, turn}
+use Rattle.rambo_run.specs.Steps.{sends, with_letter, turn_by, turn_at, turn_of, turn}
 use Rattle.rambo_client.specs.Calls.{id_at}
 
 -- what a call that goes on adds to the history, by what it does
@@ -43,12 +43,12 @@ module _ {Q : Type 0} (w : WorldState Q) where
   unfolding turn
   send_quiet n to = sent_by n to (node_at w n)
 
-  heard_by : (n : ℕ) (l : Letter Q) (x : Option (NodeState Q)) → (turn_at w n x (act.Hear l)).world.history ≡ w.history
+  heard_by : (n : ℕ) (l : LetterState Q) (x : Option (NodeState Q)) → (turn_at w n x (act.Hear l)).world.history ≡ w.history
   unfolding made_by
   heard_by n l None = refl
   heard_by n l (Some x) = refl
 
-  came : (l : Option (Letter Q)) → (turn_of w (delivery l)).world.history ≡ w.history
+  came : (l : Option (LetterState Q)) → (turn_of w (delivery l)).world.history ≡ w.history
   came None = refl
   came (Some l) = heard_by l.addressee l (node_at w l.addressee)
 
@@ -121,7 +121,7 @@ module _ {Q : Type 0} (w : WorldState Q) where
   silent_at n c None quiet = refl
   silent_at n c (Some x) quiet = ap (with_letter w.letters) (unsent x c quiet)
 
-  came_silent : (l : Option (Letter Q)) → (turn_of w (delivery l)).world.letters ≡ w.letters
+  came_silent : (l : Option (LetterState Q)) → (turn_of w (delivery l)).world.letters ≡ w.letters
   came_silent None = refl
   came_silent (Some l) = silent_at l.addressee (act.Hear l) (node_at w l.addressee) refl
 

@@ -9,7 +9,7 @@ use Rattle.rambo_names.specs.WeightLaws.{same_weights}
 use Rattle.rambo_names.specs.Weights.{Weights, weighted_majorities}
 use Rattle.rambo_names.specs.declared.refusal.Refusal.{Refusal}
 use Rattle.rambo_atomic.specs.Unreads.{HasFeed, TakesIn}
-use Rattle.rambo_run.specs.declared.step.Step.{Step}
+use Rattle.rambo_node.specs.Steps.{Step}
 use Rattle.rambo_lines.specs.Scripts.{steps_text}
 use Rattle.rambo_text.specs.declared.fault.ScriptFault.{ScriptFault}
 use Rattle.rambo_text.specs.declared.version.Version.TheVariants.{Two}

@@ -5,7 +5,7 @@ use mathlib.Core.List.{IsPrefix}
 use Rattle.rambo_names.specs.Weights.{Weights, weighted_majorities}
 use Rattle.rambo_atomic.specs.Streams.{counted}
 use Rattle.rambo_atomic.specs.Unreads.{HasFeed, TakesIn}
-use Rattle.rambo_run.specs.declared.step.Step.{Step}
+use Rattle.rambo_node.specs.Steps.{Step}
 use Rattle.rambo_run.specs.Legal.{IsLegal}
 use Rattle.rambo_text.specs.Words.{Lacks}
 use Rattle.rambo_text.specs.declared.fault.ScriptFault.{ScriptFault}

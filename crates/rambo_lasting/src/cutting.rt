@@ -1,7 +1,7 @@
 //! What stands behind the last line feed of a trace is cut off.
 ghost use Rattle.std.specs.Prelude.{◌≡◌, ◌++◌, [], List, ℕ, option_map, length, IfSome, IfErr, OnOk};
 ghost use Rattle.rambo_names.specs.Weights.{Weights};
-ghost use Rattle.rambo_run.specs.declared.step.Step.{Step};
+ghost use Rattle.rambo_node.specs.Steps.{Step};
 ghost use Rattle.rambo_retrace.specs.Retraces.{retraced};
 ghost use Rattle.rambo_trace.specs.Traces.{trace_text};
 ghost use Rattle.rambo_lasting.specs.Resumings.{IsUncut, Stays, failed_by};

@@ -2,7 +2,7 @@
 ghost use Rattle.std.specs.Prelude.{◌≡◌, ◌++◌, ◌+◌, ◌<◌, ◌^◌, [], ℕ, List, Option, None, Some, Ok, Err, true, length, if◌then◌else◌, IsErr, IfSome, IfOk, IfErr, OnOk};
 ghost use Rattle.rambo_names.specs.Weights.{Weights};
 ghost use Rattle.rambo_atomic.specs.Unreads.{KnowsEnd, TakesIn};
-ghost use Rattle.rambo_run.specs.declared.step.Step.{Step as AnyStep};
+ghost use Rattle.rambo_node.specs.Steps.{Step as AnyStep};
 ghost use Rattle.rambo_telling.specs.Telling.{Tells, listening_line, stream};
 ghost use Rattle.rambo_trace.specs.Traces.{trace_text};
 ghost use Rattle.rambo_retrace.specs.Retraces.{retraced};

@@ -1,3 +1,2 @@
-pub mod Fitting
 pub mod Lists
 mod Sharing

@@ -4,8 +4,9 @@ use Rattle.std.specs.Option.{option_map}
 use Rattle.std.proofs.lemmas.Bool.{false≢true, true≢false}
 use Rattle.std.proofs.lemmas.List.{length-append, map-append}
 use Rattle.rambo_letters.specs.declared.sent.Sent.{Sent}
-use Rattle.rambo_letters.specs.declared.standing.Standing.{Standing}
-use Rattle.rambo_letters.specs.Kept.{SentState, kind_of, sent_at}
+use Rattle.rambo_gossip.specs.declared.standing.Standing.{Standing}
+use Rattle.rambo_gossip.specs.Letters.{kind_of}
+use Rattle.rambo_letters.specs.Kept.{SentState, sent_at}
 use Rattle.rambo_letters.specs.Shared.{gossip_with, gossip_in, sent_in, IsHeld, AreHeld}
 
 pub not_told : (b : Bool) → not b ≡ true → b ≡ false

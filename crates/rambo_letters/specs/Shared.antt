@@ -2,22 +2,18 @@
 use Rattle.std.specs.Prelude.{◌≡◌, ◌<◌, ℕ, true, if◌then◌else◌, List, Option, None, slice_get, Some}
 use Rattle.std.specs.Option.{option_map}
 use Rattle.std.specs.FinMap as copies
-use Rattle.rambo_gossip.specs.declared.letter.Gossip.{Gossip}
-use Rattle.rambo_gossip.specs.declared.outline.GossipOutline.{GossipOutline}
+use Rattle.rambo_gossip.specs.Gossips.{GossipState}
 use Rattle.rambo_letters.specs.declared.sent.Sent.{Sent}
-use Rattle.rambo_letters.specs.declared.standing.Standing.{Standing}
-use Rattle.rambo_letters.specs.Kept.{SentState, kind_of}
-
--- what gossip reports of configurations
-abbrev pub standing_of : {Q : Type 0} → GossipOutline Q → Standing Q
-standing_of g = record { vote = g.vote.now; offer = g.offer; map = g.map.now }
+use Rattle.rambo_gossip.specs.declared.standing.Standing.{Standing}
+use Rattle.rambo_gossip.specs.Letters.{kind_of}
+use Rattle.rambo_letters.specs.Kept.{SentState}
 
 -- what an active node knew, with this as its report of configurations
-abbrev pub gossip_with : {Q : Type 0} → Sent → Standing Q → Gossip Q
+abbrev pub gossip_with : {Q : Type 0} → Sent → Standing Q → GossipState Q
 gossip_with s t = record { known = s.known; copies = copies.empty; map = t.map; number = s.number; heard = s.heard; vote = t.vote; offer = t.offer }
 
 -- with the standing at its place
-abbrev pub gossip_in : {Q : Type 0} → List (Standing Q) → Sent → Option (Gossip Q)
+abbrev pub gossip_in : {Q : Type 0} → List (Standing Q) → Sent → Option (GossipState Q)
 gossip_in standings s = if s.gossips then option_map (gossip_with s) (slice_get standings s.standing) else None
 
 -- the letter that is stored so, where the standings are these

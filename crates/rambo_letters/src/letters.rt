@@ -1,14 +1,14 @@
 //! All letters that were ever sent.
 ghost use Rattle.std.specs.Prelude.{◌≡◌, ◌-◌, ◌<◌, ◌++◌, ◌∷◌, [], List, Some, length, slice_get, OnOk, OnErr, IfErr, IfOk, IsTrue};
-ghost use Rattle.rambo_gossip.specs.Outlines.{outlined};
-ghost use Rattle.rambo_letters.specs.declared.standing.Standing.{Standing};
-ghost use Rattle.rambo_letters.specs.Kept.{kind_of, sent_at};
-ghost use Rattle.rambo_letters.specs.Shared.{gossip_in, sent_in, standing_of, IsHeld};
+ghost use Rattle.rambo_gossip.specs.Letters.{kind_of};
+ghost use Rattle.rambo_gossip.specs.Outlines.{outlined, standing_of};
+ghost use Rattle.rambo_gossip.specs.declared.standing.Standing.{Standing};
+ghost use Rattle.rambo_letters.specs.Kept.{sent_at};
+ghost use Rattle.rambo_letters.specs.Shared.{gossip_in, sent_in, IsHeld};
 
 use crate::outline::Outline;
 use crate::sent::Sent;
-use crate::standing::Standing;
-use rambo_gossip::{GossipOutline, LetterOutline};
+use rambo_gossip::{GossipOutline, LetterOutline, Standing};
 use rambo_names::{Members, Name, Quorums, Refusal};
 use std::alloc::Global;
 use std::marker::Model;

@@ -4,7 +4,7 @@ use Rattle.std.specs.List.{AllByRecursion}
 use Rattle.std.specs.FinSet.{empty}
 use Rattle.rambo_names.specs.Weights.{Weights, evenly}
 use Rattle.rambo_names.proofs.ConfTexts.{empty_text}
-use Rattle.rambo_run.specs.declared.step.Step.{Step}
+use Rattle.rambo_node.specs.Steps.{Step}
 use Rattle.rambo_text.specs.declared.fault.Fault.{Fault}
 use Rattle.rambo_text.specs.declared.fault.ScriptFault.{ScriptFault}
 use Rattle.rambo_text.specs.Forms.{Form, Conf, IsBadWord}

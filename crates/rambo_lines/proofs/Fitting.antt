@@ -9,8 +9,8 @@ use Rattle.rambo_names.proofs.ConfTexts.{none_text}
 use Rattle.rambo_history.specs.declared.operation.Op.{Op}
 use Rattle.rambo_history.specs.declared.operation.Op.TheVariants as op
 use Rattle.rambo_node.specs.declared.prepared.Quiet.{Quiet}
-use Rattle.rambo_run.specs.declared.step.Step.{Step}
-use Rattle.rambo_run.specs.declared.step.Step.TheVariants as step
+use Rattle.rambo_node.specs.Steps.{Step}
+use Rattle.rambo_node.specs.declared.step.StepOf.TheVariants as step
 use Rattle.rambo_text.specs.declared.fault.Fault.{Fault}
 use Rattle.rambo_text.specs.declared.fault.Fault.TheVariants.{NoFounders, UnknownWord, WrongCount, BadHex, OutOfMemory}
 use Rattle.rambo_text.specs.Forms.{Form, Conf, Hex, IsSpelt, IsBadWord}

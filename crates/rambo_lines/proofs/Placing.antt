@@ -1,7 +1,7 @@
 -- Where the lines of a script stand, and faults there
 use Rattle.std.proofs.Common.{◌≡◌, ℕ, ◌+◌, ◌≤◌, List, [], ◌∷◌, length, sym, ap, ◌∙◌, arith, length-append}
 use Rattle.rambo_names.specs.Weights.{Weights}
-use Rattle.rambo_run.specs.declared.step.Step.{Step}
+use Rattle.rambo_node.specs.Steps.{Step}
 use Rattle.rambo_text.specs.declared.fault.ScriptFault.{ScriptFault}
 use Rattle.rambo_text.specs.declared.version.Version.{Version}
 use Rattle.rambo_text.specs.declared.version.Version.TheVariants.{One, Two}

@@ -7,8 +7,8 @@ use Rattle.std.proofs.lemmas.Slice.Eq.{bytes_eq-Decides}
 use Rattle.rambo_names.specs.Weights.{Weights}
 use Rattle.rambo_names.proofs.ConfOnce.{one_conf_is, one_set_is}
 use Rattle.rambo_history.specs.declared.operation.Op.TheVariants as op
-use Rattle.rambo_run.specs.declared.step.Step.{Step}
-use Rattle.rambo_run.specs.declared.step.Step.TheVariants as step
+use Rattle.rambo_node.specs.Steps.{Step}
+use Rattle.rambo_node.specs.declared.step.StepOf.TheVariants as step
 use Rattle.rambo_text.specs.Forms.{IsSpelt, AreSpelt}
 use Rattle.rambo_text.specs.Words.{Lacks, AreWords}
 use Rattle.rambo_text.proofs.Alike.{same_hex, same_id, same_name}

@@ -7,8 +7,8 @@ use Rattle.rambo_names.specs.Weights.{Weights, members_of}
 use Rattle.rambo_names.proofs.ConfOnce.{one_conf_is}
 use Rattle.rambo_names.proofs.ConfTexts.{text_none}
 use Rattle.rambo_history.specs.declared.operation.Op.TheVariants as op
-use Rattle.rambo_run.specs.declared.step.Step.{Step}
-use Rattle.rambo_run.specs.declared.step.Step.TheVariants as step
+use Rattle.rambo_node.specs.Steps.{Step}
+use Rattle.rambo_node.specs.declared.step.StepOf.TheVariants as step
 use Rattle.rambo_text.specs.declared.fault.Fault.{Fault}
 use Rattle.rambo_text.specs.declared.fault.ScriptFault.{ScriptFault}
 use Rattle.rambo_text.specs.Forms.{Conf, IsBadWord}

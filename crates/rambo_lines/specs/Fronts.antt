@@ -1,8 +1,8 @@
 -- Steps at the front of a text
 use Rattle.std.specs.Prelude.{ℕ, List}
 use Rattle.rambo_names.specs.Weights.{Weights}
-use Rattle.rambo_run.specs.declared.step.Step.{Step}
-use Rattle.rambo_run.specs.declared.step.Step.TheVariants as step
+use Rattle.rambo_node.specs.Steps.{Step}
+use Rattle.rambo_node.specs.declared.step.StepOf.TheVariants as step
 use Rattle.rambo_text.specs.Words.{IsFirstLine}
 use Rattle.rambo_lines.specs.declared.front.Frequent.{Frequent}
 use Rattle.rambo_lines.specs.declared.front.Frequent.TheVariants as frequent

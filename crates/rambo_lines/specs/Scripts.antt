@@ -4,7 +4,7 @@ use Rattle.std.specs.List.{AllByRecursion}
 use Rattle.rambo_names.specs.Names.{count_of}
 use Rattle.rambo_names.specs.Signs.{conf_text, IsConf}
 use Rattle.rambo_names.specs.Weights.{Weights, members_of}
-use Rattle.rambo_run.specs.declared.step.Step.{Step}
+use Rattle.rambo_node.specs.Steps.{Step}
 use Rattle.rambo_text.specs.Words.{words_text}
 use Rattle.rambo_lines.specs.StepLines.{step_line, IsStep}
 

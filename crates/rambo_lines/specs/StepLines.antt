@@ -5,9 +5,8 @@ use Rattle.rambo_names.specs.Weights.{Weights}
 use Rattle.rambo_history.specs.declared.operation.Op.TheVariants as op
 use Rattle.rambo_node.specs.declared.prepared.Quiet.{Quiet}
 use Rattle.rambo_node.specs.declared.prepared.Quiet.TheVariants as quiet
-use Rattle.rambo_run.specs.declared.step.Step.{Step}
-use Rattle.rambo_run.specs.declared.step.Step.TheVariants as step
-use Rattle.rambo_run.specs.Kinds.{quiet_of}
+use Rattle.rambo_node.specs.Steps.{Step, quiet_of}
+use Rattle.rambo_node.specs.declared.step.StepOf.TheVariants as step
 use Rattle.rambo_text.specs.Forms.{Form}
 use Rattle.rambo_text.specs.Words.{words_text}
 use Rattle.rambo_lines.specs.StepParts.{Part, form_of, part_text, IsPart}

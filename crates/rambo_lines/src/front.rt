@@ -3,7 +3,7 @@
 //! What isn't read so is left to who reads lines.
 ghost use Rattle.std.specs.Prelude.{◌≡◌, ◌∷◌, ◌++◌, codes, IfSome};
 ghost use Rattle.std.specs.Int.{w32, w64, to_le_bytes};
-ghost use Rattle.rambo_run.specs.declared.step.Step.TheVariants as step;
+ghost use Rattle.rambo_node.specs.declared.step.StepOf.TheVariants as step;
 ghost use Rattle.rambo_lines.specs.Fronts.{BeginsWithStep, step_of};
 
 use rambo_history::{CallId, Op};

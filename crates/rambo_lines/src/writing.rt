@@ -2,13 +2,13 @@
 ghost use Rattle.std.specs.Prelude.{◌≡◌, ◌++◌, ◌∷◌, [], decimal, OnOk, OnErr, IfErr};
 ghost use Rattle.rambo_names.specs.Signs.{set_text, conf_text};
 ghost use Rattle.rambo_text.specs.Signs.{Grows, call_text, hex_text};
-ghost use Rattle.rambo_run.specs.declared.step.Step.TheVariants as step;
+ghost use Rattle.rambo_node.specs.declared.step.StepOf.TheVariants as step;
 ghost use Rattle.rambo_lines.specs.StepLines.{step_line, quiet_line, quiet_word};
 
 use rambo_history::{CallId, Op};
 use rambo_names::{Bytes, Members, Name, Refusal, Weighted, write_conf, write_set};
-use rambo_node::Quiet;
-use rambo_run::{Step, quiet_of};
+use rambo_node::{Quiet, quiet_of};
+use rambo_run::Step;
 use rambo_text::{write_call, write_hex, write_name, write_num};
 
 /// Appends the line of a step, with its line feed.

@@ -2,7 +2,7 @@
 use Rattle.std.proofs.Common.{◌≡◌, ℕ, List, [], true, false, Option, None, Some, if◌then◌else◌, inl, inr, sym, ap, subst}
 use Rattle.std.specs.Prelude.{IfSome}
 use Rattle.rambo_names.specs.Weights.{Weights, weighted_majorities}
-use Rattle.rambo_run.specs.declared.step.Step.{Step}
+use Rattle.rambo_node.specs.Steps.{Step}
 use Rattle.rambo_run.specs.Legal.{IsLegal}
 use Rattle.rambo_telling.specs.Telling.{Tells, listening_line, stream}
 use Rattle.rambo_command_line.specs.declared.serving.Serving.{Serving}

@@ -1,7 +1,7 @@
 -- How serving many clients ends
 use Rattle.std.specs.Prelude.{◌≡◌, ◌⊎◌, ◌≤◌, ℕ, Bool, true, false, List, [], Option, None, Some, is_some, length}
 use Rattle.rambo_names.specs.Weights.{Weights, weighted_majorities}
-use Rattle.rambo_run.specs.declared.step.Step.{Step}
+use Rattle.rambo_node.specs.Steps.{Step}
 use Rattle.rambo_run.specs.Legal.{IsLegal}
 use Rattle.rambo_telling.specs.Telling.{Stream, Takes, Tells, listening_line, stream}
 use Rattle.rambo_command_line.specs.declared.serving.Serving.{Serving}

@@ -8,8 +8,8 @@ use Rattle.rambo_tag.specs.Stamps.{AreStampedAlike}
 use Rattle.rambo_tag.specs.declared.keyed_version.KeyedVersion.{KeyedVersion}
 use Rattle.rambo_history.specs.declared.event.CallId.{CallId}
 use Rattle.rambo_history.specs.declared.operation.Op.{Op}
-use Rattle.rambo_gossip.specs.declared.letter.Kind.{Kind}
-use Rattle.rambo_gossip.specs.declared.letter.Kind.TheVariants as kind
+use Rattle.rambo_gossip.specs.Kinds.{Kind}
+use Rattle.rambo_gossip.specs.Kinds as kind
 use Rattle.rambo_gossip.specs.Letters.{kind_with}
 use Rattle.rambo_gossip.specs.Short.{copies_in}
 use Rattle.rambo_calls.specs.Calls.{CallState, query_in, asked_in}

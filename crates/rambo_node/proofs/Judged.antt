@@ -15,7 +15,7 @@ use Rattle.rambo_gc.specs.declared.gc_move.GcMove.{GcMove}
 use Rattle.rambo_gc.specs.declared.gc_move.GcMove.TheVariants.{Propagating, Done}
 use Rattle.rambo_gc.specs.Collections.{CollectionState, has_quorum, is_met, move_of, next_move}
 use Rattle.rambo_joiner.specs.Statuses.{is_early, is_stopped}
-use Rattle.rambo_gossip.specs.declared.letter.Kind.{Kind}
+use Rattle.rambo_gossip.specs.Kinds.{Kind}
 use Rattle.rambo_paxos.specs.Attempts.{AttemptState}
 use Rattle.rambo_paxos.specs.Votes.{is_spent}
 use Rattle.rambo_node.specs.Claims.{RisesFrom, FirstIsLeast}

@@ -3,7 +3,7 @@ use Rattle.std.proofs.Common.{◌≡◌, ℕ, suc, ◌+◌, ◌≤◌, Bool, tru
 use Rattle.std.specs.Prelude.{if◌then◌else◌}
 use Rattle.std.specs.FinMap.{empty, insert}
 use Rattle.rambo_calls.specs.Hearing.{any_gap}
-use Rattle.rambo_gossip.specs.declared.letter.Gossip.{Gossip}
+use Rattle.rambo_gossip.specs.Gossips.{GossipState}
 use Rattle.rambo_tag.specs.Copies.{Copies}
 use Rattle.rambo_tag.specs.Stamps.{Stamps, AreAtMost, stamps_merged}
 use Rattle.rambo_tag.proofs.StampLaws.{AreAtMost-empty, AreAtMost-later, AreAtMost-put, AreAtMost-merged}
@@ -34,7 +34,7 @@ pub late_merged : (s t : Stamps) (held sent : Copies) (n : ℕ) → t ≡ stamps
 late_merged s t held sent n e h = subst (AreAtMost n) (sym e) (AreAtMost-merged n held sent s h)
 
 -- a letter doesn't lower the number
-pub never_lower : {Q : Type 0} (x : NodeState Q) (g : Gossip Q) → x.number ≤ number_after x g
+pub never_lower : {Q : Type 0} (x : NodeState Q) (g : GossipState Q) → x.number ≤ number_after x g
 never_lower x g = up x.number (any_gap g.heard g.map x.calls)
   where
     up : (n : ℕ) (b : Bool) → n ≤ (if b then suc n else n)

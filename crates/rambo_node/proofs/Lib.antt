@@ -6,8 +6,10 @@ pub mod Late
 pub mod Memory
 pub mod Fitting
 pub mod Readiness
-mod QuietActs
-pub mod Sizes
+pub mod QuietSteps
+pub mod Outlines
+pub mod FirstHalves
+pub mod Means
 mod Own
 pub mod Telling
 pub mod Short

@@ -1,8 +1,8 @@
 -- What follows where no memory is needed
 use Rattle.std.proofs.Common.{◌≡◌, false, Result, Ok, Err, IsOk, IfOk, IfErr, OnOk, refl, sym}
 use Rattle.std.proofs.lemmas.Bool.{true≢false}
-use Rattle.rambo_gossip.specs.declared.letter.Kind.{Kind}
-use Rattle.rambo_gossip.specs.declared.letter.Kind.TheVariants as kind
+use Rattle.rambo_gossip.specs.Kinds.{Kind}
+use Rattle.rambo_gossip.specs.Kinds as kind
 use Rattle.rambo_node.specs.Memory.{is_gossip}
 
 -- what succeeds has no error of which to say anything

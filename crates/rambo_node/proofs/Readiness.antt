@@ -10,20 +10,14 @@ use Rattle.rambo_tag.specs.declared.version.Version.{Version}
 use Rattle.rambo_tag.specs.Copies.{Copies, joined}
 use Rattle.rambo_tag.specs.Stamps.{stamps_merged}
 use Rattle.rambo_history.specs.declared.event.CallId.{CallId}
-use Rattle.rambo_history.specs.declared.event.Event.TheVariants as event
 use Rattle.rambo_history.specs.declared.operation.Op.{Op}
 use Rattle.rambo_history.specs.declared.operation.Op.TheVariants as op
-use Rattle.rambo_gossip.specs.declared.letter.Gossip.{Gossip}
-use Rattle.rambo_gossip.specs.declared.letter.Kind.{Kind}
-use Rattle.rambo_gossip.specs.declared.letter.Kind.TheVariants as kind
-use Rattle.rambo_gossip.specs.declared.letter.Letter.{Letter}
-use Rattle.rambo_gossip.specs.Letters.{gossip_with, kind_with, letter_with}
+use Rattle.rambo_gossip.specs.Gossips.{GossipState}
+use Rattle.rambo_gossip.specs.Kinds.{Kind}
+use Rattle.rambo_gossip.specs.Kinds as kind
+use Rattle.rambo_gossip.specs.Letters.{LetterState, gossip_with, kind_with, letter_with}
 use Rattle.rambo_gossip.specs.Short.{copies_in}
 use Rattle.rambo_calls.specs.Calls.{place_of, find_call, query_in, is_missing}
-use Rattle.rambo_node.specs.declared.deed.Deed.{Deed}
-use Rattle.rambo_node.specs.declared.prepared.Turn.TheVariants as turn
-use Rattle.rambo_node.specs.declared.prepared.Quiet.{Quiet}
-use Rattle.rambo_node.specs.declared.prepared.HearTurn.{HearTurn}
 use Rattle.rambo_node.specs.declared.prepared.Hearing.{Hearing}
 use Rattle.rambo_node.specs.declared.prepared.Found.{Found}
 use Rattle.rambo_node.specs.declared.prepared.Moving.{Moving}
@@ -33,7 +27,7 @@ use Rattle.rambo_node.specs.Hearing.{heard_letter, heard_kind, heard_gossip, hea
 use Rattle.rambo_node.specs.Kept.{answered_from, move_deed, propagation_begun}
 use Rattle.rambo_node.specs.Nodes.{NodeState, Beside, RoomyNode, open_call}
 use Rattle.rambo_node.specs.Operations.{taken, with_copy}
-use Rattle.rambo_node.specs.Prepared.{kept_by, put_by, with_put, query_done, sequence_before, HasRoomFor, IsAlone, IsFound, IsMoving, IsHearing, IsReadyGossip, IsReadyKind, Prepares, heard_by}
+use Rattle.rambo_node.specs.Prepared.{kept_by, put_by, with_put, query_done, sequence_before, HasRoomFor, IsAlone, IsFound, IsMoving, IsHearing, IsReadyGossip, IsReadyKind}
 use Rattle.rambo_node.specs.Refusals.{hear_causes, is_last, query_spent, tags_spent}
 use Rattle.rambo_node.proofs.Advances.{query_moves, call_closes}
 use Rattle.rambo_node.proofs.Besides.{alike_beside}
@@ -107,13 +101,13 @@ answer_takes s v m found round alone room = record {
 }
 
 -- gossip whose copies were merged first
-pub gossip_ends : {Q : Type 0} (x : NodeState Q) (j : ℕ) (g : Gossip Q) (copies : Copies)
+pub gossip_ends : {Q : Type 0} (x : NodeState Q) (j : ℕ) (g : GossipState Q) (copies : Copies)
     → heard_rest (record x { registers = joined x.registers copies }) j g ≡ heard_gossip x j (gossip_with g copies)
 unfolding heard_gossip
 gossip_ends x j g copies = refl
 
 -- what is ready of gossip is ready of its outline
-pub outline_ready : {Q : Type 0} (v : RoomyNode Q) (g o : Gossip Q) (other : Copies) (number : ℕ) → o ≡ gossip_with g map.empty → IsReadyGossip v g other number → IsReadyGossip v o other number
+pub outline_ready : {Q : Type 0} (v : RoomyNode Q) (g o : GossipState Q) (other : Copies) (number : ℕ) → o ≡ gossip_with g map.empty → IsReadyGossip v g other number → IsReadyGossip v o other number
 outline_ready v g o other number e h = subst (λ p. IsReadyGossip v p other number) (sym e) (record { counted = h.counted; keys = h.keys; phases = h.phases })
 
 -- what a letter says is as ready with other copies
@@ -121,41 +115,29 @@ pub ready_apart : {Q : Type 0} (v : RoomyNode Q) (k : Kind Q) (copies other : Co
 ready_apart v kind.Join copies other number h = tt
 ready_apart v (kind.Gossip g) copies other number h = record { counted = h.counted; keys = h.keys; phases = h.phases }
 
--- a letter with copies that make the same comes to the same
-module _ {Q : Type 0} (x : NodeState Q) (l : Letter Q) (other : Copies) (same : joined x.registers other ≡ joined x.registers (copies_in l.kind)) where
-  short_is : letter_with (letter_with l map.empty) other ≡ letter_with l other
-  short_is = λ i. record l { kind = kind_twice l.kind map.empty other i }
+-- other copies take the place of a letter's copies
+short_is : {Q : Type 0} (l : LetterState Q) (other : Copies) → letter_with (letter_with l map.empty) other ≡ letter_with l other
+short_is l other = λ i. record l { kind = kind_twice l.kind map.empty other i }
 
-  pub short_ends : made_by x (act.Hear (letter_with (letter_with l map.empty) other)) ≡ made_by x (act.Hear l)
-  unfolding made_by
-  short_ends =
-      ap (λ (n : Letter Q). alone (heard_letter x n)) short_is
-      ∙ ap alone ((heard_alike x l other (copies_in l.kind) same).0 ∙ ap (heard_letter x) (own_copies l))
-
-  pub short_judged : (s : QuorumSystem Q) → refusal_of s x (act.Hear (letter_with (letter_with l map.empty) other)) ≡ refusal_of s x (act.Hear l)
-  short_judged s =
-      ap (λ (n : Letter Q). least (hear_causes x n.kind)) short_is
-      ∙ ap least ((heard_alike x l other (copies_in l.kind) same).1 ∙ ap (λ (n : Letter Q). hear_causes x n.kind) (own_copies l))
-
--- and so it does where it is told by its outline
-pub hearing_ends : {Q : Type 0} (v : RoomyNode Q) (l o : Letter Q) (h : Hearing) → o ≡ letter_with l map.empty → IsHearing v l h → heard_letter v.state (letter_with o h.copies) ≡ heard_letter v.state l
+-- a letter with copies that make the same comes to the same, where it is told by its outline
+pub hearing_ends : {Q : Type 0} (v : RoomyNode Q) (l o : LetterState Q) (h : Hearing) → o ≡ letter_with l map.empty → IsHearing v l h → heard_letter v.state (letter_with o h.copies) ≡ heard_letter v.state l
 hearing_ends v l o h is e =
-    ap (λ (n : Letter _). heard_letter v.state (letter_with n h.copies)) is
-    ∙ ap (heard_letter v.state) (short_is v.state l h.copies e.alike)
+    ap (λ (n : LetterState _). heard_letter v.state (letter_with n h.copies)) is
+    ∙ ap (heard_letter v.state) (short_is l h.copies)
     ∙ (heard_alike v.state l h.copies (copies_in l.kind) e.alike).0 ∙ ap (heard_letter v.state) (own_copies l)
 
 -- and leaves beside what the whole letter would
-pub hearing_beside : {Q : Type 0} (v : RoomyNode Q) (l o : Letter Q) (h : Hearing) → o ≡ letter_with l map.empty → IsHearing v l h
+pub hearing_beside : {Q : Type 0} (v : RoomyNode Q) (l o : LetterState Q) (h : Hearing) → o ≡ letter_with l map.empty → IsHearing v l h
     → beside_after v.state v.beside (act.Hear (letter_with o h.copies)) ≡ beside_after v.state v.beside (act.Hear l)
 hearing_beside v l o h is e =
-    ap (λ (n : Letter _). beside_after v.state v.beside (act.Hear (letter_with n h.copies))) is
+    ap (λ (n : LetterState _). beside_after v.state v.beside (act.Hear (letter_with n h.copies))) is
     ∙ alike_beside v.state v.beside l.sender l.kind h.copies e.stamped
 
-pub hearing_ready : {Q : Type 0} (v : RoomyNode Q) (l o : Letter Q) (h : Hearing) → o ≡ letter_with l map.empty → IsHearing v l h → IsReadyKind v o.kind h.copies h.number
-hearing_ready v l o h is e = subst (λ (n : Letter _). IsReadyKind v n.kind h.copies h.number) (sym is) (ready_apart v l.kind map.empty h.copies h.number e.ready)
+pub hearing_ready : {Q : Type 0} (v : RoomyNode Q) (l o : LetterState Q) (h : Hearing) → o ≡ letter_with l map.empty → IsHearing v l h → IsReadyKind v o.kind h.copies h.number
+hearing_ready v l o h is e = subst (λ (n : LetterState _). IsReadyKind v n.kind h.copies h.number) (sym is) (ready_apart v l.kind map.empty h.copies h.number e.ready)
 
 -- what was found of gossip is right for a letter that has it
-pub gossip_hearing : {Q : Type 0} (v : RoomyNode Q) (l : Letter Q) (o : Gossip Q) (copies : Copies) (h : Hearing) → l.kind ≡ kind.Gossip (gossip_with o copies)
+pub gossip_hearing : {Q : Type 0} (v : RoomyNode Q) (l : LetterState Q) (o : GossipState Q) (copies : Copies) (h : Hearing) → l.kind ≡ kind.Gossip (gossip_with o copies)
     → IsReadyGossip v o h.copies h.number → h.copies ≡ copies → IsHearing v l h
 gossip_hearing v l o copies h is ready own =
     let all : h.copies ≡ copies_in l.kind = own ∙ sym (ap copies_in is) in
@@ -166,7 +148,7 @@ gossip_hearing v l o copies h is ready own =
     }
 
 -- gossip comes to the letter that has it
-module _ {Q : Type 0} (x : NodeState Q) (l : Letter Q) (o : Gossip Q) (copies : Copies) (is : l.kind ≡ kind.Gossip (gossip_with o copies)) where
+module _ {Q : Type 0} (x : NodeState Q) (l : LetterState Q) (o : GossipState Q) (copies : Copies) (is : l.kind ≡ kind.Gossip (gossip_with o copies)) where
   pub gossip_heard : heard_gossip x l.sender (gossip_with o copies) ≡ heard_letter x l
   gossip_heard = sym (ap (heard_kind x l.sender) is)
 
@@ -174,64 +156,9 @@ module _ {Q : Type 0} (x : NodeState Q) (l : Letter Q) (o : Gossip Q) (copies : 
   gossip_beside b = sym (ap (beside_heard x b l.sender) is)
 
 -- other copies are refused alike
-pub copies_judged : {Q : Type 0} (s : QuorumSystem Q) (x : NodeState Q) (l : Letter Q) (copies : Copies) → refusal_of s x (act.Hear (letter_with l copies)) ≡ refusal_of s x (act.Hear l)
+pub copies_judged : {Q : Type 0} (s : QuorumSystem Q) (x : NodeState Q) (l : LetterState Q) (copies : Copies) → refusal_of s x (act.Hear (letter_with l copies)) ≡ refusal_of s x (act.Hear l)
 copies_judged s x l copies = ap least (causes_alike x l.kind copies)
   where
     causes_alike : {Q : Type 0} (x : NodeState Q) (k : Kind Q) (copies : Copies) → hear_causes x (kind_with k copies) ≡ hear_causes x k
     causes_alike x kind.Join copies = refl
     causes_alike x (kind.Gossip g) copies = refl
-
--- what is prepared for an act of each kind
-module _ {Q : Type 0} (s : QuorumSystem Q) (v : RoomyNode Q) where
-  pub call_prepares : (o asked named : Op) (id : CallId) → refusal_of s v.state (act.Call o) ≡ None → asked ≡ o → named ≡ o
-      → id ≡ record { name = v.state.name; number = v.state.made + 1 } → 0 < v.room.calls.room
-      → Prepares s v (act.Call o) (record { event = Some (event.Call id named); mark = None; copy = None; turn = turn.Call asked })
-  unfolding made_by
-  call_prepares o asked named id ok same told own room = record {
-    prepared = record { accepted = ap (λ p. refusal_of s v.state (act.Call p)) same ∙ ok; ready = room };
-    same = ap (λ p. made_by v.state (act.Call p)) same;
-    beside = refl;
-    event = λ i. Some (event.Call (own i) (told i));
-    mark = refl;
-    copy = refl;
-  }
-
-  pub advance_prepares : (id : CallId) (m : Moving) (d : Deed Q) → m.id ≡ id → IsMoving s v m → d ≡ (made_by v.state (act.Advance id)).deed
-      → Prepares s v (act.Advance id) (record { event = d.event; mark = d.mark; copy = d.copy; turn = turn.Advance (record { moving = m; effect = d.effect }) })
-  advance_prepares id m d named moving told = record {
-    prepared = record {
-      accepted = moving.found.accepted;
-      ready = (moving, ap (λ e. e.effect) told ∙ sym (ap (λ n. (made_by v.state (act.Advance n)).deed.effect) named));
-    };
-    same = ap (λ n. made_by v.state (act.Advance n)) named;
-    beside = ap (λ n. beside_after v.state v.beside (act.Advance n)) named;
-    event = ap (λ e. e.event) told;
-    mark = ap (λ e. e.mark) told;
-    copy = ap (λ e. e.copy) told;
-  }
-
-  pub hear_prepares : (l : Letter Q) (t : HearTurn Q) → refusal_of s v.state (act.Hear l) ≡ None → heard_by t ≡ letter_with l map.empty → IsHearing v l t.hearing
-      → Prepares s v (act.Hear l) (record { event = None; mark = None; copy = None; turn = turn.Hear t })
-  unfolding made_by
-  hear_prepares l t ok is h =
-      let own = t.hearing.copies in
-      let alike = ap (λ (n : Letter Q). act.Hear (letter_with n own)) is in
-      record {
-        prepared = record {
-          accepted = ap (refusal_of s v.state) alike ∙ short_judged v.state l own h.alike s ∙ ok;
-          ready = subst (λ (n : Letter Q). IsReadyKind v n.kind own t.hearing.number) (sym is) (ready_apart v l.kind map.empty own t.hearing.number h.ready);
-        };
-        same = ap (made_by v.state) alike ∙ short_ends v.state l own h.alike;
-        beside = hearing_beside v l (heard_by t) t.hearing is h;
-        event = refl;
-        mark = refl;
-        copy = refl;
-      }
-
-  pub send_prepares : (to : ℕ) → refusal_of s v.state (act.Send to) ≡ None → Prepares s v (act.Send to) (record { event = None; mark = None; copy = None; turn = turn.Send to })
-  unfolding made_by
-  send_prepares to ok = record { prepared = record { accepted = ok; ready = _ }; same = refl; beside = refl; event = refl; mark = refl; copy = refl }
-
-  pub quiet_prepares : (q : Quiet Q) → refusal_of s v.state (act.Quietly q) ≡ None → Prepares s v (act.Quietly q) (record { event = None; mark = None; copy = None; turn = turn.Quiet q })
-  unfolding made_by
-  quiet_prepares q ok = record { prepared = record { accepted = ok; ready = _ }; same = refl; beside = refl; event = refl; mark = refl; copy = refl }

@@ -2,11 +2,10 @@
 use Rattle.std.proofs.Common.{◌≡◌, ℕ, Bool, true, false, if◌then◌else◌, refl, sym, ap, ◌∙◌}
 use Rattle.rambo_tag.specs.Copies.{Copies, joined}
 use Rattle.rambo_tag.proofs.Joins.{same_copies, get-joined}
-use Rattle.rambo_gossip.specs.declared.letter.Kind.{Kind}
-use Rattle.rambo_gossip.specs.declared.letter.Kind.TheVariants as kind
-use Rattle.rambo_gossip.specs.declared.letter.Letter.{Letter}
-use Rattle.rambo_gossip.specs.declared.letter.Gossip.{Gossip}
-use Rattle.rambo_gossip.specs.Letters.{letter_with, kind_with}
+use Rattle.rambo_gossip.specs.Kinds.{Kind}
+use Rattle.rambo_gossip.specs.Kinds as kind
+use Rattle.rambo_gossip.specs.Gossips.{GossipState}
+use Rattle.rambo_gossip.specs.Letters.{LetterState, letter_with, kind_with}
 use Rattle.rambo_joiner.specs.Statuses.{is_active}
 use Rattle.rambo_node.specs.Claims.{MergeAlike, HeardAlike}
 use Rattle.rambo_node.specs.Hearing.{heard_kind, heard_gossip}
@@ -14,7 +13,7 @@ use Rattle.rambo_node.specs.Letters.{letter_for, gossip_for}
 use Rattle.rambo_node.specs.Nodes.{NodeState}
 use Rattle.rambo_node.specs.Refusals.{hear_causes}
 
-own_kind : {Q : Type 0} (g : Gossip Q) (active : Bool) → kind_with (if active then kind.Gossip g else kind.Join) g.copies ≡ (if active then kind.Gossip g else kind.Join)
+own_kind : {Q : Type 0} (g : GossipState Q) (active : Bool) → kind_with (if active then kind.Gossip g else kind.Join) g.copies ≡ (if active then kind.Gossip g else kind.Join)
 own_kind g true = refl
 own_kind g false = refl
 
@@ -34,7 +33,7 @@ kind_alike x j kind.Join a b e = (refl, refl)
 kind_alike x j (kind.Gossip g) a b e = (λ i. record (heard_gossip x j g) { registers = e i }, refl)
 
 -- copies that come to the same are heard alike
-pub heard_alike : {Q : Type 0} (x : NodeState Q) (l : Letter Q) (a b : Copies) → joined x.registers a ≡ joined x.registers b → HeardAlike x l a b
+pub heard_alike : {Q : Type 0} (x : NodeState Q) (l : LetterState Q) (a b : Copies) → joined x.registers a ≡ joined x.registers b → HeardAlike x l a b
 heard_alike x l a b e = kind_alike x l.sender l.kind a b e
 
 pub joined_alike : (r a b : Copies) → MergeAlike r a b → joined r a ≡ joined r b

@@ -14,7 +14,7 @@ use Rattle.rambo_config_map.specs.Maps.{active_at, end_of}
 use Rattle.rambo_gc.specs.declared.gc_move.GcMove.{GcMove}
 use Rattle.rambo_gc.specs.declared.gc_move.GcMove.TheVariants.{Propagating, Done}
 use Rattle.rambo_gc.specs.Collections.{CollectionState}
-use Rattle.rambo_gossip.specs.declared.letter.Letter.{Letter}
+use Rattle.rambo_gossip.specs.Letters.{LetterState}
 use Rattle.rambo_paxos.specs.declared.bid.Bid.{Bid}
 use Rattle.rambo_paxos.specs.declared.bid.Bid.TheVariants as bid
 use Rattle.rambo_paxos.specs.Attempts.{AttemptState, bid_of}
@@ -64,7 +64,7 @@ refusal_of s x a = least (causes s x a)
 pub record Made (Q : Type 0) : Type 0 where
   pub node : NodeState Q
   pub deed : Deed Q
-  pub letter : Option (Letter Q)
+  pub letter : Option (LetterState Q)
 
 -- the deed of an act that has this effect and nothing else
 abbrev pub told : {Q : Type 0} → Effect Q → Deed Q

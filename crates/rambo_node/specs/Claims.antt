@@ -6,8 +6,7 @@ use Rattle.rambo_names.specs.Quorums.{QuorumSystem}
 use Rattle.rambo_names.specs.Refusals.{Cause, least, number_of}
 use Rattle.rambo_tag.specs.Copies.{Copies, joined}
 use Rattle.rambo_tag.specs.Tags.{greater}
-use Rattle.rambo_gossip.specs.declared.letter.Letter.{Letter}
-use Rattle.rambo_gossip.specs.Letters.{letter_with}
+use Rattle.rambo_gossip.specs.Letters.{LetterState, letter_with}
 use Rattle.rambo_gossip.specs.Short.{IsShort}
 use Rattle.rambo_node.specs.Acts.{Act}
 use Rattle.rambo_node.specs.Changes.{causes}
@@ -36,20 +35,20 @@ abbrev pub MergeAlike : Copies → Copies → Copies → Type 0
 MergeAlike r a b = (key : List ℕ) → greater (get r key) (get a key) ≡ greater (get r key) (get b key)
 
 -- a letter with other copies is heard alike, where they come to the same
-abbrev pub HeardAlike : {Q : Type 0} → NodeState Q → Letter Q → Copies → Copies → Type 0
+abbrev pub HeardAlike : {Q : Type 0} → NodeState Q → LetterState Q → Copies → Copies → Type 0
 HeardAlike x l a b =
     (heard_letter x (letter_with l a) ≡ heard_letter x (letter_with l b))
     × (hear_causes x (letter_with l a).kind ≡ hear_causes x (letter_with l b).kind)
 
 -- so a letter may leave out what its addressee already holds
 abbrev pub ShortLettersAreHeardAlike : Type 0 → Type 0
-ShortLettersAreHeardAlike Q = (x : NodeState Q) (l : Letter Q) (a b : Copies) → joined x.registers a ≡ joined x.registers b → HeardAlike x l a b
+ShortLettersAreHeardAlike Q = (x : NodeState Q) (l : LetterState Q) (a b : Copies) → joined x.registers a ≡ joined x.registers b → HeardAlike x l a b
 
 abbrev pub LettersAreHeardByKey : Type 0 → Type 0
-LettersAreHeardByKey Q = (x : NodeState Q) (l : Letter Q) (a b : Copies) → MergeAlike x.registers a b → HeardAlike x l a b
+LettersAreHeardByKey Q = (x : NodeState Q) (l : LetterState Q) (a b : Copies) → MergeAlike x.registers a b → HeardAlike x l a b
 
 -- and a short letter, where the node holds what it leaves out, is heard as the whole one
 abbrev pub ShortIsHeardAsWhole : Type 0 → Type 0
 ShortIsHeardAsWhole Q =
-    (x : NodeState Q) (l whole : Letter Q) → IsShort l whole x.registers
+    (x : NodeState Q) (l whole : LetterState Q) → IsShort l whole x.registers
     → (heard_letter x l ≡ heard_letter x whole) × (hear_causes x l.kind ≡ hear_causes x whole.kind)

@@ -5,10 +5,9 @@ use Rattle.rambo_names.specs.Quorums.{QuorumSystem}
 use Rattle.rambo_tag.specs.declared.keyed_version.KeyedVersion.{KeyedVersion}
 use Rattle.rambo_tag.specs.Copies.{Copies}
 use Rattle.rambo_tag.specs.Stamps.{Stamps, stamps_merged, IsSince}
-use Rattle.rambo_gossip.specs.declared.letter.Letter.{Letter}
-use Rattle.rambo_gossip.specs.declared.letter.Kind.{Kind}
-use Rattle.rambo_gossip.specs.declared.letter.Kind.TheVariants as kind
-use Rattle.rambo_gossip.specs.Letters.{letter_with}
+use Rattle.rambo_gossip.specs.Kinds.{Kind}
+use Rattle.rambo_gossip.specs.Kinds as kind
+use Rattle.rambo_gossip.specs.Letters.{LetterState, letter_with}
 use Rattle.rambo_node.specs.Acts.{Act}
 use Rattle.rambo_node.specs.Changes.{made_by, advanced}
 use Rattle.rambo_node.specs.Letters.{letter_for}
@@ -82,9 +81,9 @@ abbrev pub IsDelta : {Q : Type 0} → FullNode Q → ℕ → Copies → Type 0
 IsDelta v to p = IsSince v.state.registers v.stamps (heard_from v.bases to) p
 
 -- a node's letter with these copies in place of all that it has
-abbrev pub delta_letter : {Q : Type 0} → FullNode Q → ℕ → Copies → Letter Q
+abbrev pub delta_letter : {Q : Type 0} → FullNode Q → ℕ → Copies → LetterState Q
 delta_letter v to p = letter_with (letter_for v.state to) p
 
 -- such a letter with what it has since its base for its addressee
-abbrev pub IsDeltaLetter : {Q : Type 0} → FullNode Q → ℕ → Letter Q → Type 0
+abbrev pub IsDeltaLetter : {Q : Type 0} → FullNode Q → ℕ → LetterState Q → Type 0
 IsDeltaLetter v to l = (p : Copies) × IsDelta v to p × (l ≡ delta_letter v to p)

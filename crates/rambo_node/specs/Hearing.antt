@@ -8,17 +8,17 @@ use Rattle.rambo_gc.specs.Collections as collection
 use Rattle.rambo_paxos.specs.Attempts.{AttemptState}
 use Rattle.rambo_paxos.specs.Votes.{VoteState}
 use Rattle.rambo_joiner.specs.Statuses.{woken}
-use Rattle.rambo_gossip.specs.declared.letter.Letter.{Letter}
-use Rattle.rambo_gossip.specs.declared.letter.Gossip.{Gossip}
-use Rattle.rambo_gossip.specs.declared.letter.Kind.{Kind}
-use Rattle.rambo_gossip.specs.declared.letter.Kind.TheVariants as kind
+use Rattle.rambo_gossip.specs.Letters.{LetterState}
+use Rattle.rambo_gossip.specs.Gossips.{GossipState}
+use Rattle.rambo_gossip.specs.Kinds.{Kind}
+use Rattle.rambo_gossip.specs.Kinds as kind
 use Rattle.rambo_calls.specs.Hearing as calls
 use Rattle.rambo_calls.specs.Hearing.{heard_call}
 use Rattle.rambo_bids.specs.Hearing as bids
 use Rattle.rambo_node.specs.Nodes.{NodeState, raised}
 
 -- the phase number after a letter: greater by one where some phase restarts
-abbrev pub number_after : {Q : Type 0} → NodeState Q → Gossip Q → ℕ
+abbrev pub number_after : {Q : Type 0} → NodeState Q → GossipState Q → ℕ
 number_after x g = calls.number_after x.number g.heard g.map x.calls
 
 -- a collection counts a reply to it
@@ -27,15 +27,15 @@ collection_after None j heard = None
 collection_after (Some c) j heard = Some (collection.heard c j heard)
 
 -- its vote and its attempt hear what is for the first place that neither knows
-abbrev pub vote_after : {Q : Type 0} → NodeState Q → Gossip Q → VoteState Q
+abbrev pub vote_after : {Q : Type 0} → NodeState Q → GossipState Q → VoteState Q
 vote_after x g = bids.vote_after x.map x.vote g.map g.offer
 
-abbrev pub attempt_after : {Q : Type 0} → NodeState Q → ℕ → Gossip Q → Option (AttemptState Q)
+abbrev pub attempt_after : {Q : Type 0} → NodeState Q → ℕ → GossipState Q → Option (AttemptState Q)
 attempt_after x j g = bids.attempt_after x.map x.attempt j g.map g.vote
 
 -- the node after gossip from j: everything is merged, open calls count it or restart, a collection counts it, and votes
 -- come last
-unfoldable pub heard_gossip : {Q : Type 0} → NodeState Q → ℕ → Gossip Q → NodeState Q
+unfoldable pub heard_gossip : {Q : Type 0} → NodeState Q → ℕ → GossipState Q → NodeState Q
 heard_gossip x j g = record x {
   status = woken x.status;
   known = set.union x.known g.known;
@@ -50,7 +50,7 @@ heard_gossip x j g = record x {
 }
 
 -- all of that but the copies
-abbrev pub heard_rest : {Q : Type 0} → NodeState Q → ℕ → Gossip Q → NodeState Q
+abbrev pub heard_rest : {Q : Type 0} → NodeState Q → ℕ → GossipState Q → NodeState Q
 heard_rest x j g = record (heard_gossip x j g) { registers = x.registers }
 
 -- a letter of a joining node makes its sender known
@@ -61,5 +61,5 @@ abbrev pub heard_kind : {Q : Type 0} → NodeState Q → ℕ → Kind Q → Node
 heard_kind x j kind.Join = heard_join x j
 heard_kind x j (kind.Gossip g) = heard_gossip x j g
 
-abbrev pub heard_letter : {Q : Type 0} → NodeState Q → Letter Q → NodeState Q
+abbrev pub heard_letter : {Q : Type 0} → NodeState Q → LetterState Q → NodeState Q
 heard_letter x l = heard_kind x l.sender l.kind

@@ -1,3 +1,4 @@
+pub mod Steps
 pub mod Acts
 pub mod Kept
 pub mod Nodes
@@ -10,4 +11,5 @@ pub mod Refusals
 pub mod Changes
 pub mod FullNodes
 pub mod Prepared
+pub mod Halves
 pub mod Claims

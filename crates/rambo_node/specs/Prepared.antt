@@ -1,5 +1,5 @@
--- An act that is ready: there is room for what it makes new, and what its second half needs of it is found
-use Rattle.std.specs.Prelude.{◌≡◌, ℕ, ◌<◌, Box, Option, None, Some, slice_get}
+-- What is found for an act that isn't refused, and the room that is made for it
+use Rattle.std.specs.Prelude.{◌≡◌, ℕ, ◌<◌, Option, None, Some, slice_get}
 use Rattle.std.specs.FinMap as map
 use Rattle.rambo_names.specs.Quorums.{QuorumSystem}
 use Rattle.rambo_tag.specs.declared.keyed_version.KeyedVersion.{KeyedVersion}
@@ -12,46 +12,20 @@ use Rattle.rambo_history.specs.declared.operation.Op.{Op}
 use Rattle.rambo_history.specs.declared.operation.Op.TheVariants as op
 use Rattle.rambo_calls.specs.Calls.{place_of, query_in}
 use Rattle.rambo_calls.specs.Kept.{IsRoomy}
-use Rattle.rambo_gossip.specs.declared.letter.Gossip.{Gossip}
-use Rattle.rambo_gossip.specs.declared.letter.Letter.{Letter}
-use Rattle.rambo_gossip.specs.declared.letter.Kind.{Kind}
-use Rattle.rambo_gossip.specs.declared.letter.Kind.TheVariants as kind
-use Rattle.rambo_gossip.specs.Letters.{letter_with}
+use Rattle.rambo_gossip.specs.Gossips.{GossipState}
+use Rattle.rambo_gossip.specs.Kinds.{Kind}
+use Rattle.rambo_gossip.specs.Kinds as kind
+use Rattle.rambo_gossip.specs.Letters.{LetterState}
 use Rattle.rambo_gossip.specs.Short.{copies_in}
-use Rattle.rambo_node.specs.Acts.{Act}
-use Rattle.rambo_node.specs.declared.prepared.Prepared.{Prepared}
-use Rattle.rambo_node.specs.declared.prepared.Turn.{Turn}
-use Rattle.rambo_node.specs.declared.prepared.Turn.TheVariants as turn
-use Rattle.rambo_node.specs.declared.prepared.HearTurn.{HearTurn}
 use Rattle.rambo_node.specs.declared.prepared.Hearing.{Hearing}
 use Rattle.rambo_node.specs.declared.prepared.Found.{Found}
 use Rattle.rambo_node.specs.declared.prepared.Moving.{Moving}
-use Rattle.rambo_node.specs.Changes.{refusal_of, made_by, copy_put}
-use Rattle.rambo_node.specs.FullNodes.{beside_after}
+use Rattle.rambo_node.specs.Changes.{refusal_of, copy_put}
 use Rattle.rambo_node.specs.Hearing.{number_after}
 use Rattle.rambo_node.specs.Kept.{propagation_begun}
 use Rattle.rambo_node.specs.Nodes.{NodeState, Room, RoomyNode, open_call}
 use Rattle.rambo_node.specs.Operations.{taken}
 use Rattle.rambo_node.specs.Acts as act
-
--- a letter that may be heard, without its copies
-abbrev pub kind_of : {Q Z : Type 0} → Option (Box (Gossip Q) Z) → Kind Q
-kind_of None = kind.Join
-kind_of (Some b) = kind.Gossip b.value
-
-abbrev pub heard_by : {Q : Type 0} → HearTurn Q → Letter Q
-heard_by t = record { sender = t.sender; addressee = t.addressee; kind = kind_of t.gossip }
-
--- what a turn does: of a letter, with the copies that it is heard with
-abbrev pub turn_act : {Q : Type 0} → Turn Q → Act Q
-turn_act (turn.Call o) = act.Call o
-turn_act (turn.Send to) = act.Send to
-turn_act (turn.Advance t) = act.Advance t.moving.id
-turn_act (turn.Hear t) = act.Hear (letter_with (heard_by t) t.hearing.copies)
-turn_act (turn.Quiet q) = act.Quietly q
-
-abbrev pub act_in : {Q : Type 0} → Prepared Q → Act Q
-act_in p = turn_act p.turn
 
 -- the copy that the call puts whose query, if it is in it, is met
 abbrev pub put_by : {Q : Type 0} → NodeState Q → Option Op → Option KeyedVersion
@@ -102,7 +76,7 @@ pub record IsMoving {Q : Type 0} (s : QuorumSystem Q) (v : RoomyNode Q) (m : Mov
   pub room : HasRoomFor v.room (put_by v.state (query_in (open_call v.state m.id)))
 
 -- gossip may be heard with these copies, after which the phase number is this
-pub record IsReadyGossip {Q : Type 0} (v : RoomyNode Q) (g : Gossip Q) (copies : Copies) (number : ℕ) : Type 0 where
+pub record IsReadyGossip {Q : Type 0} (v : RoomyNode Q) (g : GossipState Q) (copies : Copies) (number : ℕ) : Type 0 where
   pub counted : number ≡ number_after v.state g
   pub keys : HasRoom v.room.keys copies
   pub phases : IsRoomy g.map v.room.calls.list
@@ -113,32 +87,7 @@ IsReadyKind v kind.Join copies number = Unit {0}
 IsReadyKind v (kind.Gossip g) copies number = IsReadyGossip v g copies number
 
 -- a letter may be heard with these copies, which make of the node's what its own would, and are stamped alike
-pub record IsHearing {Q : Type 0} (v : RoomyNode Q) (l : Letter Q) (h : Hearing) : Type 0 where
+pub record IsHearing {Q : Type 0} (v : RoomyNode Q) (l : LetterState Q) (h : Hearing) : Type 0 where
   pub ready : IsReadyKind v l.kind h.copies h.number
   pub alike : joined v.state.registers h.copies ≡ joined v.state.registers (copies_in l.kind)
   pub stamped : AreStampedAlike v.state.registers h.copies (copies_in l.kind)
-
--- there is room for a turn, and what it has prepared is right
-abbrev pub IsReady : {Q : Type 0} → QuorumSystem Q → RoomyNode Q → Turn Q → Type 0
-IsReady s v (turn.Call o) = 0 < v.room.calls.room
-IsReady s v (turn.Advance t) = IsMoving s v t.moving × (t.effect ≡ (made_by v.state (act.Advance t.moving.id)).deed.effect)
-IsReady s v (turn.Hear t) = IsReadyKind v (heard_by t).kind t.hearing.copies t.hearing.number
-IsReady s v _ = Unit {0}
-
--- and it isn't refused
-pub record IsReadyTurn {Q : Type 0} (s : QuorumSystem Q) (v : RoomyNode Q) (t : Turn Q) : Type 0 where
-  pub accepted : refusal_of s v.state (turn_act t) ≡ None
-  pub ready : IsReady s v t
-
--- an act is prepared, whatever became of what it will report
-abbrev pub IsPrepared : {Q : Type 0} → QuorumSystem Q → RoomyNode Q → Prepared Q → Type 0
-IsPrepared s v p = IsReadyTurn s v p.turn
-
--- it comes to this act, and it has what that will do besides changing the node
-pub record Prepares {Q : Type 0} (s : QuorumSystem Q) (v : RoomyNode Q) (a : Act Q) (p : Prepared Q) : Type 0 where
-  pub prepared : IsPrepared s v p
-  pub same : made_by v.state (act_in p) ≡ made_by v.state a
-  pub beside : beside_after v.state v.beside (act_in p) ≡ beside_after v.state v.beside a
-  pub event : p.event ≡ (made_by v.state a).deed.event
-  pub mark : p.mark ≡ (made_by v.state a).deed.mark
-  pub copy : p.copy ≡ (made_by v.state a).deed.copy

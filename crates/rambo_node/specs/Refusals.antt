@@ -17,8 +17,8 @@ use Rattle.rambo_gc.specs.declared.gc_move.GcMove.TheVariants.{Propagating, Done
 use Rattle.rambo_gc.specs.Collections.{CollectionState, move_of}
 use Rattle.rambo_paxos.specs.Votes.{is_spent}
 use Rattle.rambo_joiner.specs.Statuses.{is_idle, is_early, is_stopped}
-use Rattle.rambo_gossip.specs.declared.letter.Kind.{Kind}
-use Rattle.rambo_gossip.specs.declared.letter.Kind.TheVariants as kind
+use Rattle.rambo_gossip.specs.Kinds.{Kind}
+use Rattle.rambo_gossip.specs.Kinds as kind
 use Rattle.rambo_calls.specs.Calls.{is_missing, is_unmet, query_in}
 use Rattle.rambo_calls.specs.Hearing.{any_gap}
 use Rattle.rambo_bids.specs.Wishes.{wish_causes, is_for, attempt_waits}

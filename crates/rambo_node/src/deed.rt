@@ -41,6 +41,16 @@ impl<Q: Copy> Default for Deed<Q> {
 }
 
 impl<Q: Copy> Deed<Q> {
+    // Nothing is told any more.
+    pub(crate) fn clear(&mut self)
+        ensures { self.new ≡ quiet_deed }
+    {
+        self.effect = Effect::Done;
+        self.event = None;
+        self.mark = None;
+        self.copy = None;
+    }
+
     // Writes what a met propagation does, which propagated a copy.
     fn tell_answer(&mut self, id: CallId, op: &Op, kept: &Option<Version>) -> Result<(), Refusal>
         requires { self.old ≡ quiet_deed }

@@ -2,8 +2,10 @@
 ghost use Rattle.std.specs.Prelude.{◌≡◌, ◌&&◌, None, Some, false, IsOk, IfOk, IfErr, OnOk, OnErr};
 ghost use Rattle.std.specs.FinMap as map;
 ghost use Rattle.rambo_names.specs.Refusals.{IsRefusal};
+ghost use Rattle.rambo_gossip.specs.Kinds as kind;
 ghost use Rattle.rambo_gossip.specs.Letters.{letter_with, kind_with, gossip_with};
 ghost use Rattle.rambo_gossip.specs.Outlines.{outlined, gossip_outlined};
+ghost use Rattle.rambo_gossip.specs.Short.{copies_in};
 ghost use Rattle.rambo_node.specs.Changes.{refusal_of, made_by};
 ghost use Rattle.rambo_calls.specs.Hearing.{any_gap, number_after};
 ghost use Rattle.rambo_calls.specs.Kept.{IsRoomy};
@@ -11,18 +13,19 @@ ghost use Rattle.rambo_node.specs.FullNodes.{IsDelta, IsDeltaLetter, full, besid
 ghost use Rattle.rambo_node.specs.Hearing.{collection_after, heard_gossip, heard_rest, heard_join, heard_letter};
 ghost use Rattle.rambo_node.specs.Nodes.{raised};
 ghost use Rattle.rambo_node.specs.Letters.{letter_for};
-ghost use Rattle.rambo_node.specs.Prepared.{IsHearing, IsReadyGossip, IsReadyKind, heard_by};
+ghost use Rattle.rambo_node.specs.Prepared.{IsHearing, IsReadyGossip, IsReadyKind};
 ghost use Rattle.rambo_node.specs.Refusals.{is_last};
 ghost use Rattle.rambo_node.specs.Acts as act;
 
 use crate::node::Node;
-use crate::prepared::{HearTurn, Hearing};
+use crate::prepared::Hearing;
 use rambo_bids::{hear_offer, hear_vote, offer_of};
 use rambo_config_map::ConfigMap;
 use rambo_gc::Collection;
-use rambo_gossip::{Gossip, GossipOutline, Kind, Letter, LetterOutline};
+use rambo_gossip::{GossipOutline, Letter, LetterOutline};
 use rambo_names::{Name, Quorums, Refusal};
 use rambo_tag::{Pack, Replica};
+use std::alloc::Global;
 
 impl<Q: Quorums, S: Replica> Node<Q, S> {
     /// The letter for a name: what the node knows where it is active, else that it wants to join.
@@ -37,7 +40,7 @@ impl<Q: Quorums, S: Replica> Node<Q, S> {
     {
         self.may_send(to)?;
         let copies = self.registers.pack()?;
-        Ok(self.outline_for(to).with_copies(copies))
+        self.letter_of(to, copies)
     }
 
     /// The letter for a name with those copies alone that may be new to it, as `pack_for` finds them: what it leaves out, the
@@ -53,8 +56,7 @@ impl<Q: Quorums, S: Replica> Node<Q, S> {
     {
         self.may_send(to)?;
         let copies = self.pack_for(to)?;
-        let outline = self.outline_for(to);
-        Ok(outline.with_copies(copies))
+        self.letter_of(to, copies)
     }
 
     /// The copies that may be new to a name: those whose stamp is at least the node's base for it. The base is the
@@ -97,24 +99,27 @@ impl<Q: Quorums, S: Replica> Node<Q, S> {
         ensures node { OnOk result (self.new.state ≡ (made_by self.old.state (act.Hear letter.now)).node) }
         ensures beside { OnOk result (self.new.beside ≡ beside_after self.old.state self.old.beside (act.Hear letter.now)) }
         ensures refused { IfErr result (IsRefusal (refusal_of Q.system self.old.state (act.Hear letter.now))) }
-        ensures join { letter.now.kind ≡ Kind.Join → IfErr result (λ r. refusal_of Q.system self.old.state (act.Hear letter.now) ≡ Some r) }
+        ensures join { letter.now.kind ≡ kind.Join → IfErr result (λ r. refusal_of Q.system self.old.state (act.Hear letter.now) ≡ Some r) }
         ensures err { OnErr result (self.new.state ≡ self.old.state) }
         ensures kept { OnErr result (self.new.beside ≡ self.old.beside) }
     {
-        self.may_hear(letter)?;
-        match &letter.kind {
-            Kind::Join => self.meet(letter.sender),
-            Kind::Gossip(gossip) => {
-                let outline = gossip.outline();
-                let hearing = self.ready_gossip(&outline, gossip.copies.clone()?)?;
-                self.finish_gossip(letter.sender, &outline, hearing);
-            }
-        }
+        let hearing = self.ready_letter(self.alloc(), letter)?;
+        self.hear_ready(letter, hearing);
         Ok(())
     }
 }
 
 impl<Q: Quorums, S: Replica> Node<Q, S> {
+    // The letter for a name, with these copies.
+    fn letter_of(&self, to: Name, copies: Pack) -> Result<Letter<Q>, Refusal>
+        ensures same { IfOk result (λ l. l ≡ letter_with (letter_for self.now.state to) copies) }
+        ensures refused { IfErr result (λ r. r ≡ Refusal.OutOfMemory) }
+    {
+        let mut told = None;
+        let outline = self.outline_for(to);
+        Letter::new(self.alloc(), &outline, copies, &mut told)
+    }
+
     // What the node sends to a name apart from copies, if it is active.
     fn gossip_outline(&self, to: Name) -> Option<GossipOutline<'_, Q>>
         ensures { outlined result ≡ kind_with (letter_for self.now.state to).kind map.empty }
@@ -185,50 +190,30 @@ impl<Q: Quorums, S: Replica> Node<Q, S> {
 
 // The first half of hearing a letter that isn't refused.
 impl<Q: Quorums, S: Replica> Node<Q, S> {
-    // Of a letter that is given whole.
-    pub(crate) fn ready_letter(&mut self, letter: &Letter<Q>) -> Result<HearTurn<Q>, Refusal>
-        requires { refusal_of Q.system self.old.state (act.Hear letter.now) ≡ None }
+    // Of any: it is judged, and room is made for it. In either case the node itself is unchanged.
+    pub(crate) fn ready_letter(
+        &mut self,
+        alloc: Global,
+        letter: &Letter<Q>,
+    ) -> Result<Hearing, Refusal>
+        ensures judged { OnOk result (refusal_of Q.system self.old.state (act.Hear letter.now) ≡ None) }
         ensures same { self.new.state ≡ self.old.state }
         ensures beside { self.new.beside ≡ self.old.beside }
-        ensures letter { IfOk result (λ t. heard_by t ≡ letter_with letter.now map.empty) }
-        ensures hearing { IfOk result (λ t. IsHearing self.new letter.now t.hearing) }
-        ensures refused { IfErr result (λ r. r ≡ Refusal.OutOfMemory) }
-        ensures join { letter.now.kind ≡ Kind.Join → IsOk result }
+        ensures hearing { IfOk result (IsHearing self.new letter.now) }
+        ensures refused { IfErr result (IsRefusal (refusal_of Q.system self.old.state (act.Hear letter.now))) }
+        ensures join { letter.now.kind ≡ kind.Join → IfErr result (λ r. refusal_of Q.system self.old.state (act.Hear letter.now) ≡ Some r) }
     {
-        match &letter.kind {
-            Kind::Join => Ok(HearTurn {
-                sender: letter.sender,
-                addressee: letter.addressee,
-                gossip: None,
-                hearing: self.ready_join(),
-            }),
-            Kind::Gossip(gossip) => {
-                let outline = gossip.outline();
-                let hearing = self.ready_gossip(&outline, gossip.copies.clone()?)?;
-                Ok(HearTurn {
-                    sender: letter.sender,
-                    addressee: letter.addressee,
-                    gossip: Some(self.boxed(&outline)?),
-                    hearing,
-                })
-            }
-        }
-    }
-
-    // Gossip without copies, in a box.
-    fn boxed(&self, outline: &GossipOutline<'_, Q>) -> Result<Box<Gossip<Q>>, Refusal>
-        ensures same { IfOk result (λ b. b.value ≡ gossip_outlined outline.now) }
-        ensures refused { IfErr result (λ r. r ≡ Refusal.OutOfMemory) }
-    {
-        let alloc = self.map.places().alloc();
-        Ok(Box::new(alloc, outline.with_copies(Pack::empty(alloc)))?)
+        let outline = letter.outline();
+        self.may_hear(&outline)?;
+        let copies = copies_of(alloc, letter)?;
+        self.ready_hear(&outline, copies)
     }
 
     /// The first half of hearing a letter that isn't refused, given by its outline and its copies: room is made for it.
     /// In either case the node itself is unchanged.
     ///
     /// `OutOfMemory` where there is no room for what is new. The wish of a node to join needs none.
-    pub fn ready_outlined(
+    pub fn ready_hear(
         &mut self,
         outline: &LetterOutline<'_, Q>,
         copies: Pack,
@@ -238,7 +223,7 @@ impl<Q: Quorums, S: Replica> Node<Q, S> {
         ensures beside { self.new.beside ≡ self.old.beside }
         ensures hearing { IfOk result (IsHearing self.new (letter_with outline.now copies)) }
         ensures refused { IfErr result (λ r. r ≡ Refusal.OutOfMemory) }
-        ensures join { outline.now.kind ≡ Kind.Join → IsOk result }
+        ensures join { outline.now.kind ≡ kind.Join → IsOk result }
     {
         match &outline.gossip {
             None => Ok(self.ready_join()),
@@ -251,7 +236,7 @@ impl<Q: Quorums, S: Replica> Node<Q, S> {
         ensures none { result.copies ≡ map.empty }
     {
         Hearing {
-            copies: Pack::empty(self.map.places().alloc()),
+            copies: Pack::empty(self.alloc()),
             number: self.number,
         }
     }
@@ -279,27 +264,18 @@ impl<Q: Quorums, S: Replica> Node<Q, S> {
 // The second half.
 impl<Q: Quorums, S: Replica> Node<Q, S> {
     // A letter is heard that is ready.
-    pub(crate) fn finish_hear(&mut self, turn: HearTurn<Q>)
-        requires { IsReadyKind self.old (heard_by turn).kind turn.hearing.copies turn.hearing.number }
-        ensures state { self.new.state ≡ heard_letter self.old.state (letter_with (heard_by turn) turn.hearing.copies) }
-        ensures beside { self.new.beside ≡ beside_after self.old.state self.old.beside (act.Hear (letter_with (heard_by turn) turn.hearing.copies)) }
+    pub(crate) fn hear_ready(&mut self, letter: &Letter<Q>, hearing: Hearing)
+        requires { IsHearing self.old letter.now hearing }
+        ensures state { self.new.state ≡ heard_letter self.old.state letter.now }
+        ensures beside { self.new.beside ≡ beside_after self.old.state self.old.beside (act.Hear letter.now) }
     {
-        let HearTurn {
-            sender,
-            addressee: _,
-            gossip,
-            hearing,
-        } = turn;
-        match gossip {
-            None => self.meet(sender),
-            Some(gossip) => self.finish_gossip(sender, &gossip.outline(), hearing),
-        }
+        self.finish_hear(&letter.outline(), hearing);
     }
 
     /// The second half of hearing a letter that is ready, given by its outline: the node has then heard the letter.
     ///
     /// It allocates nothing and can't fail.
-    pub fn finish_outlined(&mut self, outline: &LetterOutline<'_, Q>, hearing: Hearing)
+    pub fn finish_hear(&mut self, outline: &LetterOutline<'_, Q>, hearing: Hearing)
         requires { IsReadyKind self.old outline.now.kind hearing.copies hearing.number }
         ensures state { self.new.state ≡ heard_letter self.old.state (letter_with outline.now hearing.copies) }
         ensures beside { self.new.beside ≡ beside_after self.old.state self.old.beside (act.Hear (letter_with outline.now hearing.copies)) }
@@ -314,11 +290,23 @@ impl<Q: Quorums, S: Replica> Node<Q, S> {
     fn finish_gossip(&mut self, from: Name, gossip: &GossipOutline<'_, Q>, hearing: Hearing)
         requires { IsReadyGossip self.old (gossip_outlined gossip.now) hearing.copies hearing.number }
         ensures state { self.new.state ≡ heard_gossip self.old.state from (gossip_with (gossip_outlined gossip.now) hearing.copies) }
-        ensures beside { self.new.beside ≡ beside_heard self.old.state self.old.beside from (Kind.Gossip (gossip_with (gossip_outlined gossip.now) hearing.copies)) }
+        ensures beside { self.new.beside ≡ beside_heard self.old.state self.old.beside from (kind.Gossip (gossip_with (gossip_outlined gossip.now) hearing.copies)) }
     {
         let Hearing { copies, number } = hearing;
         self.registers.merge_room(copies, self.number);
         self.settle(from, gossip, number);
+    }
+}
+
+// The copies of a letter, in a list of its own.
+fn copies_of<Q: Quorums>(alloc: Global, letter: &Letter<Q>) -> Result<Pack, Refusal>
+    ensures same { IfOk result (λ p. p ≡ copies_in letter.now.kind) }
+    ensures join { letter.now.kind ≡ kind.Join → IsOk result }
+    ensures refused { IfErr result (λ r. r ≡ Refusal.OutOfMemory) }
+{
+    match letter.copies() {
+        Some(copies) => copies.clone(),
+        None => Ok(Pack::empty(alloc)),
     }
 }
 

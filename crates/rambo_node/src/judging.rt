@@ -17,7 +17,7 @@ ghost use Rattle.rambo_node.specs.Acts as act;
 use crate::node::{Node, query_of};
 use crate::prepared::{Found, Quiet};
 use rambo_calls::OpenCall;
-use rambo_gossip::{GossipOutline, Kind, Letter, LetterOutline};
+use rambo_gossip::{GossipOutline, LetterOutline};
 use rambo_history::{CallId, Op};
 use rambo_names::{Members, Name, Quorums, Refusal};
 use rambo_tag::{Replica, Version};
@@ -49,26 +49,8 @@ impl<Q: Quorums, S: Replica> Node<Q, S> {
         }
     }
 
-    // Why a letter is refused, if it is: 3 where the node is idle, 4 where it has stopped, 21 where a phase would
-    // restart and the phase number is the greatest one.
-    pub(crate) fn may_hear(&self, letter: &Letter<Q>) -> Result<(), Refusal>
-        ensures ok { OnOk result (refusal_of Q.system self.now.state (act.Hear letter.now) ≡ None) }
-        ensures refused { IfErr result (λ r. refusal_of Q.system self.now.state (act.Hear letter.now) ≡ Some r) }
-    {
-        if self.status.is_idle() {
-            return Err(Refusal::NotActive);
-        }
-        if self.status.is_stopped() {
-            return Err(Refusal::Stopped);
-        }
-        if self.is_out_of_numbers(&letter.kind) {
-            return Err(Refusal::NumbersSpent);
-        }
-        Ok(())
-    }
-
     /// Why a letter is refused, if it is: what `ready` says, of its outline, since its copies don't matter.
-    pub fn may_hear_outlined(&self, outline: &LetterOutline<'_, Q>) -> Result<(), Refusal>
+    pub fn may_hear(&self, outline: &LetterOutline<'_, Q>) -> Result<(), Refusal>
         ensures ok { OnOk result (refusal_of Q.system self.now.state (act.Hear outline.now) ≡ None) }
         ensures refused { IfErr result (λ r. refusal_of Q.system self.now.state (act.Hear outline.now) ≡ Some r) }
     {
@@ -78,7 +60,7 @@ impl<Q: Quorums, S: Replica> Node<Q, S> {
         if self.status.is_stopped() {
             return Err(Refusal::Stopped);
         }
-        if self.is_out_of_numbers_for(&outline.gossip) {
+        if self.is_out_of_numbers(&outline.gossip) {
             return Err(Refusal::NumbersSpent);
         }
         Ok(())
@@ -86,31 +68,14 @@ impl<Q: Quorums, S: Replica> Node<Q, S> {
 }
 
 impl<Q: Quorums, S: Replica> Node<Q, S> {
-    // Whether a letter would restart a phase.
-    fn restarts(&self, kind: &Kind<Q>) -> bool
-        ensures { result ≡ restarts self.now.state kind.now }
-    {
-        match kind {
-            Kind::Join => false,
-            Kind::Gossip(gossip) => self.calls.any_gap(gossip.heard, &gossip.map),
-        }
-    }
-
     // Whether gossip, where a letter is some, would restart a phase, and there is no number for it.
-    fn is_out_of_numbers_for(&self, gossip: &Option<GossipOutline<'_, Q>>) -> bool
+    fn is_out_of_numbers(&self, gossip: &Option<GossipOutline<'_, Q>>) -> bool
         ensures { result ≡ (restarts self.now.state (outlined gossip.now) && is_last self.now.state.number) }
     {
         match gossip {
             None => false,
             Some(gossip) => is_last(self.number) && self.calls.any_gap(gossip.heard, gossip.map),
         }
-    }
-
-    // Whether a letter would restart a phase, and there is no number for it.
-    fn is_out_of_numbers(&self, kind: &Kind<Q>) -> bool
-        ensures { result ≡ (restarts self.now.state kind.now && is_last self.now.state.number) }
-    {
-        self.restarts(kind) && is_last(self.number)
     }
 
     // Whether the node may join with these contacts.

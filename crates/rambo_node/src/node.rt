@@ -182,6 +182,11 @@ impl<Q: Quorums, S: Replica> Node<Q, S> {
         self.attempt
     }
 
+    // The allocator of what it stores.
+    pub(crate) fn alloc(&self) -> Global {
+        self.map.places().alloc()
+    }
+
     // The place of the open call of an id, or how many are open where there is no such call.
     pub(crate) fn place_of(&self, id: &CallId) -> usize
         ensures found { slice_get self.now.state.calls result ≡ open_call self.now.state id.now }

@@ -1,42 +1,8 @@
-//! Changes that are ready: all that may fail is done, and the node itself hasn't changed yet.
-ghost use Rattle.std.specs.Prelude.{◌≡◌, None};
+//! Quiet changes, and what is found of others before they are made.
 
-use crate::deed::Deed;
-use crate::effect::Effect;
-use rambo_gossip::Gossip;
-use rambo_history::{CallId, Event, Op};
-use rambo_names::{Members, Name, Quorums};
-use rambo_sequence::Mark;
+use rambo_history::CallId;
+use rambo_names::Members;
 use rambo_tag::{KeyedVersion, Pack, Version};
-
-/// A change that a node may make, for which there is room, and what it will do.
-///
-/// Its owner takes the event, the mark and the copy to where they belong, and then finishes it.
-#[derive(Drop)]
-pub struct Prepared<Q: Quorums> {
-    /// The call or the answer that will go into the history.
-    pub event: Option<Event>,
-    /// A set that will take its tag, or a get that will be answered.
-    pub mark: Option<Mark>,
-    /// The copy that a set will put into the node's registers.
-    pub copy: Option<KeyedVersion>,
-    pub(crate) turn: Turn<Q>,
-}
-
-// What its second half needs of a change.
-#[derive(Drop)]
-pub(crate) enum Turn<Q: Quorums> {
-    // A call begins that asks for this.
-    Call(Op),
-    // A letter goes out to this name.
-    Send(Name),
-    // A call goes on.
-    Advance(AdvanceTurn<Q>),
-    // A letter is heard.
-    Hear(HearTurn<Q>),
-    // Any other change.
-    Quiet(Quiet<Q>),
-}
 
 /// A change that allocates nothing, and of which nothing goes into the history or to other nodes: any but a call, its
 /// advance, and a letter that goes out or comes.
@@ -58,14 +24,6 @@ pub enum Quiet<Q> {
     AdvanceRecon,
     /// It stops for ever.
     Stop,
-}
-
-// A call whose phase is met.
-#[derive(Drop)]
-pub(crate) struct AdvanceTurn<Q> {
-    pub(crate) moving: Moving,
-    // What will be reported: of a met propagation the answer.
-    pub(crate) effect: Effect<Q>,
 }
 
 /// Where an open call that may advance is, and the sequence number that a set in its query starts from.
@@ -93,16 +51,6 @@ pub struct Moving {
     pub put: Option<KeyedVersion>,
 }
 
-// A letter that may be heard.
-#[derive(Drop)]
-pub(crate) struct HearTurn<Q: Quorums> {
-    pub(crate) sender: Name,
-    pub(crate) addressee: Name,
-    // What its sender knows but its copies, or none where that wants to join.
-    pub(crate) gossip: Option<Box<Gossip<Q>>>,
-    pub(crate) hearing: Hearing,
-}
-
 /// What the second half of hearing a letter needs, apart from the letter without its copies.
 #[derive(Drop)]
 pub struct Hearing {
@@ -110,36 +58,4 @@ pub struct Hearing {
     pub(crate) copies: Pack,
     // The phase number after it.
     pub(crate) number: u64,
-}
-
-impl<Q: Quorums> Prepared<Q> {
-    // A change that does nothing besides changing its node and reporting an effect.
-    pub(crate) fn quiet(turn: Turn<Q>) -> Prepared<Q>
-        ensures { result ≡ record { event = None; mark = None; copy = None; turn = turn } }
-    {
-        Prepared {
-            event: None,
-            mark: None,
-            copy: None,
-            turn,
-        }
-    }
-
-    // The advance of a call that does this.
-    pub(crate) fn advanced(deed: Deed<Q>, moving: Moving) -> Prepared<Q>
-        ensures { result ≡ record { event = deed.event; mark = deed.mark; copy = deed.copy; turn = Turn.Advance (record { moving = moving; effect = deed.effect }) } }
-    {
-        let Deed {
-            effect,
-            event,
-            mark,
-            copy,
-        } = deed;
-        Prepared {
-            event,
-            mark,
-            copy,
-            turn: Turn::Advance(AdvanceTurn { moving, effect }),
-        }
-    }
 }

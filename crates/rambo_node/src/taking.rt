@@ -1,15 +1,12 @@
 //! The changes that a node takes.
-ghost use Rattle.std.specs.Prelude.{◌≡◌, ◌+◌, None, Some, false, OnOk, OnErr, IfOk, IfErr};
+ghost use Rattle.std.specs.Prelude.{◌≡◌, ◌+◌, None, Some, OnOk, OnErr, IfOk, IfErr};
 ghost use Rattle.rambo_names.specs.Refusals.{IsRefusal};
-ghost use Rattle.rambo_node.specs.Acts.{act_of};
 ghost use Rattle.rambo_node.specs.Changes.{refusal_of, made_by, answer_in, collected_in, decided_in};
 ghost use Rattle.rambo_node.specs.FullNodes.{beside_after};
-ghost use Rattle.rambo_node.specs.Memory.{needs_memory};
 ghost use Rattle.rambo_node.specs.Operations.{joined_by, stopped};
 ghost use Rattle.rambo_node.specs.Acts as act;
 ghost use Rattle.rambo_node.specs.declared.prepared.Quiet.TheVariants as quiet;
 
-use crate::change::Change;
 use crate::decided::Decided;
 use crate::deed::Deed;
 use crate::effect::Effect;
@@ -21,27 +18,6 @@ use rambo_names::{Members, Quorums, Refusal};
 use rambo_tag::Replica;
 
 impl<Q: Quorums, S: Replica> Node<Q, S> {
-    /// Takes a change, and says what it did.
-    ///
-    /// Refused with what `ready` says.
-    #[tactic(auto, unfolding(crate::specs::Changes::made_by))]
-    pub fn take(&mut self, change: Change<Q>) -> Result<Deed<Q>, Refusal>
-        ensures judged { OnOk result (refusal_of Q.system self.old.state (act_of change) ≡ None) }
-        ensures node { OnOk result (self.new.state ≡ (made_by self.old.state (act_of change)).node) }
-        ensures beside { OnOk result (self.new.beside ≡ beside_after self.old.state self.old.beside (act_of change)) }
-        ensures deed { IfOk result (λ d. d ≡ (made_by self.old.state (act_of change)).deed) }
-        ensures refused { IfErr result (IsRefusal (refusal_of Q.system self.old.state (act_of change))) }
-        ensures no_memory { needs_memory (act_of change) ≡ false → IfErr result (λ r. refusal_of Q.system self.old.state (act_of change) ≡ Some r) }
-        ensures err { OnErr result (self.new.state ≡ self.old.state) }
-        ensures kept { OnErr result (self.new.beside ≡ self.old.beside) }
-    {
-        // (one way out: what a change holds is dropped on each)
-        match self.ready(&change) {
-            Ok(prepared) => Ok(self.carry_out(prepared)),
-            Err(refusal) => Err(refusal),
-        }
-    }
-
     /// A change that allocates nothing: what it did.
     ///
     /// Refused with what `ready` says of it.

@@ -16,7 +16,7 @@ use Rattle.rambo_gc.specs.Collections.{CollectionState}
 use Rattle.rambo_paxos.specs.declared.bid.Bid.{Bid}
 use Rattle.rambo_paxos.specs.declared.bid.Bid.TheVariants as bid
 use Rattle.rambo_paxos.specs.Attempts.{AttemptState, bid_of}
-use Rattle.rambo_node.specs.Acts.{Act}
+use Rattle.rambo_node.specs.Acts.{Act, Meant}
 use Rattle.rambo_node.specs.declared.effect.Effect.{Effect}
 use Rattle.rambo_node.specs.declared.effect.Effect.TheVariants as effect
 use Rattle.rambo_calls.specs.declared.stage.Stage.{Stage}
@@ -28,9 +28,9 @@ use Rattle.rambo_node.specs.Reconfigurations.{attempt_ended, collection_move}
 use Rattle.rambo_node.specs.Acts as act
 use Rattle.rambo_node.specs.declared.prepared.Quiet.{Quiet}
 use Rattle.rambo_node.specs.declared.prepared.Quiet.TheVariants as quiet
-use Rattle.rambo_run.specs.declared.step.Step.{Step}
+use Rattle.rambo_node.specs.Steps.{Step}
 use Rattle.rambo_run.specs.Worlds.{WorldState, first_world, node_at}
-use Rattle.rambo_run.specs.Steps.{Meant, Turn, meant, refusal, turn_by, turn_at, turn_of, turn}
+use Rattle.rambo_run.specs.Steps.{Turn, meant, refusal, turn_by, turn_at, turn_of, turn}
 use Rattle.rambo_run.specs.Runs.{after, unless_refused, run_from, run, result_of, results_from, maps_of, given_sequences, given_order, outcome_at, outcome_of}
 use Rattle.rambo_run.proofs.Events.{none_or_some, call_kept, call_last}
 use Rattle.rambo_text.specs.declared.version.Version.{Version}

@@ -6,17 +6,16 @@ use Rattle.rambo_names.specs.declared.refusal.Refusal.TheVariants.{LetterGone, N
 use Rattle.rambo_names.specs.Quorums.{QuorumSystem}
 use Rattle.rambo_names.specs.Refusals.{least}
 use Rattle.rambo_history.specs.declared.event.CallId.{CallId}
-use Rattle.rambo_node.specs.Acts.{Act}
+use Rattle.rambo_node.specs.Acts.{Act, Meant, name_in}
 use Rattle.rambo_node.specs.declared.effect.Effect.{Effect}
 use Rattle.rambo_node.specs.declared.effect.Effect.TheVariants as effect
 use Rattle.rambo_node.specs.Nodes.{NodeState}
-use Rattle.rambo_run.specs.declared.step.Step.{Step}
-use Rattle.rambo_run.specs.Steps.{Meant, meant, meant_in, causes_at, causes_of, refusal, turn}
+use Rattle.rambo_node.specs.Steps.{Step}
+use Rattle.rambo_run.specs.Steps.{meant, meant_in, causes_at, causes_of, refusal, turn}
 use Rattle.rambo_run.specs.Worlds.{WorldState, node_at}
 use Rattle.rambo_run.specs.Runs.{run}
 use Rattle.rambo_run.proofs.Causes.{never_memory, no_letter_differs}
 use Rattle.rambo_run.proofs.Lists.{some_inj}
-use Rattle.rambo_deeds.specs.Deeds.{name_in}
 use Rattle.rambo_book.proofs.Judging.{refusal_is}
 use Rattle.rambo_book.proofs.Windows.{named_there, refused_there}
 use Rattle.rambo_book.specs.Windows.{delivers_gone, gone_of, refused_in}

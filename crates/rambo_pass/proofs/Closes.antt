@@ -3,7 +3,7 @@ use Rattle.std.specs.Result.{result_ok}
 use Rattle.std.proofs.Common.{◌≡◌, ◌≤◌, ℕ, List, length, Option, Some, Result, Ok, Err, IfOk, IfSome, option_map, sym, ◌∙◌, subst}
 use Rattle.rambo_names.specs.Quorums.{QuorumSystem}
 use Rattle.rambo_history.specs.Proper.{IsProperForAll}
-use Rattle.rambo_run.specs.declared.step.Step.{Step}
+use Rattle.rambo_node.specs.Steps.{Step}
 use Rattle.rambo_run.specs.Legal.{IsLegal}
 use Rattle.rambo_run.specs.Runs.{run, given_order}
 use Rattle.rambo_run.proofs.Lists.{some_inj}

@@ -4,16 +4,15 @@ use Rattle.rambo_names.specs.declared.refusal.Refusal.{Refusal}
 use Rattle.rambo_names.specs.declared.refusal.Refusal.TheVariants.{OutOfMemory}
 use Rattle.rambo_names.specs.Quorums.{QuorumSystem}
 use Rattle.rambo_names.specs.Refusals.{least, IsRefusal}
-use Rattle.rambo_node.specs.Acts.{Act}
+use Rattle.rambo_node.specs.Acts.{Act, Meant, name_in}
 use Rattle.rambo_node.specs.Changes.{refusal_of}
 use Rattle.rambo_node.specs.Nodes.{NodeState}
-use Rattle.rambo_run.specs.declared.step.Step.{Step}
-use Rattle.rambo_run.specs.declared.step.Step.TheVariants as step
-use Rattle.rambo_run.specs.Steps.{Meant, meant, meant_in, causes_at, causes_of, refusal}
+use Rattle.rambo_node.specs.Steps.{Step}
+use Rattle.rambo_node.specs.declared.step.StepOf.TheVariants as step
+use Rattle.rambo_run.specs.Steps.{meant, meant_in, causes_at, causes_of, refusal}
 use Rattle.rambo_run.specs.Worlds.{WorldState, node_at}
 use Rattle.rambo_run.specs.Runs.{run}
 use Rattle.rambo_run.proofs.Lists.{none-some, some_inj}
-use Rattle.rambo_deeds.specs.Deeds.{name_in}
 use Rattle.rambo_book.specs.declared.readied.Ready.{Ready}
 use Rattle.rambo_book.specs.Readying.{IsReadyFor}
 use Rattle.rambo_book.specs.Kept.{KeeperView, Told}

@@ -14,10 +14,10 @@ use Rattle.rambo_node.specs.Nodes.{NodeState}
 use Rattle.rambo_run.specs.Worlds.{WorldState, node_at}
 use Rattle.rambo_node.specs.declared.effect.Effect.{Effect}
 use Rattle.rambo_node.specs.declared.effect.Effect.TheVariants as effect
-use Rattle.rambo_run.specs.declared.step.Step.{Step}
+use Rattle.rambo_node.specs.Steps.{Step}
 use Rattle.rambo_run.specs.Steps.{meant_in, refusal, turn}
 use Rattle.rambo_run.specs.Runs.{run}
-use Rattle.rambo_deeds.specs.Deeds.{name_in}
+use Rattle.rambo_node.specs.Acts.{name_in}
 use Rattle.rambo_book.specs.Kept.{KeeperView, Told}
 use Rattle.rambo_book.specs.Windows.{refused_in}
 use Rattle.rambo_book.specs.declared.readied.Ready.{Ready}

@@ -1,9 +1,8 @@
 //! Whose step a step is.
 ghost use Rattle.std.specs.Prelude.{◌≡◌, []};
-ghost use Rattle.rambo_deeds.specs.Deeds.{name_in};
+ghost use Rattle.rambo_node.specs.Acts.{name_in};
 ghost use Rattle.rambo_run.specs.Steps.{meant_in};
 
-use rambo_deeds::{SharedLetter, named_by};
 use rambo_names::{Name, Quorums};
 use rambo_run::Step;
 
@@ -11,6 +10,5 @@ use rambo_run::Step;
 pub fn named<Q: Quorums>(step: &Step<Q>) -> Option<Name>
     ensures { result ≡ name_in (meant_in [] step.now) }
 {
-    let letters: [SharedLetter<Q>; 0] = [];
-    named_by(&letters, step)
+    step.name()
 }

@@ -3,12 +3,13 @@ ghost use Rattle.std.specs.Prelude.{◌≡◌, ◌++◌, ◌∷◌, [], None, So
 ghost use mathlib.Core.List.{IsPrefix};
 ghost use Rattle.rambo_run.specs.Runs.{run};
 ghost use Rattle.rambo_run.specs.Steps.{meant_in, refusal, turn};
-ghost use Rattle.rambo_deeds.specs.Deeds.{name_in};
+ghost use Rattle.rambo_node.specs.Acts.{name_in};
 ghost use Rattle.rambo_book.specs.Readying.{IsReadyFor};
 ghost use Rattle.rambo_book.specs.Kept.{IsServedBy, Told, state};
 ghost use Rattle.rambo_book.specs.Windows.{delivers_gone, gone_of, refused_in};
 ghost use Rattle.rambo_run.specs.Legal.{IsLegal};
 ghost use Rattle.rambo_pass.specs.Passes.{mine_with, IsHalf, IsRefusedHalf, PassView};
+ghost use Rattle.rambo_node.specs.Steps.{Step};
 
 use crate::mine::{Entry, Mine};
 use rambo_book::{Book, Keeper, Ready, Terms, commit, commit_ready, may_commit};
@@ -16,7 +17,7 @@ use rambo_history::{CallId, Op};
 use rambo_names::{Name, Quorums, Refusal};
 use rambo_node::Effect;
 use rambo_roll::Front;
-use rambo_run::Step;
+use rambo_run::{Step, StepOf};
 use rambo_tag::Replica;
 use std::alloc::Global;
 use std::marker::Model;
@@ -255,20 +256,20 @@ pub fn call_in<J: Terms<Q>, Q: Quorums, S: Replica>(
     ready: Result<Ready<Q>, Refusal>,
 ) -> Result<CallId, Refusal>
     requires ready { IfOk ready (IsReadyFor Q.system J.founders keeper.old) }
-    requires call { (op : Op) × IsHalf Q.system J.founders keeper.old (Step.Call name op) ready }
+    requires call { (op : Op) × IsHalf Q.system J.founders keeper.old (StepOf.Call name op) ready }
     ensures begins { IsPrefix pass.old.seen pass.new.seen }
     ensures between { IsPrefix pass.old.seen book.old.steps }
     ensures terms { (J.founders ≡ Some book.old.founders) × (book.old.capacity ≡ J.capacity) }
     ensures before { IsLegal Q.system book.old.founders book.old.steps }
-    ensures last { (op : Op) → IsHalf Q.system J.founders keeper.old (Step.Call name op) ready → OnOk result (pass.new.seen ≡ book.old.steps ++ Step.Call name op ∷ []) }
+    ensures last { (op : Op) → IsHalf Q.system J.founders keeper.old (StepOf.Call name op) ready → OnOk result (pass.new.seen ≡ book.old.steps ++ StepOf.Call name op ∷ []) }
     ensures legal { OnOk result (IsLegal Q.system book.old.founders pass.new.seen) }
-    ensures accepted { (op : Op) → IsHalf Q.system J.founders keeper.old (Step.Call name op) ready → OnOk result (refusal Q.system (state Q.system book.old) (Step.Call name op) ≡ None) }
-    ensures effect { (op : Op) → IsHalf Q.system J.founders keeper.old (Step.Call name op) ready → IfOk result (λ id. Effect.Called id ≡ (turn (state Q.system book.old) (Step.Call name op)).effect) }
+    ensures accepted { (op : Op) → IsHalf Q.system J.founders keeper.old (StepOf.Call name op) ready → OnOk result (refusal Q.system (state Q.system book.old) (StepOf.Call name op) ≡ None) }
+    ensures effect { (op : Op) → IsHalf Q.system J.founders keeper.old (StepOf.Call name op) ready → IfOk result (λ id. Effect.Called id ≡ (turn (state Q.system book.old) (StepOf.Call name op)).effect) }
     ensures mine { IfOk result (λ id. pass.new.mine ≡ pass.old.mine ++ record { place = length book.old.steps; id = id } ∷ []) }
     ensures err { OnErr result (pass.new.mine ≡ pass.old.mine) }
     ensures memory { IfErr result (λ r. r ≡ Refusal.OutOfMemory → pass.new ≡ pass.old) }
     ensures shown { IfErr result (λ r. (r ≡ Refusal.OutOfMemory) ⊎ (pass.new.seen ≡ book.old.steps)) }
-    ensures cause { (op : Op) → IsHalf Q.system J.founders keeper.old (Step.Call name op) ready → IfErr result (λ r. Told (refusal Q.system (state Q.system book.old) (Step.Call name op)) (length book.old.steps) book.old.capacity r) }
+    ensures cause { (op : Op) → IsHalf Q.system J.founders keeper.old (StepOf.Call name op) ready → IfErr result (λ r. Told (refusal Q.system (state Q.system book.old) (StepOf.Call name op)) (length book.old.steps) book.old.capacity r) }
 {
     match act_ready_in(book, keeper, pass, ready)? {
         Effect::Called(id) => Ok(id),

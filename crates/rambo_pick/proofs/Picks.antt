@@ -8,12 +8,15 @@ use Rattle.rambo_calls.specs.declared.open_call.OpenCall.{OpenCall}
 use Rattle.rambo_node.specs.Changes.{refusal_of}
 use Rattle.rambo_node.specs.Nodes.{NodeState}
 use Rattle.rambo_node.specs.Acts as act
-use Rattle.rambo_run.specs.declared.step.Step.{Step}
-use Rattle.rambo_run.specs.declared.step.Step.TheVariants as step
+use Rattle.rambo_node.specs.Steps.{Step}
+use Rattle.rambo_node.specs.declared.step.StepOf.TheVariants as step
 use Rattle.rambo_run.proofs.Lists.{none-some}
-use Rattle.rambo_deeds.proofs.Letters.{none_of}
-use Rattle.rambo_deeds.specs.declared.mail.Mail.{Mail}
+use Rattle.rambo_mail.specs.declared.mail.Mail.{Mail}
 use Rattle.rambo_pick.specs.Picking.{Candidate, delivery, advance, is_accepted, first_of}
+
+none_of : {A : Type 0} (o : Option A) → is_some o ≡ false → o ≡ None
+none_of None e = refl
+none_of (Some a) e = absurd cc
 
 -- what is found at the beginning of a list is found in all of it
 found_in : {A B : Type 0} (test : Bool) (f : A → B) (a : A) (u v : Option A) (b : B) → (option_map f u ≡ Some b → option_map f v ≡ Some b) → option_map f (cond test (Some a) u) ≡ Some b → option_map f (cond test (Some a) v) ≡ Some b

@@ -4,18 +4,19 @@ ghost use Rattle.rambo_node.specs.Changes.{refusal_of};
 ghost use Rattle.rambo_node.specs.Acts as act;
 ghost use Rattle.rambo_pick.specs.Picking.{first_of, candidates, delivery, advance, of_configurations};
 
-use rambo_deeds::{Mail, SharedLetter, Worker, may_hear};
+use rambo_gossip::Letter;
 use rambo_history::CallId;
+use rambo_mail::Mail;
 use rambo_names::{Quorums, Refusal};
 use rambo_node::{Node, Quiet};
-use rambo_run::Step;
+use rambo_run::{Step, StepOf};
 use rambo_tag::Replica;
 
 // Why a node doesn't hear a letter, if it doesn't.
-fn unheard<Q: Quorums, S: Replica>(node: &Node<Q, S>, letter: &SharedLetter<Q>) -> Option<Refusal>
+fn unheard<Q: Quorums, S: Replica>(node: &Node<Q, S>, letter: &Letter<Q>) -> Option<Refusal>
     ensures { result ≡ refusal_of Q.system node.now.state (act.Hear letter.now) }
 {
-    match may_hear(node, letter) {
+    match node.may_hear_letter(letter) {
         Ok(()) => None,
         Err(refusal) => Some(refusal),
     }
@@ -43,7 +44,7 @@ fn refused<Q: Quorums, S: Replica>(node: &Node<Q, S>, quiet: &Quiet<Q>) -> Optio
 
 // The first letter that the node hears.
 fn heard_first<Q: Quorums, S: Replica>(node: &Node<Q, S>, tray: &[Mail<Q>]) -> Option<u64>
-    ensures { option_map Step.Deliver result ≡ first_of Q.system node.now.state (map delivery tray.now) }
+    ensures { option_map StepOf.Deliver result ≡ first_of Q.system node.now.state (map delivery tray.now) }
 {
     let mut rest = tray;
     while let Some((mail, others)) = rest.split_first() {
@@ -57,7 +58,7 @@ fn heard_first<Q: Quorums, S: Replica>(node: &Node<Q, S>, tray: &[Mail<Q>]) -> O
 
 // The first open call that goes on.
 fn moved_first<Q: Quorums, S: Replica>(node: &Node<Q, S>) -> Option<CallId>
-    ensures { option_map Step.Advance result ≡ first_of Q.system node.now.state (map (advance node.now.state.name) node.now.state.calls) }
+    ensures { option_map StepOf.Advance result ≡ first_of Q.system node.now.state (map (advance node.now.state.name) node.now.state.calls) }
 {
     let mut rest = node.calls();
     while let Some((call, others)) = rest.split_first() {
@@ -74,10 +75,9 @@ fn moved_first<Q: Quorums, S: Replica>(node: &Node<Q, S>) -> Option<CallId>
 }
 
 // The collection of a node, or its attempt, if it goes on.
-fn turned_first<Q: Quorums, S: Replica>(worker: &Worker<Q, S>) -> Option<Step<Q>>
-    ensures { result ≡ first_of Q.system worker.now.state (of_configurations worker.now.state.name) }
+fn turned_first<Q: Quorums, S: Replica>(node: &Node<Q, S>) -> Option<Step<Q>>
+    ensures { result ≡ first_of Q.system node.now.state (of_configurations node.now.state.name) }
 {
-    let node = worker.node();
     if refused(node, &Quiet::AdvanceCollect).is_none() {
         return Some(Step::AdvanceCollect(node.name()));
     }
@@ -92,18 +92,14 @@ fn turned_first<Q: Quorums, S: Replica>(worker: &Worker<Q, S>) -> Option<Step<Q>
 /// collection and its attempt.
 ///
 /// It allocates nothing.
-pub fn first_step<Q: Quorums, S: Replica>(
-    worker: &Worker<Q, S>,
-    tray: &[Mail<Q>],
-) -> Option<Step<Q>>
-    ensures { result ≡ first_of Q.system worker.now.state (candidates worker.now.state tray.now) }
+pub fn first_step<Q: Quorums, S: Replica>(node: &Node<Q, S>, tray: &[Mail<Q>]) -> Option<Step<Q>>
+    ensures { result ≡ first_of Q.system node.now.state (candidates node.now.state tray.now) }
 {
-    let node = worker.node();
     if let Some(number) = heard_first(node, tray) {
         return Some(Step::Deliver(number));
     }
     if let Some(id) = moved_first(node) {
         return Some(Step::Advance(id));
     }
-    turned_first(worker)
+    turned_first(node)
 }

@@ -1,6 +1,6 @@
 -- What holds of the order of a book holds of the steps that it leaves
 use Rattle.std.proofs.Common.{◌≡◌, List, Option, None, Some, IfSome, sym, ◌∙◌, subst}
-use Rattle.rambo_run.specs.declared.step.Step.{Step}
+use Rattle.rambo_node.specs.Steps.{Step}
 use Rattle.rambo_run.proofs.Lists.{some_inj}
 
 pub left_order : {Q A : Type 0} (agreed : Option Q) (f : Q) (steps left : List (Step Q)) (o : Option A) (P : Q → List (Step Q) → A → Type 0)

@@ -17,6 +17,7 @@ ghost use Rattle.rambo_history.specs.Histories.{answer_in};
 ghost use Rattle.rambo_history.specs.Proper.{IsProperForAll};
 ghost use Rattle.rambo_pass.specs.Passes.{Acted, IsAnsweredLater, IsGoing, IsGone, IsHalf, IsNone, IsOne, IsTaken, WhyNot, WhyUndone};
 ghost use Rattle.rambo_visit.specs.Happened.{Happened, HasMap, HasNoRoom, HasTurned, IsHeldUp, IsLast};
+ghost use Rattle.rambo_node.specs.Steps.{Step};
 
 use crate::gate::Gate;
 use crate::shown::Shown;
@@ -33,7 +34,7 @@ use rambo_pass::{
 };
 use rambo_recovery::{Recovered, Recovery};
 use rambo_roll::{Drawn, Opened};
-use rambo_run::{Step, may_found};
+use rambo_run::{Step, StepOf, may_found};
 use rambo_tag::Replica;
 use rambo_turn::{Turn, begin_in, commit_next, ready_next, send_in};
 use rambo_visit::{Visited, came_by, note, visit_in};
@@ -260,11 +261,11 @@ impl<J: Terms<Q>, Q: Quorums, S: Replica> Post<J, Q, S> {
         name: Name,
         op: Op,
     ) -> Result<CallId, Refusal>
-        ensures acted { IfOk result (λ id. (f : Q) → J.founders ≡ Some f → Acted Q.system f pass.old pass.new (Step.Call name op) (Effect.Called id)) }
+        ensures acted { IfOk result (λ id. (f : Q) → J.founders ≡ Some f → Acted Q.system f pass.old pass.new (StepOf.Call name op) (Effect.Called id)) }
         ensures begins { IsPrefix pass.old.seen pass.new.seen }
         ensures err { OnErr result (pass.new.mine ≡ pass.old.mine) }
         ensures memory { IfErr result (λ r. r ≡ Refusal.OutOfMemory → pass.new ≡ pass.old) }
-        ensures cause { IfErr result (λ r. (f : Q) → J.founders ≡ Some f → WhyUndone Q.system f J.endless J.capacity pass.old pass.new (Step.Call name op) r) }
+        ensures cause { IfErr result (λ r. (f : Q) → J.founders ≡ Some f → WhyUndone Q.system f J.endless J.capacity pass.old pass.new (StepOf.Call name op) r) }
     {
         self.call_noted(rt, pass, name, op, |_| {})
     }
@@ -280,11 +281,11 @@ impl<J: Terms<Q>, Q: Quorums, S: Replica> Post<J, Q, S> {
         op: Op,
         who: Waiter,
     ) -> Result<Asked, Refusal>
-        ensures acted { IfOk result (λ a. (f : Q) → J.founders ≡ Some f → Acted Q.system f pass.old pass.new (Step.Call name op) (Effect.Called a.id)) }
+        ensures acted { IfOk result (λ a. (f : Q) → J.founders ≡ Some f → Acted Q.system f pass.old pass.new (StepOf.Call name op) (Effect.Called a.id)) }
         ensures begins { IsPrefix pass.old.seen pass.new.seen }
         ensures err { OnErr result (pass.new.mine ≡ pass.old.mine) }
         ensures memory { IfErr result (λ r. r ≡ Refusal.OutOfMemory → pass.new ≡ pass.old) }
-        ensures cause { IfErr result (λ r. (f : Q) → J.founders ≡ Some f → WhyUndone Q.system f J.endless J.capacity pass.old pass.new (Step.Call name op) r) }
+        ensures cause { IfErr result (λ r. (f : Q) → J.founders ≡ Some f → WhyUndone Q.system f J.endless J.capacity pass.old pass.new (StepOf.Call name op) r) }
     {
         let outbox = &self.outboxes[place_of(name)];
         let mut awaited = Ok(());
@@ -319,11 +320,11 @@ impl<J: Terms<Q>, Q: Quorums, S: Replica> Post<J, Q, S> {
     ) -> Result<CallId, Refusal>
         requires { F.IsAlwaysCallable noted }
         ensures noted { IfOk result (λ id. F.post noted id tt) }
-        ensures acted { IfOk result (λ id. (f : Q) → J.founders ≡ Some f → Acted Q.system f pass.old pass.new (Step.Call name op) (Effect.Called id)) }
+        ensures acted { IfOk result (λ id. (f : Q) → J.founders ≡ Some f → Acted Q.system f pass.old pass.new (StepOf.Call name op) (Effect.Called id)) }
         ensures begins { IsPrefix pass.old.seen pass.new.seen }
         ensures err { OnErr result (pass.new.mine ≡ pass.old.mine) }
         ensures memory { IfErr result (λ r. r ≡ Refusal.OutOfMemory → pass.new ≡ pass.old) }
-        ensures cause { IfErr result (λ r. (f : Q) → J.founders ≡ Some f → WhyUndone Q.system f J.endless J.capacity pass.old pass.new (Step.Call name op) r) }
+        ensures cause { IfErr result (λ r. (f : Q) → J.founders ≡ Some f → WhyUndone Q.system f J.endless J.capacity pass.old pass.new (StepOf.Call name op) r) }
     {
         let mut keeper = self.keeper_of(rt, name);
         let half = ready(*self.keepers.allocator(), &mut keeper, Step::Call(name, op));
@@ -371,8 +372,8 @@ impl<J: Terms<Q>, Q: Quorums, S: Replica> Post<J, Q, S> {
     /// Refused with what the rules of a send say, by the least number; else 23 where the book is full; else 22 where
     /// there is no room.
     pub fn send<R: Wait>(&self, rt: &R, from: Name, to: Name) -> Result<u64, Refusal>
-        ensures sent { IfOk result (λ number. (f : Q) → J.founders ≡ Some f → Happened Q.system f J.capacity (IsLast Q.system f (Step.Send from to) (Effect.Sent number))) }
-        ensures told { IfErr result (λ r. (f : Q) → J.founders ≡ Some f → Happened Q.system f J.capacity (λ l. Told (refusal Q.system (run Q.system f l) (Step.Send from to)) (length l) J.capacity r)) }
+        ensures sent { IfOk result (λ number. (f : Q) → J.founders ≡ Some f → Happened Q.system f J.capacity (IsLast Q.system f (StepOf.Send from to) (Effect.Sent number))) }
+        ensures told { IfErr result (λ r. (f : Q) → J.founders ≡ Some f → Happened Q.system f J.capacity (λ l. Told (refusal Q.system (run Q.system f l) (StepOf.Send from to)) (length l) J.capacity r)) }
     {
         let mut keeper = self.keeper_of(rt, from);
         let half = ready(*self.keepers.allocator(), &mut keeper, Step::Send(from, to));

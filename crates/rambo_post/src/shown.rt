@@ -24,7 +24,7 @@ impl<J: Terms<Q>, Q: Quorums> Model for Shown<J, Q> {
     ghost use Rattle.std.specs.Prelude.{◌≡◌, List, length};
     ghost use Rattle.std.specs.Coded.{codes};
     ghost use Rattle.rambo_names.specs.Names.{names_code};
-    ghost use Rattle.rambo_run.specs.declared.step.Step.{Step as AnyStep};
+    ghost use Rattle.rambo_node.specs.Steps.{Step as AnyStep};
 
     ghost Value = { List (AnyStep Q) };
 

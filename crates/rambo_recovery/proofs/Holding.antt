@@ -2,9 +2,9 @@
 use Rattle.std.proofs.Common.{zero, suc, ◌-◌, ◌<◌, if◌then◌else◌, Result, Ok, Err, OnOk, OnErr, ◌≡◌, ◌⊎◌, ℕ, ◌+◌, Bool, true, false, nat_eq, List, [], ◌∷◌, ◌++◌, length, None, Some, slice_get, slice_set, refl, sym, ap, ◌∙◌, subst, inl, inr, arith, eqb-true, eq-eqb}
 use Rattle.std.proofs.lemmas.Bool.{true≢false, lt-leb}
 use Rattle.rambo_names.specs.Quorums.{QuorumSystem}
-use Rattle.rambo_gossip.specs.declared.letter.Letter.{Letter}
-use Rattle.rambo_run.specs.declared.step.Step.{Step}
-use Rattle.rambo_run.specs.declared.step.Step.TheVariants as step
+use Rattle.rambo_gossip.specs.Letters.{LetterState}
+use Rattle.rambo_node.specs.Steps.{Step}
+use Rattle.rambo_node.specs.declared.step.StepOf.TheVariants as step
 use Rattle.rambo_run.specs.Actors.{sent_by}
 use Rattle.rambo_run.specs.Legal.{IsLegal}
 use Rattle.rambo_run.specs.Runs.{run}
@@ -48,7 +48,7 @@ still_in ks p k after n here keeps h = still_at (nat_eq h.0 p) ks p k after n he
 -- after a step more: what was in a tray is, or nobody waits for it; and so it is with what the step sent
 pub held_on : {Q : Type 0} (s : QuorumSystem Q) (b : BookView Q) (st : Step Q) (lists : List (List ℕ)) (ks ls : List (KeeperView Q)) → IsLegal s b.founders b.steps → refusal s (state s b) st ≡ None → AreHeld s b ks
     → ((n : ℕ) → IsInSome ks n → IsSpent s b.founders b.lose (b.steps ++ st ∷ []) n ⊎ IsInSome ls n)
-    → ((n : ℕ) (l : Letter Q) → sent_by st ≡ l.addressee ∷ [] → n ≡ length (run s b.founders (b.steps ++ st ∷ [])).letters → letter_at (run s b.founders (b.steps ++ st ∷ [])).letters n ≡ Some l
+    → ((n : ℕ) (l : LetterState Q) → sent_by st ≡ l.addressee ∷ [] → n ≡ length (run s b.founders (b.steps ++ st ∷ [])).letters → letter_at (run s b.founders (b.steps ++ st ∷ [])).letters n ≡ Some l
     → IsSpent s b.founders b.lose (b.steps ++ st ∷ []) n ⊎ IsInSome ls n)
     → AreHeld s (record b { steps = b.steps ++ st ∷ []; waiting = lists }) ls
 held_on s b st lists ks ls legal accepted held kept last = λ n l e. elim (later_letter s b.founders b.steps st legal accepted n l e) [
@@ -113,7 +113,7 @@ either true = inl refl
 either false = inr refl
 
 -- the letter that was sent last comes to its addressee
-comes_last : {Q : Type 0} (w : WorldState Q) (to n : ℕ) (l : Letter Q) → n ≡ length w.letters → letter_at w.letters n ≡ Some l → l.addressee ≡ to → comes_to w (gone_of true 0 w) to n ≡ true
+comes_last : {Q : Type 0} (w : WorldState Q) (to n : ℕ) (l : LetterState Q) → n ≡ length w.letters → letter_at w.letters n ≡ Some l → l.addressee ≡ to → comes_to w (gone_of true 0 w) to n ≡ true
 comes_last w to zero l at e own = absurd (none-some l e)
 comes_last w to (suc i) l at e own =
     ap (λ b. if b then false else goes_to to (letter_at w.letters (suc i))) (lt-leb (suc i) (length w.letters - 16384) (omega (arith, at)))
@@ -131,7 +131,7 @@ held_sent {Q} s most b c d st to ks p k mid q m after legal accepted is later he
     let ls = slice_set ks p mid in
     let w = run s b.founders (b.steps ++ st ∷ []) in
     let now : state s c ≡ w = ap (state s) is in
-    let lasts : (n : ℕ) (l : Letter Q) → sent_by st ≡ l.addressee ∷ [] → n ≡ length w.letters → letter_at w.letters n ≡ Some l → IsSpent s b.founders b.lose (b.steps ++ st ∷ []) n ⊎ IsInSome (slice_set ls q after) n =
+    let lasts : (n : ℕ) (l : LetterState Q) → sent_by st ≡ l.addressee ∷ [] → n ≡ length w.letters → letter_at w.letters n ≡ Some l → IsSpent s b.founders b.lose (b.steps ++ st ∷ []) n ⊎ IsInSome (slice_set ls q after) n =
     λ n l by at e.
     let own : l.addressee ≡ to = some_inj l.addressee to (ap (λ l. slice_get l 0) (sym by ∙ sent)) in
     elim (either (divides b.lose n)) [

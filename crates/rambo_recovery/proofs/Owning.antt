@@ -6,20 +6,18 @@ use Rattle.rambo_names.specs.declared.refusal.Refusal.{Refusal}
 use Rattle.rambo_names.specs.declared.refusal.Refusal.TheVariants.{NotActive, NoSuchLetter, OutOfMemory}
 use Rattle.rambo_names.specs.Quorums.{QuorumSystem}
 use Rattle.rambo_names.specs.Refusals.{IsRefusal, least, number_of}
-use Rattle.rambo_gossip.specs.declared.letter.Letter.{Letter}
+use Rattle.rambo_gossip.specs.Letters.{LetterState}
 use Rattle.rambo_joiner.specs.Statuses.{is_stopped}
 use Rattle.rambo_node.specs.Nodes.{NodeState}
-use Rattle.rambo_node.specs.Acts.{Act}
-use Rattle.rambo_run.specs.declared.step.Step.{Step}
-use Rattle.rambo_run.specs.declared.step.Step.TheVariants as step
-use Rattle.rambo_run.specs.Kinds.{delivered_by}
-use Rattle.rambo_run.specs.Steps.{Meant, meant, meant_in, causes_at, causes_of, refusal}
+use Rattle.rambo_node.specs.Acts.{Act, Meant, name_in}
+use Rattle.rambo_node.specs.Steps.{Step, delivered_by}
+use Rattle.rambo_node.specs.declared.step.StepOf.TheVariants as step
+use Rattle.rambo_run.specs.Steps.{meant, meant_in, causes_at, causes_of, refusal}
 use Rattle.rambo_run.specs.Worlds.{WorldState, first_world, letter_at, node_at}
 use Rattle.rambo_run.specs.Runs.{run}
 use Rattle.rambo_run.proofs.GoingOn.{run_none}
 use Rattle.rambo_run.proofs.Causes.{never_memory, no_letter_differs}
 use Rattle.rambo_run.proofs.Lists.{below_there, none-some, some_inj}
-use Rattle.rambo_deeds.specs.Deeds.{name_in}
 use Rattle.rambo_book.specs.Kept.{BookView, IsServedBy, KeeperView, Told, state}
 use Rattle.rambo_book.specs.Windows.{gone_of, is_gone}
 use Rattle.rambo_book.proofs.Judging.{refusal_is}
@@ -100,7 +98,7 @@ no_letter : {Q : Type 0} (s : QuorumSystem Q) (f : Q) → (first_world s f).lett
 unfolding first_world
 no_letter s f = refl
 
-nowhere : {Q : Type 0} (n : ℕ) (l : Letter Q) → letter_at [] n ≡ Some l → ⊥
+nowhere : {Q : Type 0} (n : ℕ) (l : LetterState Q) → letter_at [] n ≡ Some l → ⊥
 nowhere zero l e = none-some l e
 nowhere (suc i) l e = none-some l e
 

@@ -2,13 +2,13 @@
 use Rattle.std.proofs.Common.{◌≡◌, ◌⊎◌, ℕ, zero, suc, ◌≤◌, List, [], ◌∷◌, ◌++◌, length, map, Option, None, Some, slice_get, refl, sym, ap, ◌∙◌, inl, inr, arith}
 use Rattle.std.proofs.lemmas.List.{append_cancel_left, append-nil, length-append}
 use Rattle.rambo_names.specs.Quorums.{QuorumSystem}
-use Rattle.rambo_gossip.specs.declared.letter.Letter.{Letter}
+use Rattle.rambo_gossip.specs.Letters.{LetterState}
 use Rattle.rambo_node.specs.Changes.{made_by}
 use Rattle.rambo_node.specs.Letters.{letter_for}
 use Rattle.rambo_node.specs.Nodes.{NodeState}
 use Rattle.rambo_node.specs.Acts as act
-use Rattle.rambo_run.specs.declared.step.Step.{Step}
-use Rattle.rambo_run.specs.declared.step.Step.TheVariants as step
+use Rattle.rambo_node.specs.Steps.{Step}
+use Rattle.rambo_node.specs.declared.step.StepOf.TheVariants as step
 use Rattle.rambo_run.specs.Actors.{sent_by, sent}
 use Rattle.rambo_run.specs.Legal.{IsLegal}
 use Rattle.rambo_run.specs.Runs.{run}
@@ -44,18 +44,18 @@ one_at_most (step.Send n a) = omega arith
 one_at_most _ = omega arith
 
 -- whom it is for
-sent_at : {Q : Type 0} (w : WorldState Q) (n to : ℕ) (o : Option (NodeState Q)) (a : Letter Q) → (turn_at w n o (act.Send to)).world.letters ≡ w.letters ++ a ∷ [] → to ≡ a.addressee
+sent_at : {Q : Type 0} (w : WorldState Q) (n to : ℕ) (o : Option (NodeState Q)) (a : LetterState Q) → (turn_at w n o (act.Send to)).world.letters ≡ w.letters ++ a ∷ [] → to ≡ a.addressee
 unfolding made_by
 sent_at w n to None a e = (let len = ap length e ∙ length-append w.letters (a ∷ []) in absurd (omega (arith, len)))
-sent_at w n to (Some x) a e = ap (λ (l : Letter _). l.addressee) (head_is (append_cancel_left w.letters (letter_for x to ∷ []) (a ∷ []) e))
+sent_at w n to (Some x) a e = ap (λ (l : LetterState _). l.addressee) (head_is (append_cancel_left w.letters (letter_for x to ∷ []) (a ∷ []) e))
 
-sent_last : {Q : Type 0} (w : WorldState Q) (st : Step Q) (a : Letter Q) → length (sent_by st) ≡ 1 → (turn w st).world.letters ≡ w.letters ++ a ∷ [] → sent_by st ≡ a.addressee ∷ []
+sent_last : {Q : Type 0} (w : WorldState Q) (st : Step Q) (a : LetterState Q) → length (sent_by st) ≡ 1 → (turn w st).world.letters ≡ w.letters ++ a ∷ [] → sent_by st ≡ a.addressee ∷ []
 unfolding turn
 sent_last w (step.Send n to) a one e = ap (λ n. n ∷ []) (sent_at w n to (node_at w n) a e)
 sent_last w _ a one e = absurd (omega (arith, one))
 
 -- a letter of a longer list is one of the list, or the last one
-more_at : {Q : Type 0} (ls rest : List (Letter Q)) (few : length rest ≤ 1) (number : ℕ) (l : Letter Q) → letter_at (ls ++ rest) number ≡ Some l
+more_at : {Q : Type 0} (ls rest : List (LetterState Q)) (few : length rest ≤ 1) (number : ℕ) (l : LetterState Q) → letter_at (ls ++ rest) number ≡ Some l
     → (letter_at ls number ≡ Some l) ⊎ ((rest ≡ l ∷ []) × (number ≡ length (ls ++ rest)))
 more_at ls rest few zero l e = absurd (none-some l e)
 more_at ls [] few (suc i) l e = inl (ap (λ ls. slice_get ls i) (sym (append-nil ls)) ∙ e)
@@ -66,7 +66,7 @@ more_at ls (a ∷ []) few (suc i) l e = elim (get_more ls a l i e) [
 more_at ls (a ∷ b ∷ rest) few (suc i) l e = absurd (omega (arith, few))
 
 -- letters that were sent stay so
-pub letter_stays : {Q : Type 0} (s : QuorumSystem Q) (f : Q) (steps : List (Step Q)) (st : Step Q) (number : ℕ) (l : Letter Q)
+pub letter_stays : {Q : Type 0} (s : QuorumSystem Q) (f : Q) (steps : List (Step Q)) (st : Step Q) (number : ℕ) (l : LetterState Q)
     → letter_at (run s f steps).letters number ≡ Some l → letter_at (run s f (steps ++ st ∷ [])).letters number ≡ Some l
 letter_stays s f steps st zero l e = absurd (none-some l e)
 letter_stays s f steps st (suc i) l e =
@@ -75,7 +75,7 @@ letter_stays s f steps st (suc i) l e =
 
 -- and each other one was sent by the step more
 pub later_letter : {Q : Type 0} (s : QuorumSystem Q) (f : Q) (steps : List (Step Q)) (st : Step Q) → IsLegal s f steps → refusal s (run s f steps) st ≡ None
-    → (number : ℕ) (l : Letter Q) → letter_at (run s f (steps ++ st ∷ [])).letters number ≡ Some l
+    → (number : ℕ) (l : LetterState Q) → letter_at (run s f (steps ++ st ∷ [])).letters number ≡ Some l
     → (letter_at (run s f steps).letters number ≡ Some l) ⊎ ((sent_by st ≡ l.addressee ∷ []) × (number ≡ length (run s f (steps ++ st ∷ [])).letters))
 later_letter s f steps st legal accepted number l e =
     let ls = (run s f steps).letters in

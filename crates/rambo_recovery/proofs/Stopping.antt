@@ -8,13 +8,12 @@ use Rattle.rambo_joiner.specs.declared.status.Status.{Status}
 use Rattle.rambo_joiner.specs.declared.status.Status.TheVariants as status
 use Rattle.rambo_joiner.specs.Statuses.{is_idle, is_stopped}
 use Rattle.rambo_node.specs.Acts.{Act}
-use Rattle.rambo_node.specs.Changes.{refusal_of}
-use Rattle.rambo_node.specs.Changes.{causes as causes_in, quiet_causes}
+use Rattle.rambo_node.specs.Changes.{refusal_of, causes as causes_in, quiet_causes}
 use Rattle.rambo_node.specs.Nodes.{NodeState}
 use Rattle.rambo_node.specs.Acts as act
 use Rattle.rambo_node.specs.declared.prepared.Quiet.{Quiet}
 use Rattle.rambo_node.specs.declared.prepared.Quiet.TheVariants as quiet
-use Rattle.rambo_run.specs.declared.step.Step.{Step}
+use Rattle.rambo_node.specs.Steps.{Step}
 use Rattle.rambo_run.specs.Worlds.{WorldState, node_at}
 use Rattle.rambo_run.specs.Steps.{meant, causes_at, causes_of, causes, refusal, turn}
 use Rattle.rambo_run.proofs.GoingOn.{else_stays}

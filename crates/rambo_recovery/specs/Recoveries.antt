@@ -3,10 +3,10 @@ use Rattle.std.specs.Prelude.{◌≡◌, ℕ, ◌+◌, ◌⊎◌, Bool, true, fa
 use Rattle.rambo_names.specs.declared.refusal.Refusal.{Refusal}
 use Rattle.rambo_names.specs.declared.refusal.Refusal.TheVariants.{LetterGone, OutOfMemory}
 use Rattle.rambo_names.specs.Quorums.{QuorumSystem}
-use Rattle.rambo_gossip.specs.declared.letter.Letter.{Letter}
+use Rattle.rambo_gossip.specs.Letters.{LetterState}
 use Rattle.rambo_mail.specs.Waiting.{divides}
-use Rattle.rambo_run.specs.declared.step.Step.{Step}
-use Rattle.rambo_run.specs.declared.step.Step.TheVariants as step
+use Rattle.rambo_node.specs.Steps.{Step}
+use Rattle.rambo_node.specs.declared.step.StepOf.TheVariants as step
 use Rattle.rambo_run.specs.Runs.{run}
 use Rattle.rambo_run.specs.Steps.{refusal}
 use Rattle.rambo_run.specs.Worlds.{WorldState, letter_at}
@@ -29,7 +29,7 @@ IsDelivered {Q} steps number = (place : ℕ) × (slice_get steps place ≡ Some 
 
 -- it was sent to a node that has stopped
 abbrev pub IsForStopped : {Q : Type 0} → WorldState Q → ℕ → Type 0
-IsForStopped {Q} w number = (l : Letter Q) × (letter_at w.letters number ≡ Some l) × HasStopped w l.addressee
+IsForStopped {Q} w number = (l : LetterState Q) × (letter_at w.letters number ≡ Some l) × HasStopped w l.addressee
 
 -- after these steps nobody waits for the letter of a number: each of which lose divides the number is lost, it was delivered, or
 -- it was sent to a node that has stopped
@@ -38,7 +38,7 @@ IsSpent s founders lose steps number = (divides lose number ≡ true) ⊎ (IsDel
 
 -- each letter that was sent, and that somebody may wait for, is in a tray
 abbrev pub AreHeld : {Q : Type 0} → QuorumSystem Q → BookView Q → List (KeeperView Q) → Type 0
-AreHeld {Q} s b ks = (number : ℕ) (l : Letter Q) → letter_at (state s b).letters number ≡ Some l → IsSpent s b.founders b.lose b.steps number ⊎ IsInSome ks number
+AreHeld {Q} s b ks = (number : ℕ) (l : LetterState Q) → letter_at (state s b).letters number ≡ Some l → IsSpent s b.founders b.lose b.steps number ⊎ IsInSome ks number
 
 -- there is a keeper for each of the 64 names, and a list of letters that wait. Whoever draws has drawn all that was drawn. But for want of memory, each letter that
 -- somebody may wait for is in a tray

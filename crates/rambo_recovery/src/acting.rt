@@ -1,10 +1,10 @@
 //! A step that delivers no letter is taken.
 ghost use Rattle.std.specs.Prelude.{◌≡◌, ◌<◌, ◌⊎◌, ◌+◌, ◌++◌, ◌∷◌, [], ℕ, None, Some, true, length, slice_get, option_to_list, OnOk, OnErr, IfOk, IfErr};
 ghost use Rattle.rambo_run.specs.Actors.{sent_by};
-ghost use Rattle.rambo_run.specs.Kinds.{delivered_by};
+ghost use Rattle.rambo_node.specs.Steps.{delivered_by};
 ghost use Rattle.rambo_run.specs.Steps.{meant_in, refusal};
 ghost use Rattle.rambo_mail.specs.Waiting.{waiting_for};
-ghost use Rattle.rambo_deeds.specs.Deeds.{name_in};
+ghost use Rattle.rambo_node.specs.Acts.{name_in};
 ghost use Rattle.rambo_book.specs.Kept.{Told, state};
 ghost use Rattle.rambo_book.specs.Mailing.{comes_to, waiting_after};
 ghost use Rattle.rambo_book.specs.Readying.{IsIn};

@@ -12,9 +12,9 @@ ghost use Rattle.rambo_recovery.specs.Recoveries.{AreHeld, AreNamed, IsGoneSo, I
 use crate::acting::place_of;
 use crate::founding::Keepers;
 use rambo_book::{Book, Keeper, Terms, commit, commit_ready, ready, see_all};
-use rambo_deeds::Mail;
+use rambo_mail::Mail;
 use rambo_names::{Name, Quorums, Refusal};
-use rambo_run::Step;
+use rambo_run::{Step, StepOf};
 use rambo_tag::Replica;
 
 /// Delivers the letter of a number, which leaves its tray: the book's where it keeps that, else the one of a tray.
@@ -32,11 +32,11 @@ pub(crate) fn deliver<J: Terms<Q>, Q: Quorums, S: Replica>(
     requires named { AreNamed keepers.old.all.items }
     ensures many { length keepers.new.all.items ≡ 64 }
     ensures named { AreNamed keepers.new.all.items }
-    ensures accepted { OnOk result (refusal Q.system (state Q.system book.old) (Step.Deliver number) ≡ None) }
-    ensures book { OnOk result (book.new ≡ record book.old { steps = book.old.steps ++ Step.Deliver number ∷ [] }) }
+    ensures accepted { OnOk result (refusal Q.system (state Q.system book.old) (StepOf.Deliver number) ≡ None) }
+    ensures book { OnOk result (book.new ≡ record book.old { steps = book.old.steps ++ StepOf.Deliver number ∷ [] }) }
     ensures held { AreHeld Q.system book.old keepers.old.all.items → AreHeld Q.system book.new keepers.new.all.items }
     ensures same { OnErr result (book.new ≡ book.old) }
-    ensures told { IfErr result (λ r. Told (refusal Q.system (state Q.system book.old) (Step.Deliver number)) (length book.old.steps) book.old.capacity r
+    ensures told { IfErr result (λ r. Told (refusal Q.system (state Q.system book.old) (StepOf.Deliver number)) (length book.old.steps) book.old.capacity r
         ⊎ ((is_gone (gone_of J.endless J.capacity (state Q.system book.old)) number ≡ true) × (IsInSome keepers.old.all.items number → ⊥) × IsGoneSo is_short r)) }
 {
     book.facts();
@@ -73,7 +73,7 @@ fn gone_so(is_short: bool) -> Refusal
 
 // Whom the letter of a number is for, if the book keeps it.
 fn addressee_in<J: Terms<Q>, Q: Quorums>(book: &Book<J, Q>, number: u64) -> Option<Name>
-    ensures kept { IfSome result (IsServedBy (state Q.system book.now) (Step.Deliver number)) }
+    ensures kept { IfSome result (IsServedBy (state Q.system book.now) (StepOf.Deliver number)) }
     ensures there { IfSome result (λ _. is_gone (gone_of J.endless J.capacity (state Q.system book.now)) number ≡ false) }
     ensures none { result ≡ None → is_gone (gone_of J.endless J.capacity (state Q.system book.now)) number ≡ false → letter_at (state Q.system book.now).letters number ≡ None }
 {
@@ -117,13 +117,13 @@ fn deliver_kept<J: Terms<Q>, Q: Quorums, S: Replica>(
     number: u64,
 ) -> Result<(), Refusal>
     requires there { is_gone (gone_of J.endless J.capacity (state Q.system book.old)) number ≡ false }
-    requires served { IsServedBy (state Q.system book.old) (Step.Deliver number) keeper.old.name }
+    requires served { IsServedBy (state Q.system book.old) (StepOf.Deliver number) keeper.old.name }
     ensures name { keeper.new.name ≡ keeper.old.name }
-    ensures accepted { OnOk result (refusal Q.system (state Q.system book.old) (Step.Deliver number) ≡ None) }
-    ensures book { OnOk result (book.new ≡ record book.old { steps = book.old.steps ++ Step.Deliver number ∷ [] }) }
+    ensures accepted { OnOk result (refusal Q.system (state Q.system book.old) (StepOf.Deliver number) ≡ None) }
+    ensures book { OnOk result (book.new ≡ record book.old { steps = book.old.steps ++ StepOf.Deliver number ∷ [] }) }
     ensures tray { OnOk result (keeper.new.tray ≡ without keeper.old.tray number) }
     ensures same { OnErr result ((book.new ≡ book.old) × (keeper.new.tray ≡ keeper.old.tray)) }
-    ensures told { IfErr result (λ r. Told (refusal Q.system (state Q.system book.old) (Step.Deliver number)) (length book.old.steps) book.old.capacity r) }
+    ensures told { IfErr result (λ r. Told (refusal Q.system (state Q.system book.old) (StepOf.Deliver number)) (length book.old.steps) book.old.capacity r) }
 {
     commit(book, keeper, Step::Deliver(number))?;
     keeper.forget(number);
@@ -138,11 +138,11 @@ fn deliver_held<J: Terms<Q>, Q: Quorums, S: Replica>(
 ) -> Result<(), Refusal>
     requires { IsIn keeper.old.tray number }
     ensures name { keeper.new.name ≡ keeper.old.name }
-    ensures accepted { OnOk result (refusal Q.system (state Q.system book.old) (Step.Deliver number) ≡ None) }
-    ensures book { OnOk result (book.new ≡ record book.old { steps = book.old.steps ++ Step.Deliver number ∷ [] }) }
+    ensures accepted { OnOk result (refusal Q.system (state Q.system book.old) (StepOf.Deliver number) ≡ None) }
+    ensures book { OnOk result (book.new ≡ record book.old { steps = book.old.steps ++ StepOf.Deliver number ∷ [] }) }
     ensures tray { OnOk result (keeper.new.tray ≡ without keeper.old.tray number) }
     ensures same { OnErr result ((book.new ≡ book.old) × (keeper.new.tray ≡ keeper.old.tray)) }
-    ensures told { IfErr result (λ r. Told (refusal Q.system (state Q.system book.old) (Step.Deliver number)) (length book.old.steps) book.old.capacity r) }
+    ensures told { IfErr result (λ r. Told (refusal Q.system (state Q.system book.old) (StepOf.Deliver number)) (length book.old.steps) book.old.capacity r) }
 {
     book.facts();
     see_all(book, keeper);

@@ -4,7 +4,7 @@ ghost use Rattle.std.specs.Prelude.{◌≡◌, ◌≢◌, ◌++◌, ◌∷◌, [
 ghost use Rattle.std.specs.FinSet as set;
 ghost use Rattle.rambo_names.specs.Names.{IsName};
 ghost use Rattle.rambo_names.specs.Refusals.{least, IsRefusal};
-ghost use Rattle.rambo_run.specs.Kinds.{delivered_by};
+ghost use Rattle.rambo_node.specs.Steps.{delivered_by};
 ghost use Rattle.rambo_run.specs.Legal.{IsLegal};
 ghost use Rattle.rambo_run.specs.Runs.{run};
 ghost use Rattle.rambo_run.specs.Steps.{refusal};
@@ -18,7 +18,7 @@ use crate::founding::{Founded, Keepers, found};
 use rambo_book::{Actor, Book, Keeper, Terms};
 use rambo_names::{Members, Name, Quorums, Refusal};
 use rambo_roll::{Drawn, Opened};
-use rambo_run::Step;
+use rambo_run::{Step, StepOf};
 use rambo_tag::Replica;
 use std::alloc::Global;
 use std::marker::Model;
@@ -45,7 +45,7 @@ impl<J: Terms<Q>, Q: Quorums, S: Replica> Model for Recovery<J, Q, S> {
     ghost use Rattle.std.specs.Prelude.{List};
     ghost use Rattle.std.specs.Coded.{codes};
     ghost use Rattle.rambo_names.specs.Names.{names_code};
-    ghost use Rattle.rambo_run.specs.declared.step.Step.{Step};
+    ghost use Rattle.rambo_node.specs.Steps.{Step};
     ghost use Rattle.rambo_recovery.specs.Recoveries.{IsRecovery};
 
     ghost Value = { List (Step Q) };
@@ -140,11 +140,11 @@ impl<J: Terms<Q>, Q: Quorums, S: Replica> Recovery<J, Q, S> {
 
     // The same of a delivery.
     fn take_delivery(&mut self, number: u64) -> Result<(), Refusal>
-        ensures taken { OnOk result (self.new ≡ self.old ++ Step.Deliver number ∷ []) }
-        ensures accepted { OnOk result ((f : Q) → J.founders ≡ Some f → refusal Q.system (run Q.system f self.old) (Step.Deliver number) ≡ None) }
+        ensures taken { OnOk result (self.new ≡ self.old ++ StepOf.Deliver number ∷ []) }
+        ensures accepted { OnOk result ((f : Q) → J.founders ≡ Some f → refusal Q.system (run Q.system f self.old) (StepOf.Deliver number) ≡ None) }
         ensures legal { (f : Q) → J.founders ≡ Some f → IsLegal Q.system f self.new }
         ensures err { OnErr result (self.new ≡ self.old) }
-        ensures cause { IfErr result (λ r. (f : Q) → J.founders ≡ Some f → WhyUntaken Q.system f J.capacity J.lose self.old (Step.Deliver number) r) }
+        ensures cause { IfErr result (λ r. (f : Q) → J.founders ≡ Some f → WhyUntaken Q.system f J.capacity J.lose self.old (StepOf.Deliver number) r) }
     {
         self.own.book.facts();
         let done = deliver(

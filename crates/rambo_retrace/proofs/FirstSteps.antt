@@ -2,7 +2,7 @@
 use Rattle.std.proofs.Common.{◌≡◌, ℕ, List, [], ◌∷◌, ◌++◌, refl, sym, subst}
 use Rattle.rambo_names.specs.Weights.{Weights}
 use Rattle.rambo_names.specs.declared.refusal.Refusal.{Refusal}
-use Rattle.rambo_run.specs.declared.step.Step.{Step}
+use Rattle.rambo_node.specs.Steps.{Step}
 use Rattle.rambo_lines.specs.Fronts.{BeginsWithStep}
 use Rattle.rambo_lines.specs.Scripts.{HasLine}
 use Rattle.rambo_lines.specs.StepLines.{step_line}

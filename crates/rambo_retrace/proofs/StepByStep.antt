@@ -4,7 +4,7 @@ use Rattle.std.specs.List.{AllByRecursion}
 use Rattle.std.proofs.KnownBytes.{Consumes-nil, Consumes-trans}
 use Rattle.rambo_names.specs.Weights.{Weights}
 use Rattle.rambo_atomic.specs.Unreads.{TakesIn}
-use Rattle.rambo_run.specs.declared.step.Step.{Step}
+use Rattle.rambo_node.specs.Steps.{Step}
 use Rattle.rambo_lines.specs.Scripts.{HasLine, steps_text}
 use Rattle.rambo_lines.specs.StepLines.{step_line}
 use Rattle.rambo_lines.proofs.LineByLine.{steps_text-append}

@@ -8,7 +8,7 @@ use Rattle.rambo_names.specs.declared.refusal.Refusal.{Refusal}
 use Rattle.rambo_atomic.specs.Unreads.{UnreadState, KnowsEnd, HoldsLine, IsDone}
 use Rattle.rambo_atomic.specs.declared.whole.StreamFault.{StreamFault}
 use Rattle.rambo_atomic.specs.declared.whole.StreamFault.TheVariants as stream
-use Rattle.rambo_run.specs.declared.step.Step.{Step}
+use Rattle.rambo_node.specs.Steps.{Step}
 use Rattle.rambo_text.specs.Words.{Lacks}
 use Rattle.rambo_text.proofs.WordSplits.{no_cut}
 use Rattle.rambo_retrace.specs.declared.fault.RetraceFault.{RetraceFault}

@@ -4,7 +4,7 @@ use Rattle.std.proofs.lemmas.List.{take_at}
 use Rattle.std.specs.Io.KnownBytes.{IsAtEnd}
 use Rattle.rambo_names.specs.Weights.{Weights}
 use Rattle.rambo_atomic.specs.Unreads.{TakesIn}
-use Rattle.rambo_run.specs.declared.step.Step.{Step}
+use Rattle.rambo_node.specs.Steps.{Step}
 use Rattle.rambo_lines.specs.Scripts.{steps_text}
 use Rattle.rambo_trace.specs.Traces.{trace_text}
 use Rattle.rambo_trace.proofs.Pieces.{trace-append}

@@ -7,7 +7,7 @@ use Rattle.rambo_atomic.specs.Streams.{counted}
 use Rattle.rambo_atomic.specs.Unreads.{TakesIn}
 use Rattle.rambo_atomic.specs.declared.whole.StreamFault.{StreamFault}
 use Rattle.rambo_atomic.specs.declared.whole.StreamFault.TheVariants as stream
-use Rattle.rambo_run.specs.declared.step.Step.{Step}
+use Rattle.rambo_node.specs.Steps.{Step}
 use Rattle.rambo_text.specs.declared.fault.Fault.{Fault}
 use Rattle.rambo_text.specs.declared.fault.Fault.TheVariants.{NoFounders}
 use Rattle.rambo_text.specs.declared.fault.ScriptFault.{ScriptFault}

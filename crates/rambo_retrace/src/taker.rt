@@ -2,7 +2,7 @@
 ghost use Rattle.std.specs.Prelude.{◌≡◌, ◌∷◌, ◌++◌, [], List, IfErr, OnOk, OnErr};
 ghost use Rattle.rambo_names.specs.Weights.{Weights};
 ghost use Rattle.rambo_names.specs.declared.refusal.Refusal.{Refusal};
-ghost use Rattle.rambo_run.specs.declared.step.Step.{Step};
+ghost use Rattle.rambo_node.specs.Steps.{Step};
 
 use rambo_names::{Refusal, Weighted};
 use rambo_run::Step;

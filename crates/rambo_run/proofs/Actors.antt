@@ -4,14 +4,15 @@ use Rattle.std.proofs.lemmas.Bool.{true≢false}
 use Rattle.std.proofs.lemmas.List.{append-nil}
 use Rattle.rambo_names.specs.Quorums.{QuorumSystem}
 use Rattle.rambo_names.specs.Refusals.{least}
-use Rattle.rambo_gossip.specs.declared.letter.Letter.{Letter}
+use Rattle.rambo_gossip.specs.Letters.{LetterState}
 use Rattle.rambo_node.specs.Letters.{letter_for}
 use Rattle.rambo_node.specs.Nodes.{NodeState}
 use Rattle.rambo_node.specs.Acts as act
-use Rattle.rambo_run.specs.declared.step.Step.{Step}
-use Rattle.rambo_run.specs.declared.step.Step.TheVariants as step
+use Rattle.rambo_node.specs.Steps.{Step}
+use Rattle.rambo_node.specs.declared.step.StepOf.TheVariants as step
 use Rattle.rambo_run.specs.Worlds.{WorldState, node_at, letter_at, first_world}
-use Rattle.rambo_run.specs.Steps.{Meant, meant, causes_at, causes, refusal, delivery, turn_at, turn}
+use Rattle.rambo_node.specs.Acts.{Meant, delivery}
+use Rattle.rambo_run.specs.Steps.{meant, causes_at, causes, refusal, turn_at, turn}
 use Rattle.rambo_run.specs.Runs.{after, run_from, run}
 use Rattle.rambo_run.specs.Legal.{IsLegal}
 use Rattle.rambo_run.specs.Actors.{sent_by, sent, or_nobody, addressee_at, actor}
@@ -20,7 +21,7 @@ use Rattle.rambo_run.proofs.Steps.{letters_at, letters_delivered}
 use Rattle.rambo_run.proofs.GoingOn.{after-taken}
 use Rattle.rambo_run.proofs.Legal.{legal_from, legal_in_turn}
 
-pub to : {Q : Type 0} → Letter Q → ℕ
+pub to : {Q : Type 0} → LetterState Q → ℕ
 to l = l.addressee
 
 map-append : {A B : Type 0} (f : A → B) (xs ys : List A) → map f (xs ++ ys) ≡ map f xs ++ map f ys
@@ -28,17 +29,17 @@ map-append f [] ys = refl
 map-append f (x ∷ xs) ys = ap (λ zs. f x ∷ zs) (map-append f xs ys)
 
 -- the letter of a number is for whom it is for
-addressed : {Q : Type 0} (ls : List (Letter Q)) (i : ℕ) (l : Letter Q) → slice_get ls i ≡ Some l → or_nobody (slice_get (map to ls) i) ≡ l.addressee
+addressed : {Q : Type 0} (ls : List (LetterState Q)) (i : ℕ) (l : LetterState Q) → slice_get ls i ≡ Some l → or_nobody (slice_get (map to ls) i) ≡ l.addressee
 unfolding to
 addressed [] i l e = absurd (none-some l e)
 addressed (x ∷ ls) zero l e = ap to (some_inj x l e)
 addressed (x ∷ ls) (suc i) l e = addressed ls i l e
 
-delivered : {Q : Type 0} (ls : List (Letter Q)) (o : Option (Letter Q)) (m : Meant Q) → delivery o ≡ Some m → (l : Letter Q) × (o ≡ Some l) × (l.addressee ≡ m.name)
+delivered : {Q : Type 0} (ls : List (LetterState Q)) (o : Option (LetterState Q)) (m : Meant Q) → delivery o ≡ Some m → (l : LetterState Q) × (o ≡ Some l) × (l.addressee ≡ m.name)
 delivered ls None m e = absurd (none-some m e)
 delivered ls (Some l) m e = (l, refl, ap (λ (m : Meant _). m.name) (some_inj _ m e))
 
-numbered : {Q : Type 0} (ls : List (Letter Q)) (i : ℕ) (l : Letter Q) → letter_at ls i ≡ Some l → addressee_at (map to ls) i ≡ l.addressee
+numbered : {Q : Type 0} (ls : List (LetterState Q)) (i : ℕ) (l : LetterState Q) → letter_at ls i ≡ Some l → addressee_at (map to ls) i ≡ l.addressee
 numbered ls zero l e = absurd (none-some l e)
 numbered ls (suc i) l e = addressed ls i l e
 
@@ -60,7 +61,7 @@ sent-more (x ∷ log) st = ap (λ ns. sent_by x ++ ns) (sent-more log st) ∙ sy
 abbrev Lettered : {Q : Type 0} → WorldState Q → Step Q → WorldState Q → Type 0
 Lettered w st z = map to z.letters ≡ map to w.letters ++ sent_by st
 
-quiet : {Q : Type 0} (ls new : List (Letter Q)) → new ≡ ls → map to new ≡ map to ls ++ []
+quiet : {Q : Type 0} (ls new : List (LetterState Q)) → new ≡ ls → map to new ≡ map to ls ++ []
 quiet ls new e = ap (map to) e ∙ sym (append-nil (map to ls))
 
 sending : {Q : Type 0} (s : QuorumSystem Q) (w : WorldState Q) (n a : ℕ) (o : Option (NodeState Q)) → least (causes_at s o (act.Send a)) ≡ None → Lettered w (step.Send n a) (turn_at w n o (act.Send a)).world

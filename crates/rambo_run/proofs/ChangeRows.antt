@@ -19,8 +19,8 @@ use Rattle.rambo_node.specs.Changes.{made_by}
 use Rattle.rambo_node.specs.Operations.{called, query_answered, call_closed}
 use Rattle.rambo_node.specs.Nodes.{NodeState}
 use Rattle.rambo_node.specs.Reconfigurations.{attempt_opened, attempt_moved, config_learnt, collection_opened, collection_moved, collection_ended}
-use Rattle.rambo_run.specs.declared.step.Step.{Step}
-use Rattle.rambo_run.specs.declared.step.Step.TheVariants as step
+use Rattle.rambo_node.specs.Steps.{Step}
+use Rattle.rambo_node.specs.declared.step.StepOf.TheVariants as step
 use Rattle.rambo_run.specs.Worlds.{WorldState, node_at}
 use Rattle.rambo_run.specs.Steps.{causes, refusal, turn}
 use Rattle.rambo_run.specs.Runs.{after, run_from, results_from}

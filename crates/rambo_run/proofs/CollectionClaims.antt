@@ -4,9 +4,9 @@ use Rattle.std.proofs.lemmas.Bool.{cases_lt}
 use Rattle.rambo_names.specs.Quorums.{QuorumSystem, IsSound}
 use Rattle.rambo_config_map.specs.Maps.{active_at}
 use Rattle.rambo_node.specs.Nodes.{NodeState, first_node}
-use Rattle.rambo_run.specs.declared.step.Step.{Step}
+use Rattle.rambo_node.specs.Steps.{Step}
 use Rattle.rambo_run.specs.Worlds.{WorldState, node_at}
-use Rattle.rambo_run.specs.declared.step.Step.TheVariants as step
+use Rattle.rambo_node.specs.declared.step.StepOf.TheVariants as step
 use Rattle.rambo_run.specs.Claims.{AtLeast, IsDone}
 use Rattle.rambo_run.specs.Configurations.{begun, HasTold, IsCollected, RemovedPlacesAreCollected, CollectionsNeverFall}
 use Rattle.rambo_run.proofs.Turn.{Moments, Telling, Run}

@@ -14,13 +14,13 @@ use Rattle.rambo_paxos.specs.declared.stage.Stage.TheVariants as attempt
 use Rattle.rambo_paxos.specs.Attempts.{AttemptState, bid_in, bid_of}
 use Rattle.rambo_phase.specs.Phases.{is_met as is_phase_met}
 use Rattle.rambo_joiner.specs.Statuses.{is_active}
-use Rattle.rambo_gossip.specs.declared.letter.Letter.{Letter}
-use Rattle.rambo_gossip.specs.declared.letter.Gossip.{Gossip}
-use Rattle.rambo_gossip.specs.declared.letter.Kind.{Kind}
-use Rattle.rambo_gossip.specs.declared.letter.Kind.TheVariants as kind
+use Rattle.rambo_gossip.specs.Letters.{LetterState}
+use Rattle.rambo_gossip.specs.Gossips.{GossipState}
+use Rattle.rambo_gossip.specs.Kinds.{Kind}
+use Rattle.rambo_gossip.specs.Kinds as kind
 use Rattle.rambo_calls.specs.declared.stage.Stage.{Stage}
 use Rattle.rambo_calls.specs.declared.stage.Stage.TheVariants.{Query, Propagation}
-use Rattle.rambo_node.specs.Acts.{Act}
+use Rattle.rambo_node.specs.Acts.{Act, Meant, delivery}
 use Rattle.rambo_calls.specs.Calls.{CallState, propagates, kept_in, is_unmet}
 use Rattle.rambo_node.specs.Changes as node
 use Rattle.rambo_node.specs.Changes.{set_mark, get_mark, quieted, quiet_causes, alone, stage_met, advanced, begun_again, collection_turned, collection_advanced, rebid_made, decided, bid_made, attempt_advanced, made_by}
@@ -34,10 +34,10 @@ use Rattle.rambo_node.specs.Reconfigurations.{attempt_opened, attempt_rebid, att
 use Rattle.rambo_node.specs.Acts as act
 use Rattle.rambo_node.specs.declared.prepared.Quiet.{Quiet}
 use Rattle.rambo_node.specs.declared.prepared.Quiet.TheVariants as quiet
-use Rattle.rambo_run.specs.declared.step.Step.{Step}
-use Rattle.rambo_run.specs.declared.step.Step.TheVariants as step
+use Rattle.rambo_node.specs.Steps.{Step}
+use Rattle.rambo_node.specs.declared.step.StepOf.TheVariants as step
 use Rattle.rambo_run.specs.Worlds.{WorldState, node_at, letter_at}
-use Rattle.rambo_run.specs.Steps.{Meant, delivery, meant, causes_at, causes_of, causes, refusal, with_mark, turn_by, turn_at, turn_of, turn}
+use Rattle.rambo_run.specs.Steps.{meant, causes_at, causes_of, causes, refusal, with_mark, turn_by, turn_at, turn_of, turn}
 use Rattle.rambo_run.proofs.Lists.{pick, Member}
 use Rattle.rambo_run.proofs.Deeds.{id_of, with_set, open_member, put_self}
 use Rattle.rambo_run.proofs.Turn.{Moments, Telling, IsBacked, Alters, collects, seconds, finishes, opens, rebids, proposes, chooses, gives_up, Turn, knows, hears, agains, alters}
@@ -59,7 +59,7 @@ module _ {Q : Type 0} (s : QuorumSystem Q) (founders : Q) (world : ℕ → World
   abbrev Came : Telling
   Came m n u j = CameIn s founders world worlds m n u j
 
-  abbrev LetterFrom : ℕ → ℕ → Letter Q → Type 0
+  abbrev LetterFrom : ℕ → ℕ → LetterState Q → Type 0
   LetterFrom m i l = LetterIn s founders world worlds m i l
 
   abbrev Sound : ℕ → Type 0
@@ -170,10 +170,10 @@ module _ {Q : Type 0} (s : QuorumSystem Q) (founders : Q) (world : ℕ → World
       ]
 
   -- gossip that comes to n from j was told at some moment
-  abbrev Told : ℕ → ℕ → ℕ → Gossip Q → Type 0
+  abbrev Told : ℕ → ℕ → ℕ → GossipState Q → Type 0
   Told m n j g = (u : ℕ) × (u ≤ m) × (1 ≤ j) × Came m n u j × (g ≡ gossip_for (at u j) n)
 
-  hear_done : (m n j : ℕ) (k : Kind Q) → ((g : Gossip Q) → k ≡ kind.Gossip g → Told m n j g)
+  hear_done : (m n j : ℕ) (k : Kind Q) → ((g : GossipState Q) → k ≡ kind.Gossip g → Told m n j g)
       → (x : NodeState Q) → node_at (world m) n ≡ Some x → To m (turn_by (world m) n (alone (heard_kind x j k))).world
   unfolding heard_join
   hear_done m n j kind.Join f x h = node_done m n x (λ x. heard_join x j) h (knows _ _ refl) (keeps_same (at m n) (heard_join (at m n) j) refl refl) (copies_same at m (at m n) (heard_join (at m n) j) refl)
@@ -186,7 +186,7 @@ module _ {Q : Type 0} (s : QuorumSystem Q) (founders : Q) (world : ℕ → World
 
   -- a letter that is delivered to n was told so
   abbrev Delivers : ℕ → ℕ → Act Q → Type 0
-  Delivers m n (act.Hear l) = (g : Gossip Q) → l.kind ≡ kind.Gossip g → Told m n l.sender g
+  Delivers m n (act.Hear l) = (g : GossipState Q) → l.kind ≡ kind.Gossip g → Told m n l.sender g
   Delivers m n _ = Unit {0}
 
   -- a quiet act of a node that isn't refused
@@ -222,11 +222,11 @@ module _ {Q : Type 0} (s : QuorumSystem Q) (founders : Q) (world : ℕ → World
   meant_done m f None d e = t_still refl
   meant_done m f (Some a) d e = at_done m a.name a.act f d (node_at (world m) a.name) refl e
 
-  pub kind_told : (g : Gossip Q) (x : NodeState Q) (to : ℕ) (b : Bool) → (if b then kind.Gossip (gossip_for x to) else kind.Join) ≡ kind.Gossip g → (b ≡ true) × (g ≡ gossip_for x to)
+  pub kind_told : (g : GossipState Q) (x : NodeState Q) (to : ℕ) (b : Bool) → (if b then kind.Gossip (gossip_for x to) else kind.Join) ≡ kind.Gossip g → (b ≡ true) × (g ≡ gossip_for x to)
   kind_told g x to true e = (refl, sym (ap (gossip_in g) e))
   kind_told g x to false e = absurd (true≢false (sym (ap is_gossip e)))
 
-  letter_told : (m i : ℕ) (l : Letter Q) → letter_at (world m).letters i ≡ Some l → LetterFrom m i l → Happens m (step.Deliver i) → Delivers m l.addressee (act.Hear l)
+  letter_told : (m i : ℕ) (l : LetterState Q) → letter_at (world m).letters i ≡ Some l → LetterFrom m i l → Happens m (step.Deliver i) → Delivers m l.addressee (act.Hear l)
   letter_told m i l e f h g q =
       let x = at f.moment f.sender in
       let k = kind_told g x f.addressee (is_active x.status) (ap (λ l. l.kind) f.content ∙ q) in
@@ -236,7 +236,7 @@ module _ {Q : Type 0} (s : QuorumSystem Q) (founders : Q) (world : ℕ → World
       let addressee : f.addressee ≡ l.addressee = ap (λ l. l.addressee) f.content in
       subst (λ j. Told m l.addressee j g) sender (subst (λ n. Told m n f.sender g) addressee told)
 
-  delivery_means : (m i : ℕ) → Sound m → Happens m (step.Deliver i) → (o : Option (Letter Q)) → letter_at (world m).letters i ≡ o → Means m (delivery o)
+  delivery_means : (m i : ℕ) → Sound m → Happens m (step.Deliver i) → (o : Option (LetterState Q)) → letter_at (world m).letters i ≡ o → Means m (delivery o)
   delivery_means m i f h None e = tt
   delivery_means m i f h (Some l) e = letter_told m i l e (f.letters i l e) h
 

@@ -10,11 +10,11 @@ use Rattle.rambo_gc.specs.Collections.{CollectionState}
 use Rattle.rambo_paxos.specs.declared.bid.Bid.{Bid}
 use Rattle.rambo_paxos.specs.declared.bid.Bid.TheVariants as bid
 use Rattle.rambo_paxos.specs.Attempts.{AttemptState, bid_of}
-use Rattle.rambo_gossip.specs.declared.letter.Letter.{Letter}
-use Rattle.rambo_gossip.specs.declared.letter.Gossip.{Gossip}
-use Rattle.rambo_gossip.specs.declared.letter.Kind.{Kind}
-use Rattle.rambo_gossip.specs.declared.letter.Kind.TheVariants as kind
-use Rattle.rambo_node.specs.Acts.{Act}
+use Rattle.rambo_gossip.specs.Letters.{LetterState}
+use Rattle.rambo_gossip.specs.Gossips.{GossipState}
+use Rattle.rambo_gossip.specs.Kinds.{Kind}
+use Rattle.rambo_gossip.specs.Kinds as kind
+use Rattle.rambo_node.specs.Acts.{Act, delivery}
 use Rattle.rambo_node.specs.declared.effect.Effect.TheVariants as effect
 use Rattle.rambo_calls.specs.declared.stage.Stage.{Stage}
 use Rattle.rambo_calls.specs.declared.stage.Stage.TheVariants.{Query, Propagation}
@@ -27,10 +27,10 @@ use Rattle.rambo_node.specs.Reconfigurations.{attempt_opened, attempt_rebid, att
 use Rattle.rambo_node.specs.Acts as act
 use Rattle.rambo_node.specs.declared.prepared.Quiet.TheVariants as quiet
 use Rattle.rambo_joiner.specs.Statuses.{is_active}
-use Rattle.rambo_run.specs.declared.step.Step.{Step}
-use Rattle.rambo_run.specs.declared.step.Step.TheVariants as step
+use Rattle.rambo_node.specs.Steps.{Step}
+use Rattle.rambo_node.specs.declared.step.StepOf.TheVariants as step
 use Rattle.rambo_run.specs.Worlds.{WorldState, node_at, letter_at}
-use Rattle.rambo_run.specs.Steps.{delivery, turn_by, turn_at, turn_of, turn}
+use Rattle.rambo_run.specs.Steps.{turn_by, turn_at, turn_of, turn}
 use Rattle.rambo_run.specs.Configurations.{RemovedPlacesAreTold}
 use Rattle.rambo_run.proofs.Moments.{moment, worlds}
 use Rattle.rambo_run.proofs.Lists.{pick}
@@ -132,7 +132,7 @@ module _ {Q : Type 0} (s : QuorumSystem Q) (founders : Q) (world : ℕ → World
   quiet_at m n k c f (Some x) e h =
       changed m n k x c e (λ l. inl (m, k, omega arith, subst (λ x. p < x.map.floor) (is_at s founders world all m k x e) (subst (λ q. p < q) (f x) l))) h
 
-  heard_at : (m n k j : ℕ) (g : Kind Q) → ((h : Gossip Q) → g ≡ kind.Gossip h → p < h.map.floor → Cause m) → (x : NodeState Q) → x ≡ at s founders world all m k → p < (heard_kind x j g).map.floor → Cause m
+  heard_at : (m n k j : ℕ) (g : Kind Q) → ((h : GossipState Q) → g ≡ kind.Gossip h → p < h.map.floor → Cause m) → (x : NodeState Q) → x ≡ at s founders world all m k → p < (heard_kind x j g).map.floor → Cause m
   unfolding heard_join heard_gossip
   heard_at m n k j kind.Join f x e h = inl (m, k, omega arith, subst (λ x. p < x.map.floor) e h)
   heard_at m n k j (kind.Gossip g) f x e h = elim (cases_lt p x.map.floor) [
@@ -141,21 +141,21 @@ module _ {Q : Type 0} (s : QuorumSystem Q) (founders : Q) (world : ℕ → World
   ]
 
   -- what a letter tells was so before
-  letter_cause : (m i : ℕ) (l : Letter Q) → letter_at (world m).letters i ≡ Some l → (g : Gossip Q) → l.kind ≡ kind.Gossip g → p < g.map.floor → Cause m
+  letter_cause : (m i : ℕ) (l : LetterState Q) → letter_at (world m).letters i ≡ Some l → (g : GossipState Q) → l.kind ≡ kind.Gossip g → p < g.map.floor → Cause m
   letter_cause m i l e g k h =
       let f = (sound s founders world all m).letters i l e in
       let y = at s founders world all f.moment f.sender in
       let q = kind_told s founders world all g y f.addressee (is_active y.status) (ap (λ l. l.kind) f.content ∙ k) in
       inl (f.moment, f.sender, omega (arith, f.before), subst (λ g. p < g.map.floor) q.1 h)
 
-  delivered_at : (m n i : ℕ) (l : Letter Q) → letter_at (world m).letters i ≡ Some l → (o : Option (NodeState Q)) → node_at (world m) l.addressee ≡ o
+  delivered_at : (m n i : ℕ) (l : LetterState Q) → letter_at (world m).letters i ≡ Some l → (o : Option (NodeState Q)) → node_at (world m) l.addressee ≡ o
       → RemovedIn (turn_at (world m) l.addressee o (act.Hear l)).world n → Cause m
   unfolding made_by
   delivered_at m n i l e None a h = inl (m, n, omega arith, h)
   delivered_at m n i l e (Some x) a h =
       changed m n l.addressee x (act.Hear l) a (heard_at m n l.addressee l.sender l.kind (letter_cause m i l e) x (is_at s founders world all m l.addressee x a)) h
 
-  delivered : (m n i : ℕ) (o : Option (Letter Q)) → letter_at (world m).letters i ≡ o → RemovedIn (turn_of (world m) (delivery o)).world n → Cause m
+  delivered : (m n i : ℕ) (o : Option (LetterState Q)) → letter_at (world m).letters i ≡ o → RemovedIn (turn_of (world m) (delivery o)).world n → Cause m
   delivered m n i None e h = inl (m, n, omega arith, h)
   delivered m n i (Some l) e h = delivered_at m n i l e (node_at (world m) l.addressee) refl h
 

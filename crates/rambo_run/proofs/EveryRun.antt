@@ -4,7 +4,7 @@ use Rattle.rambo_names.specs.Quorums.{QuorumSystem, IsSound}
 use Rattle.rambo_history.specs.Proper.{IsProper}
 use Rattle.rambo_config_map.specs.Maps.{active_at}
 use Rattle.rambo_sequence.specs.Sequences.{sequence_of}
-use Rattle.rambo_run.specs.declared.step.Step.{Step}
+use Rattle.rambo_node.specs.Steps.{Step}
 use Rattle.rambo_run.specs.Worlds.{node_at}
 use Rattle.rambo_run.specs.Runs.{run}
 use Rattle.rambo_run.specs.Claims.{IsAtomic, Holds, Agrees}

@@ -14,7 +14,7 @@ use Rattle.rambo_history.specs.declared.fault.HistoryFault.TheVariants.{CalledTw
 use Rattle.rambo_history.specs.Calls.{fits, answer_for}
 use Rattle.rambo_history.specs.Histories.{call_in}
 use Rattle.rambo_history.specs.Faults.{answer_fault, fault_of}
-use Rattle.rambo_node.specs.Acts.{Act}
+use Rattle.rambo_node.specs.Acts.{Act, Meant}
 use Rattle.rambo_calls.specs.declared.stage.Stage.{Stage}
 use Rattle.rambo_calls.specs.declared.stage.Stage.TheVariants.{Query, Propagation}
 use Rattle.rambo_calls.specs.Calls.{CallState}
@@ -23,9 +23,9 @@ use Rattle.rambo_node.specs.Nodes.{NodeState, open_call}
 use Rattle.rambo_node.specs.Operations.{answer_of}
 use Rattle.rambo_node.specs.Acts as act
 use Rattle.rambo_sequence.specs.declared.mark.Mark.{Mark}
-use Rattle.rambo_run.specs.declared.step.Step.{Step}
+use Rattle.rambo_node.specs.Steps.{Step}
 use Rattle.rambo_run.specs.Worlds.{WorldState, node_at}
-use Rattle.rambo_run.specs.Steps.{Meant, meant, Turn, turn_by, turn_at, turn_of, turn}
+use Rattle.rambo_run.specs.Steps.{meant, Turn, turn_by, turn_at, turn_of, turn}
 use Rattle.rambo_run.specs.Runs.{run}
 use Rattle.rambo_run.proofs.Lists.{Member}
 use Rattle.rambo_run.proofs.Deeds.{id_of, open_member}

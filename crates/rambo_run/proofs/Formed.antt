@@ -11,7 +11,7 @@ use Rattle.rambo_paxos.specs.declared.proposal.Proposal.{Proposal}
 use Rattle.rambo_paxos.specs.Attempts.{AttemptState, replies_to, told_by, heard_vote, opened, proposing, advanced_in, advanced}
 use Rattle.rambo_paxos.specs.Votes.{VoteState}
 use Rattle.rambo_paxos.specs.declared.stage.Stage.TheVariants as stage
-use Rattle.rambo_gossip.specs.declared.letter.Gossip.{Gossip}
+use Rattle.rambo_gossip.specs.Gossips.{GossipState}
 use Rattle.rambo_node.specs.Nodes.{NodeState, first_node}
 use Rattle.rambo_node.specs.Letters.{gossip_for}
 use Rattle.rambo_node.specs.Hearing.{heard_gossip, collection_after, attempt_after}
@@ -63,7 +63,7 @@ heard_place place (Some b) j v a e = (
   ],
 )
 
-pub attempt_heard : {Q : Type 0} (x : NodeState Q) (j : ℕ) (g : Gossip Q) (a : AttemptState Q) → attempt_after x j g ≡ Some a
+pub attempt_heard : {Q : Type 0} (x : NodeState Q) (j : ℕ) (g : GossipState Q) (a : AttemptState Q) → attempt_after x j g ≡ Some a
     → (b : AttemptState Q) × (x.attempt ≡ Some b) × (a.place ≡ b.place)
 attempt_heard x j g a e = elim (pick (is_level x.map g.map) (heard_for (end_of g.map) x.attempt j g.vote) x.attempt) [
   | inl p ↦ heard_place (end_of g.map) x.attempt j g.vote a (sym p.1 ∙ e)
@@ -78,7 +78,7 @@ formed_same x y f m c a = record {
   place = λ b e. subst (λ m. b.place ≤ end_of m) (sym m) (f.place b (sym a ∙ e));
 }
 
-formed_heard : {Q : Type 0} (x : NodeState Q) (j : ℕ) (g : Gossip Q) → IsFormed x → HasActive g.map → IsFormed (heard_gossip x j g)
+formed_heard : {Q : Type 0} (x : NodeState Q) (j : ℕ) (g : GossipState Q) → IsFormed x → HasActive g.map → IsFormed (heard_gossip x j g)
 unfolding heard_gossip
 formed_heard x j g f h =
     let e = merged_end x.map g.map f.active h in

@@ -9,7 +9,7 @@ use Rattle.rambo_gc.specs.declared.stage.Stage.{Stage}
 use Rattle.rambo_gc.specs.declared.stage.Stage.TheVariants.{First, Second}
 use Rattle.rambo_calls.specs.Hearing.{restarted}
 use Rattle.rambo_node.specs.Nodes.{NodeState, first_node, heard_from}
-use Rattle.rambo_run.specs.declared.step.Step.{Step}
+use Rattle.rambo_node.specs.Steps.{Step}
 use Rattle.rambo_run.specs.Worlds.{WorldState, node_at}
 use Rattle.rambo_run.specs.Runs.{run}
 use Rattle.rambo_run.specs.Claims.{AtLeast, IsHeard, IsAsked, IsFresh, RepliesAreFresh}

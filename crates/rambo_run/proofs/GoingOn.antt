@@ -5,13 +5,13 @@ use mathlib.Core.List.{IsPrefix}
 use Rattle.rambo_names.specs.declared.refusal.Refusal.{Refusal}
 use Rattle.rambo_names.specs.Quorums.{QuorumSystem}
 use Rattle.rambo_history.specs.declared.event.Event.{Event}
-use Rattle.rambo_gossip.specs.declared.letter.Letter.{Letter}
-use Rattle.rambo_node.specs.Acts.{Act}
+use Rattle.rambo_gossip.specs.Letters.{LetterState}
+use Rattle.rambo_node.specs.Acts.{Act, Meant}
 use Rattle.rambo_node.specs.Changes.{made_by}
 use Rattle.rambo_node.specs.Nodes.{NodeState}
-use Rattle.rambo_run.specs.declared.step.Step.{Step}
+use Rattle.rambo_node.specs.Steps.{Step}
 use Rattle.rambo_run.specs.Worlds.{WorldState, node_at, first_world}
-use Rattle.rambo_run.specs.Steps.{Meant, meant, refusal, with_letter, with_event, turn_at, turn_of, turn}
+use Rattle.rambo_run.specs.Steps.{meant, refusal, with_letter, with_event, turn_at, turn_of, turn}
 use Rattle.rambo_run.specs.Runs.{unless_refused, after, run_from, run}
 use Rattle.rambo_run.proofs.Lists.{none-some, set_there}
 use Rattle.rambo_run.proofs.Runs.{run_from-more}
@@ -81,7 +81,7 @@ pub record Grows {Q : Type 0} (w z : WorldState Q) : Type 0 where
 grows_self : {Q : Type 0} (w : WorldState Q) → Grows w w
 grows_self w = record { letters = prefix_self w.letters; history = prefix_self w.history }
 
-letter_grows : {Q : Type 0} (ls : List (Letter Q)) (o : Option (Letter Q)) → IsPrefix ls (with_letter ls o)
+letter_grows : {Q : Type 0} (ls : List (LetterState Q)) (o : Option (LetterState Q)) → IsPrefix ls (with_letter ls o)
 letter_grows ls None = prefix_self ls
 letter_grows ls (Some l) = (l ∷ [], refl)
 

@@ -16,7 +16,7 @@ use Rattle.rambo_history.specs.declared.operation.Op.TheVariants as op
 use Rattle.rambo_config_map.specs.Maps.{end_of}
 use Rattle.rambo_config_map.specs.Merging.{HasActive}
 use Rattle.rambo_config_map.specs.MapLaws.{merged_end}
-use Rattle.rambo_gossip.specs.declared.letter.Gossip.{Gossip}
+use Rattle.rambo_gossip.specs.Gossips.{GossipState}
 use Rattle.rambo_node.specs.Nodes.{NodeState, first_node, heard_from, raised}
 use Rattle.rambo_node.specs.Letters.{gossip_for}
 use Rattle.rambo_node.specs.Hearing.{heard_gossip, number_after}
@@ -98,7 +98,7 @@ put_keeps x (op.Set k value) =
     let above : TagLt (tag_of held) v.tag = inl (omega arith) in
     put_joins x.registers k v (is_newer-from_lt held v above)
 
-number_up_after : {Q : Type 0} (x : NodeState Q) (g : Gossip Q) → x.number ≤ number_after x g
+number_up_after : {Q : Type 0} (x : NodeState Q) (g : GossipState Q) → x.number ≤ number_after x g
 number_up_after x g = elim (pick (any_gap g.heard g.map x.calls) (suc x.number) x.number) [
   | inl p ↦ subst (λ n. x.number ≤ n) (sym p.1) (omega arith)
   | inr p ↦ subst (λ n. x.number ≤ n) (sym p.1) (omega arith)
@@ -123,7 +123,7 @@ heard_cases heard j number k a b = elim (cases_lt k j) [
 joined_keeps : (a b : Copies) → joined (joined a b) a ≡ joined a b
 joined_keeps a b = ap (λ r. joined r a) (joined-comm a b) ∙ joined-again b a ∙ joined-comm b a
 
-pub hear_left : {Q : Type 0} (x : NodeState Q) (j : ℕ) (g : Gossip Q) → HasActive x.map → HasActive g.map → HoldsAll x (heard_gossip x j g)
+pub hear_left : {Q : Type 0} (x : NodeState Q) (j : ℕ) (g : GossipState Q) → HasActive x.map → HasActive g.map → HoldsAll x (heard_gossip x j g)
 unfolding heard_gossip
 hear_left x j g a b = record { copies = joined_keeps x.registers g.copies; tags = λ key. TagLe-joined_left x.registers g.copies key; floor = omega arith; top = omega (arith, merged_end x.map g.map a b) }
 

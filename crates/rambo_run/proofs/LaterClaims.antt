@@ -13,8 +13,8 @@ use Rattle.rambo_node.specs.Changes.{stage_met, advanced, made_by}
 use Rattle.rambo_node.specs.Nodes.{open_call}
 use Rattle.rambo_node.specs.Operations.{taken, query_answered}
 use Rattle.rambo_node.specs.Acts as act
-use Rattle.rambo_run.specs.declared.step.Step.{Step}
-use Rattle.rambo_run.specs.declared.step.Step.TheVariants as step
+use Rattle.rambo_node.specs.Steps.{Step}
+use Rattle.rambo_node.specs.declared.step.StepOf.TheVariants as step
 use Rattle.rambo_run.specs.Worlds.{WorldState, node_at}
 use Rattle.rambo_run.specs.Steps.{turn_by, turn_at, turn}
 use Rattle.rambo_run.specs.Runs.{run}

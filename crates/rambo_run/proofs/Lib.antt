@@ -47,7 +47,6 @@ pub mod Legal
 pub mod Actors
 pub mod Growing
 pub mod Unsent
-pub mod QuietSteps
 pub mod QuietKeeps
 pub mod Causes
 mod Rows

@@ -11,7 +11,7 @@ use Rattle.rambo_sequence.specs.declared.mark.Mark.{Mark}
 use Rattle.rambo_sequence.specs.Sequences.{call_place, rank}
 use Rattle.rambo_sequence.specs.Laws.{marks_of, Differ, OneSequence}
 use Rattle.rambo_sequence.specs.StoreOrders.{OneOrder}
-use Rattle.rambo_run.specs.declared.step.Step.{Step}
+use Rattle.rambo_node.specs.Steps.{Step}
 use Rattle.rambo_run.specs.Worlds.{WorldState}
 use Rattle.rambo_run.specs.Runs.{run, given_sequences}
 use Rattle.rambo_run.specs.Claims.{MarksDiffer, GivesNoOther}

@@ -1,11 +1,11 @@
 -- The nodes of a run: there are 64, and each name has its node
 use Rattle.std.proofs.Common.{◌≡◌, ℕ, zero, suc, ◌-◌, ◌≤◌, List, length, Option, Some, None, refl, sym, ap, ◌∙◌, inl, inr, arith, length-set}
 use Rattle.rambo_names.specs.Quorums.{QuorumSystem}
-use Rattle.rambo_node.specs.Acts.{Act}
+use Rattle.rambo_node.specs.Acts.{Act, Meant}
 use Rattle.rambo_node.specs.Nodes.{NodeState, first_node}
-use Rattle.rambo_run.specs.declared.step.Step.{Step}
+use Rattle.rambo_node.specs.Steps.{Step}
 use Rattle.rambo_run.specs.Worlds.{WorldState, node_at, first_world}
-use Rattle.rambo_run.specs.Steps.{Meant, meant, Turn, turn_at, turn_of, turn}
+use Rattle.rambo_run.specs.Steps.{meant, Turn, turn_at, turn_of, turn}
 use Rattle.rambo_run.specs.Runs.{run}
 use Rattle.rambo_run.proofs.Lists.{none-some, below_there, there_below}
 use Rattle.rambo_run.proofs.Held.{names}

@@ -10,10 +10,10 @@ use Rattle.rambo_gc.specs.Collections.{CollectionState, opened}
 use Rattle.rambo_paxos.specs.declared.bid.Bid.{Bid}
 use Rattle.rambo_paxos.specs.declared.bid.Bid.TheVariants as bid
 use Rattle.rambo_paxos.specs.Attempts.{AttemptState, bid_of}
-use Rattle.rambo_gossip.specs.declared.letter.Letter.{Letter}
-use Rattle.rambo_gossip.specs.declared.letter.Kind.{Kind}
-use Rattle.rambo_gossip.specs.declared.letter.Kind.TheVariants as kind
-use Rattle.rambo_node.specs.Acts.{Act}
+use Rattle.rambo_gossip.specs.Letters.{LetterState}
+use Rattle.rambo_gossip.specs.Kinds.{Kind}
+use Rattle.rambo_gossip.specs.Kinds as kind
+use Rattle.rambo_node.specs.Acts.{Act, delivery}
 use Rattle.rambo_calls.specs.declared.stage.Stage.{Stage}
 use Rattle.rambo_calls.specs.declared.stage.Stage.TheVariants.{Query, Propagation}
 use Rattle.rambo_calls.specs.Calls.{CallState}
@@ -24,10 +24,10 @@ use Rattle.rambo_node.specs.Operations.{called, query_answered, call_closed, cal
 use Rattle.rambo_node.specs.Reconfigurations.{attempt_opened, attempt_rebid, attempt_moved, config_learnt, attempt_ended, collection_opened, collection_move, collection_moved, collection_ended}
 use Rattle.rambo_node.specs.Acts as act
 use Rattle.rambo_node.specs.declared.prepared.Quiet.TheVariants as quiet
-use Rattle.rambo_run.specs.declared.step.Step.{Step}
-use Rattle.rambo_run.specs.declared.step.Step.TheVariants as step
+use Rattle.rambo_node.specs.Steps.{Step}
+use Rattle.rambo_node.specs.declared.step.StepOf.TheVariants as step
 use Rattle.rambo_run.specs.Worlds.{WorldState, node_at, letter_at}
-use Rattle.rambo_run.specs.Steps.{delivery, turn_by, turn_at, turn_of, turn}
+use Rattle.rambo_run.specs.Steps.{turn_by, turn_at, turn_of, turn}
 use Rattle.rambo_run.proofs.Lists.{pick, some_inj, none-some}
 use Rattle.rambo_run.proofs.Formed.{collection_heard}
 use Rattle.rambo_run.proofs.Seen.{seen_at, seen_put}
@@ -132,7 +132,7 @@ module _ {Q : Type 0} (s : QuorumSystem Q) (founders : Q) (world : ℕ → World
   leaves_at : (m n k : ℕ) (c : Act Q) → ((x : NodeState Q) → Leaves x (made_by x c)) → AsksIn m n (turn_at (world m) k (node_at (world m) k) c).world
   leaves_at m n k c f = quiet_at m n k c (λ x. same_question x.collection (made_by x c).node.collection (f x)) (node_at (world m) k) refl
 
-  delivered : (m n : ℕ) (o : Option (Letter Q)) → AsksIn m n (turn_of (world m) (delivery o)).world
+  delivered : (m n : ℕ) (o : Option (LetterState Q)) → AsksIn m n (turn_of (world m) (delivery o)).world
   unfolding made_by
   delivered m n None = idle m n
   delivered m n (Some l) = quiet_at m n l.addressee (act.Hear l) (λ x. hear_question x l.sender l.kind) (node_at (world m) l.addressee) refl

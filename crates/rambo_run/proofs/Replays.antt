@@ -3,12 +3,12 @@ use Rattle.std.proofs.Common.{◌≡◌, ℕ, zero, suc, ◌-◌, nat_eq, List, 
 use Rattle.std.proofs.lemmas.Bool.{eqb-false}
 use Rattle.rambo_names.specs.declared.refusal.Refusal.{Refusal}
 use Rattle.rambo_names.specs.Quorums.{QuorumSystem}
-use Rattle.rambo_node.specs.Acts.{Act}
+use Rattle.rambo_node.specs.Acts.{Act, Meant}
 use Rattle.rambo_node.specs.Changes.{made_by, replayed}
 use Rattle.rambo_node.specs.Nodes.{NodeState, first_node}
-use Rattle.rambo_run.specs.declared.step.Step.{Step}
+use Rattle.rambo_node.specs.Steps.{Step}
 use Rattle.rambo_run.specs.Worlds.{WorldState, node_at, first_world}
-use Rattle.rambo_run.specs.Steps.{Meant, meant, refusal, turn_at, turn_of, turn}
+use Rattle.rambo_run.specs.Steps.{meant, refusal, turn_at, turn_of, turn}
 use Rattle.rambo_run.specs.Runs.{unless_refused, after, run_from, run}
 use Rattle.rambo_run.specs.Journals.{entered, entered_unless, journal_from, journal, NodesAreReplayed}
 use Rattle.rambo_run.proofs.Lists.{pick, some_inj, none-some, set_here, set_there}

@@ -1,7 +1,7 @@
 -- Runs of no step, and of one step more
 use Rattle.std.proofs.Common.{◌≡◌, List, [], ◌∷◌, ◌++◌, refl}
 use Rattle.rambo_names.specs.Quorums.{QuorumSystem}
-use Rattle.rambo_run.specs.declared.step.Step.{Step}
+use Rattle.rambo_node.specs.Steps.{Step}
 use Rattle.rambo_run.specs.Worlds.{WorldState}
 use Rattle.rambo_run.specs.Runs.{after, run_from}
 

@@ -10,7 +10,7 @@ use Rattle.rambo_history.specs.declared.operation.Op.{Op}
 use Rattle.rambo_history.specs.declared.event.Event.{Event}
 use Rattle.rambo_history.specs.declared.event.Event.TheVariants as event
 use Rattle.rambo_phase.specs.Phases.{is_met}
-use Rattle.rambo_gossip.specs.declared.letter.Gossip.{Gossip}
+use Rattle.rambo_gossip.specs.Gossips.{GossipState}
 use Rattle.rambo_calls.specs.Calls.{CallState, propagates, kept_in}
 use Rattle.rambo_node.specs.Nodes.{NodeState, first_node}
 use Rattle.rambo_calls.specs.Hearing.{heard_call}
@@ -83,7 +83,7 @@ pub record Keeps {Q : Type 0} (x y : NodeState Q) : Type 0 where
 pub keeps_same : {Q : Type 0} (x y : NodeState Q) → y.made ≡ x.made → y.calls ≡ x.calls → Keeps x y
 keeps_same x y m e = record { made = m; kept = λ d i. (d, subst (Member d) e i, same_refl d) }
 
-pub keeps_hear : {Q : Type 0} (x : NodeState Q) (j : ℕ) (g : Gossip Q) → Keeps x (heard_gossip x j g)
+pub keeps_hear : {Q : Type 0} (x : NodeState Q) (j : ℕ) (g : GossipState Q) → Keeps x (heard_gossip x j g)
 unfolding heard_gossip
 keeps_hear x j g =
     let y = heard_gossip x j g in
@@ -110,7 +110,7 @@ CopiesFrom at m x y = (key : List ℕ) → (map.get y.registers key ≡ map.get 
 pub copies_same : {Q : Type 0} (at : Moments Q) (m : ℕ) (x y : NodeState Q) → y.registers ≡ x.registers → CopiesFrom at m x y
 copies_same at m x y e key = inl (ap (λ r. map.get r key) e)
 
-pub copies_heard : {Q : Type 0} (at : Moments Q) (m u j i : ℕ) (x : NodeState Q) (g : Gossip Q) → u ≤ m → g.copies ≡ (at u j).registers → CopiesFrom at m x (heard_gossip x i g)
+pub copies_heard : {Q : Type 0} (at : Moments Q) (m u j i : ℕ) (x : NodeState Q) (g : GossipState Q) → u ≤ m → g.copies ≡ (at u j).registers → CopiesFrom at m x (heard_gossip x i g)
 unfolding heard_gossip
 copies_heard at m u j i x g h e key = ⊎_elim
     (λ l. inl (get-joined x.registers g.copies key ∙ l))

@@ -2,11 +2,11 @@
 use Rattle.std.proofs.Common.{◌≡◌, ℕ, suc, ◌+◌, ◌<◌, ◌≤◌, ◌⊎◌, true, length, Option, Some, None, sym, ap}
 use Rattle.rambo_names.specs.Quorums.{QuorumSystem}
 use Rattle.rambo_joiner.specs.Statuses.{is_active}
-use Rattle.rambo_gossip.specs.declared.letter.Letter.{Letter}
+use Rattle.rambo_gossip.specs.Letters.{LetterState}
 use Rattle.rambo_node.specs.Nodes.{NodeState, first_node}
 use Rattle.rambo_node.specs.Letters.{letter_for}
-use Rattle.rambo_run.specs.declared.step.Step.{Step}
-use Rattle.rambo_run.specs.declared.step.Step.TheVariants as step
+use Rattle.rambo_node.specs.Steps.{Step}
+use Rattle.rambo_node.specs.declared.step.StepOf.TheVariants as step
 use Rattle.rambo_run.specs.Worlds.{WorldState, node_at, letter_at, first_world}
 use Rattle.rambo_run.specs.Steps.{refusal, turn}
 use Rattle.rambo_run.proofs.Turn.{Moments}
@@ -50,7 +50,7 @@ module _ {Q : Type 0} (s : QuorumSystem Q) (founders : Q) (world : ℕ → World
   To m z = WorldTurn s Came at m (view m) (seen s founders z)
 
   -- each letter was made by its sender at some moment
-  pub record LetterFrom (m i : ℕ) (l : Letter Q) : Type 0 where
+  pub record LetterFrom (m i : ℕ) (l : LetterState Q) : Type 0 where
     pub moment : ℕ
     pub before : moment < m
     pub sender : ℕ
@@ -60,7 +60,7 @@ module _ {Q : Type 0} (s : QuorumSystem Q) (founders : Q) (world : ℕ → World
 
   -- what holds of a moment, from which the step after it is seen
   pub record Sound (m : ℕ) : Type 0 where
-    pub letters : (i : ℕ) (l : Letter Q) → letter_at (world m).letters i ≡ Some l → LetterFrom m i l
+    pub letters : (i : ℕ) (l : LetterState Q) → letter_at (world m).letters i ≡ Some l → LetterFrom m i l
     pub names : (n : ℕ) → (at m n).name ≡ n
     pub numbered : (n : ℕ) → Numbered (at m n)
 

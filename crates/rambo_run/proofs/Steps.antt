@@ -6,20 +6,20 @@ use Rattle.rambo_config_map.specs.Maps.{MapState}
 use Rattle.rambo_gc.specs.declared.gc_move.GcMove.{GcMove}
 use Rattle.rambo_gc.specs.declared.gc_move.GcMove.TheVariants.{Done}
 use Rattle.rambo_gc.specs.Collections.{CollectionState, is_met, next_move, move_of}
-use Rattle.rambo_gossip.specs.declared.letter.Letter.{Letter}
-use Rattle.rambo_gossip.specs.declared.letter.Gossip.{Gossip}
-use Rattle.rambo_gossip.specs.declared.letter.Kind.{Kind}
-use Rattle.rambo_gossip.specs.declared.letter.Kind.TheVariants as kind
-use Rattle.rambo_node.specs.Acts.{Act}
+use Rattle.rambo_gossip.specs.Letters.{LetterState}
+use Rattle.rambo_gossip.specs.Gossips.{GossipState}
+use Rattle.rambo_gossip.specs.Kinds.{Kind}
+use Rattle.rambo_gossip.specs.Kinds as kind
+use Rattle.rambo_node.specs.Acts.{Act, delivery}
 use Rattle.rambo_node.specs.Changes.{made_by}
 use Rattle.rambo_node.specs.Nodes.{NodeState}
 use Rattle.rambo_node.specs.Letters.{letter_for}
 use Rattle.rambo_node.specs.Reconfigurations.{collection_move}
 use Rattle.rambo_node.specs.Acts as act
-use Rattle.rambo_run.specs.declared.step.Step.{Step}
-use Rattle.rambo_run.specs.declared.step.Step.TheVariants as step
+use Rattle.rambo_node.specs.Steps.{Step}
+use Rattle.rambo_node.specs.declared.step.StepOf.TheVariants as step
 use Rattle.rambo_run.specs.Worlds.{WorldState, node_at, letter_at}
-use Rattle.rambo_run.specs.Steps.{delivery, sends, with_letter, turn_by, turn_at, turn_of, turn}
+use Rattle.rambo_run.specs.Steps.{sends, with_letter, turn_by, turn_at, turn_of, turn}
 use Rattle.rambo_run.proofs.Lists.{pick, some_inj, none-some, get_more}
 use Rattle.rambo_run.proofs.Unsent.{unsent}
 
@@ -33,11 +33,11 @@ clear [] e = tt
 clear (c ∷ cs) e = elim (pick c.holds (Some c.refusal) (least cs)) [ inl p ↦ absurd (none-some c.refusal (sym e ∙ p.1)) | inr p ↦ (p.0, clear cs (sym p.1 ∙ e)) ]
 
 -- a letter in a list that one was put to: an old one, or the last
-pub letter_more : {Q : Type 0} (ls : List (Letter Q)) (a b : Letter Q) (i : ℕ) → letter_at (ls ++ a ∷ []) i ≡ Some b → (letter_at ls i ≡ Some b) ⊎ ((i ≡ length ls + 1) × (a ≡ b))
+pub letter_more : {Q : Type 0} (ls : List (LetterState Q)) (a b : LetterState Q) (i : ℕ) → letter_at (ls ++ a ∷ []) i ≡ Some b → (letter_at ls i ≡ Some b) ⊎ ((i ≡ length ls + 1) × (a ≡ b))
 letter_more ls a b zero e = absurd (none-some b e)
 letter_more ls a b (suc i) e = ⊎_elim inl (λ r. inr (omega (arith, r.0), r.1)) (get_more ls a b i e)
 
-abbrev pub gossip_in : {Q : Type 0} → Gossip Q → Kind Q → Gossip Q
+abbrev pub gossip_in : {Q : Type 0} → GossipState Q → Kind Q → GossipState Q
 gossip_in g kind.Join = g
 gossip_in g (kind.Gossip h) = h
 
@@ -56,7 +56,7 @@ pub letters_at : {Q : Type 0} (w : WorldState Q) (n : ℕ) (c : Act Q) → sends
 letters_at w n c h None = refl
 letters_at w n c h (Some x) = letters_by w n x c h
 
-pub letters_delivered : {Q : Type 0} (w : WorldState Q) (o : Option (Letter Q)) → (turn_of w (delivery o)).world.letters ≡ w.letters
+pub letters_delivered : {Q : Type 0} (w : WorldState Q) (o : Option (LetterState Q)) → (turn_of w (delivery o)).world.letters ≡ w.letters
 letters_delivered w None = refl
 letters_delivered w (Some l) = letters_at w l.addressee (act.Hear l) refl (node_at w l.addressee)
 

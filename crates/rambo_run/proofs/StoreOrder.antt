@@ -7,7 +7,7 @@ use Rattle.rambo_sequence.specs.StoreOrders.{NoTwice, all_calls}
 use Rattle.rambo_sequence.proofs.GivenOrder.{order_is}
 use Rattle.rambo_sequence.proofs.MergedOrder.{all_proper, proper_once}
 use Rattle.rambo_sequence.proofs.Outcomes.{sequence_in-sequences_of, sequences_apart}
-use Rattle.rambo_run.specs.declared.step.Step.{Step}
+use Rattle.rambo_node.specs.Steps.{Step}
 use Rattle.rambo_run.specs.Claims.{HasOneOrder}
 use Rattle.rambo_run.specs.Runs.{run, given_sequences, given_order}
 use Rattle.rambo_run.proofs.EveryRun.{is_atomic}

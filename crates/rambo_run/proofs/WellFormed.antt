@@ -11,7 +11,7 @@ use Rattle.rambo_history.specs.Histories.{call_in, answer_in}
 use Rattle.rambo_history.specs.Forms.{IsWellFormed}
 use Rattle.rambo_history.proofs.Splits.{splits-nil}
 use Rattle.rambo_history.proofs.Pushes.{well_formed-push}
-use Rattle.rambo_run.specs.declared.step.Step.{Step}
+use Rattle.rambo_node.specs.Steps.{Step}
 use Rattle.rambo_run.specs.Worlds.{WorldState, first_world}
 use Rattle.rambo_run.specs.Steps.{refusal}
 use Rattle.rambo_run.specs.Runs.{run}

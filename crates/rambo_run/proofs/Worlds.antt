@@ -1,12 +1,12 @@
 -- A run of whole worlds is a run of nodes
 use Rattle.std.proofs.Common.{◌≡◌, ℕ, zero, suc, ◌+◌, ◌⊎◌, if◌then◌else◌, nat_eq, length, Some, refl, sym, ap, ◌∙◌, subst, inl, inr, arith, eqb-true}
 use Rattle.rambo_names.specs.Quorums.{QuorumSystem}
-use Rattle.rambo_gossip.specs.declared.letter.Letter.{Letter}
+use Rattle.rambo_gossip.specs.Letters.{LetterState}
 use Rattle.rambo_node.specs.Nodes.{NodeState, first_node}
 use Rattle.rambo_node.specs.Letters.{letter_for}
 use Rattle.rambo_node.specs.Operations.{called, query_answered, call_closed}
-use Rattle.rambo_run.specs.declared.step.Step.{Step}
-use Rattle.rambo_run.specs.declared.step.Step.TheVariants as step
+use Rattle.rambo_node.specs.Steps.{Step}
+use Rattle.rambo_node.specs.declared.step.StepOf.TheVariants as step
 use Rattle.rambo_run.specs.Worlds.{WorldState, node_at, letter_at, first_world}
 use Rattle.rambo_run.proofs.Lists.{pick, none-some}
 use Rattle.rambo_run.proofs.Turn.{Moments, Telling, Turn, stays, calls, queried, answers, Run}
@@ -31,7 +31,7 @@ module _ {Q : Type 0} (s : QuorumSystem Q) (founders : Q) (world : ℕ → World
   abbrev Came : Telling
   Came m n u j = CameIn s founders world worlds m n u j
 
-  abbrev LetterFrom : ℕ → ℕ → Letter Q → Type 0
+  abbrev LetterFrom : ℕ → ℕ → LetterState Q → Type 0
   LetterFrom m i l = LetterIn s founders world worlds m i l
 
   abbrev Sound : ℕ → Type 0
@@ -64,7 +64,7 @@ module _ {Q : Type 0} (s : QuorumSystem Q) (founders : Q) (world : ℕ → World
     | inr r ↦ inr (r.0, (r.3, r.1), subst (OneMore (world m) r.0) (sym r.2) (letters_after (world m) r.0))
   ]
 
-  old_letter : (m i : ℕ) (l : Letter Q) → LetterFrom m i l → LetterFrom (suc m) i l
+  old_letter : (m i : ℕ) (l : LetterState Q) → LetterFrom m i l → LetterFrom (suc m) i l
   old_letter m i l f = record { moment = f.moment; before = omega (arith, f.before); sender = f.sender; addressee = f.addressee; sent = f.sent; content = f.content }
 
   new_letter : (m i n to : ℕ) (x : NodeState Q) → (at m n).name ≡ n → node_at (world m) n ≡ Some x → Happens m (step.Send n to) → i ≡ length (world m).letters + 1 → LetterFrom (suc m) i (letter_for x to)
@@ -77,7 +77,7 @@ module _ {Q : Type 0} (s : QuorumSystem Q) (founders : Q) (world : ℕ → World
     content = ap (λ x. letter_for x to) (sym (is_at m n x h));
   }
 
-  letters_next : (m i : ℕ) (l : Letter Q) → Sound m → letter_at (world (suc m)).letters i ≡ Some l → LetterFrom (suc m) i l
+  letters_next : (m i : ℕ) (l : LetterState Q) → Sound m → letter_at (world (suc m)).letters i ≡ Some l → LetterFrom (suc m) i l
   letters_next m i l f e =
       let same : (world (suc m)).letters ≡ (world m).letters → LetterFrom (suc m) i l = λ q. old_letter m i l (f.letters i l (ap (λ ls. letter_at ls i) (sym q) ∙ e)) in
       elim (letters_turn m) [
@@ -91,7 +91,7 @@ module _ {Q : Type 0} (s : QuorumSystem Q) (founders : Q) (world : ℕ → World
         ]
       ]
 
-  no_letter : (i : ℕ) (l : Letter Q) → letter_at (first_world s founders).letters i ≡ Some l → ⊥
+  no_letter : (i : ℕ) (l : LetterState Q) → letter_at (first_world s founders).letters i ≡ Some l → ⊥
   unfolding first_world
   no_letter zero l e = none-some l e
   no_letter (suc i) l e = none-some l e

@@ -1,8 +1,7 @@
 -- Whose step each step is, by the steps before it alone
 use Rattle.std.specs.Prelude.{ℕ, zero, suc, List, [], ◌∷◌, ◌++◌, Option, None, Some, slice_get}
-use Rattle.rambo_run.specs.declared.step.Step.{Step}
-use Rattle.rambo_run.specs.declared.step.Step.TheVariants as step
-use Rattle.rambo_run.specs.Kinds.{named_by}
+use Rattle.rambo_node.specs.Steps.{Step, named_by}
+use Rattle.rambo_node.specs.declared.step.StepOf.TheVariants as step
 
 -- the addressee of the letter that a step sends, if it sends one
 abbrev pub sent_by : {Q : Type 0} → Step Q → List ℕ

@@ -15,8 +15,8 @@ use Rattle.rambo_calls.specs.declared.stage.Stage.TheVariants.{Query}
 use Rattle.rambo_calls.specs.Calls.{CallState, propagates, kept_in}
 use Rattle.rambo_node.specs.Nodes.{NodeState}
 use Rattle.rambo_node.specs.declared.effect.Effect.TheVariants as effect
-use Rattle.rambo_run.specs.declared.step.Step.{Step}
-use Rattle.rambo_run.specs.declared.step.Step.TheVariants as step
+use Rattle.rambo_node.specs.Steps.{Step}
+use Rattle.rambo_node.specs.declared.step.StepOf.TheVariants as step
 use Rattle.rambo_run.specs.Worlds.{node_at}
 use Rattle.rambo_run.specs.Steps.{turn}
 use Rattle.rambo_run.specs.Runs.{run}

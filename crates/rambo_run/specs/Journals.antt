@@ -3,12 +3,12 @@ use Rattle.std.specs.Prelude.{◌≡◌, ℕ, if◌then◌else◌, nat_eq, List,
 use Rattle.rambo_names.specs.declared.refusal.Refusal.{Refusal}
 use Rattle.rambo_names.specs.Names.{IsName}
 use Rattle.rambo_names.specs.Quorums.{QuorumSystem}
-use Rattle.rambo_node.specs.Acts.{Act}
+use Rattle.rambo_node.specs.Acts.{Act, Meant}
 use Rattle.rambo_node.specs.Changes.{replayed}
 use Rattle.rambo_node.specs.Nodes.{first_node}
-use Rattle.rambo_run.specs.declared.step.Step.{Step}
+use Rattle.rambo_node.specs.Steps.{Step}
 use Rattle.rambo_run.specs.Worlds.{WorldState, first_world, node_at}
-use Rattle.rambo_run.specs.Steps.{Meant, meant, refusal}
+use Rattle.rambo_run.specs.Steps.{meant, refusal}
 use Rattle.rambo_run.specs.Runs.{after, run}
 
 -- the act goes into the journal of its own node

@@ -5,9 +5,10 @@ use Rattle.rambo_names.specs.Quorums.{QuorumSystem}
 use Rattle.rambo_history.specs.declared.event.Event.{Event}
 use Rattle.rambo_history.specs.Faults.{fault_of}
 use Rattle.rambo_tag.specs.Copies.{joined}
-use Rattle.rambo_run.specs.declared.step.Step.{Step}
+use Rattle.rambo_node.specs.Steps.{Step}
 use Rattle.rambo_run.specs.Worlds.{WorldState, node_at, held_by}
-use Rattle.rambo_run.specs.Steps.{Meant, meant, refusal, turn}
+use Rattle.rambo_node.specs.Acts.{Meant}
+use Rattle.rambo_run.specs.Steps.{meant, refusal, turn}
 use Rattle.rambo_run.specs.Runs.{run}
 
 -- none of these steps is refused in its turn: in the world that the steps before it make

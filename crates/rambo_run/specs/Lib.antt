@@ -8,4 +8,3 @@ pub mod Ongoing
 pub mod Told
 pub mod Legal
 pub mod Actors
-pub mod Kinds

@@ -1,7 +1,7 @@
 -- Runs that go on
 use Rattle.std.specs.Prelude.{◌≡◌, List}
 use Rattle.rambo_names.specs.Quorums.{QuorumSystem}
-use Rattle.rambo_run.specs.declared.step.Step.{Step}
+use Rattle.rambo_node.specs.Steps.{Step}
 use Rattle.rambo_run.specs.Worlds.{WorldState}
 use Rattle.rambo_run.specs.Runs.{run}
 use Rattle.rambo_run.specs.Claims.{Agrees}

@@ -7,7 +7,7 @@ use Rattle.rambo_history.specs.declared.event.Event.{Event}
 use Rattle.rambo_joiner.specs.Statuses.{is_idle}
 use Rattle.rambo_node.specs.declared.effect.Effect.{Effect}
 use Rattle.rambo_node.specs.Nodes.{NodeState}
-use Rattle.rambo_run.specs.declared.step.Step.{Step}
+use Rattle.rambo_node.specs.Steps.{Step}
 use Rattle.rambo_sequence.specs.Sequences.{SequenceOf, sequences_of}
 use Rattle.rambo_sequence.specs.StoreOrders.{order_of}
 use Rattle.rambo_run.specs.Worlds.{WorldState, first_world}

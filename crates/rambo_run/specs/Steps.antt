@@ -1,13 +1,13 @@
 -- What a step does, and why it is refused: it is an act of one node, from which letters, history and marks follow
 use Rattle.std.specs.Prelude.{ℕ, ◌+◌, ◌-◌, Bool, true, false, List, [], ◌∷◌, ◌++◌, length, Option, None, Some, slice_set}
-use Rattle.std.specs.Option.{option_and_then, option_map}
+use Rattle.std.specs.Option.{option_and_then}
 use Rattle.rambo_names.specs.declared.refusal.Refusal.{Refusal}
 use Rattle.rambo_names.specs.declared.refusal.Refusal.TheVariants.{NotActive, NoSuchLetter}
 use Rattle.rambo_names.specs.Quorums.{QuorumSystem}
 use Rattle.rambo_names.specs.Refusals.{Cause, cause, least}
 use Rattle.rambo_history.specs.declared.event.Event.{Event}
-use Rattle.rambo_gossip.specs.declared.letter.Letter.{Letter}
-use Rattle.rambo_node.specs.Acts.{Act}
+use Rattle.rambo_gossip.specs.Letters.{LetterState}
+use Rattle.rambo_node.specs.Acts.{Act, Meant, meant_by}
 use Rattle.rambo_node.specs.Acts as act
 use Rattle.rambo_node.specs.declared.effect.Effect.{Effect}
 use Rattle.rambo_node.specs.declared.effect.Effect.TheVariants as effect
@@ -15,34 +15,15 @@ use Rattle.rambo_node.specs.Changes as node
 use Rattle.rambo_node.specs.Changes.{Made, made_by}
 use Rattle.rambo_node.specs.Nodes.{NodeState}
 use Rattle.rambo_sequence.specs.declared.mark.Mark.{Mark}
-use Rattle.rambo_run.specs.declared.step.Step.{Step}
-use Rattle.rambo_run.specs.declared.step.Step.TheVariants as step
-use Rattle.rambo_run.specs.Kinds.{quiet_of, delivered_by}
+use Rattle.rambo_node.specs.Steps.{Step, delivered_by}
 use Rattle.rambo_run.specs.Worlds.{WorldState, node_at, letter_at}
 
--- a node, by its name, and what it does
-pub record Meant (Q : Type 0) : Type 0 where
-  pub name : ℕ
-  pub act : Act Q
-
-abbrev pub delivery : {Q : Type 0} → Option (Letter Q) → Option (Meant Q)
-delivery None = None
-delivery (Some l) = Some (record { name = l.addressee; act = act.Hear l })
-
--- what a step means where this is the letter that it lets come, if it was sent
-abbrev pub meant_by : {Q : Type 0} → Option (Letter Q) → Step Q → Option (Meant Q)
-meant_by o (step.Call n op) = Some (record { name = n; act = act.Call op })
-meant_by o (step.Send n to) = Some (record { name = n; act = act.Send to })
-meant_by o (step.Deliver l) = delivery o
-meant_by o (step.Advance id) = Some (record { name = id.name; act = act.Advance id })
-meant_by o st = option_map (λ p. record { name = p.0; act = act.Quietly p.1 }) (quiet_of st)
-
 -- the letter that a step lets come, if it was sent
-abbrev pub letter_in : {Q : Type 0} → List (Letter Q) → Step Q → Option (Letter Q)
+abbrev pub letter_in : {Q : Type 0} → List (LetterState Q) → Step Q → Option (LetterState Q)
 letter_in ls st = option_and_then (letter_at ls) (delivered_by st)
 
 -- what a step means where these letters were sent
-abbrev pub meant_in : {Q : Type 0} → List (Letter Q) → Step Q → Option (Meant Q)
+abbrev pub meant_in : {Q : Type 0} → List (LetterState Q) → Step Q → Option (Meant Q)
 meant_in ls st = meant_by (letter_in ls st) st
 
 -- and in a world, of which nothing else decides that
@@ -81,7 +62,7 @@ abbrev pub no_turn : {Q : Type 0} → WorldState Q → Turn Q
 no_turn w = record { world = w; effect = effect.Done }
 
 -- a letter goes to the end of the list
-abbrev pub with_letter : {Q : Type 0} → List (Letter Q) → Option (Letter Q) → List (Letter Q)
+abbrev pub with_letter : {Q : Type 0} → List (LetterState Q) → Option (LetterState Q) → List (LetterState Q)
 with_letter ls None = ls
 with_letter ls (Some l) = ls ++ l ∷ []
 
@@ -94,7 +75,7 @@ with_mark ms None = ms
 with_mark ms (Some m) = ms ++ m ∷ []
 
 -- letters are numbered from 1
-abbrev pub effect_in : {Q : Type 0} → List (Letter Q) → Effect Q → Option (Letter Q) → Effect Q
+abbrev pub effect_in : {Q : Type 0} → List (LetterState Q) → Effect Q → Option (LetterState Q) → Effect Q
 effect_in ls e None = e
 effect_in ls e (Some l) = effect.Sent (length ls + 1)
 

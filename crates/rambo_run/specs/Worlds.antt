@@ -7,7 +7,7 @@ use Rattle.rambo_names.specs.Refusals.{Cause, cause}
 use Rattle.rambo_names.specs.Quorums.{QuorumSystem}
 use Rattle.rambo_tag.specs.Copies.{Copies}
 use Rattle.rambo_history.specs.declared.event.Event.{Event}
-use Rattle.rambo_gossip.specs.declared.letter.Letter.{Letter}
+use Rattle.rambo_gossip.specs.Letters.{LetterState}
 use Rattle.rambo_node.specs.Nodes.{NodeState, first_node}
 use Rattle.rambo_sequence.specs.declared.mark.Mark.{Mark}
 
@@ -15,7 +15,7 @@ use Rattle.rambo_sequence.specs.declared.mark.Mark.{Mark}
 -- calls and answers in their order. `marks`: the sets that took a tag and the gets that were answered, in that order
 pub record WorldState (Q : Type 0) : Type 0 where
   pub nodes : List (NodeState Q)
-  pub letters : List (Letter Q)
+  pub letters : List (LetterState Q)
   pub history : List Event
   pub marks : List Mark
 
@@ -32,7 +32,7 @@ copies_of (Some x) = x.registers
 abbrev pub held_by : {Q : Type 0} → WorldState Q → ℕ → Copies
 held_by w n = copies_of (node_at w n)
 
-abbrev pub letter_at : {Q : Type 0} → List (Letter Q) → ℕ → Option (Letter Q)
+abbrev pub letter_at : {Q : Type 0} → List (LetterState Q) → ℕ → Option (LetterState Q)
 letter_at ls zero = None
 letter_at ls (suc i) = slice_get ls i
 

@@ -4,9 +4,7 @@
 mod founding;
 mod laws;
 mod outcome;
-mod quiet;
 mod run;
-mod step;
 
 pub use founding::may_found;
 pub use laws::{
@@ -17,6 +15,5 @@ pub use laws::{
     runs_go_on, tags_follow_answers, told_collections_are_whole,
 };
 pub use outcome::{NodeMap, Outcome};
-pub use quiet::quiet_of;
+pub use rambo_node::{Step, StepOf};
 pub use run::Run;
-pub use step::Step;

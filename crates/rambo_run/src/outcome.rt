@@ -1,9 +1,8 @@
 //! What a run gives.
 
-use crate::step::Step;
 use rambo_history::{CallId, History};
 use rambo_names::{Name, Quorums, Refusal};
-use rambo_node::Effect;
+use rambo_node::{Effect, Step};
 use rambo_sequence::KeySequence;
 use std::marker::Model;
 

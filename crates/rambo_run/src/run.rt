@@ -2,17 +2,16 @@
 ghost use Rattle.std.specs.Prelude.{◌≡◌, List, ℕ, None, IfOk, IfErr, OnOk, OnErr};
 ghost use Rattle.rambo_history.specs.Proper.{IsProper};
 ghost use Rattle.rambo_sequence.specs.Sequences.{sequences_of, sequence_in};
-ghost use Rattle.rambo_run.specs.declared.step.Step.TheVariants as step;
+ghost use Rattle.rambo_node.specs.declared.step.StepOf.TheVariants as step;
 ghost use Rattle.rambo_run.specs.Ongoing.{RunningOf, AgreesSoFar};
 ghost use Rattle.rambo_run.specs.Runs.{after, result_of, maps_of};
 ghost use Rattle.rambo_run.specs.Steps.{refusal};
 ghost use Rattle.rambo_run.specs.Told.{sent, called, delivered, advanced};
 
 use crate::outcome::NodeMap;
-use crate::step::Step;
 use rambo_history::{Answer, CallId, History, Op};
 use rambo_names::{Name, Quorums, Refusal};
-use rambo_node::Effect;
+use rambo_node::{Effect, Step};
 use rambo_sequence::KeySequence;
 use std::alloc::Global;
 

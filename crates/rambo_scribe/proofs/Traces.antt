@@ -7,7 +7,7 @@ use Rattle.rambo_names.specs.Weights.{Weights}
 use Rattle.rambo_atomic.specs.Streams.{Begins, counted}
 use Rattle.rambo_atomic.specs.declared.whole.StreamFault.{StreamFault}
 use Rattle.rambo_atomic.specs.declared.whole.StreamFault.TheVariants as stream
-use Rattle.rambo_run.specs.declared.step.Step.{Step}
+use Rattle.rambo_node.specs.Steps.{Step}
 use Rattle.rambo_lines.specs.Scripts.{steps_text}
 use Rattle.rambo_trace.specs.Traces.{trace_text}
 use Rattle.rambo_trace.proofs.Pieces.{trace-append, begins_more}

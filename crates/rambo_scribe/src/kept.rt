@@ -3,7 +3,7 @@ ghost use Rattle.std.specs.Prelude.{◌≡◌, ◌<◌, ◌⊎◌, [], List, Non
 ghost use mathlib.Core.List.{IsPrefix};
 ghost use Rattle.rambo_archive.specs.Archives.{IsKept};
 ghost use Rattle.rambo_names.specs.Weights.{Weights};
-ghost use Rattle.rambo_run.specs.declared.step.Step.{Step};
+ghost use Rattle.rambo_node.specs.Steps.{Step};
 ghost use Rattle.rambo_scribe.specs.Traced.{HasWritten, Taken, taken_by};
 
 use crate::fault::TraceFault;
@@ -30,7 +30,7 @@ impl<J: Terms<Weighted> + Starts> Model for Kept<J> {
     ghost use Rattle.std.specs.Coded.{codes};
     ghost use Rattle.rambo_names.specs.Names.{names_code};
     ghost use Rattle.rambo_names.specs.Weights.{Weights};
-    ghost use Rattle.rambo_run.specs.declared.step.Step.{Step};
+    ghost use Rattle.rambo_node.specs.Steps.{Step};
 
     ghost Value = { List (Step Weights) };
 

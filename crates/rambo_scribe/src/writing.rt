@@ -2,7 +2,7 @@
 ghost use Rattle.std.specs.Prelude.{◌≡◌, ◌++◌, [], List, None, IfSome, option_map};
 ghost use mathlib.Core.List.{IsPrefix};
 ghost use Rattle.rambo_names.specs.Weights.{Weights};
-ghost use Rattle.rambo_run.specs.declared.step.Step.{Step};
+ghost use Rattle.rambo_node.specs.Steps.{Step};
 ghost use Rattle.rambo_scribe.specs.Traced.{HasWritten, Taken, taken_by};
 
 use crate::fault::TraceFault;

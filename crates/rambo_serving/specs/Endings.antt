@@ -1,7 +1,7 @@
 -- How writing a trace ends
 use Rattle.std.specs.Prelude.{◌≡◌, ◌⊎◌, ℕ, List, [], None, Some, length}
 use Rattle.rambo_names.specs.Weights.{Weights}
-use Rattle.rambo_run.specs.declared.step.Step.{Step}
+use Rattle.rambo_node.specs.Steps.{Step}
 use Rattle.rambo_text.specs.declared.fault.ReplayFault.TheVariants.{Write, Memory}
 use Rattle.rambo_atomic.specs.Streams.{Begins}
 use Rattle.rambo_telling.specs.Telling.{Stream, Breaks, IsFine, Takes, Tells, fault_line}

@@ -6,7 +6,7 @@ use Rattle.std.specs.Io.KnownBytes.{Consumes, IsAtEnd}
 use Rattle.std.proofs.KnownBytes.{Consumes-nil, Consumes-trans}
 use Rattle.rambo_names.specs.Weights.{Weights}
 use Rattle.rambo_atomic.specs.Unreads.{UnreadState, KnowsEnd, TakesIn, HasFeed, HoldsLine, IsDone}
-use Rattle.rambo_run.specs.declared.step.Step.{Step}
+use Rattle.rambo_node.specs.Steps.{Step}
 use Rattle.rambo_run.specs.Ongoing.{RunningOf}
 use Rattle.rambo_text.specs.declared.fault.ReplayFault.{ReplayFault}
 use Rattle.rambo_text.specs.declared.version.Version.{Version}

@@ -9,7 +9,7 @@ use Rattle.rambo_sequence.specs.Sequences.{SequenceOf, sequence_in, sequences_of
 use Rattle.rambo_sequence.specs.StoreOrders.{AreApart, NoTwice, all_calls}
 use Rattle.rambo_sequence.proofs.MergedOrder.{proper_once}
 use Rattle.rambo_sequence.proofs.Outcomes.{sequences_apart}
-use Rattle.rambo_run.specs.declared.step.Step.{Step}
+use Rattle.rambo_node.specs.Steps.{Step}
 use Rattle.rambo_run.specs.Worlds.{WorldState, first_world}
 use Rattle.rambo_run.specs.Runs.{after, given_sequences, given_order, maps_of, run, run_from}
 use Rattle.rambo_run.specs.Ongoing.{RunningOf}

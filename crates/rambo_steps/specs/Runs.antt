@@ -1,7 +1,7 @@
 -- A run that goes on as the lines of a script are read
 use Rattle.std.specs.Prelude.{◌≡◌, ◌⊎◌, ℕ, List, [], Option, ◌++◌, map, length}
 use Rattle.rambo_names.specs.Weights.{Weights, weighted_majorities}
-use Rattle.rambo_run.specs.declared.step.Step.{Step}
+use Rattle.rambo_node.specs.Steps.{Step}
 use Rattle.rambo_run.specs.Worlds.{WorldState, first_world}
 use Rattle.rambo_run.specs.Steps.{refusal}
 use Rattle.rambo_run.specs.Runs.{after, maps_of, given_sequences, given_order, result_of}

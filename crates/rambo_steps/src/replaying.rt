@@ -6,7 +6,7 @@ ghost use Rattle.rambo_text.specs.declared.fault.ScriptFault.{ScriptFault};
 ghost use Rattle.rambo_text.specs.Words.{IsFirstLine};
 ghost use Rattle.rambo_steps.specs.Replays.{reads_failed};
 ghost use Rattle.rambo_names.specs.Refusals.{number_of};
-ghost use Rattle.rambo_run.specs.declared.step.Step.TheVariants as step;
+ghost use Rattle.rambo_node.specs.declared.step.StepOf.TheVariants as step;
 ghost use Rattle.rambo_check.specs.Lines.{Refused, items_text};
 ghost use Rattle.rambo_outcome.specs.Outcomes.{order_items_in};
 ghost use Rattle.rambo_outcome.specs.Notes.{HasRoom, noted, told_text};

@@ -6,7 +6,7 @@ use Rattle.std.proofs.KnownBytes.{Appends-nil, Appends-trans}
 use Rattle.std.proofs.lemmas.List.{take_more}
 use Rattle.rambo_names.specs.Weights.{Weights}
 use Rattle.rambo_atomic.specs.Streams.{Begins}
-use Rattle.rambo_run.specs.declared.step.Step.{Step}
+use Rattle.rambo_node.specs.Steps.{Step}
 use Rattle.rambo_text.specs.declared.version.Version.TheVariants.{Two}
 use Rattle.rambo_names.specs.Signs.{conf_text}
 use Rattle.rambo_text.specs.Versions.{head_line, head_text}

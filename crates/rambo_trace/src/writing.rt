@@ -7,7 +7,7 @@ ghost use Rattle.rambo_text.specs.declared.version.Version.TheVariants.{Two};
 ghost use Rattle.rambo_text.specs.Versions.{head_text};
 ghost use Rattle.rambo_lines.specs.Scripts.{founders_line, steps_text};
 ghost use Rattle.rambo_names.specs.Weights.{Weights};
-ghost use Rattle.rambo_run.specs.declared.step.Step.{Step};
+ghost use Rattle.rambo_node.specs.Steps.{Step};
 ghost use Rattle.rambo_trace.specs.Traces.{Moves, trace_text};
 
 use rambo_atomic::{Sink, StreamFault, write_all};

@@ -7,11 +7,12 @@ use Rattle.rambo_node.specs.Changes.{refusal_of}
 use Rattle.rambo_node.specs.Nodes.{NodeState}
 use Rattle.rambo_node.specs.Acts as act
 use Rattle.rambo_node.specs.declared.prepared.Quiet.TheVariants as quiet
-use Rattle.rambo_run.specs.declared.step.Step.{Step}
-use Rattle.rambo_run.specs.declared.step.Step.TheVariants as step
+use Rattle.rambo_node.specs.Steps.{Step}
+use Rattle.rambo_node.specs.declared.step.StepOf.TheVariants as step
 use Rattle.rambo_run.specs.Worlds.{WorldState, node_at}
-use Rattle.rambo_run.specs.Steps.{refusal, delivery, causes_at, causes_of}
-use Rattle.rambo_deeds.specs.declared.mail.Mail.{Mail}
+use Rattle.rambo_node.specs.Acts.{delivery}
+use Rattle.rambo_run.specs.Steps.{refusal, causes_at, causes_of}
+use Rattle.rambo_mail.specs.declared.mail.Mail.{Mail}
 use Rattle.std.specs.Prelude.{IfSome}
 use Rattle.rambo_book.specs.Kept.{IsMailOf}
 use Rattle.rambo_pick.specs.Picking as pick

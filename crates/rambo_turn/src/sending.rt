@@ -10,7 +10,7 @@ ghost use Rattle.rambo_book.specs.Windows.{delivers_gone, gone_of};
 use rambo_book::{Book, Keeper, Ready, Terms, commit_ready, may_commit};
 use rambo_names::{Name, Quorums, Refusal};
 use rambo_node::Effect;
-use rambo_run::Step;
+use rambo_run::{Step, StepOf};
 use rambo_tag::Replica;
 
 // Why a step that delivers no letter that is gone is refused, of which the first half was: what the rules of its kind
@@ -52,17 +52,17 @@ pub fn send_in<J: Terms<Q>, Q: Quorums, S: Replica>(
     ready: Result<Ready<Q>, Refusal>,
 ) -> Result<u64, Refusal>
     requires name { keeper.old.name ≡ from }
-    requires step { IfOk ready (λ r. r.step ≡ Step.Send from to) }
+    requires step { IfOk ready (λ r. r.step ≡ StepOf.Send from to) }
     requires ready { IfOk ready (IsReadyFor Q.system J.founders keeper.old) }
     ensures terms { (J.founders ≡ Some book.old.founders) × (book.old.capacity ≡ J.capacity) }
     ensures before { IsLegal Q.system book.old.founders book.old.steps }
     ensures fits { length book.old.steps ≤ book.old.capacity }
-    ensures accepted { OnOk result (refusal Q.system (state Q.system book.old) (Step.Send from to) ≡ None) }
+    ensures accepted { OnOk result (refusal Q.system (state Q.system book.old) (StepOf.Send from to) ≡ None) }
     ensures room { OnOk result (length book.old.steps < book.old.capacity) }
-    ensures effect { IfOk result (λ number. Effect.Sent number ≡ (turn (state Q.system book.old) (Step.Send from to)).effect) }
-    ensures book { OnOk result (book.new ≡ record book.old { steps = book.old.steps ++ Step.Send from to ∷ []; waiting = waiting_after book.old (to ∷ []) (gone_of J.endless J.capacity (state Q.system book.new)) (length (state Q.system book.new).letters) }) }
+    ensures effect { IfOk result (λ number. Effect.Sent number ≡ (turn (state Q.system book.old) (StepOf.Send from to)).effect) }
+    ensures book { OnOk result (book.new ≡ record book.old { steps = book.old.steps ++ StepOf.Send from to ∷ []; waiting = waiting_after book.old (to ∷ []) (gone_of J.endless J.capacity (state Q.system book.new)) (length (state Q.system book.new).letters) }) }
     ensures same { OnErr result ((book.new ≡ book.old) × (keeper.new ≡ keeper.old)) }
-    ensures told { IfErr result (λ r. Told (refusal Q.system (state Q.system book.old) (Step.Send from to)) (length book.old.steps) book.old.capacity r) }
+    ensures told { IfErr result (λ r. Told (refusal Q.system (state Q.system book.old) (StepOf.Send from to)) (length book.old.steps) book.old.capacity r) }
 {
     book.facts();
     let Ok(ready) = ready else {

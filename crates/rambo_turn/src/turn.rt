@@ -9,6 +9,7 @@ ghost use Rattle.rambo_book.specs.Kept.{Told, state};
 ghost use Rattle.rambo_book.specs.Mailing.{AreTaken, all_for};
 ghost use Rattle.rambo_book.specs.Windows.{gone_of};
 ghost use Rattle.rambo_turn.specs.Turns.{cleared, informed, longer, mailed, next_of, IsQuiet};
+ghost use Rattle.rambo_node.specs.Steps.{Step};
 
 use crate::picking::pick;
 use rambo_book::{Book, Keeper, Ready, Terms, commit_ready, ready, see_all, take_mail};

@@ -8,7 +8,7 @@ use Rattle.rambo_names.specs.Quorums.{QuorumSystem}
 use Rattle.rambo_config_map.specs.Maps.{MapState}
 use Rattle.rambo_node.specs.declared.effect.Effect.{Effect}
 use Rattle.rambo_node.specs.declared.effect.Effect.TheVariants as effect
-use Rattle.rambo_run.specs.declared.step.Step.{Step}
+use Rattle.rambo_node.specs.Steps.{Step}
 use Rattle.rambo_run.specs.Legal.{IsLegal}
 use Rattle.rambo_run.specs.Runs.{run}
 use Rattle.rambo_run.specs.Steps.{refusal, turn}

@@ -6,13 +6,12 @@ use Rattle.rambo_names.specs.Quorums.{QuorumSystem}
 use Rattle.rambo_calls.specs.Kept.{calls_of}
 use Rattle.rambo_calls.specs.declared.open_call.OpenCall.{OpenCall}
 use Rattle.rambo_outbox.specs.Outboxes.{numbers_of}
-use Rattle.rambo_run.specs.declared.step.Step.{Step}
-use Rattle.rambo_run.specs.declared.step.Step.TheVariants as step
-use Rattle.rambo_run.specs.Kinds.{delivered_by}
-use Rattle.rambo_run.specs.Steps.{Meant, delivery, meant_in}
+use Rattle.rambo_node.specs.Steps.{Step, delivered_by}
+use Rattle.rambo_node.specs.declared.step.StepOf.TheVariants as step
+use Rattle.rambo_node.specs.Acts.{Meant, delivery, name_in}
+use Rattle.rambo_run.specs.Steps.{meant_in}
 use Rattle.rambo_run.specs.Worlds.{letter_at}
 use Rattle.rambo_run.proofs.Lists.{none-some, some_inj}
-use Rattle.rambo_deeds.specs.Deeds.{name_in}
 use Rattle.rambo_book.specs.Kept.{KeeperView}
 use Rattle.rambo_visit.specs.Happened.{HasNoRoom}
 use Rattle.rambo_visit.specs.Open.{call_numbers}

@@ -1,7 +1,7 @@
 //! Steps of a node that is visited.
 ghost use Rattle.std.specs.Prelude.{◌≡◌, ◌⊎◌, [], Some, OnOk, OnErr, IfOk, IfErr};
 ghost use Rattle.rambo_book.specs.Readying.{IsReadyFor};
-ghost use Rattle.rambo_deeds.specs.Deeds.{name_in};
+ghost use Rattle.rambo_node.specs.Acts.{name_in};
 ghost use Rattle.rambo_run.specs.Steps.{meant_in};
 ghost use Rattle.rambo_visit.specs.Happened.{Happened, HasNoRoom, IsLast};
 

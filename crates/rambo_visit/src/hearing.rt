@@ -1,6 +1,6 @@
 //! The letters that came for a node.
 ghost use Rattle.std.specs.Prelude.{◌≡◌, Some, slice_get, if◌then◌else◌, IfOk, IfErr};
-ghost use Rattle.rambo_deeds.specs.declared.mail.Mail.{Mail};
+ghost use Rattle.rambo_mail.specs.declared.mail.Mail.{Mail};
 ghost use Rattle.rambo_outbox.specs.Outboxes.{heard_by};
 ghost use Rattle.rambo_visit.specs.Happened.{HasNoRoom};
 

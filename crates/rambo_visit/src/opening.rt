@@ -21,7 +21,7 @@ pub fn opened<'a, J: Terms<Q>, Q: Quorums, S: Replica>(
 ) -> Opened<'a, Q>
     ensures { seen result ≡ open_at keeper.now.node wants_room }
 {
-    let node = keeper.worker().node();
+    let node = keeper.node();
     Opened {
         me: node.name(),
         reach: reach_of(node.status(), node.known()),
@@ -48,7 +48,7 @@ pub(crate) fn calls_of<'a, J: Terms<Q>, Q: Quorums, S: Replica>(
 ) -> &'a [OpenCall<Q>]
     ensures { calls_of result.now ≡ keeper.now.node.calls }
 {
-    keeper.worker().node().calls()
+    keeper.node().calls()
 }
 
 // Whom a node may write to, by its status and the names that it knows. Its own name may be among them.

@@ -11,17 +11,17 @@ use Rattle.rambo_tag.specs.declared.keyed_version.KeyedVersion.{KeyedVersion}
 use Rattle.rambo_tag.specs.Copies.{Copies, joined}
 use Rattle.rambo_tag.specs.Logs.{greatest_of}
 use Rattle.rambo_history.specs.declared.event.Event.{Event}
-use Rattle.rambo_gossip.specs.declared.letter.Letter.{Letter}
-use Rattle.rambo_gossip.specs.Letters.{letter_with}
+use Rattle.rambo_gossip.specs.Letters.{LetterState, letter_with}
 use Rattle.rambo_node.specs.declared.effect.Effect.TheVariants as effect
 use Rattle.rambo_node.specs.Changes.{made_by}
 use Rattle.rambo_node.specs.Hearing.{heard_letter}
 use Rattle.rambo_node.specs.Nodes.{NodeState}
 use Rattle.rambo_node.specs.Acts as act
 use Rattle.rambo_sequence.specs.declared.mark.Mark.{Mark}
-use Rattle.rambo_run.specs.declared.step.Step.TheVariants as step
+use Rattle.rambo_node.specs.declared.step.StepOf.TheVariants as step
 use Rattle.rambo_run.specs.Worlds.{WorldState, letter_at}
-use Rattle.rambo_run.specs.Steps.{causes_at, causes_of, delivery, turn, turn_at}
+use Rattle.rambo_node.specs.Acts.{delivery}
+use Rattle.rambo_run.specs.Steps.{causes_at, causes_of, turn, turn_at}
 use Rattle.rambo_letters.specs.Kept.{SentState, sent_at}
 use Rattle.rambo_logs.specs.Merged.{merged_at, merged_raised}
 use Rattle.rambo_world.specs.Kept.{KeptNode, state_of, states_of, moved_in, kept_at, state_at, log_at, whole_letter, whole_letters, moved, AllGrow, IsSent, HasMerged, IsKept}
@@ -66,19 +66,19 @@ moved_state ks new (suc i) f x y e there found =
     some_is y.node.state (f x) (sym (slice_get-map state_of new i ∙ ap (option_map state_of) (ap (slice_get new) (sym place) ∙ found)) ∙ here)
 
 -- a delivery is the hearing of a letter
-delivered : {Q : Type 0} (x : NodeState Q) (l : Letter Q) → (made_by x (act.Hear l)).node ≡ heard_letter x l
+delivered : {Q : Type 0} (x : NodeState Q) (l : LetterState Q) → (made_by x (act.Hear l)).node ≡ heard_letter x l
 unfolding made_by
 delivered x l = refl
 
-delivered_in : {Q : Type 0} (n : ℕ) (o : Option (NodeState Q)) (l : Letter Q) (xs : List (NodeState Q)) → moved_in n o (λ y. (made_by y (act.Hear l)).node) xs ≡ moved_in n o (λ y. heard_letter y l) xs
+delivered_in : {Q : Type 0} (n : ℕ) (o : Option (NodeState Q)) (l : LetterState Q) (xs : List (NodeState Q)) → moved_in n o (λ y. (made_by y (act.Hear l)).node) xs ≡ moved_in n o (λ y. heard_letter y l) xs
 delivered_in n None l xs = refl
 delivered_in n (Some x) l xs = ap (slice_set xs (n - 1)) (delivered x l)
 
-pub delivered_moved : {Q : Type 0} (ks : List (KeptNode Q)) (n : ℕ) (l m : Letter Q) → l ≡ m → moved ks n (λ y. (made_by y (act.Hear l)).node) ≡ moved ks n (λ y. heard_letter y m)
+pub delivered_moved : {Q : Type 0} (ks : List (KeptNode Q)) (n : ℕ) (l m : LetterState Q) → l ≡ m → moved ks n (λ y. (made_by y (act.Hear l)).node) ≡ moved ks n (λ y. heard_letter y m)
 delivered_moved ks n l m same = delivered_in n (state_at ks n) l (states_of ks) ∙ ap (λ l. moved ks n (λ y. heard_letter y l)) same
 
 -- a letter that comes to a node that is there
-heard_turn : {Q : Type 0} (w : WorldState Q) (l : Letter Q) (x : NodeState Q) → turn_at w l.addressee (Some x) (act.Hear l)
+heard_turn : {Q : Type 0} (w : WorldState Q) (l : LetterState Q) (x : NodeState Q) → turn_at w l.addressee (Some x) (act.Hear l)
     ≡ record { world = record w { nodes = slice_set w.nodes (l.addressee - 1) (heard_letter x l) }; effect = effect.Done }
 unfolding made_by
 heard_turn w l x = refl

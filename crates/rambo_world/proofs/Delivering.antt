@@ -6,10 +6,9 @@ use Rattle.std.specs.Option.{option_map}
 use Rattle.rambo_names.specs.Names.{IsName}
 use Rattle.rambo_names.specs.Quorums.{QuorumSystem}
 use Rattle.rambo_tag.specs.Copies.{Copies, joined}
-use Rattle.rambo_gossip.specs.declared.letter.Letter.{Letter}
-use Rattle.rambo_gossip.specs.declared.letter.Kind.{Kind}
-use Rattle.rambo_gossip.specs.declared.letter.Kind.TheVariants as kind
-use Rattle.rambo_gossip.specs.Letters.{kind_with, letter_with}
+use Rattle.rambo_gossip.specs.Kinds.{Kind}
+use Rattle.rambo_gossip.specs.Kinds as kind
+use Rattle.rambo_gossip.specs.Letters.{LetterState, kind_with, letter_with}
 use Rattle.rambo_node.specs.Hearing.{heard_kind, heard_join, heard_gossip}
 use Rattle.rambo_node.specs.Nodes.{NodeState}
 use Rattle.rambo_node.specs.Refusals.{hear_causes}
@@ -30,7 +29,7 @@ pub hear_causes-with : {Q : Type 0} (x : NodeState Q) (k : Kind Q) (c : Copies) 
 hear_causes-with x kind.Join c = refl
 hear_causes-with x (kind.Gossip g) c = refl
 
-pub causes_with : {Q : Type 0} (s : QuorumSystem Q) (o : Option (NodeState Q)) (l : Letter Q) (c : Copies) → causes_at s o (act.Hear (letter_with l c)) ≡ causes_at s o (act.Hear l)
+pub causes_with : {Q : Type 0} (s : QuorumSystem Q) (o : Option (NodeState Q)) (l : LetterState Q) (c : Copies) → causes_at s o (act.Hear (letter_with l c)) ≡ causes_at s o (act.Hear l)
 causes_with s None l c = refl
 causes_with s (Some x) l c = hear_causes-with x l.kind c
 

@@ -13,10 +13,9 @@ use Rattle.rambo_tag.specs.declared.keyed_version.KeyedVersion.{KeyedVersion}
 use Rattle.rambo_tag.specs.Copies.{Copies, joined}
 use Rattle.rambo_tag.specs.Logs.{greatest_of}
 use Rattle.rambo_tag.proofs.Logged.{greatest_of-nil}
-use Rattle.rambo_gossip.specs.declared.letter.Letter.{Letter}
-use Rattle.rambo_gossip.specs.declared.letter.Kind.{Kind}
-use Rattle.rambo_gossip.specs.declared.letter.Kind.TheVariants as kind
-use Rattle.rambo_gossip.specs.Letters.{kind_with, letter_with}
+use Rattle.rambo_gossip.specs.Kinds.{Kind}
+use Rattle.rambo_gossip.specs.Kinds as kind
+use Rattle.rambo_gossip.specs.Letters.{LetterState, kind_with, letter_with}
 use Rattle.rambo_gossip.specs.Short as short
 use Rattle.rambo_logs.specs.NodeLogs.{part, lacked}
 use Rattle.rambo_node.specs.Changes.{refusal_of, made_by}
@@ -49,7 +48,7 @@ other_kind x j kind.Join other c e = refl
 other_kind x j (kind.Gossip g) other c e = heard_alike x j (kind.Gossip g) other c e
 
 -- copies that make the same of a node's as those of a letter make the same of the node
-pub other_heard : {Q : Type 0} (x : NodeState Q) (l : Letter Q) (other c : Copies) → joined x.registers other ≡ joined x.registers (short.copies_in (letter_with l c).kind)
+pub other_heard : {Q : Type 0} (x : NodeState Q) (l : LetterState Q) (other c : Copies) → joined x.registers other ≡ joined x.registers (short.copies_in (letter_with l c).kind)
     → heard_letter x (letter_with l other) ≡ (made_by x (act.Hear (letter_with l c))).node
 unfolding made_by
 other_heard x l other c e = other_kind x l.sender l.kind other c e
@@ -62,7 +61,7 @@ part_past xs (suc start) zero past = refl
 part_past [] (suc start) (suc end) past = refl
 part_past (x ∷ xs) (suc start) (suc end) past = part_past xs start end (omega (arith, past))
 
-pub lacks_nothing : {Q : Type 0} (ls : List (List KeyedVersion)) (l : Letter Q) (start end : ℕ) → end ≤ start → lacked_of ls l start end ≡ []
+pub lacks_nothing : {Q : Type 0} (ls : List (List KeyedVersion)) (l : LetterState Q) (start end : ℕ) → end ≤ start → lacked_of ls l start end ≡ []
 lacks_nothing ls l start end past = ap (lacked (greatest_of (slice_index_or ls (l.addressee - 1) []))) (part_past (slice_index_or ls (l.sender - 1) []) start end past)
 
 -- one of three ways out
@@ -77,7 +76,7 @@ given kind.Join more none = sym (ap greatest_of (none refl) ∙ greatest_of-nil)
 given (kind.Gossip g) more none = refl
 
 module _ {Q : Type 0} (xs : List (RoomyNode Q)) (ls : List (List KeyedVersion)) (now : List (KeptNode Q)) (view : kept_of xs ls ≡ now) (count : length xs ≡ 64) (counted : length ls ≡ 64)
-    (l : Letter Q) (place : ℕ) (at : place ≡ l.addressee - 1) (named : 1 ≤ l.addressee) (x y : RoomyNode Q) (below : place < length xs) (is : x ≡ get_or xs place x) where
+    (l : LetterState Q) (place : ℕ) (at : place ≡ l.addressee - 1) (named : 1 ≤ l.addressee) (x y : RoomyNode Q) (below : place < length xs) (is : x ≡ get_or xs place x) where
   addressee : state_at now l.addressee ≡ Some x.state
   addressee = ap (λ ks. state_at ks l.addressee) (sym view) ∙ node_here xs ls place l.addressee x y at named below is
 

@@ -8,29 +8,27 @@ use Rattle.rambo_names.specs.declared.refusal.Refusal.{Refusal}
 use Rattle.rambo_names.specs.declared.refusal.Refusal.TheVariants.{NoSuchLetter}
 use Rattle.rambo_names.specs.Quorums.{QuorumSystem}
 use Rattle.rambo_names.specs.Refusals.{least}
-use Rattle.rambo_gossip.specs.declared.letter.Letter.{Letter}
+use Rattle.rambo_gossip.specs.Letters.{LetterState}
 use Rattle.rambo_history.specs.declared.event.CallId.{CallId}
 use Rattle.rambo_history.specs.declared.operation.Op.{Op}
-use Rattle.rambo_node.specs.Acts.{Act}
+use Rattle.rambo_node.specs.Acts.{Act, Meant, delivery}
 use Rattle.rambo_node.specs.declared.effect.Effect.TheVariants as effect
 use Rattle.rambo_node.specs.Changes.{made_by}
 use Rattle.rambo_node.specs.Letters.{letter_for}
 use Rattle.rambo_node.specs.Nodes.{NodeState}
 use Rattle.rambo_node.specs.Acts as act
-use Rattle.rambo_run.specs.declared.step.Step.{Step}
-use Rattle.rambo_run.specs.declared.step.Step.TheVariants as step
+use Rattle.rambo_node.specs.Steps.{Step}
+use Rattle.rambo_node.specs.declared.step.StepOf.TheVariants as step
 use Rattle.rambo_run.specs.Worlds.{WorldState, first_world, node_at, letter_at}
 use Rattle.rambo_run.proofs.NodeLists.{node_named}
-use Rattle.rambo_run.specs.Steps.{Meant, meant, causes, causes_at, causes_of, delivery, refusal, turn, turn_at, turn_of, with_letter}
+use Rattle.rambo_run.specs.Steps.{meant, causes, causes_at, causes_of, refusal, turn, turn_at, turn_of, with_letter, sends}
 use Rattle.rambo_run.specs.Runs.{after, result_of, run, run_from, unless_refused}
 use Rattle.rambo_run.specs.Told.{called}
-use Rattle.rambo_run.specs.Steps.{sends}
 use Rattle.rambo_world.specs.Worlds.{EventFits}
 use Rattle.rambo_world.specs.Direct.{without_letters, passed, pass_refusal, first_of, IsReachedBarLetters}
 use Rattle.rambo_run.proofs.Unsent.{unsent}
-use Rattle.rambo_run.proofs.GoingOn.{after-refused, run_none}
+use Rattle.rambo_run.proofs.GoingOn.{after-refused, run_none, run-after}
 use Rattle.rambo_run.proofs.Legal.{events_fit_run}
-use Rattle.rambo_run.proofs.GoingOn.{run-after}
 use Rattle.rambo_world.proofs.Single.{told_done}
 use Rattle.rambo_world.proofs.Turns.{step_turn, step_refusal, step_fits, deliver_refusal}
 
@@ -40,16 +38,16 @@ slice_get-behind [] ys = refl
 slice_get-behind (x ∷ xs) ys = slice_get-behind xs ys
 
 module _ {Q : Type 0} (s : QuorumSystem Q) where
-  same_causes : (w : WorldState Q) (ls : List (Letter Q)) (m : Option (Meant Q)) → causes_of s (record w { letters = ls }) m ≡ causes_of s w m
+  same_causes : (w : WorldState Q) (ls : List (LetterState Q)) (m : Option (Meant Q)) → causes_of s (record w { letters = ls }) m ≡ causes_of s w m
   same_causes w ls None = refl
   same_causes w ls (Some m) = refl
 
-  same_at : (w : WorldState Q) (ls : List (Letter Q)) (n : ℕ) (c : Act Q) (o : Option (NodeState Q))
+  same_at : (w : WorldState Q) (ls : List (LetterState Q)) (n : ℕ) (c : Act Q) (o : Option (NodeState Q))
       → without_letters (turn_at (record w { letters = ls }) n o c).world ≡ without_letters (turn_at w n o c).world
   same_at w ls n c None = refl
   same_at w ls n c (Some x) = refl
 
-  same_turn : (w : WorldState Q) (ls : List (Letter Q)) (m : Option (Meant Q))
+  same_turn : (w : WorldState Q) (ls : List (LetterState Q)) (m : Option (Meant Q))
       → without_letters (turn_of (record w { letters = ls }) m).world ≡ without_letters (turn_of w m).world
   same_turn w ls None = refl
   same_turn w ls (Some m) = same_at w ls m.name m.act (node_at w m.name)
@@ -60,7 +58,7 @@ module _ {Q : Type 0} (s : QuorumSystem Q) where
   same_unless (Some r) v w a b e f = e
 
   -- two steps that mean the same, whatever letters there are
-  same_after : (w : WorldState Q) (ls : List (Letter Q)) (st other : Step Q) → meant (record w { letters = ls }) other ≡ meant w st
+  same_after : (w : WorldState Q) (ls : List (LetterState Q)) (st other : Step Q) → meant (record w { letters = ls }) other ≡ meant w st
       → without_letters (after s (record w { letters = ls }) other) ≡ without_letters (after s w st)
   unfolding after refusal causes turn
   same_after w ls st other means =
@@ -126,7 +124,7 @@ module _ {Q : Type 0} (s : QuorumSystem Q) where
   bar_named founders w reached n x found = node_named s founders reached.0 n x (ap (λ w. node_at w n) (sym reached.1) ∙ found)
 
   -- the letters that are sent in a step
-  abbrev sent_in : Option Refusal → Option (NodeState Q) → ℕ → List (Letter Q)
+  abbrev sent_in : Option Refusal → Option (NodeState Q) → ℕ → List (LetterState Q)
   sent_in (Some r) o to = []
   sent_in None None to = []
   sent_in None (Some x) to = letter_for x to ∷ []
@@ -169,7 +167,7 @@ module _ {Q : Type 0} (s : QuorumSystem Q) where
       ∙ same_after a b.letters (step.Deliver (suc (length w.letters))) (step.Deliver 1) (ap delivery (first ∙ sym last))
 
   -- a letter that comes is no more
-  came_silent : (w : WorldState Q) (o : Option (Letter Q)) → (turn_of w (delivery o)).world.letters ≡ w.letters
+  came_silent : (w : WorldState Q) (o : Option (LetterState Q)) → (turn_of w (delivery o)).world.letters ≡ w.letters
   came_silent w None = refl
   came_silent w (Some l) = quiet_at w l.addressee (act.Hear l) (node_at w l.addressee) refl
 

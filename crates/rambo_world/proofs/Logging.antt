@@ -1,6 +1,5 @@
 -- The logs of nodes: what a change puts into a log, and what stays of logs, letters and counts as logs grow
-use Rattle.std.proofs.Common.{◌≡◌, ℕ, ◌+◌, ◌<◌, true, List, ◌++◌, Option, Some, None, refl, sym, ap, ◌∙◌, inl, arith}
-use Rattle.std.proofs.Common.{append-nil}
+use Rattle.std.proofs.Common.{◌≡◌, ℕ, ◌+◌, ◌<◌, true, List, ◌++◌, Option, Some, None, refl, sym, ap, ◌∙◌, inl, arith, append-nil}
 use Rattle.std.specs.Prelude.{if◌then◌else◌}
 use Rattle.std.specs.FinMap.{get, insert}
 use Rattle.rambo_tag.specs.declared.version.Version.{Version}
@@ -14,9 +13,9 @@ use Rattle.rambo_tag.proofs.Logged.{greatest_after-append, greatest_of-append, j
 use Rattle.rambo_history.specs.declared.event.CallId.{CallId}
 use Rattle.rambo_history.specs.declared.operation.Op.{Op}
 use Rattle.rambo_history.specs.declared.operation.Op.TheVariants as op
-use Rattle.rambo_gossip.specs.declared.letter.Letter.{Letter}
-use Rattle.rambo_gossip.specs.declared.letter.Kind.{Kind}
-use Rattle.rambo_gossip.specs.declared.letter.Kind.TheVariants as kind
+use Rattle.rambo_gossip.specs.Letters.{LetterState}
+use Rattle.rambo_gossip.specs.Kinds.{Kind}
+use Rattle.rambo_gossip.specs.Kinds as kind
 use Rattle.rambo_node.specs.Acts.{Act}
 use Rattle.rambo_calls.specs.declared.stage.Stage.{Stage}
 use Rattle.rambo_calls.specs.declared.stage.Stage.TheVariants.{Query, Propagation}
@@ -102,7 +101,7 @@ made_recorded x log more c recorded brought =
     ∙ sym (greatest_of-more log (more ++ own))
 
 -- what is logged with a letter
-pub heard_recorded : {Q : Type 0} (x : NodeState Q) (log more : List KeyedVersion) (l : Letter Q)
+pub heard_recorded : {Q : Type 0} (x : NodeState Q) (log more : List KeyedVersion) (l : LetterState Q)
     → x.registers ≡ greatest_of log → joined x.registers (greatest_of more) ≡ joined x.registers (copies_in l.kind)
     → (made_by x (act.Hear l)).node.registers ≡ greatest_of (log ++ more)
 unfolding made_by

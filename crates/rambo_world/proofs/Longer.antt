@@ -6,14 +6,13 @@ use Rattle.rambo_names.specs.Quorums.{QuorumSystem, IsSound}
 use Rattle.rambo_history.specs.Proper.{IsProper, IsProperForAll}
 use Rattle.rambo_history.specs.declared.event.CallId.{CallId}
 use Rattle.rambo_history.specs.declared.event.Event.{Event}
-use Rattle.rambo_sequence.specs.Sequences.{sequence_in}
+use Rattle.rambo_sequence.specs.Sequences.{sequence_in, SequenceOf}
 use Rattle.rambo_sequence.specs.StoreOrders.{IsOrder, order_of}
 use Rattle.rambo_sequence.proofs.Outcomes.{sequence_in-sequences_of}
 use Rattle.rambo_node.specs.declared.effect.Effect.{Effect}
-use Rattle.rambo_run.specs.declared.step.Step.{Step}
+use Rattle.rambo_node.specs.Steps.{Step}
 use Rattle.rambo_run.specs.Worlds.{WorldState, first_world}
 use Rattle.rambo_run.specs.Steps.{Turn, refusal, turn}
-use Rattle.rambo_sequence.specs.Sequences.{SequenceOf}
 use Rattle.rambo_run.specs.Runs.{MapOf, maps_of, given_sequences, after, run_from, run, result_of, results_from, outcome_at, outcome_of, OutcomeState}
 use Rattle.rambo_run.proofs.Runs.{run_from-more}
 use Rattle.rambo_run.proofs.GoingOn.{run_is, run-more}

@@ -15,7 +15,7 @@ use Rattle.rambo_node.specs.Nodes.{NodeState}
 use Rattle.rambo_node.specs.Refusals.{send_causes}
 use Rattle.rambo_node.specs.Acts as act
 use Rattle.rambo_sequence.specs.declared.mark.Mark.{Mark}
-use Rattle.rambo_run.specs.declared.step.Step.TheVariants as step
+use Rattle.rambo_node.specs.declared.step.StepOf.TheVariants as step
 use Rattle.rambo_run.specs.Steps.{Turn, causes_at, refusal, turn}
 use Rattle.rambo_run.specs.Runs.{after}
 use Rattle.rambo_letters.specs.Kept.{SentState}

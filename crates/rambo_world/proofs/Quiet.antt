@@ -5,7 +5,7 @@ use Rattle.rambo_names.specs.Quorums.{QuorumSystem}
 use Rattle.rambo_names.specs.Refusals.{least}
 use Rattle.rambo_node.specs.Acts.{Act}
 use Rattle.rambo_node.specs.declared.effect.Effect.{Effect}
-use Rattle.rambo_run.specs.declared.step.Step.{Step}
+use Rattle.rambo_node.specs.Steps.{Step}
 use Rattle.rambo_run.specs.Runs.{after, result_of}
 use Rattle.rambo_run.specs.Steps.{meant, causes_at, refusal, turn_at}
 use Rattle.rambo_run.specs.Worlds.{WorldState, node_at}

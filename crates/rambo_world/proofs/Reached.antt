@@ -6,7 +6,7 @@ use Rattle.rambo_history.specs.Proper.{IsProper, IsProperForAll}
 use Rattle.rambo_sequence.specs.Sequences.{SequenceOf, sequence_in, sequence_of, sequences_of}
 use Rattle.rambo_sequence.specs.StoreOrders.{IsOrder}
 use Rattle.rambo_sequence.proofs.Outcomes.{sequence_in-sequences_of}
-use Rattle.rambo_run.specs.declared.step.Step.{Step}
+use Rattle.rambo_node.specs.Steps.{Step}
 use Rattle.rambo_run.specs.Worlds.{WorldState, first_world}
 use Rattle.rambo_run.specs.Runs.{OutcomeState, after, outcome_at, results_from, run_from}
 use Rattle.rambo_run.proofs.EveryRun.{agrees, is_atomic}

@@ -7,9 +7,9 @@ use Rattle.std.proofs.lemmas.Option.{get_or_from_slice_get}
 use Rattle.std.specs.Option.{is_some}
 use Rattle.rambo_tag.specs.Logs.{greatest_of}
 use Rattle.rambo_joiner.specs.Statuses.{is_active}
-use Rattle.rambo_gossip.specs.declared.letter.Gossip.{Gossip}
-use Rattle.rambo_gossip.specs.declared.letter.Kind.{Kind}
-use Rattle.rambo_gossip.specs.declared.letter.Kind.TheVariants as kind
+use Rattle.rambo_gossip.specs.Gossips.{GossipState}
+use Rattle.rambo_gossip.specs.Kinds.{Kind}
+use Rattle.rambo_gossip.specs.Kinds as kind
 use Rattle.rambo_gossip.specs.Letters.{kind_with}
 use Rattle.rambo_history.specs.declared.event.Event.{Event}
 use Rattle.rambo_node.specs.Letters.{letter_for, gossip_for}
@@ -18,7 +18,7 @@ use Rattle.rambo_node.specs.Nodes.{NodeState}
 use Rattle.rambo_node.specs.declared.effect.Effect.TheVariants as effect
 use Rattle.rambo_node.specs.Acts as act
 use Rattle.rambo_sequence.specs.declared.mark.Mark.{Mark}
-use Rattle.rambo_run.specs.declared.step.Step.TheVariants as step
+use Rattle.rambo_node.specs.declared.step.StepOf.TheVariants as step
 use Rattle.rambo_run.specs.Steps.{turn, turn_at}
 use Rattle.rambo_letters.specs.Kept.{SentState}
 use Rattle.rambo_letters.proofs.Lists.{sent_push}
@@ -31,7 +31,7 @@ pub name_of : {Q : Type 0} (ks : List (KeptNode Q)) (n : ℕ) (k : KeptNode Q) �
 name_of ks n k e named = let same : n - 1 + 1 ≡ n = omega (arith, named) in e ∙ same
 
 -- a letter as it is kept, by whether its sender gossips
-whole_kind : {Q : Type 0} (active : Bool) (k : KeptNode Q) (g : Gossip Q) → g.copies ≡ greatest_of k.log
+whole_kind : {Q : Type 0} (active : Bool) (k : KeptNode Q) (g : GossipState Q) → g.copies ≡ greatest_of k.log
     → kind_with (kind_with (if active then kind.Gossip g else kind.Join) copies.empty) (greatest_of (take (if active then length k.log else 0) k.log)) ≡ (if active then kind.Gossip g else kind.Join)
 whole_kind true k g e = λ i. kind.Gossip (record g { copies = (ap greatest_of (take_all (length k.log) k.log (omega arith)) ∙ sym e) i })
 whole_kind false k g e = refl
@@ -51,7 +51,7 @@ abbrev is_join : {Q : Type 0} → Kind Q → Bool
 is_join kind.Join = true
 is_join (kind.Gossip g) = false
 
-pub told_of : {Q : Type 0} (active : Bool) (n : ℕ) (g : Gossip Q) → kind_with (if active then kind.Gossip g else kind.Join) copies.empty ≡ kind.Join → (if active then n else 0) ≡ 0
+pub told_of : {Q : Type 0} (active : Bool) (n : ℕ) (g : GossipState Q) → kind_with (if active then kind.Gossip g else kind.Join) copies.empty ≡ kind.Join → (if active then n else 0) ≡ 0
 told_of true n g e = absurd (false≢true (ap is_join e))
 told_of false n g e = refl
 

@@ -9,12 +9,11 @@ use Rattle.rambo_calls.specs.Calls.{CallState, is_missing}
 use Rattle.rambo_calls.specs.declared.stage.Stage.{Stage}
 use Rattle.rambo_calls.specs.declared.stage.Stage.TheVariants.{Query, Propagation}
 use Rattle.rambo_node.specs.Changes.{advanced, answer_in, made_by, stage_met}
-use Rattle.rambo_node.specs.Nodes.{open_call}
+use Rattle.rambo_node.specs.Nodes.{open_call, NodeState}
 use Rattle.rambo_node.proofs.Judged.{advance_next}
-use Rattle.rambo_node.specs.Nodes.{NodeState}
 use Rattle.rambo_node.specs.Acts as act
-use Rattle.rambo_run.specs.declared.step.Step.{Step}
-use Rattle.rambo_run.specs.declared.step.Step.TheVariants as step
+use Rattle.rambo_node.specs.Steps.{Step}
+use Rattle.rambo_node.specs.declared.step.StepOf.TheVariants as step
 use Rattle.rambo_run.specs.Runs.{after, result_of}
 use Rattle.rambo_run.specs.Steps.{Turn, causes_at, refusal, turn, turn_at, turn_by}
 use Rattle.rambo_run.specs.Worlds.{WorldState, node_at}

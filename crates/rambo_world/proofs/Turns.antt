@@ -6,13 +6,13 @@ use Rattle.rambo_names.specs.declared.refusal.Refusal.{Refusal}
 use Rattle.rambo_names.specs.declared.refusal.Refusal.TheVariants.{OutOfMemory}
 use Rattle.rambo_names.specs.Quorums.{QuorumSystem}
 use Rattle.rambo_names.specs.Refusals.{least, IsRefusal}
-use Rattle.rambo_node.specs.Acts.{Act}
+use Rattle.rambo_node.specs.Acts.{Act, delivery}
 use Rattle.rambo_node.specs.Changes.{refusal_of}
 use Rattle.rambo_node.specs.Nodes.{NodeState}
-use Rattle.rambo_run.specs.declared.step.Step.{Step}
-use Rattle.rambo_run.specs.declared.step.Step.TheVariants as step
+use Rattle.rambo_node.specs.Steps.{Step}
+use Rattle.rambo_node.specs.declared.step.StepOf.TheVariants as step
 use Rattle.rambo_run.specs.Worlds.{WorldState, node_at, letter_at}
-use Rattle.rambo_run.specs.Steps.{Turn, meant, causes, causes_at, causes_of, delivery, refusal, turn, turn_at, turn_of, with_event}
+use Rattle.rambo_run.specs.Steps.{Turn, meant, causes, causes_at, causes_of, refusal, turn, turn_at, turn_of, with_event}
 use Rattle.rambo_world.specs.Kept.{KeptNode, state_of, kept_at, state_at}
 use Rattle.rambo_run.specs.Legal.{EventsFit}
 use Rattle.rambo_world.specs.Worlds.{EventFits}

@@ -7,7 +7,7 @@ use Rattle.std.specs.Option.{is_some}
 use Rattle.rambo_tag.specs.declared.keyed_version.KeyedVersion.{KeyedVersion}
 use Rattle.rambo_tag.specs.Copies.{joined}
 use Rattle.rambo_tag.specs.Logs.{greatest_of}
-use Rattle.rambo_gossip.specs.declared.letter.Letter.{Letter}
+use Rattle.rambo_gossip.specs.Letters.{LetterState}
 use Rattle.rambo_logs.specs.NodeLogs.{part, lacked}
 use Rattle.rambo_node.specs.Nodes.{NodeState, RoomyNode}
 use Rattle.rambo_world.specs.Kept.{KeptNode, kept_of, kept_at, log_in, log_at, brought, states_of, logs_of, node_states, state_at, moved, with_node, SameBarRoom, Grows, AllGrow}
@@ -57,7 +57,7 @@ pub log_is : {Q : Type 0} (xs : List (RoomyNode Q)) (ls : List (List KeyedVersio
 log_is xs ls same name = log_is-at xs ls same (name - 1)
 
 -- what is brought, by the logs
-module _ {Q : Type 0} (xs : List (RoomyNode Q)) (ls : List (List KeyedVersion)) (same : length xs ≡ length ls) (l : Letter Q) (start end : ℕ) where
+module _ {Q : Type 0} (xs : List (RoomyNode Q)) (ls : List (List KeyedVersion)) (same : length xs ≡ length ls) (l : LetterState Q) (start end : ℕ) where
   abbrev own : List KeyedVersion
   own = slice_index_or ls (l.addressee - 1) []
 

@@ -11,9 +11,8 @@ use Rattle.rambo_joiner.specs.Statuses.{is_active}
 use Rattle.rambo_logs.specs.NodeLogs.{part, lacked}
 use Rattle.rambo_logs.specs.Merged.{merged_at}
 use Rattle.rambo_letters.specs.Kept.{SentState}
-use Rattle.rambo_gossip.specs.declared.letter.Letter.{Letter}
-use Rattle.rambo_gossip.specs.declared.letter.Kind.TheVariants as kind
-use Rattle.rambo_gossip.specs.Letters.{letter_with}
+use Rattle.rambo_gossip.specs.Kinds as kind
+use Rattle.rambo_gossip.specs.Letters.{LetterState, letter_with}
 use Rattle.rambo_node.specs.Letters.{letter_for}
 use Rattle.rambo_node.specs.Nodes.{NodeState, RoomyNode}
 use Rattle.rambo_run.specs.Worlds.{node_at}
@@ -69,14 +68,14 @@ abbrev pub log_at : {Q : Type 0} → List (KeptNode Q) → ℕ → List KeyedVer
 log_at ks name = log_in (kept_at ks name)
 
 -- of a part of the log of a letter's sender, the copies that its addressee lacks
-abbrev pub brought : {Q : Type 0} → List (KeptNode Q) → Letter Q → ℕ → ℕ → Copies
+abbrev pub brought : {Q : Type 0} → List (KeptNode Q) → LetterState Q → ℕ → ℕ → Copies
 brought ks l start end = greatest_of (lacked (greatest_of (log_at ks l.addressee)) (part (log_at ks l.sender) start end))
 
 -- the letter as it was sent
-abbrev pub whole_letter : {Q : Type 0} → List (KeptNode Q) → SentState Q → Letter Q
+abbrev pub whole_letter : {Q : Type 0} → List (KeptNode Q) → SentState Q → LetterState Q
 whole_letter ks s = letter_with s.letter (greatest_of (take s.told (log_at ks s.letter.sender)))
 
-abbrev pub whole_letters : {Q : Type 0} → List (KeptNode Q) → List (SentState Q) → List (Letter Q)
+abbrev pub whole_letters : {Q : Type 0} → List (KeptNode Q) → List (SentState Q) → List (LetterState Q)
 whole_letters ks ss = map (whole_letter ks) ss
 
 -- the nodes, with this one for a name and its log unchanged

@@ -3,10 +3,9 @@ ghost use Rattle.std.specs.Prelude.{◌≡◌, None, IfOk, IfErr, OnOk, OnErr};
 ghost use Rattle.rambo_names.specs.Refusals.{least, IsRefusal};
 ghost use Rattle.rambo_run.specs.Runs.{after, result_of};
 ghost use Rattle.rambo_run.specs.Steps.{refusal};
-ghost use Rattle.rambo_run.specs.Worlds.{first_world};
-ghost use Rattle.rambo_run.specs.declared.step.Step.TheVariants as step;
+ghost use Rattle.rambo_run.specs.Worlds.{first_world, founding_causes};
+ghost use Rattle.rambo_node.specs.declared.step.StepOf.TheVariants as step;
 ghost use Rattle.rambo_run.specs.Told.{called, advanced};
-ghost use Rattle.rambo_run.specs.Worlds.{founding_causes};
 ghost use Rattle.rambo_world.specs.Direct.{passed, pass_refusal, told_refusal, IsReachedBarLetters};
 
 use crate::running::answer_got;

@@ -3,7 +3,7 @@ ghost use Rattle.std.specs.Prelude.{◌≡◌, [], None, OnOk, OnErr, IfOk, IfEr
 ghost use Rattle.rambo_run.specs.Runs.{after, result_of};
 ghost use Rattle.rambo_run.specs.Steps.{refusal};
 ghost use Rattle.rambo_run.specs.Told.{sent, delivered};
-ghost use Rattle.rambo_run.specs.declared.step.Step.TheVariants as step;
+ghost use Rattle.rambo_node.specs.declared.step.StepOf.TheVariants as step;
 ghost use Rattle.rambo_world.specs.Direct.{pass_refusal, passed, told_refusal};
 
 use crate::state::State;

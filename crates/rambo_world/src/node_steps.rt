@@ -7,7 +7,7 @@ ghost use Rattle.rambo_run.specs.Runs.{after, result_of};
 ghost use Rattle.rambo_run.specs.Steps.{causes_at, refusal, turn_at, with_event, with_mark};
 ghost use Rattle.rambo_run.specs.Told.{called};
 ghost use Rattle.rambo_run.specs.Worlds.{node_at};
-ghost use Rattle.rambo_run.specs.declared.step.Step.TheVariants as step;
+ghost use Rattle.rambo_node.specs.declared.step.StepOf.TheVariants as step;
 ghost use Rattle.rambo_world.specs.Worlds.{EventFits};
 ghost use Rattle.rambo_node.specs.Acts as act;
 

@@ -4,7 +4,7 @@ ghost use Rattle.std.specs.Borrow.{sem};
 ghost use Rattle.std.specs.Vec.{vec_capacity, vec_len};
 ghost use Rattle.rambo_names.specs.Names.{IsName, rising};
 ghost use Rattle.rambo_tag.specs.declared.keyed_version.KeyedVersion.{KeyedVersion};
-ghost use Rattle.rambo_gossip.specs.declared.letter.Kind.TheVariants as kind;
+ghost use Rattle.rambo_gossip.specs.Kinds as kind;
 ghost use Rattle.rambo_gossip.specs.Letters.{letter_with};
 ghost use Rattle.rambo_tag.specs.Copies.{joined};
 ghost use Rattle.rambo_tag.specs.Logs.{greatest_of};
@@ -253,7 +253,7 @@ fn hear<Q: Quorums, S: Replica>(
     ensures refused { IfErr result (λ r. r ≡ Refusal.OutOfMemory) }
     ensures err { OnErr result (IsUnheard node.old node.new logs.old.logs logs.new.logs) }
 {
-    if let Err(refusal) = node.may_hear_outlined(letter) {
+    if let Err(refusal) = node.may_hear(letter) {
         return Ok(Err(refusal));
     }
     let copies = bring(logs, alloc, letter, start, end)?;
@@ -307,8 +307,8 @@ fn hear_with<Q: Quorums, S: Replica>(
     ensures refused { IfErr result (λ r. r ≡ Refusal.OutOfMemory) }
     ensures err { OnErr result (node.new.state ≡ node.old.state) }
 {
-    let hearing = node.ready_outlined(letter, copies)?;
-    node.finish_outlined(letter, hearing);
+    let hearing = node.ready_hear(letter, copies)?;
+    node.finish_hear(letter, hearing);
     Ok(())
 }
 

@@ -8,6 +8,7 @@ ghost use Rattle.rambo_run.specs.Claims.{Agrees};
 ghost use Rattle.rambo_run.specs.Runs.{given_sequences, outcome_at, outcome_of, results_from, run_from};
 ghost use Rattle.rambo_run.specs.Legal.{EventsFit};
 ghost use Rattle.rambo_run.specs.Worlds.{founding_causes};
+ghost use Rattle.rambo_node.specs.Steps.{Step};
 
 use crate::running::Running;
 use crate::state::State;

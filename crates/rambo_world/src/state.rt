@@ -4,14 +4,15 @@ ghost use Rattle.rambo_run.specs.Runs.{after, result_of, results_from, run_from}
 ghost use Rattle.rambo_run.specs.Steps.{refusal};
 ghost use Rattle.rambo_run.specs.Worlds.{first_world};
 ghost use Rattle.rambo_run.specs.Legal.{EventsFit};
+ghost use Rattle.rambo_node.specs.Steps.{Step};
 
 use crate::nodes::Nodes;
 use rambo_history::History;
 use rambo_letters::Letters;
 use rambo_logs::MergedCounts;
 use rambo_names::{Quorums, Refusal};
-use rambo_node::Effect;
-use rambo_run::{Step, quiet_of};
+use rambo_node::{Effect, quiet_of};
+use rambo_run::Step;
 use rambo_sequence::Mark;
 use rambo_tag::Replica;
 use std::alloc::Global;
@@ -72,7 +73,7 @@ impl<Q: Quorums, S: Replica> State<Q, S> {
             Step::Deliver(number) => match self.letters.get(*number) {
                 Some(sent) => {
                     let letter = &sent.letter;
-                    self.nodes.node(letter.addressee).may_hear_outlined(letter)
+                    self.nodes.node(letter.addressee).may_hear(letter)
                 }
                 None => Err(Refusal::NoSuchLetter),
             },

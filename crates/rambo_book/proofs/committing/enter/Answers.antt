@@ -5,12 +5,11 @@ use Rattle.rambo_node.specs.FullNodes.{beside_after}
 use Rattle.rambo_run.specs.Worlds.{node_at}
 use Rattle.rambo_run.specs.Steps.{turn}
 use Rattle.rambo_names.proofs.Sizes.{up_fits, back_fits}
-use Rattle.rambo_run.specs.Actors.{actor}
+use Rattle.rambo_run.specs.Actors.{actor, sent_by}
 use Rattle.rambo_names.specs.declared.refusal.Refusal.TheVariants.{HistoryFull, OutOfMemory}
-use Rattle.rambo_deeds.specs.Deeds.{letter_of}
+use Rattle.rambo_node.specs.Halves.{letter_of}
 use Rattle.rambo_book.specs.Kept.{BookView, Told, state}
 use Rattle.rambo_run.specs.Runs.{run}
-use Rattle.rambo_run.specs.Actors.{sent_by}
 use Rattle.rambo_mail.specs.Waiting.{MailState, numbers_of}
 use Rattle.rambo_roll.specs.Stocks.{StockView}
 use Rattle.rambo_book.specs.Mailing.{waiting_after}
@@ -25,7 +24,7 @@ use Rattle.rambo_book.proofs.committing.enter.Goals as goal
 
 pub returns-then-len-capacity-clause-same : goal.returns-then-len-capacity-clause-same
 returns-then-len-capacity-clause-same g c =
-    (ap (λ v. viewed c.book.inside.founders v c.book.inside.capacity c.book.inside.ahead c.book.inside.mails) c.agree.ensures.stock ∙ c.book.view_is, (λ i. record { name = c.keeper.inside.name; node = c.keeper.inside.worker.state; room = c.keeper.inside.worker.room; beside = c.keeper.inside.worker.beside; tray = c.keeper.inside.tray.items; seen = (c.agree.ensures.keeper i).1 }) ∙ c.keeper.view_is)
+    (ap (λ v. viewed c.book.inside.founders v c.book.inside.capacity c.book.inside.ahead c.book.inside.mails) c.agree.ensures.stock ∙ c.book.view_is, (λ i. record { name = c.keeper.inside.name; node = c.keeper.inside.node.state; room = c.keeper.inside.node.room; beside = c.keeper.inside.node.beside; tray = c.keeper.inside.tray.items; seen = (c.agree.ensures.keeper i).1 }) ∙ c.keeper.view_is)
 
 pub returns-then-len-capacity-clause-told : goal.returns-then-len-capacity-clause-told
 returns-then-len-capacity-clause-told g c =
@@ -34,7 +33,7 @@ returns-then-len-capacity-clause-told g c =
 
 pub returns-then-at_hand-ahead-clause-same : goal.returns-then-at_hand-ahead-clause-same
 returns-then-at_hand-ahead-clause-same g c =
-    (ap (λ v. viewed c.book.inside.founders v c.book.inside.capacity c.book.inside.ahead c.book.inside.mails) c.agree.ensures.stock ∙ c.book.view_is, (λ i. record { name = c.keeper.inside.name; node = c.keeper.inside.worker.state; room = c.keeper.inside.worker.room; beside = c.keeper.inside.worker.beside; tray = c.keeper.inside.tray.items; seen = (c.agree.ensures.keeper i).1 }) ∙ c.keeper.view_is)
+    (ap (λ v. viewed c.book.inside.founders v c.book.inside.capacity c.book.inside.ahead c.book.inside.mails) c.agree.ensures.stock ∙ c.book.view_is, (λ i. record { name = c.keeper.inside.name; node = c.keeper.inside.node.state; room = c.keeper.inside.node.room; beside = c.keeper.inside.node.beside; tray = c.keeper.inside.tray.items; seen = (c.agree.ensures.keeper i).1 }) ∙ c.keeper.view_is)
 
 pub returns-then-at_hand-ahead-clause-told : goal.returns-then-at_hand-ahead-clause-told
 returns-then-at_hand-ahead-clause-told g c =
@@ -45,8 +44,8 @@ pub add-requires-clause-acts : goal.add-requires-clause-acts
 add-requires-clause-acts g c =
     let s = g.Q.Quorums.system in
     let ready = ready_inside s _ _ _ _ c.args.ready c.book.view_is c.keeper.view_is c.requires in
-    let step = half_here (whole_book c.book.invariant.0) c.keeper.invariant c.agree.ensures.idle c.args.ready.step c.keeper.inside.worker.room c.keeper.inside.tray.items c.keeper.inside.holder.1 c.args.ready.half ready (option_copied c.as_ref.result) c.as_ref.ensures.value in
-    let done = finished_here (whole_book c.book.invariant.0) c.keeper.invariant c.agree.ensures.idle c.args.ready.step c.keeper.inside.worker.room c.keeper.inside.tray.items c.keeper.inside.holder.1 c.args.ready.half ready (option_copied c.as_ref.result) c.as_ref.ensures.value c.finish-effect.new.worker c.finish-effect.result (c.finish-effect.ensures.node ready.act step) (c.finish-effect.ensures.beside ready.act step) (c.finish-effect.ensures.effect ready.act _ step (sent_room c.book.invariant.0 c.make_room.ensures.same.1)) in
+    let step = half_here (whole_book c.book.invariant.0) c.keeper.invariant c.agree.ensures.idle c.args.ready.step c.keeper.inside.node.room c.keeper.inside.tray.items c.keeper.inside.holder.1 c.args.ready.half ready (option_copied c.as_ref.result) c.as_ref.ensures.value in
+    let done = finished_here (whole_book c.book.invariant.0) c.keeper.invariant c.agree.ensures.idle c.args.ready.step c.keeper.inside.node.room c.keeper.inside.tray.items c.keeper.inside.holder.1 c.args.ready.half ready (option_copied c.as_ref.result) c.as_ref.ensures.value c.finish-effect.new.node c.finish-effect.result (c.finish-effect.ensures.node ready.act step) (c.finish-effect.ensures.beside ready.act step) (c.finish-effect.ensures.effect ready.act _ step (sent_room c.book.invariant.0 c.make_room.ensures.same.1)) in
     ap (λ l. actor l c.args.ready.step) (still_all _ _ _ c.agree.ensures.stock c.make_room.ensures.same.0) ∙ done.acts ∙ sym c.keeper.invariant.named ∙ sym (ap (λ h. h.0) c.agree.ensures.keeper)
 
 pub add-requires-clause-room : goal.add-requires-clause-room
@@ -62,8 +61,8 @@ pub finish-effect-requires : goal.finish-effect-requires
 finish-effect-requires g c =
     let s = g.Q.Quorums.system in
     let ready = ready_inside s _ _ _ _ c.args.ready c.book.view_is c.keeper.view_is c.requires in
-    let step = half_here (whole_book c.book.invariant.0) c.keeper.invariant c.agree.ensures.idle c.args.ready.step c.keeper.inside.worker.room c.keeper.inside.tray.items c.keeper.inside.holder.1 c.args.ready.half ready (option_copied c.as_ref.result) c.as_ref.ensures.value in
-    let done = finished_here (whole_book c.book.invariant.0) c.keeper.invariant c.agree.ensures.idle c.args.ready.step c.keeper.inside.worker.room c.keeper.inside.tray.items c.keeper.inside.holder.1 c.args.ready.half ready (option_copied c.as_ref.result) c.as_ref.ensures.value (record { state = (made_by c.keeper.inside.worker.state ready.act).node; room = c.keeper.inside.worker.room; beside = beside_after c.keeper.inside.worker.state c.keeper.inside.worker.beside ready.act }) _ refl refl refl in
+    let step = half_here (whole_book c.book.invariant.0) c.keeper.invariant c.agree.ensures.idle c.args.ready.step c.keeper.inside.node.room c.keeper.inside.tray.items c.keeper.inside.holder.1 c.args.ready.half ready (option_copied c.as_ref.result) c.as_ref.ensures.value in
+    let done = finished_here (whole_book c.book.invariant.0) c.keeper.invariant c.agree.ensures.idle c.args.ready.step c.keeper.inside.node.room c.keeper.inside.tray.items c.keeper.inside.holder.1 c.args.ready.half ready (option_copied c.as_ref.result) c.as_ref.ensures.value (record { state = (made_by c.keeper.inside.node.state ready.act).node; room = c.keeper.inside.node.room; beside = beside_after c.keeper.inside.node.state c.keeper.inside.node.beside ready.act }) _ refl refl refl in
     let room = c.in-Ok.ensures.room in
     let less : length c.book.inside.steps.all < c.book.inside.capacity = omega (arith, c.if-len-capacity.false, c.len.ensures, ap (λ (v : StockView _). length v.all) c.agree.ensures.stock) in
     let few = few_room c.book.invariant.0 c.make_room.ensures.same.1 in
@@ -76,8 +75,8 @@ invariant_of-book-2 g c =
     let grew = grown _ _ _ _ c.args.ready.step c.agree.ensures.stock c.make_room.ensures.same.0 c.add.ensures.stock in
     let half = c.args.ready.half in
     let ready = ready_inside s _ _ _ _ c.args.ready c.book.view_is c.keeper.view_is c.requires in
-    let step = half_here (whole_book c.book.invariant.0) c.keeper.invariant c.agree.ensures.idle c.args.ready.step c.keeper.inside.worker.room c.keeper.inside.tray.items c.keeper.inside.holder.1 c.args.ready.half ready (option_copied c.as_ref.result) c.as_ref.ensures.value in
-    let done = finished_here (whole_book c.book.invariant.0) c.keeper.invariant c.agree.ensures.idle c.args.ready.step c.keeper.inside.worker.room c.keeper.inside.tray.items c.keeper.inside.holder.1 c.args.ready.half ready (option_copied c.as_ref.result) c.as_ref.ensures.value c.finish-effect.new.worker c.finish-effect.result (c.finish-effect.ensures.node ready.act step) (c.finish-effect.ensures.beside ready.act step) (c.finish-effect.ensures.effect ready.act _ step (sent_room c.book.invariant.0 c.make_room.ensures.same.1)) in
+    let step = half_here (whole_book c.book.invariant.0) c.keeper.invariant c.agree.ensures.idle c.args.ready.step c.keeper.inside.node.room c.keeper.inside.tray.items c.keeper.inside.holder.1 c.args.ready.half ready (option_copied c.as_ref.result) c.as_ref.ensures.value in
+    let done = finished_here (whole_book c.book.invariant.0) c.keeper.invariant c.agree.ensures.idle c.args.ready.step c.keeper.inside.node.room c.keeper.inside.tray.items c.keeper.inside.holder.1 c.args.ready.half ready (option_copied c.as_ref.result) c.as_ref.ensures.value c.finish-effect.new.node c.finish-effect.result (c.finish-effect.ensures.node ready.act step) (c.finish-effect.ensures.beside ready.act step) (c.finish-effect.ensures.effect ready.act _ step (sent_room c.book.invariant.0 c.make_room.ensures.same.1)) in
     let less : length c.book.inside.steps.all < c.book.inside.capacity = omega (arith, c.if-len-capacity.false, c.len.ensures, ap (λ (v : StockView _). length v.all) c.agree.ensures.stock) in
     let old = ap (λ (v : StockView _). v.drawn) c.agree.ensures.stock in
     let all = ap (λ (v : StockView _). length v.all) c.agree.ensures.stock in
@@ -101,8 +100,8 @@ pub invariant_of-keeper-2 : goal.invariant_of-keeper-2
 invariant_of-keeper-2 g c =
     let s = g.Q.Quorums.system in
     let ready = ready_inside s _ _ _ _ c.args.ready c.book.view_is c.keeper.view_is c.requires in
-    let step = half_here (whole_book c.book.invariant.0) c.keeper.invariant c.agree.ensures.idle c.args.ready.step c.keeper.inside.worker.room c.keeper.inside.tray.items c.keeper.inside.holder.1 c.args.ready.half ready (option_copied c.as_ref.result) c.as_ref.ensures.value in
-    let done = finished_here (whole_book c.book.invariant.0) c.keeper.invariant c.agree.ensures.idle c.args.ready.step c.keeper.inside.worker.room c.keeper.inside.tray.items c.keeper.inside.holder.1 c.args.ready.half ready (option_copied c.as_ref.result) c.as_ref.ensures.value c.finish-effect.new.worker c.finish-effect.result (c.finish-effect.ensures.node ready.act step) (c.finish-effect.ensures.beside ready.act step) (c.finish-effect.ensures.effect ready.act _ step (sent_room c.book.invariant.0 c.make_room.ensures.same.1)) in
+    let step = half_here (whole_book c.book.invariant.0) c.keeper.invariant c.agree.ensures.idle c.args.ready.step c.keeper.inside.node.room c.keeper.inside.tray.items c.keeper.inside.holder.1 c.args.ready.half ready (option_copied c.as_ref.result) c.as_ref.ensures.value in
+    let done = finished_here (whole_book c.book.invariant.0) c.keeper.invariant c.agree.ensures.idle c.args.ready.step c.keeper.inside.node.room c.keeper.inside.tray.items c.keeper.inside.holder.1 c.args.ready.half ready (option_copied c.as_ref.result) c.as_ref.ensures.value c.finish-effect.new.node c.finish-effect.result (c.finish-effect.ensures.node ready.act step) (c.finish-effect.ensures.beside ready.act step) (c.finish-effect.ensures.effect ready.act _ step (sent_room c.book.invariant.0 c.make_room.ensures.same.1)) in
     let less : length c.book.inside.steps.all < c.book.inside.capacity = omega (arith, c.if-len-capacity.false, c.len.ensures, ap (λ (v : StockView _). length v.all) c.agree.ensures.stock) in
     keeper_after (whole_book c.book.invariant.0) c.keeper.invariant c.agree.ensures.idle c.args.ready.step done c.add.new.keeper.0 c.add.new.keeper.1 less
     (ap (λ h. h.0) c.add.ensures.keeper ∙ ap (λ h. h.0) c.agree.ensures.keeper)
@@ -112,8 +111,8 @@ pub returns-clause-effect : goal.returns-clause-effect
 returns-clause-effect g c =
     let s = g.Q.Quorums.system in
     let ready = ready_inside s _ _ _ _ c.args.ready c.book.view_is c.keeper.view_is c.requires in
-    let step = half_here (whole_book c.book.invariant.0) c.keeper.invariant c.agree.ensures.idle c.args.ready.step c.keeper.inside.worker.room c.keeper.inside.tray.items c.keeper.inside.holder.1 c.args.ready.half ready (option_copied c.as_ref.result) c.as_ref.ensures.value in
-    let done = finished_here (whole_book c.book.invariant.0) c.keeper.invariant c.agree.ensures.idle c.args.ready.step c.keeper.inside.worker.room c.keeper.inside.tray.items c.keeper.inside.holder.1 c.args.ready.half ready (option_copied c.as_ref.result) c.as_ref.ensures.value c.finish-effect.new.worker c.finish-effect.result (c.finish-effect.ensures.node ready.act step) (c.finish-effect.ensures.beside ready.act step) (c.finish-effect.ensures.effect ready.act _ step (sent_room c.book.invariant.0 c.make_room.ensures.same.1)) in
+    let step = half_here (whole_book c.book.invariant.0) c.keeper.invariant c.agree.ensures.idle c.args.ready.step c.keeper.inside.node.room c.keeper.inside.tray.items c.keeper.inside.holder.1 c.args.ready.half ready (option_copied c.as_ref.result) c.as_ref.ensures.value in
+    let done = finished_here (whole_book c.book.invariant.0) c.keeper.invariant c.agree.ensures.idle c.args.ready.step c.keeper.inside.node.room c.keeper.inside.tray.items c.keeper.inside.holder.1 c.args.ready.half ready (option_copied c.as_ref.result) c.as_ref.ensures.value c.finish-effect.new.node c.finish-effect.result (c.finish-effect.ensures.node ready.act step) (c.finish-effect.ensures.beside ready.act step) (c.finish-effect.ensures.effect ready.act _ step (sent_room c.book.invariant.0 c.make_room.ensures.same.1)) in
     done.effect ∙ ap (λ b. (turn (state s b) c.args.ready.step).effect) c.book.view_is
 
 pub returns-clause-book : goal.returns-clause-book
@@ -145,8 +144,8 @@ returns-clause-waiting g c =
     let n = c.sent.result in
     let posted = c.post.ensures (same_to p.to m.ready (sent_by c.args.ready.step) c.new-posting.ensures.to c.in-Ok.ensures.ready) in
     let ready = ready_inside s _ _ _ _ c.args.ready c.book.view_is c.keeper.view_is c.requires in
-    let step = half_here (whole_book c.book.invariant.0) c.keeper.invariant c.agree.ensures.idle c.args.ready.step c.keeper.inside.worker.room c.keeper.inside.tray.items c.keeper.inside.holder.1 c.args.ready.half ready (option_copied c.as_ref.result) c.as_ref.ensures.value in
-    let done = finished_here (whole_book c.book.invariant.0) c.keeper.invariant c.agree.ensures.idle c.args.ready.step c.keeper.inside.worker.room c.keeper.inside.tray.items c.keeper.inside.holder.1 c.args.ready.half ready (option_copied c.as_ref.result) c.as_ref.ensures.value c.finish-effect.new.worker c.finish-effect.result (c.finish-effect.ensures.node ready.act step) (c.finish-effect.ensures.beside ready.act step) (c.finish-effect.ensures.effect ready.act _ step (sent_room c.book.invariant.0 c.make_room.ensures.same.1)) in
+    let step = half_here (whole_book c.book.invariant.0) c.keeper.invariant c.agree.ensures.idle c.args.ready.step c.keeper.inside.node.room c.keeper.inside.tray.items c.keeper.inside.holder.1 c.args.ready.half ready (option_copied c.as_ref.result) c.as_ref.ensures.value in
+    let done = finished_here (whole_book c.book.invariant.0) c.keeper.invariant c.agree.ensures.idle c.args.ready.step c.keeper.inside.node.room c.keeper.inside.tray.items c.keeper.inside.holder.1 c.args.ready.half ready (option_copied c.as_ref.result) c.as_ref.ensures.value c.finish-effect.new.node c.finish-effect.result (c.finish-effect.ensures.node ready.act step) (c.finish-effect.ensures.beside ready.act step) (c.finish-effect.ensures.effect ready.act _ step (sent_room c.book.invariant.0 c.make_room.ensures.same.1)) in
     let mid = passed c.book.inside.letters c.make_room.new.letters c.finish-effect.new.letters c.leave_out_copies.new.self (letter_of c.args.ready.half) c.delivered-came.result c.make_room.ensures.same.1 c.finish-effect.ensures.letters c.finish-effect.ensures.window.0 c.finish-effect.ensures.window.1 c.leave_out_copies.ensures in
     let steps = (grown _ _ _ _ c.args.ready.step c.agree.ensures.stock c.make_room.ensures.same.0 c.add.ensures.stock).all in
     let sent = (λ i. c.trim.ensures.gone i + length (c.trim.ensures.kept i)) ∙ count_after c.book.invariant.0 c.keeper.invariant c.agree.ensures.idle c.args.ready.step done c.leave_out_copies.new.self c.delivered-came.result c.delivered-came.ensures mid.gone mid.window mid.kept in
@@ -160,15 +159,15 @@ returns-clause-waiting g c =
 pub returns-clause-keeper : goal.returns-clause-keeper
 returns-clause-keeper g c =
     let seen = ap (λ h. h.1) c.add.ensures.keeper ∙ ap (λ l. l ++ c.args.ready.step ∷ []) (still_all _ _ _ c.agree.ensures.stock c.make_room.ensures.same.0) ∙ ap (λ (b : BookView _). b.steps ++ c.args.ready.step ∷ []) c.book.view_is in
-    λ i. record { name = (c.keeper.view_is i).name; node = c.finish-effect.new.worker.state; room = c.finish-effect.new.worker.room; beside = c.finish-effect.new.worker.beside; tray = (c.keeper.view_is i).tray; seen = seen i }
+    λ i. record { name = (c.keeper.view_is i).name; node = c.finish-effect.new.node.state; room = c.finish-effect.new.node.room; beside = c.finish-effect.new.node.beside; tray = (c.keeper.view_is i).tray; seen = seen i }
 
 pub returns-clause-node : goal.returns-clause-node
 returns-clause-node g c =
     let s = g.Q.Quorums.system in
     let grew = grown _ _ _ _ c.args.ready.step c.agree.ensures.stock c.make_room.ensures.same.0 c.add.ensures.stock in
     let ready = ready_inside s _ _ _ _ c.args.ready c.book.view_is c.keeper.view_is c.requires in
-    let step = half_here (whole_book c.book.invariant.0) c.keeper.invariant c.agree.ensures.idle c.args.ready.step c.keeper.inside.worker.room c.keeper.inside.tray.items c.keeper.inside.holder.1 c.args.ready.half ready (option_copied c.as_ref.result) c.as_ref.ensures.value in
-    let done = finished_here (whole_book c.book.invariant.0) c.keeper.invariant c.agree.ensures.idle c.args.ready.step c.keeper.inside.worker.room c.keeper.inside.tray.items c.keeper.inside.holder.1 c.args.ready.half ready (option_copied c.as_ref.result) c.as_ref.ensures.value c.finish-effect.new.worker c.finish-effect.result (c.finish-effect.ensures.node ready.act step) (c.finish-effect.ensures.beside ready.act step) (c.finish-effect.ensures.effect ready.act _ step (sent_room c.book.invariant.0 c.make_room.ensures.same.1)) in
+    let step = half_here (whole_book c.book.invariant.0) c.keeper.invariant c.agree.ensures.idle c.args.ready.step c.keeper.inside.node.room c.keeper.inside.tray.items c.keeper.inside.holder.1 c.args.ready.half ready (option_copied c.as_ref.result) c.as_ref.ensures.value in
+    let done = finished_here (whole_book c.book.invariant.0) c.keeper.invariant c.agree.ensures.idle c.args.ready.step c.keeper.inside.node.room c.keeper.inside.tray.items c.keeper.inside.holder.1 c.args.ready.half ready (option_copied c.as_ref.result) c.as_ref.ensures.value c.finish-effect.new.node c.finish-effect.result (c.finish-effect.ensures.node ready.act step) (c.finish-effect.ensures.beside ready.act step) (c.finish-effect.ensures.effect ready.act _ step (sent_room c.book.invariant.0 c.make_room.ensures.same.1)) in
     (λ i. node_at (state s (record { founders = c.book.inside.founders; steps = grew.all i; drawn = c.add.new.self.drawn; capacity = c.book.inside.capacity; ahead = c.book.inside.ahead; waiting = numbers_of c.post.new.self.waiting; lose = c.post.new.self.lose; twice = c.post.new.self.twice })) (sym c.keeper.view_is i).name) ∙ done.node
 
 pub returns-clause-room : goal.returns-clause-room

@@ -1,6 +1,7 @@
 use Rattle.std.proofs.lemmas.Grind.{common_steps}
 use Rattle.std.proofs.Common.{◌∙◌, ◌<◌, ◌≤◌, false, length, refl, sym, ap, subst, arith}
-use Rattle.rambo_run.specs.Steps.{refusal, meant_by}
+use Rattle.rambo_node.specs.Acts.{meant_by}
+use Rattle.rambo_run.specs.Steps.{refusal}
 use Rattle.rambo_names.proofs.Sizes.{up_fits, back_fits}
 use Rattle.std.specs.Option.{option_copied}
 use Rattle.rambo_roll.specs.Stocks.{StockView}
@@ -13,7 +14,7 @@ use Rattle.rambo_book.proofs.committing.judge.Goals as goal
 
 pub returns-in-Err-clause-same : goal.returns-in-Err-clause-same
 returns-in-Err-clause-same g c =
-    (ap (λ v. viewed c.book.inside.founders v c.book.inside.capacity c.book.inside.ahead c.book.inside.mails) c.agree.ensures.stock ∙ c.book.view_is, (λ i. record { name = c.keeper.inside.name; node = c.keeper.inside.worker.state; room = c.keeper.inside.worker.room; beside = c.keeper.inside.worker.beside; tray = c.keeper.inside.tray.items; seen = (c.agree.ensures.keeper i).1 }) ∙ c.keeper.view_is)
+    (ap (λ v. viewed c.book.inside.founders v c.book.inside.capacity c.book.inside.ahead c.book.inside.mails) c.agree.ensures.stock ∙ c.book.view_is, (λ i. record { name = c.keeper.inside.name; node = c.keeper.inside.node.state; room = c.keeper.inside.node.room; beside = c.keeper.inside.node.beside; tray = c.keeper.inside.tray.items; seen = (c.agree.ensures.keeper i).1 }) ∙ c.keeper.view_is)
 
 pub returns-in-Err-clause-told : goal.returns-in-Err-clause-told
 returns-in-Err-clause-told g c =
@@ -26,7 +27,7 @@ returns-in-Err-clause-told g c =
 
 pub returns-then-len-book-clause-same : goal.returns-then-len-book-clause-same
 returns-then-len-book-clause-same g c =
-    (ap (λ v. viewed c.book.inside.founders v c.book.inside.capacity c.book.inside.ahead c.book.inside.mails) c.agree.ensures.stock ∙ c.book.view_is, (λ i. record { name = c.keeper.inside.name; node = c.keeper.inside.worker.state; room = c.keeper.inside.worker.room; beside = c.keeper.inside.worker.beside; tray = c.keeper.inside.tray.items; seen = (c.agree.ensures.keeper i).1 }) ∙ c.keeper.view_is)
+    (ap (λ v. viewed c.book.inside.founders v c.book.inside.capacity c.book.inside.ahead c.book.inside.mails) c.agree.ensures.stock ∙ c.book.view_is, (λ i. record { name = c.keeper.inside.name; node = c.keeper.inside.node.state; room = c.keeper.inside.node.room; beside = c.keeper.inside.node.beside; tray = c.keeper.inside.tray.items; seen = (c.agree.ensures.keeper i).1 }) ∙ c.keeper.view_is)
 
 pub returns-then-len-book-clause-told : goal.returns-then-len-book-clause-told
 returns-then-len-book-clause-told g c =
@@ -43,7 +44,7 @@ judge-requires g c = back_fits _ _ _ (up_fits _ _ _ c.requires-raw.1.1.1.0)
 
 pub returns-clause-same : goal.returns-clause-same
 returns-clause-same g c =
-    (ap (λ v. viewed c.book.inside.founders v c.book.inside.capacity c.book.inside.ahead c.book.inside.mails) c.agree.ensures.stock ∙ c.book.view_is, (λ i. record { name = c.keeper.inside.name; node = c.keeper.inside.worker.state; room = c.keeper.inside.worker.room; beside = c.keeper.inside.worker.beside; tray = c.keeper.inside.tray.items; seen = (c.agree.ensures.keeper i).1 }) ∙ c.keeper.view_is)
+    (ap (λ v. viewed c.book.inside.founders v c.book.inside.capacity c.book.inside.ahead c.book.inside.mails) c.agree.ensures.stock ∙ c.book.view_is, (λ i. record { name = c.keeper.inside.name; node = c.keeper.inside.node.state; room = c.keeper.inside.node.room; beside = c.keeper.inside.node.beside; tray = c.keeper.inside.tray.items; seen = (c.agree.ensures.keeper i).1 }) ∙ c.keeper.view_is)
 
 pub returns-clause-legal : goal.returns-clause-legal
 returns-clause-legal g c =
@@ -59,7 +60,7 @@ returns-clause-room g c =
     subst (λ (b : BookView _). length b.steps < b.capacity) c.book.view_is less
 
 pub returns-in-Err-clause-memory : goal.returns-in-Err-clause-memory
-returns-in-Err-clause-memory g c = refused_never_memory g.Q.Quorums.system c.keeper.inside.worker.state (meant_by (option_copied c.named-letter.result) c.args.step.now) c.in-Err.refusal c.in-Err.ensures.refused
+returns-in-Err-clause-memory g c = refused_never_memory g.Q.Quorums.system c.keeper.inside.node.state (meant_by (option_copied c.named-letter.result) c.args.step.now) c.in-Err.refusal c.in-Err.ensures.refused
 
 pub invariant_of-book : goal.invariant_of-book
 invariant_of-book g c = (still_book c.agree.new.self c.book.invariant.0 c.agree.ensures.stock, c.book.invariant.1, c.book.invariant.2)

@@ -17,7 +17,7 @@ invariant_of-keeper g c =
     let k = c.keeper.invariant in
     let idle = c.agree.ensures.idle in
     let all : c.catch_up.new.keeper.1 ≡ c.book.inside.steps.all = ap (λ h. h.1) c.catch_up.ensures.keeper ∙ ap (λ (v : StockView _). v.all) c.agree.ensures.stock in
-    let w = c.keeper.inside.worker in
+    let w = c.keeper.inside.node in
     let node : FullNode _ = record { state = w.state; stamps = w.beside.stamps; bases = w.beside.bases } in
     kept_on s g.J.Terms.founders g.J.Terms.capacity c.book.inside.founders c.keeper.inside.holder.0 c.catch_up.new.keeper.0 c.keeper.inside.name node node c.keeper.inside.tray.items c.keeper.inside.holder.1 c.catch_up.new.keeper.1
     b.founded k (ap (λ h. h.0) c.catch_up.ensures.keeper ∙ ap (λ h. h.0) c.agree.ensures.keeper)

@@ -1,8 +1,8 @@
 use Rattle.std.proofs.Common.{◌≡◌, Bool, not, nat_eq, eqb-true, true, false, refl, Some, [], ◌∷◌, ◌++◌, sym, ap, ◌∙◌, subst}
 use Rattle.std.proofs.lemmas.Bool.{not-false}
-use Rattle.rambo_gossip.specs.declared.letter.Letter.{Letter}
+use Rattle.rambo_gossip.specs.Letters.{LetterState}
 use Rattle.rambo_run.specs.Runs.{run}
-use Rattle.rambo_deeds.specs.declared.mail.Mail.{Mail}
+use Rattle.rambo_mail.specs.declared.mail.Mail.{Mail}
 use Rattle.rambo_book.specs.Kept.{BookView, KeeperView, state}
 use Rattle.rambo_book.specs.Mailing.{goes_to, sent_to, IsBehind}
 use Rattle.rambo_book.proofs.Taking.{nothing_behind}
@@ -19,7 +19,7 @@ invariant_of-keeper-2 g c =
     let v = c.book.inside.letters in
     let inside = within_all w v _ c.book.invariant.0.gone in
     let there = kept_is w v inside c.args.entry.number c.in_ok-letter.letter (sym c.in-Some.ensures ∙ ap Some (sym c.in_ok-letter.ensures.same)) in
-    let own = ap (λ (l : Letter _). l.addressee) c.in_ok-letter.ensures.same ∙ sym c.addressee.ensures ∙ eqb-true c.addressee.result c.keeper.inside.name (not-false (nat_eq c.addressee.result c.keeper.inside.name) (sym c.ne.ensures ∙ c.if-ne.false)) in
+    let own = ap (λ (l : LetterState _). l.addressee) c.in_ok-letter.ensures.same ∙ sym c.addressee.ensures ∙ eqb-true c.addressee.result c.keeper.inside.name (not-false (nat_eq c.addressee.result c.keeper.inside.name) (sym c.ne.ensures ∙ c.if-ne.false)) in
     tray_more (whole_book c.book.invariant.0) c.keeper.invariant same c.args.entry.number c.args.entry.asks c.in_ok-letter.letter c.push_reserved.new.self.items there own
     (c.push_reserved.ensures.items ∙ ap (λ tray. tray ++ record { number = c.args.entry.number; asks = c.args.entry.asks; letter = c.in_ok-letter.letter } ∷ []) c.in_ok-reserve.ensures.items)
 

@@ -1,5 +1,5 @@
 use Rattle.std.proofs.Common.{◌++◌, ◌∷◌, [], ◌∙◌, append-nil, slice_get, sym, ap}
-use Rattle.rambo_letters.specs.Shared.{standing_of}
+use Rattle.rambo_gossip.specs.Outlines.{standing_of}
 use Rattle.rambo_letters.proofs.Sharing.{get_last}
 use Rattle.rambo_letters.proofs.letters.added.Goals as goal
 

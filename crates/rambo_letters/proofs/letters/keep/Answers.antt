@@ -1,11 +1,12 @@
 use Rattle.std.proofs.Common.{◌∙◌, [], true, append-nil, sym, ap}
 use Rattle.std.specs.Option.{option_map}
 use Rattle.std.proofs.lemmas.Option.{slice_get_within}
-use Rattle.rambo_gossip.specs.Outlines.{outlined}
-use Rattle.rambo_gossip.specs.declared.letter.Kind.{Kind}
+use Rattle.rambo_gossip.specs.Outlines.{outlined, standing_of}
+use Rattle.rambo_gossip.specs.Kinds.{Kind}
 use Rattle.rambo_letters.specs.declared.sent.Sent.{Sent}
-use Rattle.rambo_letters.specs.Kept.{SentState, kind_of}
-use Rattle.rambo_letters.specs.Shared.{gossip_with, standing_of}
+use Rattle.rambo_gossip.specs.Letters.{kind_of}
+use Rattle.rambo_letters.specs.Kept.{SentState}
+use Rattle.rambo_letters.specs.Shared.{gossip_with}
 use Rattle.rambo_names.proofs.Errors.{err_if_ok}
 use Rattle.rambo_letters.proofs.letters.keep.Goals as goal
 

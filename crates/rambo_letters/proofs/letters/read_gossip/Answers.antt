@@ -1,7 +1,7 @@
 use Rattle.std.proofs.Common.{None, if◌then◌else◌, length, slice_get, refl, sym, ap, ◌∙◌}
 use Rattle.std.specs.Option.{option_map}
 use Rattle.std.proofs.lemmas.Option.{slice_get_read, slice_get_past}
-use Rattle.rambo_letters.specs.Kept.{kind_of}
+use Rattle.rambo_gossip.specs.Letters.{kind_of}
 use Rattle.rambo_letters.specs.Shared.{gossip_with}
 use Rattle.rambo_letters.proofs.Sharing.{told, not_told}
 use Rattle.rambo_letters.proofs.letters.read_gossip.Goals as goal

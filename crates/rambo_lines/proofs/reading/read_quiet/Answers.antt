@@ -1,7 +1,7 @@
 use Rattle.std.specs.FinSet.{empty}
 use Rattle.std.proofs.Common.{rules}
 use Rattle.rambo_names.specs.Weights.{evenly}
-use Rattle.rambo_run.specs.declared.step.Step.TheVariants as step
+use Rattle.rambo_node.specs.declared.step.StepOf.TheVariants as step
 use Rattle.rambo_lines.proofs.Fitting.{is_word, step_fault}
 use Rattle.rambo_lines.proofs.reading.read_quiet.Goals as goal
 

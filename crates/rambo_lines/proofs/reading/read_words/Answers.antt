@@ -2,7 +2,7 @@ use Rattle.std.proofs.Common.{rules, []}
 use Rattle.std.proofs.lemmas.Result.{IfErr-weaker}
 use Rattle.rambo_names.proofs.Errors.{err_kept}
 use Rattle.rambo_history.specs.declared.operation.Op.TheVariants as op
-use Rattle.rambo_run.specs.declared.step.Step.TheVariants as step
+use Rattle.rambo_node.specs.declared.step.StepOf.TheVariants as step
 use Rattle.rambo_lines.proofs.Fitting.{BeginsNone, is_word, step_fault, call_fault, other_fault}
 use Rattle.rambo_lines.proofs.reading.read_words.Goals as goal
 

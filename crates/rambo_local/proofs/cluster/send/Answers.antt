@@ -1,5 +1,5 @@
 use Rattle.std.proofs.Common.{◌+◌, [], ◌∷◌, refl, ap, ◌∙◌}
-use Rattle.rambo_run.specs.declared.step.Step.TheVariants as step
+use Rattle.rambo_node.specs.declared.step.StepOf.TheVariants as step
 use Rattle.rambo_client.specs.Courses.{lettered}
 use Rattle.rambo_client.proofs.Beginnings.{begins-itself, begins-lettered, ends_early}
 use Rattle.rambo_local.specs.Clusters.{history_of, took_by}

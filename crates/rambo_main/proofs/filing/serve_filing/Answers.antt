@@ -2,7 +2,7 @@ use Rattle.std.proofs.Common.{◌≡◌, ℕ, List, Option, None, Some, if◌the
 use Rattle.std.specs.Prelude.{IsErr, OnErr}
 use Rattle.std.proofs.lemmas.Result.{IfErr-at_err, IfOk-at_ok}
 use Rattle.rambo_names.specs.Weights.{Weights, weighted_majorities}
-use Rattle.rambo_run.specs.declared.step.Step.{Step}
+use Rattle.rambo_node.specs.Steps.{Step}
 use Rattle.rambo_run.specs.Legal.{IsLegal}
 use Rattle.rambo_scribe.specs.Traced.{HasWritten, taken_by}
 use Rattle.rambo_lasting.specs.Resumings.{Resumes, Unresumed}

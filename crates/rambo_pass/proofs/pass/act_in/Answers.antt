@@ -114,3 +114,7 @@ returns-clause-last g c = grind (arith, common_steps)
 
 pub returns-in_default-commit-clause-memory : goal.returns-in_default-commit-clause-memory
 returns-in_default-commit-clause-memory g c = grind (arith, common_steps)
+
+pub returns-clause-there : goal.returns-clause-there
+returns-clause-there g c =
+    subst (λ b. delivers_gone (gone_of g.J.Terms.endless g.J.Terms.capacity (state g.Q.Quorums.system b)) c.args.step ≡ false) c.begun-place.ensures.book c.in_default.ensures.there

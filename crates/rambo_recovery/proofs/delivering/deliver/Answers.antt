@@ -1,8 +1,8 @@
 use Rattle.std.proofs.Common.{◌<◌, length, slice_get, sym, ap, ◌∙◌, subst, inr, arith}
 use Rattle.std.proofs.lemmas.Option.{slice_get_read}
 use Rattle.rambo_names.proofs.Sizes.{back_fits, up_fits, variant_fits}
-use Rattle.rambo_run.specs.declared.step.Step.TheVariants as step
-use Rattle.rambo_run.specs.Steps.{delivery}
+use Rattle.rambo_node.specs.declared.step.StepOf.TheVariants as step
+use Rattle.rambo_node.specs.Acts.{delivery}
 use Rattle.rambo_run.proofs.Lists.{none-some}
 use Rattle.rambo_book.specs.Kept.{IsServedBy, state}
 use Rattle.rambo_recovery.specs.Recoveries.{IsInSome}

@@ -1,7 +1,7 @@
 use Rattle.std.proofs.Common.{None, length, ap, sym, subst}
 use Rattle.rambo_names.specs.Refusals.{IsRefusal}
-use Rattle.rambo_run.specs.declared.step.Step.TheVariants as step
-use Rattle.rambo_run.specs.Kinds.{delivered_by}
+use Rattle.rambo_node.specs.declared.step.StepOf.TheVariants as step
+use Rattle.rambo_node.specs.Steps.{delivered_by}
 use Rattle.rambo_run.specs.Runs.{run}
 use Rattle.rambo_run.specs.Steps.{refusal}
 use Rattle.rambo_run.proofs.Lists.{some_inj}

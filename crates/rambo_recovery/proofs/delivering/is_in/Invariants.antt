@@ -1,5 +1,5 @@
 use Rattle.std.proofs.Common.{◌≡◌, ◌<◌, ℕ, Some, slice_get}
-use Rattle.rambo_deeds.specs.declared.mail.Mail.{Mail}
+use Rattle.rambo_mail.specs.declared.mail.Mail.{Mail}
 use Rattle.rambo_recovery.proofs.delivering.is_in.Given as goal
 
 abbrev pub invariant-loop-place : goal.invariant-loop-place

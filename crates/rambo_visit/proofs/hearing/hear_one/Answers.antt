@@ -1,6 +1,6 @@
 use Rattle.std.proofs.Common.{length, slice_get, refl, sym, ap, ◌∙◌}
 use Rattle.std.proofs.lemmas.Option.{slice_get_read}
-use Rattle.rambo_deeds.specs.declared.mail.Mail.{Mail}
+use Rattle.rambo_mail.specs.declared.mail.Mail.{Mail}
 use Rattle.rambo_outbox.specs.Outboxes.{heard_by}
 use Rattle.rambo_run.proofs.Lists.{some_inj}
 use Rattle.rambo_visit.proofs.Visits.{no_letter, same_number}

@@ -1,13 +1,8 @@
 use Rattle.rambo_names.proofs.Sizes.{up_fits, back_fits}
 use Rattle.rambo_visit.proofs.opening.calls_of.Goals as goal
 
-pub worker-requires : goal.worker-requires
-worker-requires g c = (c.requires-raw.1.1.1.0, back_fits _ _ _ (up_fits _ _ _ c.requires-raw.1.1.1.0))
-
 pub node-requires : goal.node-requires
-node-requires g c =
-    let worker = back_fits _ _ _ (up_fits _ _ _ c.requires-raw.1.1.1.0) in
-    (worker, back_fits _ _ _ (up_fits _ _ _ worker))
+node-requires g c = (c.requires-raw.1.1.1.0, back_fits _ _ _ (up_fits _ _ _ c.requires-raw.1.1.1.0))
 
 pub calls-requires : goal.calls-requires
-calls-requires g c = (back_fits _ _ _ (up_fits _ _ _ (back_fits _ _ _ (up_fits _ _ _ c.requires-raw.1.1.1.0))), c.requires-raw.1.1.1.1)
+calls-requires g c = (back_fits _ _ _ (up_fits _ _ _ c.requires-raw.1.1.1.0), c.requires-raw.1.1.1.1)

@@ -6,45 +6,40 @@ use Rattle.rambo_visit.specs.Open.{reach_of, is_joining, number_in, stage_in, ca
 use Rattle.rambo_visit.proofs.Visits.{numbers_are}
 use Rattle.rambo_visit.proofs.opening.opened.Goals as goal
 
-pub worker-requires : goal.worker-requires
-worker-requires g c = let keeper = c.requires-raw.1.1.1 in (keeper, back_fits _ _ _ (up_fits _ _ _ keeper))
-
 pub node-node-requires : goal.node-node-requires
-node-node-requires g c =
-    let worker = back_fits _ _ _ (up_fits _ _ _ c.requires-raw.1.1.1) in
-    (worker, back_fits _ _ _ (up_fits _ _ _ worker))
+node-node-requires g c = let keeper = c.requires-raw.1.1.1 in (keeper, back_fits _ _ _ (up_fits _ _ _ keeper))
 
 pub name-requires : goal.name-requires
-name-requires g c = back_fits _ _ _ (up_fits _ _ _ (back_fits _ _ _ (up_fits _ _ _ c.requires-raw.1.1.1)))
+name-requires g c = back_fits _ _ _ (up_fits _ _ _ c.requires-raw.1.1.1)
 
 pub status-requires : goal.status-requires
-status-requires g c = back_fits _ _ _ (up_fits _ _ _ (back_fits _ _ _ (up_fits _ _ _ c.requires-raw.1.1.1)))
+status-requires g c = back_fits _ _ _ (up_fits _ _ _ c.requires-raw.1.1.1)
 
 pub known-requires : goal.known-requires
-known-requires g c = back_fits _ _ _ (up_fits _ _ _ (back_fits _ _ _ (up_fits _ _ _ c.requires-raw.1.1.1)))
+known-requires g c = back_fits _ _ _ (up_fits _ _ _ c.requires-raw.1.1.1)
 
 pub status-requires-2 : goal.status-requires-2
-status-requires-2 g c = back_fits _ _ _ (up_fits _ _ _ (back_fits _ _ _ (up_fits _ _ _ c.requires-raw.1.1.1)))
+status-requires-2 g c = back_fits _ _ _ (up_fits _ _ _ c.requires-raw.1.1.1)
 
 pub calls-requires : goal.calls-requires
 calls-requires g c =
-    let node = back_fits _ _ _ (up_fits _ _ _ (back_fits _ _ _ (up_fits _ _ _ c.requires-raw.1.1.1))) in
+    let node = back_fits _ _ _ (up_fits _ _ _ c.requires-raw.1.1.1) in
     (node, variant_fits _ _ _ _ (back_fits _ _ _ (up_fits _ _ _ (back_fits _ _ _ (next _ _ _ _ (up_fits _ _ _ node))))))
 
 pub collection-requires : goal.collection-requires
-collection-requires g c = back_fits _ _ _ (up_fits _ _ _ (back_fits _ _ _ (up_fits _ _ _ c.requires-raw.1.1.1)))
+collection-requires g c = back_fits _ _ _ (up_fits _ _ _ c.requires-raw.1.1.1)
 
 pub attempt-requires : goal.attempt-requires
-attempt-requires g c = back_fits _ _ _ (up_fits _ _ _ (back_fits _ _ _ (up_fits _ _ _ c.requires-raw.1.1.1)))
+attempt-requires g c = back_fits _ _ _ (up_fits _ _ _ c.requires-raw.1.1.1)
 
 pub map-requires : goal.map-requires
 map-requires g c =
-    let node = back_fits _ _ _ (up_fits _ _ _ (back_fits _ _ _ (up_fits _ _ _ c.requires-raw.1.1.1))) in
+    let node = back_fits _ _ _ (up_fits _ _ _ c.requires-raw.1.1.1) in
     (node, back_fits _ _ _ (up_fits _ _ _ node))
 
 pub returns : goal.returns
 returns g c =
-    let is = c.node-node.ensures ∙ c.worker.ensures in
+    let is = c.node-node.ensures in
     let me = c.name.ensures ∙ ap (λ (v : RoomyNode _). v.state.name) is in
     let status = c.status.ensures ∙ ap (λ (v : RoomyNode _). v.state.status) is in
     let known = c.known.ensures ∙ ap (λ (v : RoomyNode _). v.state.known) is in

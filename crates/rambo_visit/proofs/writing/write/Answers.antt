@@ -1,5 +1,5 @@
 use Rattle.std.proofs.Common.{sym, ap, ◌∙◌}
-use Rattle.rambo_run.specs.Steps.{Meant}
+use Rattle.rambo_node.specs.Acts.{Meant}
 use Rattle.rambo_run.proofs.Lists.{some_inj}
 use Rattle.rambo_visit.proofs.Happenings.{no_room}
 use Rattle.rambo_visit.proofs.writing.write.Goals as goal

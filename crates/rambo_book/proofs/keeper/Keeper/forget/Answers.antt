@@ -1,6 +1,6 @@
 use Rattle.std.proofs.Common.{All, List, sym, subst}
 use Rattle.rambo_run.specs.Runs.{run}
-use Rattle.rambo_deeds.specs.declared.mail.Mail.{Mail}
+use Rattle.rambo_mail.specs.declared.mail.Mail.{Mail}
 use Rattle.rambo_book.specs.Kept.{IsMailOf}
 use Rattle.rambo_book.proofs.Clearing.{all_remove}
 use Rattle.rambo_book.proofs.keeper.Keeper.forget.Goals as goal

@@ -1,7 +1,7 @@
 use Rattle.std.proofs.Common.{ℕ, fold, sym, subst}
 use Rattle.rambo_names.specs.Names.{names}
 use Rattle.rambo_names.specs.Weights.{members_of}
-use Rattle.rambo_run.specs.declared.step.Step.TheVariants as step
+use Rattle.rambo_node.specs.declared.step.StepOf.TheVariants as step
 use Rattle.rambo_client.specs.Courses.{Course, Ends, exchanged, others, stepped}
 use Rattle.rambo_client.proofs.Beginnings.{begins-stepped, ends_early}
 use Rattle.rambo_client.proofs.client.Client.advance.Goals as goal

@@ -2,7 +2,7 @@ use Rattle.std.proofs.Common.{[], ◌∷◌, ◌++◌, ap, ◌∙◌}
 use Rattle.std.proofs.lemmas.Result.{IfOk-weaker}
 use Rattle.rambo_history.specs.declared.event.CallId.{CallId}
 use Rattle.rambo_history.specs.declared.event.Event.TheVariants as event
-use Rattle.rambo_run.specs.declared.step.Step.TheVariants as step
+use Rattle.rambo_node.specs.declared.step.StepOf.TheVariants as step
 use Rattle.rambo_client.specs.Courses.{stepped}
 use Rattle.rambo_names.proofs.Errors.{on_err}
 use Rattle.rambo_client.proofs.Gains.{operated_right, operated_begun, uncalled_begun, on_ok-from}

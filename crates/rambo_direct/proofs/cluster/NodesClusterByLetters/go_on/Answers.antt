@@ -1,4 +1,4 @@
-use Rattle.rambo_run.specs.declared.step.Step.TheVariants as step
+use Rattle.rambo_node.specs.declared.step.StepOf.TheVariants as step
 use Rattle.rambo_client.specs.Courses.{stepped}
 use Rattle.rambo_client.proofs.Beginnings.{begins-itself, begins-stepped, ends_early}
 use Rattle.rambo_direct.specs.Histories.{took_by}

@@ -1,5 +1,5 @@
 use Rattle.std.proofs.Common.{[], refl}
-use Rattle.rambo_run.specs.declared.step.Step.TheVariants as step
+use Rattle.rambo_node.specs.declared.step.StepOf.TheVariants as step
 use Rattle.rambo_names.specs.Weights.{weighted_majorities}
 use Rattle.rambo_world.specs.Worlds.{state}
 use Rattle.rambo_client.specs.Courses.{stepped}

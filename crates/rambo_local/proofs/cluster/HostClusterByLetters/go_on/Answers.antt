@@ -1,11 +1,10 @@
 use Rattle.std.proofs.Common.{◌++◌, ap, ◌∙◌}
-use Rattle.rambo_local.specs.Clusters.{history_of}
-use Rattle.rambo_run.specs.declared.step.Step.TheVariants as step
+use Rattle.rambo_local.specs.Clusters.{history_of, took_by}
+use Rattle.rambo_node.specs.declared.step.StepOf.TheVariants as step
 use Rattle.rambo_names.specs.Weights.{weighted_majorities}
 use Rattle.rambo_world.specs.Worlds.{state}
 use Rattle.rambo_client.specs.Courses.{stepped}
 use Rattle.rambo_client.proofs.Beginnings.{begins-itself, begins-stepped, ends_early}
-use Rattle.rambo_local.specs.Clusters.{took_by}
 use Rattle.rambo_local.proofs.Histories.{went_on, unanswered, took_none, took_step}
 use Rattle.rambo_direct.proofs.Turns.{answered_by, advance_silent}
 use Rattle.rambo_local.proofs.cluster.HostClusterByLetters.go_on.Goals as goal

@@ -1,18 +1,27 @@
-use Rattle.std.proofs.Common.{refl, sym, ap, ◌∙◌, subst}
-use Rattle.rambo_node.specs.Changes.{made_by}
-use Rattle.rambo_node.specs.Prepared.{Prepares}
-use Rattle.rambo_node.proofs.Readiness.{advance_prepares}
-use Rattle.rambo_node.proofs.node.Node.prepare_advance.Goals as goal
+use Rattle.std.proofs.Common.{◌≡◌, sym, ap, ◌∙◌, subst}
 use Rattle.rambo_node.specs.Acts as act
+use Rattle.rambo_node.specs.declared.half.Going.{Going}
+use Rattle.rambo_node.specs.Changes.{made_by}
+use Rattle.rambo_node.specs.Halves.{IsEmpty}
+use Rattle.rambo_node.specs.Prepared.{IsFound}
+use Rattle.rambo_node.proofs.FirstHalves.{advance_ready}
+use Rattle.rambo_node.proofs.node.Node.prepare_advance.Goals as goal
 
-pub ready_advance-requires : goal.ready_advance-requires
-ready_advance-requires g c = (c.requires-raw.1.1.0, (c.requires, (record { kept = refl; put = refl }, c.default-deed.ensures)))
+pub find_advance-requires : goal.find_advance-requires
+find_advance-requires g c =
+    let value = c.deref_mut.ensures.value in
+    let empty = c.in_ok-going.ensures.empty in
+    let own = ap (λ (w : Going _). w.moving.id) value ∙ empty.named in (
+      c.requires-raw.1.1.0,
+      (
+        subst (λ (w : Going _). IsEmpty w.moving.id w) (sym value) (subst (λ n. IsEmpty n c.in_ok-going.going.value) (sym empty.named) empty),
+        subst (λ n. IsFound g.Q.Quorums.system c.args.self.now.state n c.args.found) (sym own) c.requires,
+      ),
+    )
 
-pub returns-clause-prepares : goal.returns-clause-prepares
-returns-clause-prepares g c =
-    let s = g.Q.Quorums.system in
-    let v = c.ready_advance.new.self in
-    let id = c.args.id in
-    let m = c.in_ok-ready_advance.ensures in
-    let told = m.deed ∙ sym (ap (λ x. (made_by x (act.Advance id)).deed) m.same) in
-    subst (Prepares s v (act.Advance id)) (sym c.advanced.ensures) (advance_prepares s v id c.ready_advance.new.moving c.ready_advance.new.deed m.id m.moving told)
+pub returns-clause-ready : goal.returns-clause-ready
+returns-clause-ready g c =
+    let found = c.in_ok-find_advance.ensures in
+    let own = ap (λ (w : Going _). w.moving.id) c.deref_mut.ensures.value ∙ c.in_ok-going.ensures.empty.named in
+    advance_ready g.Q.Quorums.system c.find_advance.new.self c.args.id _ (found.id ∙ own) found.moving
+    (found.deed ∙ λ i. (made_by (sym found.same i) (act.Advance (own i))).deed)

@@ -1,48 +1,71 @@
-use Rattle.std.proofs.Common.{◌&&◌, sym, ap, ◌∙◌, subst}
+use Rattle.std.proofs.Common.{◌≡◌, Option, None, Some, IfOk, refl, sym, ap, ◌∙◌, subst}
+use Rattle.std.proofs.lemmas.Bool.{true≢false}
+use Rattle.std.proofs.lemmas.Result.{IfErr-weaker}
+use Rattle.rambo_names.specs.declared.refusal.Refusal.{Refusal}
+use Rattle.rambo_names.specs.declared.refusal.Refusal.TheVariants.{OutOfMemory}
+use Rattle.rambo_names.specs.Quorums.{QuorumSystem}
+use Rattle.rambo_names.specs.Refusals.{IsRefusal}
+use Rattle.rambo_names.proofs.Errors.{err_kept}
 use Rattle.std.specs.FinMap as map
-use Rattle.rambo_tag.specs.Copies.{joined}
-use Rattle.rambo_tag.specs.Stamps.{stamps_merged}
-use Rattle.rambo_gossip.specs.declared.letter.Kind.TheVariants as kind
-use Rattle.rambo_gossip.specs.Letters.{gossip_with, kind_with}
-use Rattle.rambo_gossip.specs.Short.{copies_in}
-use Rattle.rambo_calls.specs.Hearing.{any_gap}
-use Rattle.rambo_node.specs.Prepared.{IsReadyKind}
-use Rattle.rambo_node.specs.Refusals.{restarts, is_last}
-use Rattle.rambo_node.proofs.Judged.{hear_next}
-use Rattle.rambo_node.proofs.Readiness.{gossip_hearing}
-use Rattle.rambo_names.proofs.Sizes.{up_fits, back_fits, variant_fits}
-use Rattle.rambo_node.proofs.Sizes.{gossip_fits}
+use Rattle.rambo_gossip.specs.Letters.{LetterState, kind_with, letter_with}
+use Rattle.rambo_node.specs.Changes.{refusal_of}
+use Rattle.rambo_node.specs.Nodes.{NodeState}
+use Rattle.rambo_node.specs.Prepared.{IsHearing}
+use Rattle.rambo_node.proofs.Memory.{IfErr-from_ok, OnOk-always}
+use Rattle.rambo_node.proofs.Readiness.{copies_judged}
+use Rattle.rambo_node.specs.Acts as act
+use Rattle.rambo_node.proofs.Outlines.{letter_again}
 use Rattle.rambo_node.proofs.node.Node.ready_letter.Goals as goal
 
-pub returns-in-Join-clause-letter : goal.returns-in-Join-clause-letter
-returns-in-Join-clause-letter g c = sym (λ i. record c.args.letter.now { kind = kind_with (c.in-Join.is i) map.empty })
+pub may_hear-requires : goal.may_hear-requires
+may_hear-requires g c = c.requires-raw.1.1
 
-pub outline-outline-requires : goal.outline-outline-requires
-outline-outline-requires g c = variant_fits _ _ _ _ (back_fits _ _ _ (up_fits _ _ _ c.requires-raw.1.1.1.0))
+pub ready_hear-requires : goal.ready_hear-requires
+ready_hear-requires g c = (c.requires-raw.1.1, c.in_ok-may_hear.ensures.ok)
 
-pub ready_gossip-requires : goal.ready_gossip-requires
-ready_gossip-requires g c =
+-- a letter is refused as its outline is
+abbrev alike : {Q : Type 0} (s : QuorumSystem Q) (x : NodeState Q) (l o : LetterState Q) → o ≡ letter_with l map.empty → refusal_of s x (act.Hear o) ≡ refusal_of s x (act.Hear l)
+alike s x l o is = ap (λ (n : LetterState _). refusal_of s x (act.Hear n)) is ∙ copies_judged s x l map.empty
+
+-- what is told of the one is told of the other
+told_as : {o p : Option Refusal} {r : Refusal} → o ≡ p → o ≡ Some r → IsRefusal p r
+told_as {r = r} same is = subst (λ p. IsRefusal p r) (sym (sym same ∙ is)) refl
+
+pub returns-in_err-may_hear-clause-refused : goal.returns-in_err-may_hear-clause-refused
+returns-in_err-may_hear-clause-refused g c =
+    let s = g.Q.Quorums.system in
     let x = c.args.self.now.state in
-    let gap = ap (λ o. any_gap o.heard o.map x.calls && is_last x.number) c.outline-outline.ensures in
-    (c.requires-raw.1.1.0, gap ∙ sym (ap (λ k. restarts x k && is_last x.number) c.in-Gossip.is) ∙ hear_next x c.args.letter.now.kind c.requires)
+    err_kept c.from_residual.result (IsRefusal (refusal_of s x (act.Hear c.args.letter.now))) _ c.from_residual.ensures.1
+    (told_as (alike s x c.args.letter.now _ c.outline-outline.ensures) c.in_err-may_hear.ensures.refused)
 
-pub boxed-requires : goal.boxed-requires
-boxed-requires g c = (c.requires-raw.1.1.0, gossip_fits 0 g.row.Q g.Q.Quorums g.Q.PartialEq g.met.Q.Quorums.small)
+pub returns-clause-judged : goal.returns-clause-judged
+returns-clause-judged g c =
+    OnOk-always c.ready_hear.result _ (sym (alike g.Q.Quorums.system c.args.self.now.state c.args.letter.now _ c.outline-outline.ensures) ∙ c.in_ok-may_hear.ensures.ok)
 
-pub returns-in-Join-clause-hearing : goal.returns-in-Join-clause-hearing
-returns-in-Join-clause-hearing g c =
-    let v = c.args.self.now in
-    let h = c.ready_join.result in
-    let none = c.ready_join.ensures.none ∙ sym (ap copies_in c.in-Join.is) in
-    record {
-      ready = subst (λ k. IsReadyKind v k h.copies h.number) (sym c.in-Join.is) tt;
-      alike = ap (joined v.state.registers) none;
-      stamped = λ now s. ap (stamps_merged now v.state.registers s) none;
-    }
+pub returns-clause-refused : goal.returns-clause-refused
+returns-clause-refused g c =
+    let none = sym (alike g.Q.Quorums.system c.args.self.now.state c.args.letter.now _ c.outline-outline.ensures) ∙ c.in_ok-may_hear.ensures.ok in
+    IfErr-weaker c.ready_hear.result _ _ (λ r e. subst (λ o. IsRefusal o r) (sym none) e) c.ready_hear.ensures.refused
 
-pub returns-in_ok-boxed-in-Gossip-clause-hearing : goal.returns-in_ok-boxed-in-Gossip-clause-hearing
-returns-in_ok-boxed-in-Gossip-clause-hearing g c =
-    let copies = c.in-Gossip.gossip.copies in
-    let found = c.in_ok-hearing-in-Gossip in
-    let is = c.in-Gossip.is ∙ sym (ap (λ o. kind.Gossip (gossip_with o copies)) c.outline-outline.ensures) in
-    gossip_hearing c.ready_gossip.new.self c.args.letter.now _ copies found.hearing is found.ensures.ready (found.ensures.copies ∙ c.in_ok-clone-in-Gossip.ensures.same)
+-- and where nothing else refuses it, want of memory is told
+lacks : {p : Option Refusal} {r : Refusal} → p ≡ None → r ≡ OutOfMemory → IsRefusal p r
+lacks {r = r} none out = subst (λ p. IsRefusal p r) (sym none) out
+
+pub returns-in_err-copies-clause-refused : goal.returns-in_err-copies-clause-refused
+returns-in_err-copies-clause-refused g c =
+    let none = sym (alike g.Q.Quorums.system c.args.self.now.state c.args.letter.now _ c.outline-outline.ensures) ∙ c.in_ok-may_hear.ensures.ok in
+    err_kept c.from_residual-in_err-copies.result (IsRefusal (refusal_of g.Q.Quorums.system c.args.self.now.state (act.Hear c.args.letter.now))) _ c.from_residual-in_err-copies.ensures.1
+    (lacks none c.in_err-copies.ensures.refused)
+
+pub returns-clause-hearing : goal.returns-clause-hearing
+returns-clause-hearing g c =
+    subst (λ l. IfOk c.ready_hear.result (IsHearing c.ready_hear.new.self l))
+    ((λ i. letter_with (c.outline-outline.ensures i) (c.in_ok-copies.ensures.same i)) ∙ letter_again c.args.letter.now map.empty) c.ready_hear.ensures.hearing
+
+-- a wish to join is one whatever its copies
+pub returns-clause-join : goal.returns-clause-join
+returns-clause-join g c = λ is.
+    IfErr-from_ok c.ready_hear.result _ (c.ready_hear.ensures.join (ap (λ (l : LetterState _). l.kind) c.outline-outline.ensures ∙ ap (λ k. kind_with k map.empty) is))
+
+pub returns-in_err-copies-clause-join : goal.returns-in_err-copies-clause-join
+returns-in_err-copies-clause-join g c = λ is. absurd (true≢false (sym (c.in_err-copies.ensures.join is)))

@@ -1,7 +1,7 @@
 use Rattle.std.proofs.Common.{Some, IfOk, sym, ap, ◌∙◌, subst}
 use Rattle.rambo_names.proofs.Sizes.{up_fits, back_fits, variant_fits}
-use Rattle.rambo_run.specs.declared.step.Step.TheVariants as step
-use Rattle.rambo_run.specs.Steps.{Meant}
+use Rattle.rambo_node.specs.declared.step.StepOf.TheVariants as step
+use Rattle.rambo_node.specs.Acts.{Meant}
 use Rattle.rambo_run.proofs.Lists.{some_inj}
 use Rattle.rambo_book.specs.Kept.{KeeperView}
 use Rattle.rambo_book.specs.Readying.{IsReadyFor}

@@ -1,10 +1,10 @@
 use Rattle.std.proofs.Common.{IfOk, sym, ap, ◌∙◌, subst}
 use Rattle.rambo_names.proofs.Sizes.{up_fits, back_fits, variant_fits}
-use Rattle.rambo_run.specs.Steps.{Meant}
+use Rattle.rambo_node.specs.Acts.{Meant}
 use Rattle.rambo_run.proofs.Lists.{some_inj}
 use Rattle.rambo_book.specs.Kept.{KeeperView}
 use Rattle.rambo_book.specs.Readying.{IsReadyFor}
-use Rattle.rambo_run.specs.declared.step.Step.TheVariants as step
+use Rattle.rambo_node.specs.declared.step.StepOf.TheVariants as step
 use Rattle.rambo_visit.proofs.Happenings.{sent_so, unsent_so}
 use Rattle.rambo_post.proofs.post.Post.send.Goals as goal
 

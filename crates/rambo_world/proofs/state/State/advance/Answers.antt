@@ -2,7 +2,7 @@ use Rattle.std.proofs.Common.{◌∙◌, None, Some, refl, sym, ap, subst}
 use Rattle.rambo_history.specs.Faults.{fault_of}
 use Rattle.rambo_node.specs.Prepared.{IsFound}
 use Rattle.rambo_node.specs.Acts as act
-use Rattle.rambo_run.specs.declared.step.Step.TheVariants as step
+use Rattle.rambo_node.specs.declared.step.StepOf.TheVariants as step
 use Rattle.rambo_run.specs.Steps.{with_event, with_mark}
 use Rattle.rambo_run.proofs.GoingOn.{after-refused}
 use Rattle.rambo_letters.proofs.Lists.{some_is}

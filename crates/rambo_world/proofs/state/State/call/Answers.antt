@@ -7,7 +7,7 @@ use Rattle.rambo_node.specs.Nodes.{NodeState}
 use Rattle.rambo_node.specs.Operations.{called}
 use Rattle.rambo_node.specs.declared.effect.Effect.TheVariants as effect
 use Rattle.rambo_node.specs.Acts as act
-use Rattle.rambo_run.specs.declared.step.Step.TheVariants as step
+use Rattle.rambo_node.specs.declared.step.StepOf.TheVariants as step
 use Rattle.rambo_run.specs.Steps.{turn}
 use Rattle.rambo_run.proofs.GoingOn.{after-refused}
 use Rattle.rambo_letters.proofs.Lists.{some_is}

@@ -3,7 +3,7 @@ use Rattle.rambo_run.specs.Runs.{result_of}
 use Rattle.rambo_run.specs.Steps.{refusal}
 use Rattle.rambo_run.specs.Told.{called}
 use Rattle.rambo_world.specs.Worlds.{EventFits}
-use Rattle.rambo_run.specs.declared.step.Step.TheVariants as step
+use Rattle.rambo_node.specs.declared.step.StepOf.TheVariants as step
 use Rattle.rambo_run.proofs.GoingOn.{after-refused}
 use Rattle.rambo_names.proofs.Sizes.{up_fits, back_fits, next}
 use Rattle.rambo_world.proofs.Single.{refused_told}

@@ -2,7 +2,7 @@ use Rattle.std.proofs.Common.{◌≡◌, ◌∙◌, ◌-◌, ◌≤◌, max, Non
 use Rattle.rambo_names.specs.declared.refusal.Refusal.TheVariants.{NoSuchLetter}
 use Rattle.rambo_names.specs.Refusals.{least}
 use Rattle.rambo_node.specs.declared.effect.Effect.TheVariants as effect
-use Rattle.rambo_run.specs.declared.step.Step.TheVariants as step
+use Rattle.rambo_node.specs.declared.step.StepOf.TheVariants as step
 use Rattle.rambo_run.specs.Steps.{refusal, turn}
 use Rattle.rambo_run.proofs.GoingOn.{after-refused}
 use Rattle.rambo_gossip.specs.Outlines.{outlined}

@@ -1,7 +1,7 @@
 use Rattle.std.proofs.Common.{◌≡◌, ◌∙◌, None, Some, sym, ap}
 use Rattle.std.proofs.lemmas.Result.{on_ok_weaker, IfErr-weaker}
 use Rattle.rambo_names.specs.Refusals.{least}
-use Rattle.rambo_run.specs.declared.step.Step.TheVariants as step
+use Rattle.rambo_node.specs.declared.step.StepOf.TheVariants as step
 use Rattle.rambo_run.specs.Steps.{causes_at, letter_in, meant, refusal}
 use Rattle.rambo_letters.specs.Kept.{SentState, sent_at}
 use Rattle.rambo_world.specs.Kept.{state_at}
@@ -10,7 +10,7 @@ use Rattle.rambo_names.proofs.Errors.{err_kept}
 use Rattle.rambo_names.proofs.Sizes.{up_fits, back_fits, next}
 use Rattle.rambo_world.proofs.Coming.{judged_sent}
 use Rattle.rambo_world.proofs.Deliveries.{no_causes}
-use Rattle.rambo_run.proofs.QuietSteps.{quiet_means, quiet_else}
+use Rattle.rambo_node.proofs.QuietSteps.{quiet_means, quiet_else}
 use Rattle.rambo_world.proofs.Turns.{judged_now, deliver_refusal}
 use Rattle.rambo_world.proofs.state.State.judge.Goals as goal
 use Rattle.rambo_node.specs.Acts as act
@@ -52,8 +52,8 @@ may_send-requires g c = back_fits _ _ _ (up_fits _ _ _ (back_fits _ _ _ (next _ 
 pub may_advance-requires : goal.may_advance-requires
 may_advance-requires g c = back_fits _ _ _ (up_fits _ _ _ (back_fits _ _ _ (next _ _ _ _ (next _ _ _ _ (next _ _ _ _ (next _ _ _ _ (up_fits _ _ _ c.requires-raw.1.1)))))))
 
-pub may_hear_outlined-requires : goal.may_hear_outlined-requires
-may_hear_outlined-requires g c = back_fits _ _ _ (up_fits _ _ _ (back_fits _ _ _ (next _ _ _ _ (next _ _ _ _ (next _ _ _ _ (next _ _ _ _ (up_fits _ _ _ c.requires-raw.1.1)))))))
+pub may_hear-requires : goal.may_hear-requires
+may_hear-requires g c = back_fits _ _ _ (up_fits _ _ _ (back_fits _ _ _ (next _ _ _ _ (next _ _ _ _ (next _ _ _ _ (next _ _ _ _ (up_fits _ _ _ c.requires-raw.1.1)))))))
 
 pub may_quiet-requires : goal.may_quiet-requires
 may_quiet-requires g c = back_fits _ _ _ (up_fits _ _ _ (back_fits _ _ _ (next _ _ _ _ (next _ _ _ _ (next _ _ _ _ (next _ _ _ _ (up_fits _ _ _ c.requires-raw.1.1)))))))
@@ -92,7 +92,7 @@ returns-in-Some-clause-ok g c =
     let here : state_at i.nodes m.letter.addressee ≡ Some c.node-in-Some.result.now.state = ap (λ l. state_at i.nodes l.addressee) (sym c.letter.view_is) ∙ c.node-in-Some.ensures in
     let judged = ap (refusal s c.args.self.now) c.in-Deliver.is ∙ ap (λ w. refusal s w (step.Deliver c.in-Deliver.number)) (sym c.self.view_is)
     ∙ sym (judged_sent s i.nodes i.letters i.history.events i.marks.items c.in-Deliver.number m found) in
-    on_ok_weaker c.may_hear_outlined.result (λ e. judged ∙ ap (λ o. least (causes_at s o (act.Hear m.letter))) here ∙ e) c.may_hear_outlined.ensures.ok
+    on_ok_weaker c.may_hear.result (λ e. judged ∙ ap (λ o. least (causes_at s o (act.Hear m.letter))) here ∙ e) c.may_hear.ensures.ok
 
 pub returns-in-Some-clause-refused : goal.returns-in-Some-clause-refused
 returns-in-Some-clause-refused g c =
@@ -103,7 +103,7 @@ returns-in-Some-clause-refused g c =
     let here : state_at i.nodes m.letter.addressee ≡ Some c.node-in-Some.result.now.state = ap (λ l. state_at i.nodes l.addressee) (sym c.letter.view_is) ∙ c.node-in-Some.ensures in
     let judged = ap (refusal s c.args.self.now) c.in-Deliver.is ∙ ap (λ w. refusal s w (step.Deliver c.in-Deliver.number)) (sym c.self.view_is)
     ∙ sym (judged_sent s i.nodes i.letters i.history.events i.marks.items c.in-Deliver.number m found) in
-    IfErr-weaker c.may_hear_outlined.result _ _ (λ r e. judged ∙ ap (λ o. least (causes_at s o (act.Hear m.letter))) here ∙ e) c.may_hear_outlined.ensures.refused
+    IfErr-weaker c.may_hear.result _ _ (λ r e. judged ∙ ap (λ o. least (causes_at s o (act.Hear m.letter))) here ∙ e) c.may_hear.ensures.refused
 
 pub returns-in-None-clause-refused : goal.returns-in-None-clause-refused
 returns-in-None-clause-refused g c =

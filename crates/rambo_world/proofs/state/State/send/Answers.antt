@@ -1,8 +1,8 @@
 use Rattle.std.proofs.Common.{◌≡◌, ◌∙◌, ◌-◌, None, Some, refl, sym, ap, subst}
 use Rattle.rambo_node.specs.declared.effect.Effect.TheVariants as effect
 use Rattle.rambo_node.specs.Acts as act
-use Rattle.rambo_run.specs.declared.step.Step.{Step}
-use Rattle.rambo_run.specs.declared.step.Step.TheVariants as step
+use Rattle.rambo_node.specs.Steps.{Step}
+use Rattle.rambo_node.specs.declared.step.StepOf.TheVariants as step
 use Rattle.rambo_run.specs.Steps.{refusal, turn}
 use Rattle.rambo_run.proofs.GoingOn.{after-refused}
 use Rattle.rambo_world.specs.Kept.{IsKept, IsSent}

@@ -1,9 +1,9 @@
 use Rattle.std.proofs.lemmas.Grind.{common_steps}
 use Rattle.std.proofs.Common.{◌≡◌, ◌∙◌, IfOk, refl, sym, subst, arith}
-use Rattle.rambo_run.specs.declared.step.Step.TheVariants as step
+use Rattle.rambo_node.specs.declared.step.StepOf.TheVariants as step
 use Rattle.rambo_run.specs.Runs.{result_of}
 use Rattle.rambo_run.specs.Steps.{letter_in, refusal}
-use Rattle.rambo_run.proofs.QuietSteps.{quiet_means, quiet_else}
+use Rattle.rambo_node.proofs.QuietSteps.{quiet_means, quiet_else}
 use Rattle.rambo_world.proofs.Quiet.{quiet_told, quiet_after}
 use Rattle.rambo_world.proofs.Turns.{step_fits}
 use Rattle.rambo_world.proofs.state.State.take.Goals as goal

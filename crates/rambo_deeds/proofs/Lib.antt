@@ -1,4 +1,0 @@
-pub mod Halves
-pub mod Letters
-pub mod Means
-pub mod Outlines
