@@ -4,7 +4,7 @@
     bench/book.py RAMBO [--commands 2000] [--steps 1000000]
 
 A client sends SETs and GETs in turn, over 16 keys, to `rambo serve` with founders 1, 2 and 3, each when it has the reply to
-the one before. That takes eleven steps a command.
+the one before. That takes some eleven steps a command, and an idle call at times.
 
 - Once so many commands are served under valgrind. Then `rambo replay` takes the trace, under valgrind too. Printed are the
   instructions a step that the server spends in its two halves, with all that they call, those that the replay spends in its world,
@@ -22,11 +22,13 @@ import sys
 import tempfile
 
 KEYS = 16
-STEPS_A_COMMAND = 11
+STEPS_A_COMMAND = 12
 PATIENCE = 60
-# The two halves of a step.
-HALVES = r"rambo_book::(first_half::ready|committing::enter)\b"
-WORLD = r"rambo_world::state::State::(advance|call|change|deliver|send)\b"
+# The two halves of a step. First ones are also made of steps that are refused, as an advance whose quorum hasn't replied.
+READY, ENTER = r"rambo_book::first_half::ready\b", r"rambo_book::committing::enter\b"
+HALVES = "%s|%s" % (READY, ENTER)
+# Those of the replay's world. A quiet step has no function of its own there, and isn't counted.
+WORLD = r"rambo_world::state::State::(advance|call|deliver|send)\b"
 
 
 def spelled(*words):
@@ -139,11 +141,12 @@ def count_instructions(program, count, folder):
     with open(trace, "rb") as reader:
         subprocess.run(words, stdin=reader, stdout=subprocess.DEVNULL, stderr=subprocess.DEVNULL, check=True)
     replayed = Profile(path)
-    for profile, pattern, calls in ((served, HALVES, 2 * steps), (replayed, WORLD, steps)):
-        if profile.total(pattern, profile.calls) != calls:
-            sys.exit("%d steps, but %d calls of %s" % (steps, profile.total(pattern, profile.calls), pattern))
-    halves, world = served.total(HALVES, served.costs) / steps, replayed.total(WORLD, replayed.costs) / steps
+    entered, asked, taken = served.total(ENTER, served.calls), served.total(READY, served.calls), replayed.total(WORLD, replayed.calls)
+    if entered != steps:
+        sys.exit("%d steps, but %d calls of %s" % (steps, entered, ENTER))
+    halves, world = served.total(HALVES, served.costs) / steps, replayed.total(WORLD, replayed.costs) / taken
     print("%d steps: %.0f instructions a step, %.0f a step of the replay's world, ratio %.2f" % (steps, halves, world, halves / world))
+    print("    of %d steps that were asked for, %d were refused" % (asked, asked - steps))
     for what, profile, pattern in (("halves", served, HALVES), ("world", replayed, WORLD)):
         for name, cost in profile.parts(pattern):
             print("    %-6s %6.0f  %s" % (what, cost / steps, name))
