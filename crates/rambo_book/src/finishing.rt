@@ -46,6 +46,7 @@ pub(crate) fn finish<Q: Quorums, S: Replica>(
 
 // The letter that goes out, the event and the mark go into the book, and the box of a call to the node's workspace. Returns what is
 // reported.
+#[inline(always)]
 fn enter_ended<Q: Quorums>(
     letters: &mut Letters<Q>,
     kept: &mut Record,
