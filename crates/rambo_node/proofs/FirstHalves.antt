@@ -76,7 +76,7 @@ module _ {Q : Type 0} (s : QuorumSystem Q) (v : RoomyNode Q) where
   unfolding made_by
   advance_ready id b named moving told = record {
     accepted = ap (λ n. refusal_of s v.state (act.Advance n)) (sym named) ∙ moving.found.accepted;
-    half = record { advances = ap act.Advance (sym named); moving = moving; effect = ap (λ (d : Deed Q). d.effect) told };
+    half = record { advances = ap act.Advance (sym named); moving = moving; told = told };
     event = ap (λ (d : Deed Q). d.event) told;
     mark = ap (λ (d : Deed Q). d.mark) told;
     letter = no_letter id (open_call v.state id);

@@ -53,11 +53,11 @@ pub record IsReadyCall {Q : Type 0} (v : RoomyNode Q) (a : Act Q) (g : Going Q) 
   pub asked : g.asked ≡ Some op
   pub room : 0 < v.room.calls.room
 
--- a call may go on
+-- a call may go on, and this is told of it
 pub record IsReadyAdvance {Q : Type 0} (s : QuorumSystem Q) (v : RoomyNode Q) (a : Act Q) (g : Going Q) : Type 0 where
   pub advances : a ≡ act.Advance g.moving.id
   pub moving : IsMoving s v g.moving
-  pub effect : g.deed.effect ≡ (made_by v.state a).deed.effect
+  pub told : g.deed ≡ (made_by v.state a).deed
 
 -- the first half of an act is made, where a letter that comes has this outline
 abbrev pub IsHalf : {Q : Type 0} → QuorumSystem Q → RoomyNode Q → Option (LetterState Q) → Act Q → Half Q → Type 0

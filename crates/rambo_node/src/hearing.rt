@@ -9,7 +9,7 @@ ghost use Rattle.rambo_gossip.specs.Short.{copies_in};
 ghost use Rattle.rambo_node.specs.Changes.{refusal_of, made_by};
 ghost use Rattle.rambo_calls.specs.Hearing.{any_gap, number_after};
 ghost use Rattle.rambo_calls.specs.Kept.{IsRoomy};
-ghost use Rattle.rambo_node.specs.FullNodes.{IsDelta, IsDeltaLetter, full, beside_after, beside_heard};
+ghost use Rattle.rambo_node.specs.FullNodes.{IsDelta, full, beside_after, beside_heard};
 ghost use Rattle.rambo_node.specs.Hearing.{collection_after, heard_gossip, heard_rest, heard_join, heard_letter};
 ghost use Rattle.rambo_node.specs.Nodes.{raised};
 ghost use Rattle.rambo_node.specs.Letters.{letter_for};
@@ -40,22 +40,6 @@ impl<Q: Quorums, S: Replica> Node<Q, S> {
     {
         self.may_send(to)?;
         let copies = self.registers.pack()?;
-        self.letter_of(to, copies)
-    }
-
-    /// The letter for a name with those copies alone that may be new to it, as `pack_for` finds them: what it leaves out, the
-    /// name holds. The rest of it is as in `letter_for`.
-    ///
-    /// Refused with 3 where the node is idle, 4 where it has stopped. Else with 5 where the name is its own or one that
-    /// it doesn't know. Else with 22 where there is no room for the list of its copies.
-    #[tactic(auto, unfolding(crate::specs::Changes::made_by))]
-    pub fn delta_for(&self, to: Name) -> Result<Letter<Q>, Refusal>
-        ensures judged { OnOk result (refusal_of Q.system self.now.state (act.Send to) ≡ None) }
-        ensures letter { IfOk result (IsDeltaLetter (full self.now) to) }
-        ensures refused { IfErr result (IsRefusal (refusal_of Q.system self.now.state (act.Send to))) }
-    {
-        self.may_send(to)?;
-        let copies = self.pack_for(to)?;
         self.letter_of(to, copies)
     }
 

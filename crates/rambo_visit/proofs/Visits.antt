@@ -1,7 +1,8 @@
 -- Small steps of the proofs of a visit
-use Rattle.std.proofs.Common.{◌≡◌, inl, ℕ, zero, suc, List, [], ◌∷◌, map, Option, None, Some, Result, Ok, Err, OnOk, OnErr, IfErr, refl, sym, ap, ◌∙◌}
+use Rattle.std.proofs.Common.{◌≡◌, ◌≢◌, inl, ℕ, zero, suc, List, [], ◌∷◌, map, Option, None, Some, Result, Ok, Err, IsSome, IfNone, IfSome, OnOk, OnErr, IfOk, IfErr, refl, sym, ap, ◌∙◌}
 use Rattle.rambo_names.specs.declared.refusal.Refusal.{Refusal}
 use Rattle.rambo_names.specs.declared.refusal.Refusal.TheVariants.{OutOfMemory}
+use Rattle.rambo_names.specs.Refusals.{IsRefusal}
 use Rattle.rambo_names.specs.Quorums.{QuorumSystem}
 use Rattle.rambo_calls.specs.Kept.{calls_of}
 use Rattle.rambo_calls.specs.declared.open_call.OpenCall.{OpenCall}
@@ -55,3 +56,16 @@ same_number {Q} m n e = some_inj m n (ap delivered_by e)
 pub out_of_memory : {A Q : Type 0} (s : QuorumSystem Q) (agreed : Option Q) (most : ℕ) (r : Result A Refusal) → IfErr r (λ e. e ≡ OutOfMemory) → IfErr r (HasNoRoom s agreed most)
 out_of_memory s agreed most (Ok a) out = tt
 out_of_memory s agreed most (Err e) out = inl out
+
+-- where nothing was done, nothing is told of what was
+pub nothing_so : {A : Type 0} (P : A → Type 0) (r : Result (Option A) Refusal) → IfOk r (λ o. o ≡ None) → IfOk r (λ o. IfSome o P)
+nothing_so P (Ok None) none = tt
+nothing_so P (Ok (Some a)) none = absurd (none-some a (sym none))
+nothing_so P (Err e) none = tt
+
+-- a first half that wasn't made, and not for want of memory, is one that the rules refuse
+pub refused_so : {A : Type 0} (P : Type 0) (r : Result (Option A) Refusal) (o : Option Refusal) (cause : Refusal) → OnOk r (cause ≢ OutOfMemory) → IsRefusal o cause → P → IfOk r (λ a. IfNone a (IsSome o × P))
+refused_so P (Ok None) (Some q) cause other is p = (refl, p)
+refused_so P (Ok None) None cause other is p = absurd (other is)
+refused_so P (Ok (Some a)) o cause other is p = tt
+refused_so P (Err e) o cause other is p = tt

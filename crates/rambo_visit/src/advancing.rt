@@ -5,7 +5,7 @@ ghost use Rattle.rambo_visit.specs.Advances.{given_by, settled};
 ghost use Rattle.rambo_visit.specs.Happened.{HasNoRoom};
 
 use crate::entering::take;
-use crate::opening::calls_of;
+use crate::opening::{calls_of, is_bidding, is_collecting};
 use rambo_book::{Book, Keeper, Terms};
 use rambo_history::CallId;
 use rambo_names::{Quorums, Refusal};
@@ -122,13 +122,45 @@ fn advance_configurations<J: Terms<Q>, Q: Quorums, S: Replica, R: Wait>(
 ) -> Result<bool, Refusal>
     ensures cause { IfErr result (HasNoRoom Q.system J.founders J.capacity) }
 {
-    let name = keeper.name();
-    let collects = take(rt, alloc, book, keeper, Step::AdvanceCollect(name))?.is_some();
-    let bids = take(rt, alloc, book, keeper, Step::AdvanceRecon(name))?.is_some();
+    let collects = advance_collection(rt, alloc, book, keeper)?;
+    let bids = advance_attempt(rt, alloc, book, keeper)?;
     if collects || bids {
         outbox.moved();
     }
     Ok(collects || bids)
+}
+
+// Advances the collection of the node, if one is open and may. Returns whether it advanced.
+// (mostly none is open, and a first half that is refused takes hundreds of instructions)
+fn advance_collection<J: Terms<Q>, Q: Quorums, S: Replica, R: Wait>(
+    rt: &R,
+    alloc: Global,
+    book: &Mutex<Book<J, Q>>,
+    keeper: &mut Keeper<J, Q, S>,
+) -> Result<bool, Refusal>
+    ensures cause { IfErr result (HasNoRoom Q.system J.founders J.capacity) }
+{
+    if !is_collecting(keeper) {
+        return Ok(false);
+    }
+    let name = keeper.name();
+    Ok(take(rt, alloc, book, keeper, Step::AdvanceCollect(name))?.is_some())
+}
+
+// And so its attempt.
+fn advance_attempt<J: Terms<Q>, Q: Quorums, S: Replica, R: Wait>(
+    rt: &R,
+    alloc: Global,
+    book: &Mutex<Book<J, Q>>,
+    keeper: &mut Keeper<J, Q, S>,
+) -> Result<bool, Refusal>
+    ensures cause { IfErr result (HasNoRoom Q.system J.founders J.capacity) }
+{
+    if !is_bidding(keeper) {
+        return Ok(false);
+    }
+    let name = keeper.name();
+    Ok(take(rt, alloc, book, keeper, Step::AdvanceRecon(name))?.is_some())
 }
 
 /// The node retries its attempt, unless its rules refuse that.

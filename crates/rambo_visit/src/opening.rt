@@ -1,5 +1,6 @@
 //! What is open at a node.
 ghost use Rattle.std.specs.Prelude.{◌≡◌};
+ghost use Rattle.std.specs.Option.{is_some};
 ghost use Rattle.rambo_calls.specs.Kept.{calls_of};
 ghost use Rattle.rambo_outbox.specs.Outboxes.{seen};
 ghost use Rattle.rambo_visit.specs.Open.{open_at, reach_of, is_joining, number_in, stage_in};
@@ -49,6 +50,20 @@ pub(crate) fn calls_of<'a, J: Terms<Q>, Q: Quorums, S: Replica>(
     ensures { calls_of result.now ≡ keeper.now.node.calls }
 {
     keeper.node().calls()
+}
+
+/// Whether a collection is open at the node of a keeper.
+pub(crate) fn is_collecting<J: Terms<Q>, Q: Quorums, S: Replica>(keeper: &Keeper<J, Q, S>) -> bool
+    ensures { result ≡ is_some keeper.now.node.collection }
+{
+    keeper.node().collection().is_some()
+}
+
+/// Whether an attempt is open there.
+pub(crate) fn is_bidding<J: Terms<Q>, Q: Quorums, S: Replica>(keeper: &Keeper<J, Q, S>) -> bool
+    ensures { result ≡ is_some keeper.now.node.attempt }
+{
+    keeper.node().attempt().is_some()
 }
 
 // Whom a node may write to, by its status and the names that it knows. Its own name may be among them.
