@@ -1,11 +1,15 @@
 -- Beginnings of courses
-use Rattle.std.proofs.Common.{◌≡◌, ℕ, ◌+◌, true, false, cond, not, nat_eq, List, [], ◌∷◌, ◌++◌, fold, Result, Ok, Err, IsErrAnd, refl, sym, ap, ◌∙◌, append_assoc, append-nil}
+use Rattle.std.proofs.Common.{◌≡◌, ℕ, ◌+◌, true, false, cond, not, nat_eq, List, [], ◌∷◌, ◌++◌, fold, Option, None, Some, Result, Ok, Err, IsErrAnd, subst, refl, sym, ap, ◌∙◌, append_assoc, append-nil}
+use Rattle.std.specs.Option.{ok_or}
 use Rattle.rambo_names.specs.Weights.{Weights}
 use Rattle.rambo_history.specs.declared.operation.Op.{Op}
+use Rattle.rambo_history.specs.declared.operation.Answer.{Answer}
 use Rattle.rambo_history.specs.declared.event.CallId.{CallId}
+use Rattle.rambo_history.specs.declared.event.Event.{Event}
 use Rattle.rambo_node.specs.Steps.{Step}
 use Rattle.rambo_node.specs.declared.step.StepOf.TheVariants as step
-use Rattle.rambo_client.specs.Courses.{Course, IsBeginning, Ends, stepped, lettered, exchanged, others, phase, operated}
+use Rattle.rambo_client.specs.Calls.{answered}
+use Rattle.rambo_client.specs.Courses.{Course, IsBeginning, Ends, history_of, stepped, lettered, exchanged, others, phase, operated}
 
 pub begins-itself : (c : Course) → IsBeginning c c
 begins-itself c = (refl, ([], append-nil c.steps))
@@ -56,13 +60,18 @@ round-split name c peer peers =
       | false ↦ refl
     ]
 
--- nodes that took all of it, whatever was told
-pub ends_whole : {A E : Type 0} (r : Result A E) (took : Course → Type 0) (c : Course) → took c → Ends r took c
-ends_whole (Ok x) took c mine = mine
-ends_whole (Err e) took c mine = (c, mine, begins-itself c)
-
 -- nodes that took a beginning, where an error is handed on
-pub ends_early : {A E : Type 0} (r : Result A E) (Q : E → Type 0) (took : Course → Type 0) (c d : Course) → IsErrAnd r Q
-    → (b : Course) × took b × IsBeginning b c → IsBeginning c d → Ends r took d
-ends_early (Ok x) Q took c d is b begins = elim is [ ]
-ends_early (Err e) Q took c d is b begins = (b.0, b.1, begins-then b.0 c d b.2 begins)
+pub ends_early : {A E : Type 0} (r : Result A E) (Q : E → Type 0) (took : Course → Type 0) (c d : Course) (history : List Event) (added : A → List Event) → IsErrAnd r Q
+    → (b : Course) × took b × IsBeginning b c × (history_of b ≡ history) → IsBeginning c d → Ends r took d history added
+ends_early (Ok x) Q took c d history added is b begins = elim is [ ]
+ends_early (Err e) Q took c d history added is b begins = (b.0, b.1, begins-then b.0 c d b.2 begins, b.3)
+
+-- nodes whose call went on, where an answer is told, and a fault where there is none
+pub ends_answered : {E : Type 0} (r : Result Answer E) (o : Option Answer) (id : CallId) (f : E) (took : Course → Type 0) (d : Course) (history : List Event) → r ≡ ok_or o f
+    → took d × (history_of d ≡ history ++ answered id o) → Ends r took d history (λ a. answered id (Some a))
+ends_answered r o id f took d history is ends =
+    subst (λ r. Ends r took d history (λ a. answered id (Some a))) (sym is)
+    (elim o as (λ o. took d × (history_of d ≡ history ++ answered id o) → Ends (ok_or o f) took d history (λ a. answered id (Some a))) [
+      | None ↦ λ ends. (d, ends.0, begins-itself d, ends.1 ∙ append-nil history)
+      | Some a ↦ λ ends. ends
+    ] ends)

@@ -138,9 +138,12 @@ module _ (name : ℕ) (qs : List Request) (h0 : List Event) (calls : IsHistory n
 
 -- an operation more, where the nodes took these steps
 module _ (name : ℕ) (founders : Weights) (qs : List Request) (o : Op) (c : Course) (calls : IsHistory name qs (history_of c))
-    (asks : Asks name (others name (names (members_of founders))) (no_steps founders) qs c) (took : Course → Type 0) (history : List Event) (ran : (d : Course) → took d → history ≡ history_of d) where
+    (asks : Asks name (others name (names (members_of founders))) (no_steps founders) qs c) (took : Course → Type 0) where
   abbrev peers : List ℕ
   peers = others name (names (members_of founders))
+
+  abbrev called : Course
+  called = stepped c (step.Call name o)
 
   module _ (id : CallId) (named : id ≡ id_at name id.number) where
     abbrev now : Course
@@ -149,46 +152,44 @@ module _ (name : ℕ) (founders : Weights) (qs : List Request) (o : Op) (c : Cou
     asks_now : Asks name peers (no_steps founders) (qs ++ Does o ∷ []) now
     asks_now = asks-append name peers (no_steps founders) c now qs (Does o ∷ []) asks (id.number, λ i. operated c peers (named i) o)
 
-    ends_now : {E : Type 0} (r : Result Answer E) → Ends r took (phase (phase (stepped c (step.Call name o)) peers id) peers id) → Ends r took now
-    ends_now r ends = subst (λ n. Ends r took (phase (phase (stepped c (step.Call n o)) peers id) peers id)) (ap (λ (i : CallId). i.name) (sym named)) ends
+    -- nodes that took its steps, if it was answered, and else a beginning of them
+    abbrev Operated : {E : Type 0} → Result Answer E → Course → Type 0
+    Operated r d = (early : Option Answer) × Ends r took d (history_of called ++ answered id early) (λ a. answered id (Some a))
 
-    module _ (mid : List Event) (is : mid ≡ history_of c ++ event.Call id o ∷ []) where
-      right_now : {E : Type 0} (r : Result Answer E) → Ends r took now → IfOk r (λ a. (early : Option Answer) × (history ≡ (mid ++ answered id early) ++ answered id (Some a)))
-          → IfOk r (λ a. (a ≡ answer_of (after_all no_values qs) o) × HasDone name founders (qs ++ Does o ∷ []) took)
-      right_now (Ok a) ends e =
-          let mine = twice_right name qs (history_of c) calls id o named now e.0 a (sym (ran now ends) ∙ e.1 ∙ ap (λ l. (l ++ answered id e.0) ++ event.Answer id a ∷ []) is) in
-          (mine.0, (now, ends, mine.1, asks_now))
-      right_now (Err f) ends e = tt
+    ends_now : {E : Type 0} (r : Result Answer E) → Operated r (phase (phase called peers id) peers id) → Operated r now
+    ends_now r ends = subst (λ n. Operated r (phase (phase (stepped c (step.Call n o)) peers id) peers id)) (ap (λ (i : CallId). i.name) (sym named)) ends
 
-      begun_now : {E : Type 0} (r : Result Answer E) → Ends r took now → OnErr r ((early : Option Answer) × (history ≡ mid ++ answered id early)) → OnErr r (HasBegun name founders (qs ++ Does o ∷ []) took)
-      begun_now (Ok a) ends e = tt
-      begun_now (Err f) ends e =
-          let d = ends.0 in
-          (d, ends.1, called_begins name qs (history_of c) calls id o named d e.0 (sym (ran d ends.1) ∙ e.1 ∙ ap (λ l. l ++ answered id e.0) is), (now, asks_now, ends.2))
+    module _ (is : history_of called ≡ history_of c ++ event.Call id o ∷ []) where
+      right_now : {E : Type 0} (r : Result Answer E) → Operated r now → IfOk r (λ a. (a ≡ answer_of (after_all no_values qs) o) × HasDone name founders (qs ++ Does o ∷ []) took)
+      right_now (Ok a) ends =
+          let mine = twice_right name qs (history_of c) calls id o named now ends.0 a (ends.1.1 ∙ ap (λ l. (l ++ answered id ends.0) ++ event.Answer id a ∷ []) is) in
+          (mine.0, (now, ends.1.0, mine.1, asks_now))
+      right_now (Err f) ends = tt
+
+      begun_now : {E : Type 0} (r : Result Answer E) → Operated r now → OnErr r (HasBegun name founders (qs ++ Does o ∷ []) took)
+      begun_now (Ok a) ends = tt
+      begun_now (Err f) ends =
+          let d = ends.1.0 in
+          (d, ends.1.1, called_begins name qs (history_of c) calls id o named d ends.0 (ends.1.3 ∙ ap (λ l. l ++ answered id ends.0) is), (now, asks_now, ends.1.2))
 
       -- it was answered
-      pub operated_right : {E : Type 0} (r : Result Answer E) → Ends r took (phase (phase (stepped c (step.Call name o)) peers id) peers id)
-          → IfOk r (λ a. (early : Option Answer) × (history ≡ (mid ++ answered id early) ++ answered id (Some a)))
+      pub operated_right : {E : Type 0} (r : Result Answer E) → Operated r (phase (phase called peers id) peers id)
           → IfOk r (λ a. (a ≡ answer_of (after_all no_values qs) o) × HasDone name founders (qs ++ Does o ∷ []) took)
-      operated_right r ends e = right_now r (ends_now r ends) e
+      operated_right r ends = right_now r (ends_now r ends)
 
       -- or not
-      pub operated_begun : {E : Type 0} (r : Result Answer E) → Ends r took (phase (phase (stepped c (step.Call name o)) peers id) peers id)
-          → OnErr r ((early : Option Answer) × (history ≡ mid ++ answered id early)) → OnErr r (HasBegun name founders (qs ++ Does o ∷ []) took)
-      operated_begun r ends e = begun_now r (ends_now r ends) e
+      pub operated_begun : {E : Type 0} (r : Result Answer E) → Operated r (phase (phase called peers id) peers id) → OnErr r (HasBegun name founders (qs ++ Does o ∷ []) took)
+      operated_begun r ends = begun_now r (ends_now r ends)
 
   -- there was no call
-  pub uncalled_begun : (d : Course) → took d → IsBeginning d (stepped c (step.Call name o)) → history ≡ history_of c → HasBegun name founders (qs ++ Does o ∷ []) took
-  uncalled_begun d mine begins e =
+  pub uncalled_begun : (d : Course) × took d × IsBeginning d called × (history_of d ≡ history_of c) → HasBegun name founders (qs ++ Does o ∷ []) took
+  uncalled_begun begun =
+      let d = begun.0 in
       let id = id_at name 0 in (
         d,
-        mine,
-        history-more name qs (Does o ∷ []) (history_of d) (history-whole name qs (history_of d) (subst (IsHistory name qs) (sym e ∙ ran d mine) calls)),
-        (
-          operated c peers id o,
-          asks_now id refl,
-          begins-then d (stepped c (step.Call name o)) (operated c peers id o) begins (begins-called c peers id o),
-        ),
+        begun.1,
+        history-more name qs (Does o ∷ []) (history_of d) (history-whole name qs (history_of d) (subst (IsHistory name qs) (sym begun.3) calls)),
+        (operated c peers id o, asks_now id refl, begins-then d called (operated c peers id o) begun.2 (begins-called c peers id o)),
       )
 
 -- what holds of a result whatever it is

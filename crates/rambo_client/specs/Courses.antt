@@ -74,7 +74,8 @@ HasBegun name founders qs took =
     (c : Course) × took c × BeginsHistory name qs (history_of c)
     × ((d : Course) × Asks name (others name (names (members_of founders))) (no_steps founders) qs d × IsBeginning c d)
 
--- at Ok the nodes took these steps, and else a prefix of them
-abbrev pub Ends : {A E : Type 0} → Result A E → (Course → Type 0) → Course → Type 0
-Ends (Ok x) took d = took d
-Ends (Err e) took d = (c : Course) × took c × IsBeginning c d
+-- at Ok the nodes took these steps, and the history of their run is this one with what is added; else they took a prefix of
+-- the steps, and nothing is added
+abbrev pub Ends : {A E : Type 0} → Result A E → (Course → Type 0) → Course → List Event → (A → List Event) → Type 0
+Ends (Ok x) took d history added = took d × (history_of d ≡ history ++ added x)
+Ends (Err e) took d history added = (c : Course) × took c × IsBeginning c d × (history_of c ≡ history)

@@ -6,7 +6,7 @@ ghost use Rattle.rambo_history.specs.declared.operation.Answer.{Answer as AnyAns
 ghost use Rattle.rambo_commands.specs.declared.request.Request.{Request as AnyRequest};
 ghost use Rattle.rambo_commands.specs.declared.request.Request.TheVariants.{Does};
 ghost use Rattle.rambo_client.specs.Calls.{lowest, answered};
-ghost use Rattle.rambo_client.specs.Courses.{Course, Ends, HasDone, HasBegun, exchanged, others, phase};
+ghost use Rattle.rambo_client.specs.Courses.{Course, Ends, HasDone, HasBegun, exchanged, history_of, others, phase};
 ghost use Rattle.rambo_client.specs.Maps.{no_values, answer_of};
 ghost use Rattle.rambo_client.specs.Replies.{after_all};
 
@@ -56,10 +56,8 @@ impl Client {
 
     // Has a call go on twice: its query ends, and then its propagation, with its answer.
     fn finish<By, C: Cluster<By>>(&self, cluster: &mut C, id: &CallId) -> Result<Answer, Refusal>
-        ensures ok { IfOk result (λ a. (early : Option AnyAnswer) × (C.history cluster.new ≡ (C.history cluster.old ++ answered id.now early) ++ answered id.now (Some a))) }
-        ensures err { OnErr result ((early : Option AnyAnswer) × (C.history cluster.new ≡ C.history cluster.old ++ answered id.now early)) }
-        ensures steps { (c : Course) → C.took cluster.old c → id.now.name ≡ self.now.name
-            → Ends result (C.took cluster.new) (phase (phase c (others self.now.name (names (members_of self.now.founders))) id.now) (others self.now.name (names (members_of self.now.founders))) id.now) }
+        ensures { (c : Course) → C.took cluster.old c → id.now.name ≡ self.now.name
+            → (early : Option AnyAnswer) × Ends result (C.took cluster.new) (phase (phase c (others self.now.name (names (members_of self.now.founders))) id.now) (others self.now.name (names (members_of self.now.founders))) id.now) (history_of c ++ answered id.now early) (λ a. answered id.now (Some a)) }
     {
         self.advance(cluster, id)?;
         self.advance(cluster, id)?.ok_or(Refusal::NotYet)
@@ -71,10 +69,8 @@ impl Client {
         cluster: &mut C,
         id: &CallId,
     ) -> Result<Option<Answer>, Refusal>
-        ensures ok { IfOk result (λ a. C.history cluster.new ≡ C.history cluster.old ++ answered id.now a) }
-        ensures err { OnErr result (C.history cluster.new ≡ C.history cluster.old) }
-        ensures steps { (c : Course) → C.took cluster.old c → id.now.name ≡ self.now.name
-            → Ends result (C.took cluster.new) (phase c (others self.now.name (names (members_of self.now.founders))) id.now) }
+        ensures { (c : Course) → C.took cluster.old c → id.now.name ≡ self.now.name
+            → Ends result (C.took cluster.new) (phase c (others self.now.name (names (members_of self.now.founders))) id.now) (history_of c) (answered id.now) }
     {
         self.ask_all(cluster)?;
         cluster.go_on(id)
@@ -82,9 +78,8 @@ impl Client {
 
     // Exchanges letters with each other founder.
     fn ask_all<By, C: Cluster<By>>(&self, cluster: &mut C) -> Result<(), Refusal>
-        ensures history { C.history cluster.new ≡ C.history cluster.old }
-        ensures steps { (c : Course) → C.took cluster.old c
-            → Ends result (C.took cluster.new) (fold (exchanged self.now.name) c (others self.now.name (names (members_of self.now.founders)))) }
+        ensures { (c : Course) → C.took cluster.old c
+            → Ends result (C.took cluster.new) (fold (exchanged self.now.name) c (others self.now.name (names (members_of self.now.founders)))) (history_of c) (λ done. []) }
     {
         for peer in self.founders.members().iter() {
             self.ask(cluster, peer)?;
@@ -94,9 +89,8 @@ impl Client {
 
     // Exchanges letters with a founder, unless it is the node that is asked.
     fn ask<By, C: Cluster<By>>(&self, cluster: &mut C, peer: Name) -> Result<(), Refusal>
-        ensures history { C.history cluster.new ≡ C.history cluster.old }
-        ensures steps { (c : Course) → C.took cluster.old c
-            → Ends result (C.took cluster.new) (fold (exchanged self.now.name) c (others self.now.name (peer ∷ []))) }
+        ensures { (c : Course) → C.took cluster.old c
+            → Ends result (C.took cluster.new) (fold (exchanged self.now.name) c (others self.now.name (peer ∷ []))) (history_of c) (λ done. []) }
     {
         if peer != self.name {
             cluster.exchange(self.name, peer)?;

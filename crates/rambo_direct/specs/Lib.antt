@@ -1,1 +1,1 @@
-pub mod Histories
+pub mod Taken

@@ -1,7 +1,7 @@
 //! The nodes that a client asks.
-ghost use Rattle.std.specs.Prelude.{◌≡◌};
-ghost use Rattle.rambo_client.specs.Courses.{Course, Ends, lettered};
-ghost use Rattle.rambo_direct.specs.Histories.{direct_history, took_by, took_ran};
+ghost use Rattle.std.specs.Prelude.{[]};
+ghost use Rattle.rambo_client.specs.Courses.{Course, Ends, history_of, lettered};
+ghost use Rattle.rambo_direct.specs.Taken.{took_by};
 
 use rambo_client::Cluster;
 use rambo_history::{Answer, CallId, Op};
@@ -10,7 +10,7 @@ use rambo_tag::Registers;
 use rambo_world::Direct;
 use std::hash::{BuildHasherDefault, FoldHasher};
 
-/// Nodes over weighted majorities that hold their copies in hash tables. Their letters come as they are sent, and aren't kept.
+/// Nodes over weighted majorities that hold their copies in hash tables. Their letters come as they are sent, and only they are kept.
 pub(crate) type WeightedDirect = Direct<Weighted, Registers<BuildHasherDefault<FoldHasher>>>;
 
 /// The same, as a client asks them. (A type of this crate alone, so that crates above it needn't know the type of the
@@ -24,8 +24,6 @@ pub(crate) struct Nodes {
 pub(crate) struct ByLetters;
 
 impl Cluster<ByLetters> for Nodes {
-    ghost history = { λ n. direct_history n.direct };
-
     ghost took = { λ n. took_by n.direct };
 
     fn ask(&mut self, name: Name, op: Op) -> Result<CallId, Refusal> {
@@ -40,14 +38,11 @@ impl Cluster<ByLetters> for Nodes {
     fn go_on(&mut self, id: &CallId) -> Result<Option<Answer>, Refusal> {
         self.direct.advance(*id)?
     }
-
-    ghost ran = { λ n. took_ran n.direct };
 }
 
 // A letter passes from one node to another.
 fn pass(direct: &mut WeightedDirect, from: Name, to: Name) -> Result<(), Refusal>
-    ensures history { direct_history direct.new ≡ direct_history direct.old }
-    ensures steps { (c : Course) → took_by direct.old c → Ends result (took_by direct.new) (lettered c from to) }
+    ensures { (c : Course) → took_by direct.old c → Ends result (took_by direct.new) (lettered c from to) (history_of c) (λ done. []) }
 {
     direct.pass(from, to)?
 }

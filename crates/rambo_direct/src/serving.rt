@@ -5,7 +5,7 @@ ghost use Rattle.rambo_names.specs.Weights.{members_of};
 ghost use Rattle.rambo_client.specs.Faults.{reads_failed, writes_failed};
 ghost use Rattle.rambo_client.specs.Talks.{Served, Stopped};
 ghost use Rattle.rambo_client.specs.Courses.{no_steps};
-ghost use Rattle.rambo_direct.specs.Histories.{took_by};
+ghost use Rattle.rambo_direct.specs.Taken.{took_by};
 
 use crate::cluster::{Nodes, WeightedDirect};
 use rambo_atomic::{Sink, Source};

@@ -5,6 +5,7 @@ use Rattle.rambo_names.specs.Weights.{Weights, weighted_majorities}
 use Rattle.rambo_history.specs.declared.operation.Op.{Op}
 use Rattle.rambo_history.specs.declared.operation.Answer.{Answer}
 use Rattle.rambo_history.specs.declared.event.CallId.{CallId}
+use Rattle.rambo_history.specs.declared.event.Event.{Event}
 use Rattle.rambo_history.specs.declared.event.Event.TheVariants as event
 use Rattle.rambo_node.specs.declared.effect.Effect.{Effect}
 use Rattle.rambo_node.specs.declared.effect.Effect.TheVariants as effect
@@ -17,42 +18,59 @@ use Rattle.rambo_run.proofs.NodeLists.{node_named}
 use Rattle.rambo_world.specs.Worlds.{WorldOf, state}
 use Rattle.rambo_run.proofs.GoingOn.{run-more, run_none}
 use Rattle.rambo_client.specs.Calls.{id_at}
-use Rattle.rambo_client.specs.Courses.{Course, IsBeginning, no_steps, stepped, lettered}
-use Rattle.rambo_local.specs.Clusters.{history_of, took_by}
+use Rattle.rambo_client.specs.Courses.{Course, IsBeginning, history_of, no_steps, stepped, lettered}
+use Rattle.rambo_local.specs.Clusters.{took_by}
 use Rattle.rambo_direct.proofs.Turns.{answered_by, send_quiet, deliver_quiet, call_told, uncalled_told, advance_told, deliver_silent, send_numbered}
+
+-- the history of a world
+abbrev pub world_history : WorldOf Weights → List Event
+world_history w = (state weighted_majorities w).history
+
+-- it is that of the run of its steps
+took_ran : (w : WorldOf Weights) (c : Course) → took_by w c → world_history w ≡ history_of c
+took_ran w c took = λ i. (run weighted_majorities (took.0 i) (took.1 i)).history
+
+-- what was added to it was added to that
+pub ran_on : (old new : WorldOf Weights) (c d : Course) (more : List Event) → took_by old c → took_by new d → world_history new ≡ world_history old ++ more → took_by new d × (history_of d ≡ history_of c ++ more)
+ran_on old new c d more before now e = (now, sym (took_ran new d now) ∙ e ∙ ap (λ h. h ++ more) (took_ran old c before))
+
+-- or nothing was
+pub ran_part : (old new : WorldOf Weights) (c d : Course) → took_by old c → world_history new ≡ world_history old → (b : Course) × took_by new b × IsBeginning b d
+    → (b : Course) × took_by new b × IsBeginning b d × (history_of b ≡ history_of c)
+ran_part old new c d before e part = (part.0, part.1, part.2, sym (took_ran new part.0 part.1) ∙ e ∙ took_ran old c before)
 
 -- a step that wasn't refused
 pub history_stepped : (old new : WorldOf Weights) (st : Step Weights) → refusal weighted_majorities (state weighted_majorities old) st ≡ None → new ≡ record old { steps = old.steps ++ st ∷ [] }
-    → history_of new ≡ (turn (state weighted_majorities old) st).world.history
+    → world_history new ≡ (turn (state weighted_majorities old) st).world.history
 history_stepped old new st accepted e =
-    ap history_of e ∙ ap (λ (w : WorldState Weights). w.history) (run-more weighted_majorities old.founders old.steps st accepted)
+    ap world_history e ∙ ap (λ (w : WorldState Weights). w.history) (run-more weighted_majorities old.founders old.steps st accepted)
 
 pub sent : (old new : WorldOf Weights) (n to : ℕ) → refusal weighted_majorities (state weighted_majorities old) (step.Send n to) ≡ None → new ≡ record old { steps = old.steps ++ step.Send n to ∷ [] }
-    → history_of new ≡ history_of old
+    → world_history new ≡ world_history old
 sent old new n to accepted e = history_stepped old new (step.Send n to) accepted e ∙ send_quiet (state weighted_majorities old) n to
 
 pub delivered : (old new : WorldOf Weights) (number : ℕ) → refusal weighted_majorities (state weighted_majorities old) (step.Deliver number) ≡ None → new ≡ record old { steps = old.steps ++ step.Deliver number ∷ [] }
-    → history_of new ≡ history_of old
+    → world_history new ≡ world_history old
 delivered old new number accepted e = history_stepped old new (step.Deliver number) accepted e ∙ deliver_quiet (state weighted_majorities old) number
 
 pub called : (old new : WorldOf Weights) (n : ℕ) (o : Op) (id : CallId) (told : Effect Weights) → refusal weighted_majorities (state weighted_majorities old) (step.Call n o) ≡ None
     → new ≡ record old { steps = old.steps ++ step.Call n o ∷ [] } → told ≡ (turn (state weighted_majorities old) (step.Call n o)).effect → told ≡ effect.Called id
-    → (history_of new ≡ history_of old ++ event.Call id o ∷ []) × (id ≡ id_at n id.number)
+    → (world_history new ≡ world_history old ++ event.Call id o ∷ []) × (id ≡ id_at n id.number)
 called old new n o id told accepted e is f =
     let r = call_told (state weighted_majorities old) n o id (node_named weighted_majorities old.founders old.steps n) (sym is ∙ f) in
     (history_stepped old new (step.Call n o) accepted e ∙ r.0, r.1)
 
 pub uncalled : (old new : WorldOf Weights) (n : ℕ) (o : Op) (told : Effect Weights) → refusal weighted_majorities (state weighted_majorities old) (step.Call n o) ≡ None
     → new ≡ record old { steps = old.steps ++ step.Call n o ∷ [] } → told ≡ (turn (state weighted_majorities old) (step.Call n o)).effect → ((id : CallId) → told ≡ effect.Called id → ⊥)
-    → history_of new ≡ history_of old
+    → world_history new ≡ world_history old
 uncalled old new n o told accepted e is none =
     history_stepped old new (step.Call n o) accepted e ∙ uncalled_told (state weighted_majorities old) n o (λ id f. none id (is ∙ f))
 
 pub went_on : (old new : WorldOf Weights) (id : CallId) (told : Effect Weights) → refusal weighted_majorities (state weighted_majorities old) (step.Advance id) ≡ None
     → new ≡ record old { steps = old.steps ++ step.Advance id ∷ [] } → told ≡ (turn (state weighted_majorities old) (step.Advance id)).effect
-    → history_of new ≡ history_of old ++ answered_by id told
+    → world_history new ≡ world_history old ++ answered_by id told
 went_on old new id told accepted e is =
-    history_stepped old new (step.Advance id) accepted e ∙ advance_told (state weighted_majorities old) id ∙ ap (λ x. history_of old ++ answered_by id x) (sym is)
+    history_stepped old new (step.Advance id) accepted e ∙ advance_told (state weighted_majorities old) id ∙ ap (λ x. world_history old ++ answered_by id x) (sym is)
 
 -- no answer
 pub unanswered : (id : CallId) (e : Effect Weights) → ((d : CallId) (a : Answer) → e ≡ effect.Answered d a → ⊥) → answered_by id e ≡ []
@@ -81,8 +99,8 @@ pub took_part : (w : WorldOf Weights) (d : Course) → w.founders ≡ d.founders
 took_part w d founders part = (record { founders = w.founders; steps = w.steps; sent = length (state weighted_majorities w).letters }, (refl, refl, refl), (founders, part))
 
 -- none of them
-pub took_none : (old new : WorldOf Weights) (c d : Course) → new ≡ old → took_by old c → IsBeginning c d → (b : Course) × took_by new b × IsBeginning b d
-took_none old new c d same took begins = (c, subst (λ w. took_by w c) (sym same) took, begins)
+pub took_none : (old new : WorldOf Weights) (c d : Course) → new ≡ old → took_by old c → IsBeginning c d → (b : Course) × took_by new b × IsBeginning b d × (history_of b ≡ history_of c)
+took_none old new c d same took begins = (c, subst (λ w. took_by w c) (sym same) took, begins, refl)
 
 -- a step more
 module _ (old new : WorldOf Weights) (st : Step Weights) (accepted : refusal weighted_majorities (state weighted_majorities old) st ≡ None)

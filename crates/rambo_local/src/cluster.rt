@@ -1,7 +1,7 @@
 //! The nodes of a world, which a client asks.
-ghost use Rattle.std.specs.Prelude.{◌≡◌};
-ghost use Rattle.rambo_client.specs.Courses.{Course, Ends, lettered};
-ghost use Rattle.rambo_local.specs.Clusters.{history_of, took_by, took_ran};
+ghost use Rattle.std.specs.Prelude.{[]};
+ghost use Rattle.rambo_client.specs.Courses.{Course, Ends, history_of, lettered};
+ghost use Rattle.rambo_local.specs.Clusters.{took_by};
 
 use rambo_client::Cluster;
 use rambo_history::{Answer, CallId, Op};
@@ -17,8 +17,6 @@ pub type Host = World<Weighted, Registers<BuildHasherDefault<FoldHasher>>>;
 pub(crate) struct ByLetters;
 
 impl Cluster<ByLetters> for Host {
-    ghost history = { history_of };
-
     ghost took = { took_by };
 
     fn ask(&mut self, name: Name, op: Op) -> Result<CallId, Refusal> {
@@ -39,14 +37,11 @@ impl Cluster<ByLetters> for Host {
             _ => Ok(None),
         }
     }
-
-    ghost ran = { took_ran };
 }
 
 // A letter goes from one node to another, and comes there.
 fn send(world: &mut Host, from: Name, to: Name) -> Result<(), Refusal>
-    ensures history { history_of world.new ≡ history_of world.old }
-    ensures steps { (c : Course) → took_by world.old c → Ends result (took_by world.new) (lettered c from to) }
+    ensures { (c : Course) → took_by world.old c → Ends result (took_by world.new) (lettered c from to) (history_of c) (λ done. []) }
 {
     if let Effect::Sent(letter) = world.step(Step::Send(from, to))? {
         world.step(Step::Deliver(letter))?;

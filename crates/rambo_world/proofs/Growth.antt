@@ -7,6 +7,7 @@ use Rattle.std.specs.Option.{IsSomeAnd, is_some, option_map}
 use Rattle.rambo_tag.specs.declared.keyed_version.KeyedVersion.{KeyedVersion}
 use Rattle.rambo_tag.specs.Logs.{greatest_of}
 use Rattle.rambo_node.specs.Nodes.{NodeState}
+use Rattle.rambo_run.specs.Worlds.{node_at}
 use Rattle.rambo_letters.proofs.Lists.{some_is}
 use Rattle.rambo_world.specs.Kept.{KeptNode, state_of, states_of, log_of, logs_of, state_at, kept_at, moved, moved_in, Extends, SameBarRoom, Grows, AllGrow}
 
@@ -49,7 +50,7 @@ module _ {Q : Type 0} (ks : List (KeptNode Q)) (place name : ℕ) (x y : KeptNod
     logs = map-set log_of ks place y ∙ ap (slice_set (logs_of ks) place) log ∙ sym (map-set log_of ks place x) ∙ ap logs_of put_back;
   }
 
-  put_here : slice_get (slice_set ks place y) place ≡ Some y
+  pub put_here : slice_get (slice_set ks place y) place ≡ Some y
   put_here = slice_get_read (slice_set ks place y) (length ks) place y (sym (length-set ks place y)) below (sym (get_or-set_same ks place y y below))
 
   put_other : (k : ℕ) (z : KeptNode Q) → k ≢ place → slice_get ks k ≡ Some z → slice_get (slice_set ks place y) k ≡ Some z
@@ -92,3 +93,10 @@ grow_on ks mid new grows same = record {
 pub same_grow : {Q : Type 0} (ks new : List (KeptNode Q)) → SameBarRoom ks new → AllGrow ks new
 same_grow ks new same =
     grow_on ks ks new (record { count = refl; grow = λ place x found. subst (λ o. IsSomeAnd o (Grows x)) (sym found) (grows_same x x refl refl) }) same
+
+-- a node of a name, where all are as before, but for their room
+pub same_state : {Q : Type 0} (ks new : List (KeptNode Q)) (name : ℕ) → SameBarRoom ks new → state_at new name ≡ state_at ks name
+same_state ks new name same = ap (λ xs. node_at (record { nodes = xs; letters = []; history = []; marks = [] }) name) same.states
+
+pub same_moved : {Q : Type 0} (ks new : List (KeptNode Q)) (name : ℕ) (f : NodeState Q → NodeState Q) → SameBarRoom ks new → moved new name f ≡ moved ks name f
+same_moved ks new name f same = ap (λ xs. moved_in name (node_at (record { nodes = xs; letters = []; history = []; marks = [] }) name) f xs) same.states

@@ -6,6 +6,8 @@ mod Merging
 mod Delivering
 mod Turns
 mod Changing
+mod Alone
+mod Advancing
 mod Sendings
 mod Deliveries
 pub mod Longer
@@ -14,7 +16,7 @@ mod Reached
 mod Single
 mod Cutting
 mod Meeting
-pub mod Letterless
+pub mod Bare
 mod Passing
 mod Fitting
 mod Lent

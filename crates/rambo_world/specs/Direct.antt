@@ -1,4 +1,4 @@
--- Runs whose letters come as they are sent, and of which no letter is kept
+-- Runs whose letters come as they are sent, and of which nothing is kept but the nodes
 use Rattle.std.specs.Prelude.{◌≡◌, ℕ, List, [], ◌∷◌, Option, None, Some, Result, Ok, Err}
 use Rattle.rambo_names.specs.declared.refusal.Refusal.{Refusal}
 use Rattle.rambo_names.specs.Quorums.{QuorumSystem}
@@ -8,21 +8,21 @@ use Rattle.rambo_run.specs.Worlds.{WorldState}
 use Rattle.rambo_run.specs.Steps.{refusal}
 use Rattle.rambo_run.specs.Runs.{after, run, run_from}
 
--- a world without its letters
-abbrev pub without_letters : {Q : Type 0} → WorldState Q → WorldState Q
-without_letters w = record w { letters = [] }
+-- a world with its nodes alone
+abbrev pub bare : {Q : Type 0} → WorldState Q → WorldState Q
+bare w = record w { letters = []; history = []; marks = [] }
 
--- some steps lead from the world of the founders to one that is this one but for its letters
-abbrev pub IsReachedBarLetters : {Q : Type 0} → QuorumSystem Q → Q → WorldState Q → Type 0
-IsReachedBarLetters {Q} s founders w = (steps : List (Step Q)) × (w ≡ without_letters (run s founders steps))
+-- some steps lead from the world of the founders to one that has these nodes
+abbrev pub IsReachedBare : {Q : Type 0} → QuorumSystem Q → Q → WorldState Q → Type 0
+IsReachedBare {Q} s founders w = (steps : List (Step Q)) × (w ≡ bare (run s founders steps))
 
 -- where there are no letters, one is sent, and comes
 abbrev pub passing : {Q : Type 0} → ℕ → ℕ → List (Step Q)
 passing from to = step.Send from to ∷ step.Deliver 1 ∷ []
 
--- the world when it has come, without it
+-- the world when it has come, with its nodes alone
 abbrev pub passed : {Q : Type 0} → QuorumSystem Q → WorldState Q → ℕ → ℕ → WorldState Q
-passed s w from to = without_letters (run_from s w (passing from to))
+passed s w from to = bare (run_from s w (passing from to))
 
 -- the first of two refusals
 abbrev pub first_of : Option Refusal → Option Refusal → Option Refusal

@@ -1,10 +1,9 @@
-//! Letters are sent, delivered, and passed on.
-ghost use Rattle.std.specs.Prelude.{◌≡◌, [], None, OnOk, OnErr, IfOk, IfErr};
+//! Letters are sent and delivered.
+ghost use Rattle.std.specs.Prelude.{◌≡◌, None, OnOk, OnErr, IfOk, IfErr};
 ghost use Rattle.rambo_run.specs.Runs.{after, result_of};
 ghost use Rattle.rambo_run.specs.Steps.{refusal};
 ghost use Rattle.rambo_run.specs.Told.{sent, delivered};
 ghost use Rattle.rambo_node.specs.declared.step.StepOf.TheVariants as step;
-ghost use Rattle.rambo_world.specs.Direct.{pass_refusal, passed, told_refusal};
 
 use crate::state::State;
 use rambo_letters::Outline;
@@ -46,28 +45,6 @@ impl<Q: Quorums, S: Replica> State<Q, S> {
         match self.nodes.hear(&letter, before, before.max(told))? {
             Ok(()) => {
                 self.merged.raise(to, from, told);
-                Ok(Ok(()))
-            }
-            Err(refusal) => Ok(Err(refusal)),
-        }
-    }
-
-    // A letter passes from one node to another, where no letter is kept, and isn't kept; or why it doesn't.
-    pub(crate) fn pass(&mut self, from: Name, to: Name) -> Result<Result<(), Refusal>, Refusal>
-        requires none { self.old.letters ≡ [] }
-        ensures told { IfOk result (λ r. told_refusal r ≡ pass_refusal Q.system self.old from to) }
-        ensures after { OnOk result (self.new ≡ passed Q.system self.old from to) }
-        ensures accepted { OnErr result (pass_refusal Q.system self.old from to ≡ None) }
-        ensures err { OnErr result (self.new ≡ self.old) }
-        ensures refused { IfErr result (λ r. r ≡ Refusal.OutOfMemory) }
-    {
-        if let Err(refusal) = self.nodes.node(from).may_send(to) {
-            return Ok(Err(refusal));
-        }
-        let before = self.merged.of(to, from);
-        match self.nodes.pass(from, to, before)? {
-            Ok(heard) => {
-                self.merged.raise(to, from, heard);
                 Ok(Ok(()))
             }
             Err(refusal) => Ok(Err(refusal)),

@@ -14,7 +14,7 @@ ghost use Rattle.rambo_node.specs.Acts as act;
 use crate::state::State;
 use rambo_history::{CallId, Event, History, Op};
 use rambo_names::{Name, Quorums, Refusal};
-use rambo_node::{Deed, Effect, Quiet};
+use rambo_node::{Deed, Effect, Moving, Quiet};
 use rambo_sequence::Mark;
 use rambo_tag::Replica;
 
@@ -46,9 +46,7 @@ impl<Q: Quorums, S: Replica> State<Q, S> {
         self.history.reserve(1)?;
         let _ = self.history.prepare(name);
         let asked = op.clone()?;
-        let node = self.nodes.node_mut(name);
-        node.ready_call()?;
-        let id = node.finish_call(op);
+        let id = self.nodes.call(name, op)?;
         push_call(&mut self.history, &id, asked);
         Ok(Ok(id))
     }
@@ -93,8 +91,15 @@ impl<Q: Quorums, S: Replica> State<Q, S> {
             Ok(found) => found,
             Err(refusal) => return Ok(Err(refusal)),
         };
-        self.nodes
-            .advance(id, found, &mut deed, &mut self.history, &mut self.marks)?;
+        let mut moving = Moving {
+            id,
+            found,
+            kept: None,
+            put: None,
+        };
+        self.nodes.ready_advance(&mut moving, &mut deed)?;
+        make_room(&mut self.history, &mut self.marks, &deed)?;
+        self.nodes.finish_advance(&mut moving, &mut deed)?;
         note(&mut self.history, &mut self.marks, &mut deed);
         Ok(Ok(deed.effect))
     }
@@ -107,6 +112,28 @@ fn push_call(history: &mut History, id: &CallId, op: Op)
     ensures { history.new.events ≡ history.old.events ++ Event.Call id.now op ∷ [] }
 {
     history.push_reserved(Event::Call(*id, op));
+}
+
+// Makes room for the event of a deed in a history, and for its mark in marks.
+#[inline(always)]
+fn make_room<Q: Quorums>(
+    history: &mut History,
+    marks: &mut Vec<Mark>,
+    deed: &Deed<Q>,
+) -> Result<(), Refusal>
+    ensures events { history.new.events ≡ history.old.events }
+    ensures event { OnOk result ((e : Event) → deed.now.event ≡ Some e → 0 < history.new.room) }
+    ensures items { marks.new.items ≡ marks.old.items }
+    ensures mark { OnOk result ((m : Mark) → deed.now.mark ≡ Some m → vec_len marks.new < vec_capacity marks.new) }
+    ensures refused { IfErr result (λ r. r ≡ Refusal.OutOfMemory) }
+{
+    if deed.event.is_some() {
+        history.reserve(1)?;
+    }
+    if deed.mark.is_some() {
+        marks.reserve(1)?;
+    }
+    Ok(())
 }
 
 // The event and the mark of a deed go from it to the ends of a history and of the marks, where there is room for them.

@@ -1,7 +1,6 @@
 //! The nodes of a world, and the logs of their copies.
-ghost use Rattle.std.specs.Prelude.{◌≡◌, ◌≢◌, ◌-◌, ◌<◌, ◌≤◌, max, List, [], None, Some, length, replicate, slice_get, slice_set, OnOk, OnErr, IfOk, IfErr};
+ghost use Rattle.std.specs.Prelude.{◌≡◌, ◌≢◌, ◌+◌, ◌-◌, ◌<◌, ◌≤◌, max, List, [], None, Some, length, replicate, slice_get, slice_set, OnOk, OnErr, IfOk, IfErr};
 ghost use Rattle.std.specs.Borrow.{sem};
-ghost use Rattle.std.specs.Vec.{vec_capacity, vec_len};
 ghost use Rattle.rambo_names.specs.Names.{IsName, rising};
 ghost use Rattle.rambo_tag.specs.declared.keyed_version.KeyedVersion.{KeyedVersion};
 ghost use Rattle.rambo_gossip.specs.Kinds as kind;
@@ -14,7 +13,7 @@ ghost use Rattle.std.specs.Option.{IsSomeAnd};
 ghost use Rattle.rambo_node.specs.Acts as act;
 ghost use Rattle.rambo_node.specs.Changes.{refusal_of, made_by, quiet_deed};
 ghost use Rattle.rambo_node.specs.Nodes.{NodeState, RoomyNode, first_node};
-ghost use Rattle.rambo_node.specs.Prepared.{IsFound};
+ghost use Rattle.rambo_node.specs.Prepared.{IsAlone, IsFound, IsMoving};
 ghost use Rattle.rambo_run.specs.Runs.{maps_of};
 ghost use Rattle.rambo_run.specs.Worlds.{first_nodes};
 ghost use Rattle.rambo_world.specs.Kept.{KeptNode, states_of, logs_of, node_states, state_at, kept_at, log_at, moved, outline, outline_by, AllGrow, SameBarRoom};
@@ -25,13 +24,12 @@ ghost use Rattle.rambo_world.specs.Direct.{told_refusal};
 
 use rambo_config_map::Places;
 use rambo_gossip::LetterOutline;
-use rambo_history::{CallId, Event, History};
+use rambo_history::{CallId, Op};
 use rambo_letters::Outline;
 use rambo_logs::Logs;
 use rambo_names::{Name, Quorums, Refusal};
-use rambo_node::{Deed, Found, Moving, Node};
+use rambo_node::{Deed, Moving, Node};
 use rambo_run::NodeMap;
-use rambo_sequence::Mark;
 use rambo_tag::{KeyedVersion, Pack, Replica};
 use std::alloc::Global;
 use std::marker::Model;
@@ -118,40 +116,57 @@ impl<Q: Quorums, S: Replica> Nodes<Q, S> {
         maps_of(alloc, self.list.as_slice())
     }
 
-    // Advances a call that may advance, and was found here; the copy that it puts goes into the log of its node. The
-    // rest of what it did is written to `deed`, which has nothing yet. Where the call doesn't advance, nothing is to be
-    // read there. For the event and the mark in `deed` there is then room in this history and these marks.
-    pub(crate) fn advance(
-        &mut self,
-        id: CallId,
-        found: Found,
-        deed: &mut Deed<Q>,
-        history: &mut History,
-        marks: &mut Vec<Mark>,
-    ) -> Result<(), Refusal>
-        requires found { (x : NodeState Q) → state_at self.old id.name ≡ Some x → IsFound Q.system x id found }
-        requires quiet { deed.old ≡ quiet_deed }
-        ensures nodes { OnOk result (states_of self.new ≡ moved self.old id.name (λ x. (made_by x (act.Advance id)).node)) }
-        ensures deed { OnOk result ((x : NodeState Q) → state_at self.old id.name ≡ Some x → deed.new ≡ record (made_by x (act.Advance id)).deed { copy = None }) }
-        ensures events { history.new.events ≡ history.old.events }
-        ensures items { marks.new.items ≡ marks.old.items }
-        ensures room { OnOk result ((e : Event) → deed.new.event ≡ Some e → 0 < history.new.room) }
-        ensures space { OnOk result ((m : Mark) → deed.new.mark ≡ Some m → vec_len marks.new < vec_capacity marks.new) }
+    // A node takes a call that it doesn't refuse. Returns the call.
+    pub(crate) fn call(&mut self, name: Name, op: Op) -> Result<CallId, Refusal>
+        requires { (x : NodeState Q) → state_at self.old name ≡ Some x → refusal_of Q.system x (act.Call op) ≡ None }
+        ensures nodes { OnOk result (states_of self.new ≡ moved self.old name (λ x. (made_by x (act.Call op)).node)) }
+        ensures id { IfOk result (λ id. (x : NodeState Q) → state_at self.old name ≡ Some x → id ≡ record { name = x.name; number = x.made + 1 }) }
         ensures refused { IfErr result (λ r. r ≡ Refusal.OutOfMemory) }
         ensures err { OnErr result (SameBarRoom self.old self.new) }
         ensures grow { AllGrow self.old self.new }
     {
-        let name = id.name;
-        let node = &mut self.list[place_of(name)];
-        let mut moving = Moving {
-            id,
-            found,
-            kept: None,
-            put: None,
-        };
-        node.ready_advance(&mut moving, deed)?;
-        make_room(&mut self.logs, history, marks, name, deed)?;
-        node.finish_advance(&mut moving);
+        let node = self.node_mut(name);
+        node.ready_call()?;
+        Ok(node.finish_call(op))
+    }
+
+    // The first half of the advance of a call that may advance, and was found there: the nodes stay as they are. What it
+    // will do is written to `deed`, which has nothing yet.
+    pub(crate) fn ready_advance(
+        &mut self,
+        moving: &mut Moving,
+        deed: &mut Deed<Q>,
+    ) -> Result<(), Refusal>
+        requires found { (x : NodeState Q) → state_at self.old moving.old.id.name ≡ Some x → IsFound Q.system x moving.old.id moving.old.found }
+        requires alone { IsAlone moving.old }
+        requires quiet { deed.old ≡ quiet_deed }
+        ensures same { SameBarRoom self.old self.new }
+        ensures id { OnOk result (moving.new.id ≡ moving.old.id) }
+        ensures moving { OnOk result ((k : KeptNode Q) → kept_at self.new moving.old.id.name ≡ Some k → IsMoving Q.system k.node moving.new) }
+        ensures deed { OnOk result ((x : NodeState Q) → state_at self.old moving.old.id.name ≡ Some x → deed.new ≡ (made_by x (act.Advance moving.old.id)).deed) }
+        ensures refused { IfErr result (λ r. r ≡ Refusal.OutOfMemory) }
+    {
+        self.node_mut(moving.id.name).ready_advance(moving, deed)
+    }
+
+    // The second half of the advance of a call that is ready: the copy that it puts goes from `deed` into the log of its
+    // node.
+    pub(crate) fn finish_advance(
+        &mut self,
+        moving: &mut Moving,
+        deed: &mut Deed<Q>,
+    ) -> Result<(), Refusal>
+        requires moving { (k : KeptNode Q) → kept_at self.old moving.old.id.name ≡ Some k → IsMoving Q.system k.node moving.old }
+        requires deed { (x : NodeState Q) → state_at self.old moving.old.id.name ≡ Some x → deed.old ≡ (made_by x (act.Advance moving.old.id)).deed }
+        ensures nodes { OnOk result (states_of self.new ≡ moved self.old moving.old.id.name (λ x. (made_by x (act.Advance moving.old.id)).node)) }
+        ensures deed { OnOk result (deed.new ≡ record deed.old { copy = None }) }
+        ensures refused { IfErr result (λ r. r ≡ Refusal.OutOfMemory) }
+        ensures err { OnErr result (SameBarRoom self.old self.new) }
+        ensures grow { AllGrow self.old self.new }
+    {
+        let name = moving.id.name;
+        make_log_room(&mut self.logs, name, &deed.copy)?;
+        self.list[place_of(name)].finish_advance(moving);
         log_copy(&mut self.logs, name, &mut deed.copy);
         Ok(())
     }
@@ -370,34 +385,6 @@ fn first_nodes<Q: Quorums, S: Replica>(
         list.push(first_node(alloc, place + 1, founders, replica)?)?;
     }
     Ok(list)
-}
-
-// Makes room for what a deed has: for its copy in the log of a name, for its event in a history, and for its mark in
-// marks.
-#[inline(always)]
-fn make_room<Q: Quorums>(
-    logs: &mut Logs,
-    history: &mut History,
-    marks: &mut Vec<Mark>,
-    name: Name,
-    deed: &Deed<Q>,
-) -> Result<(), Refusal>
-    ensures same { logs.new.logs ≡ logs.old.logs }
-    ensures copy { OnOk result ((c : KeyedVersion) → deed.now.copy ≡ Some c → logs.new.room ≡ Some (record { name = name; key = c.key })) }
-    ensures events { history.new.events ≡ history.old.events }
-    ensures event { OnOk result ((e : Event) → deed.now.event ≡ Some e → 0 < history.new.room) }
-    ensures items { marks.new.items ≡ marks.old.items }
-    ensures mark { OnOk result ((m : Mark) → deed.now.mark ≡ Some m → vec_len marks.new < vec_capacity marks.new) }
-    ensures refused { IfErr result (λ r. r ≡ Refusal.OutOfMemory) }
-{
-    make_log_room(logs, name, &deed.copy)?;
-    if deed.event.is_some() {
-        history.reserve(1)?;
-    }
-    if deed.mark.is_some() {
-        marks.reserve(1)?;
-    }
-    Ok(())
 }
 
 // Makes room in the log of a name for a copy, if there is one.

@@ -1,7 +1,7 @@
 use Rattle.std.proofs.Common.{sym, subst}
 use Rattle.rambo_names.specs.Weights.{members_of}
 use Rattle.rambo_client.specs.Courses.{Course, no_steps}
-use Rattle.rambo_direct.specs.Histories.{took_by}
+use Rattle.rambo_direct.specs.Taken.{took_by}
 use Rattle.rambo_names.proofs.Errors.{on_err}
 use Rattle.rambo_client.proofs.Gains.{on_ok-weaker, on_err-weaker}
 use Rattle.rambo_client.proofs.Pieces.{nothing, served_as, served_somehow, stopped_as, stopped_somehow}

@@ -1,10 +1,8 @@
 use Rattle.std.proofs.lemmas.Grind.{common_steps}
-use Rattle.std.proofs.Common.{◌≡◌, ◌∙◌, ◌+◌, ◌++◌, ◌∷◌, [], None, Some, refl, sym, ap, subst, arith}
+use Rattle.std.proofs.Common.{◌≡◌, ◌∙◌, ◌++◌, ◌∷◌, [], None, Some, refl, sym, ap, subst, arith}
 use Rattle.rambo_history.specs.declared.event.Event.TheVariants as event
 use Rattle.rambo_history.specs.Faults.{fault_of}
 use Rattle.rambo_node.specs.Changes.{made_by, refusal_of}
-use Rattle.rambo_node.specs.Nodes.{NodeState}
-use Rattle.rambo_node.specs.Operations.{called}
 use Rattle.rambo_node.specs.declared.effect.Effect.TheVariants as effect
 use Rattle.rambo_node.specs.Acts as act
 use Rattle.rambo_node.specs.declared.step.StepOf.TheVariants as step
@@ -12,13 +10,10 @@ use Rattle.rambo_run.specs.Steps.{turn}
 use Rattle.rambo_run.proofs.GoingOn.{after-refused}
 use Rattle.rambo_letters.proofs.Lists.{some_is}
 use Rattle.rambo_world.specs.Deliveries.{world_of}
-use Rattle.rambo_world.specs.Kept.{with_node, AllGrow}
 use Rattle.rambo_world.specs.Worlds.{EventFits}
 use Rattle.rambo_names.proofs.Errors.{on_err}
 use Rattle.rambo_names.proofs.Sizes.{up_fits, back_fits, next}
 use Rattle.rambo_world.proofs.Changing.{changed_world, same_world}
-use Rattle.rambo_world.proofs.Lent.{lent_state, lent_moved, lent_same, lent_grows}
-use Rattle.rambo_world.proofs.Logging.{made_name}
 use Rattle.rambo_world.proofs.Single.{refused_told, taken_told, taken_after}
 use Rattle.rambo_world.proofs.Stepping.{kept_stays, letters_stay}
 use Rattle.rambo_world.proofs.Turns.{judged_now, turned_now}
@@ -31,14 +26,6 @@ node-requires g c =
 
 pub may_call-requires : goal.may_call-requires
 may_call-requires g c = back_fits _ _ _ (up_fits _ _ _ (back_fits _ _ _ (next _ _ _ _ (next _ _ _ _ (next _ _ _ _ (next _ _ _ _ (up_fits _ _ _ c.requires-raw.1.1.0)))))))
-
-pub node_mut-node-requires : goal.node_mut-node-requires
-node_mut-node-requires g c =
-    let nodes = back_fits _ _ _ (next _ _ _ _ (next _ _ _ _ (next _ _ _ _ (next _ _ _ _ (up_fits _ _ _ c.requires-raw.1.1.0))))) in
-    (nodes, back_fits _ _ _ (up_fits _ _ _ nodes))
-
-pub ready_call-requires : goal.ready_call-requires
-ready_call-requires g c = back_fits _ _ _ (up_fits _ _ _ (back_fits _ _ _ (next _ _ _ _ (next _ _ _ _ (next _ _ _ _ (next _ _ _ _ (up_fits _ _ _ c.requires-raw.1.1.0)))))))
 
 pub returns-in-Err-clause-told : goal.returns-in-Err-clause-told
 returns-in-Err-clause-told g c =
@@ -60,73 +47,45 @@ returns-in_err-asked-clause-accepted g c =
     on_err c.from_residual-in_err-asked.result
     (judged_now g.Q.Quorums.system _ c.args.self.now c.self.view_is (step.Call c.args.name c.args.op) c.args.name (act.Call c.args.op) c.node.result.now.state refl c.node.ensures None c.in_default.ensures.ok)
 
-pub returns-in_err-ready_call-clause-accepted : goal.returns-in_err-ready_call-clause-accepted
-returns-in_err-ready_call-clause-accepted g c =
-    on_err c.from_residual-in_err-ready_call.result
+pub call-requires : goal.call-requires
+call-requires g c = (
+  back_fits _ _ _ (next _ _ _ _ (next _ _ _ _ (next _ _ _ _ (next _ _ _ _ (up_fits _ _ _ c.requires-raw.1.1.0))))),
+  λ x found. ap (λ y. refusal_of g.Q.Quorums.system y (act.Call c.args.op)) (some_is x c.node.result.now.state (sym found ∙ c.node.ensures)) ∙ c.in_default.ensures.ok,
+)
+
+pub returns-in_err-id-clause-accepted : goal.returns-in_err-id-clause-accepted
+returns-in_err-id-clause-accepted g c =
+    on_err c.from_residual-in_err-id.result
     (judged_now g.Q.Quorums.system _ c.args.self.now c.self.view_is (step.Call c.args.name c.args.op) c.args.name (act.Call c.args.op) c.node.result.now.state refl c.node.ensures None c.in_default.ensures.ok)
 
-pub invariant_of-self-in_err-ready_call : goal.invariant_of-self-in_err-ready_call
-invariant_of-self-in_err-ready_call g c =
-    let ks = c.self.inside.nodes in
-    let n = c.args.name in
-    let lent = c.node_mut-node in
-    let y = c.ready_call.new.self in
-    kept_stays ks (with_node ks n y) (lent_grows ks n lent.result.now y lent.ensures.kept lent.ensures.named.0 (ap (λ z. z.name) c.ready_call.ensures.same) (ap (λ z. z.registers) c.ready_call.ensures.same))
-    c.self.inside.letters c.self.inside.merged c.self.invariant
+pub invariant_of-self-in_err-id : goal.invariant_of-self-in_err-id
+invariant_of-self-in_err-id g c = kept_stays c.self.inside.nodes c.call.new.self c.call.ensures.grow c.self.inside.letters c.self.inside.merged c.self.invariant
 
-pub returns-in_err-ready_call-clause-err : goal.returns-in_err-ready_call-clause-err
-returns-in_err-ready_call-clause-err g c =
-    let ks = c.self.inside.nodes in
-    let n = c.args.name in
-    let lent = c.node_mut-node in
-    let y = c.ready_call.new.self in
-    on_err c.from_residual-in_err-ready_call.result
-    (same_world ks (with_node ks n y) c.self.inside.letters c.self.inside.history.events _ c.self.inside.marks.items _
-    (lent_same ks n lent.result.now y lent.ensures.kept lent.ensures.named.0 c.ready_call.ensures.same) c.self.invariant.sent (ap (λ h. h.events) c.prepare.ensures ∙ c.in_ok-reserve.ensures.events) refl
+pub returns-in_err-id-clause-err : goal.returns-in_err-id-clause-err
+returns-in_err-id-clause-err g c =
+    on_err c.from_residual-in_err-id.result
+    (same_world c.self.inside.nodes c.call.new.self c.self.inside.letters c.self.inside.history.events _ c.self.inside.marks.items _ c.in_err-id.ensures.err c.self.invariant.sent
+    (ap (λ h. h.events) c.prepare.ensures ∙ c.in_ok-reserve.ensures.events) refl
     ∙ c.self.view_is)
-
-pub finish_call-id-requires : goal.finish_call-id-requires
-finish_call-id-requires g c =
-    let n = c.args.name in
-    let lent = c.node_mut-node in
-    let x = lent.result.now in
-    let own = some_is x.state c.node.result.now.state (sym (lent_state c.self.inside.nodes n x x lent.ensures.kept lent.ensures.named.0) ∙ c.node.ensures) in (
-      back_fits _ _ _ (up_fits _ _ _ (back_fits _ _ _ (next _ _ _ _ (next _ _ _ _ (next _ _ _ _ (next _ _ _ _ (up_fits _ _ _ c.requires-raw.1.1.0))))))),
-      (
-        ap (λ y. refusal_of g.Q.Quorums.system y (act.Call c.args.op)) (c.ready_call.ensures.same ∙ own) ∙ c.in_default.ensures.ok,
-        c.in_ok-ready_call.ensures.ok,
-      ),
-    )
 
 pub push_call-requires-clause-fits : goal.push_call-requires-clause-fits
 unfolding made_by
 push_call-requires-clause-fits g c =
     let n = c.args.name in
     let ch = act.Call c.args.op in
-    let lent = c.node_mut-node in
-    let x = lent.result.now in
-    let ev = event.Call c.finish_call-id.result c.in_ok-asked.asked in
+    let x = c.node.result.now.state in
+    let ev = event.Call c.in_ok-id.id c.in_ok-asked.asked in
     let fits = subst (λ w. EventFits w n ch) (sym c.self.view_is)
     (c.requires.fits (judged_now g.Q.Quorums.system _ c.args.self.now c.self.view_is (step.Call c.args.name c.args.op) c.args.name (act.Call c.args.op) c.node.result.now.state refl c.node.ensures None c.in_default.ensures.ok)) in
-    let id = c.finish_call-id.ensures.id ∙ ap (λ (y : NodeState _). record { name = y.name; number = y.made + 1 }) c.ready_call.ensures.same in
+    let id = c.in_ok-id.ensures.id x c.node.ensures in
     ap (λ h. fault_of h ev) (ap (λ h. h.events) c.prepare.ensures ∙ c.in_ok-reserve.ensures.events)
-    ∙ fits x.state ev (lent_state c.self.inside.nodes n x x lent.ensures.kept lent.ensures.named.0) (sym (λ i. Some (event.Call (id i) (c.in_ok-asked.ensures.same i))))
-
-made : (g : _) (c : goal.After-push_call g) → c.finish_call-id.new.self.state ≡ (made_by c.node_mut-node.result.now.state (act.Call c.args.op)).node
-made g c = c.finish_call-id.ensures.node ∙ ap (λ y. (made_by y (act.Call c.args.op)).node) c.ready_call.ensures.same
-
-grows : (g : _) (c : goal.After-push_call g) → AllGrow c.self.inside.nodes (with_node c.self.inside.nodes c.args.name c.finish_call-id.new.self)
-unfolding made_by called
-grows g c =
-    let lent = c.node_mut-node in
-    let x = lent.result.now in
-    lent_grows c.self.inside.nodes c.args.name x c.finish_call-id.new.self lent.ensures.kept lent.ensures.named.0 (ap (λ y. y.name) (made g c) ∙ made_name x.state (act.Call c.args.op)) (ap (λ y. y.registers) (made g c))
+    ∙ fits x ev c.node.ensures (sym (λ i. Some (event.Call (id i) (c.in_ok-asked.ensures.same i))))
 
 pub invariant_of-self-2 : goal.invariant_of-self-2
-invariant_of-self-2 g c = kept_stays c.self.inside.nodes (with_node c.self.inside.nodes c.args.name c.finish_call-id.new.self) (grows g c) c.self.inside.letters c.self.inside.merged c.self.invariant
+invariant_of-self-2 g c = kept_stays c.self.inside.nodes c.call.new.self c.call.ensures.grow c.self.inside.letters c.self.inside.merged c.self.invariant
 
 turned : (g : _) (c : goal.After-push_call g) → turn c.args.self.now (step.Call c.args.name c.args.op)
-    ≡ record { world = world_of (with_node c.self.inside.nodes c.args.name c.finish_call-id.new.self) c.self.inside.letters c.push_call.new.history.events c.self.inside.marks.items; effect = effect.Called c.finish_call-id.result }
+    ≡ record { world = world_of c.call.new.self c.self.inside.letters c.push_call.new.history.events c.self.inside.marks.items; effect = effect.Called c.in_ok-id.id }
 unfolding made_by
 turned g c =
     let ks = c.self.inside.nodes in
@@ -135,24 +94,22 @@ turned g c =
     let ms = c.self.inside.marks.items in
     let n = c.args.name in
     let ch = act.Call c.args.op in
-    let lent = c.node_mut-node in
-    let x = lent.result.now in
-    let y = c.finish_call-id.new.self in
-    let id = c.finish_call-id.ensures.id ∙ ap (λ (y : NodeState _). record { name = y.name; number = y.made + 1 }) c.ready_call.ensures.same in
+    let x = c.node.result.now.state in
+    let new = c.call.new.self in
+    let id = c.in_ok-id.ensures.id x c.node.ensures in
     turned_now _ c.args.self.now c.self.view_is (step.Call n c.args.op) n ch refl _
-    (changed_world ks (with_node ks n y) ss h c.push_call.new.history.events ms ms n ch (effect.Called c.finish_call-id.result) x.state
-    (lent_moved ks n x y lent.ensures.kept lent.ensures.named.0 (λ z. (made_by z ch).node) (made g c)) (letters_stay ks (with_node ks n y) (grows g c) ss c.self.invariant.sent)
-    (lent_state ks n x y lent.ensures.kept lent.ensures.named.0) refl (ap effect.Called id)
+    (changed_world ks new ss h c.push_call.new.history.events ms ms n ch (effect.Called c.in_ok-id.id) x c.in_ok-id.ensures.nodes (letters_stay ks new c.call.ensures.grow ss c.self.invariant.sent)
+    c.node.ensures refl (ap effect.Called id)
     (c.push_call.ensures ∙ λ i. (ap (λ h. h.events) c.prepare.ensures ∙ c.in_ok-reserve.ensures.events) i ++ event.Call (id i) (c.in_ok-asked.ensures.same i) ∷ []) refl)
 
 pub returns-clause-told : goal.returns-clause-told
 returns-clause-told g c =
-    taken_told g.Q.Quorums.system c.args.self.now (step.Call c.args.name c.args.op) _ (effect.Called c.finish_call-id.result)
+    taken_told g.Q.Quorums.system c.args.self.now (step.Call c.args.name c.args.op) _ (effect.Called c.in_ok-id.id)
     (judged_now g.Q.Quorums.system _ c.args.self.now c.self.view_is (step.Call c.args.name c.args.op) c.args.name (act.Call c.args.op) c.node.result.now.state refl c.node.ensures None c.in_default.ensures.ok) (turned g c)
 
 pub returns-clause-after : goal.returns-clause-after
 returns-clause-after g c =
-    taken_after g.Q.Quorums.system c.args.self.now (step.Call c.args.name c.args.op) _ (effect.Called c.finish_call-id.result)
+    taken_after g.Q.Quorums.system c.args.self.now (step.Call c.args.name c.args.op) _ (effect.Called c.in_ok-id.id)
     (judged_now g.Q.Quorums.system _ c.args.self.now c.self.view_is (step.Call c.args.name c.args.op) c.args.name (act.Call c.args.op) c.node.result.now.state refl c.node.ensures None c.in_default.ensures.ok) (turned g c)
 
 pub push_call-requires-clause-room : goal.push_call-requires-clause-room
