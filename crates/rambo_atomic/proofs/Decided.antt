@@ -22,7 +22,7 @@ use Rattle.rambo_history.proofs.LookUps.{call_in-append, either}
 use Rattle.rambo_history.proofs.Pushes.{same_call-path, same_call-refl}
 use Rattle.rambo_history.proofs.Splits.{splits-nil, splits-cons, splits-head, splits-tail, stands-later, stands-nil, stands-cases}
 
-both : (a b : Bool) → (a && b) ≡ true → (a ≡ true) × (b ≡ true)
+pub both : (a b : Bool) → (a && b) ≡ true → (a ≡ true) × (b ≡ true)
 both true b e = (refl, e)
 both false b e = cc
 

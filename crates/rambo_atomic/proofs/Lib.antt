@@ -1,9 +1,11 @@
 pub mod Decided
 pub mod Feeds
+pub mod Found
 pub mod Interruptions
 pub mod KnownBytes
 pub mod Pieces
 pub mod RealTime
+pub mod Rising
 pub mod Seen
 pub mod Tallied
 pub mod Unreads

@@ -1,5 +1,5 @@
 -- One entry more of an order
-use Rattle.std.proofs.Common.{◌≡◌, ℕ, ◌+◌, ◌≤◌, length, length-append, List, [], ◌∷◌, ◌++◌, Bool, true, false, cond, not, ◌&&◌, ◌||◌, nat_eq, None, Some, is_some, refl, sym, ap, ◌∙◌, true≢false, arith}
+use Rattle.std.proofs.Common.{◌≡◌, ℕ, ◌+◌, ◌≤◌, length, length-append, append_assoc, append-nil, subst, List, [], ◌∷◌, ◌++◌, Bool, true, false, cond, not, ◌&&◌, ◌||◌, nat_eq, None, Some, is_some, refl, sym, ap, ◌∙◌, true≢false, arith}
 use Rattle.std.specs.List.{list_any}
 use Rattle.std.proofs.lemmas.Bool.Decides.{nat_tests}
 use Rattle.rambo_history.specs.declared.operation.Op.{Op}
@@ -43,6 +43,26 @@ is_distinct-push (x ∷ xs) c =
     turned false true true u = refl
     turned false true false u = refl
     turned false false d u = refl
+
+stands_in-append : (xs ys : List CallId) (c : CallId) → stands_in (xs ++ ys) c ≡ (stands_in xs c || stands_in ys c)
+stands_in-append [] ys c = refl
+stands_in-append (x ∷ xs) ys c = ap (λ t. same_call x c || t) (stands_in-append xs ys c) ∙ turned (same_call x c) (stands_in xs c) (stands_in ys c)
+  where
+    turned : (s t u : Bool) → (s || (t || u)) ≡ ((s || t) || u)
+    turned true t u = refl
+    turned false t u = refl
+
+distinct-front : (xs ys : List CallId) → is_distinct (xs ++ ys) ≡ true → is_distinct xs ≡ true
+distinct-front [] ys e = refl
+distinct-front (x ∷ xs) ys e =
+    elim (stands_in xs x) as (λ t. stands_in xs x ≡ t → cond t false (is_distinct xs) ≡ true) [
+      | true ↦ λ twice. absurd (true≢false (sym e ∙ ap (λ t. cond t false (is_distinct (xs ++ ys))) (stands_in-append xs ys x ∙ ap (λ t. t || stands_in ys x) twice)))
+      | false ↦ λ _. distinct-front xs ys (behind (stands_in (xs ++ ys) x) (is_distinct (xs ++ ys)) e)
+    ] refl
+  where
+    behind : (t d : Bool) → cond t false d ≡ true → d ≡ true
+    behind true d e = absurd (true≢false (sym e))
+    behind false d e = e
 
 pub distinct-again : (xs : List CallId) (c : CallId) → stands_in xs c ≡ true → is_distinct (xs ++ c ∷ []) ≡ false
 distinct-again xs c e = is_distinct-push xs c ∙ ap (λ t. is_distinct xs && not t) e ∙ none (is_distinct xs)
@@ -147,17 +167,46 @@ found-none h among (event.Call d p ∷ es) = none (is_due h among (event.Call d 
     none true n e = omega arith
     none false n e = omega arith
 
--- what is known of a front of an order: the calls in it, how many of the answered calls of those within they are, and whether none stands twice
+how_many-push : {X : Type 0} (p : X → Bool) (xs : List X) (x : X) → how_many p (xs ++ x ∷ []) ≡ how_many p xs + cond (p x) 1 0
+how_many-push p [] x = omega arith
+how_many-push p (y ∷ xs) x = ap (λ n. cond (p y) 1 0 + n) (how_many-push p xs x) ∙ omega arith
+
+-- in an order that has no call twice, as many answered calls of those within are found as there are entries of them
+abbrev FindsEach : List Event → (Op → Bool) → List CallId → Type 0
+FindsEach h among order = how_many (is_found h among order) h ≡ how_many (is_answered_call h among) order
+
+found-along : (h : List Event) (among : Op → Bool) (order : List CallId) → CallsOnce h → is_distinct order ≡ true
+    → (front rest : List CallId) → front ++ rest ≡ order → FindsEach h among front → FindsEach h among order
+found-along h among order once alone front [] e was = subst (FindsEach h among) (sym (append-nil front) ∙ e) was
+found-along h among order once alone front (c ∷ cs) e was =
+    let more : (front ++ c ∷ []) ++ cs ≡ order = append_assoc front (c ∷ []) cs ∙ e in
+    let fresh = last-new front c (distinct-front (front ++ c ∷ []) cs (ap is_distinct more ∙ alone)) in
+    found-along h among order once alone (front ++ c ∷ []) cs more
+    (found-new h among front c fresh h once ∙ ap (λ n. n + cond (is_answered_call h among c) 1 0) was ∙ sym (how_many-push (is_answered_call h among) front c))
+  where
+    last-new : (xs : List CallId) (c : CallId) → is_distinct (xs ++ c ∷ []) ≡ true → stands_in xs c ≡ false
+    last-new xs c e = not-true (is_distinct xs) (stands_in xs c) (sym (is_distinct-push xs c) ∙ e)
+      where
+        not-true : (d t : Bool) → (d && not t) ≡ true → t ≡ false
+        not-true true false e = refl
+        not-true true true e = absurd (true≢false (sym e))
+        not-true false t e = absurd (true≢false (sym e))
+
+pub distinct-found : (h : List Event) (among : Op → Bool) (order : List CallId) → CallsOnce h → is_distinct order ≡ true → FindsEach h among order
+distinct-found h among order once alone = found-along h among order once alone [] order refl (found-none h among h)
+
+-- what is known of a front of an order: the calls in it, whether none stands twice, and how many entries of answered calls of those within stand
+-- there again
 pub record HasSeen (h : List Event) (among : Op → Bool) (front seen : List CallId) (n : ℕ) (t : Bool) : Type 0 where
   pub calls : (c : CallId) → list_any (same_call c) seen ≡ stands_in front c
-  pub found : n ≡ how_many (is_found h among front) h
+  pub again : how_many (is_found h among front) h + n ≡ how_many (is_answered_call h among) front
   pub distinct : t ≡ is_distinct front
   pub few : n ≤ length front
 
 pub seen-none : (h : List Event) (among : Op → Bool) (seen : List CallId) → seen ≡ [] → HasSeen h among [] seen 0 true
 seen-none h among seen e = record {
   calls = λ c. ap (list_any (same_call c)) e;
-  found = sym (found-none h among h);
+  again = ap (λ n. n + 0) (found-none h among h);
   distinct = refl;
   few = omega arith;
 }
@@ -186,32 +235,36 @@ module _ (h : List Event) (among : Op → Bool) (front next old new : List CallI
     (was : HasSeen h among front old n t) (more : next ≡ front ++ c ∷ [])
     (now : (q : CallId) → list_any (same_call q) new ≡ cond (same_call c q) true (list_any (same_call q) old))
     (added : r ≡ not (list_any (same_call c) old)) where
-  longer : (k l : ℕ) → k ≤ length front → l ≤ k + 1 → l ≤ length next
-  longer k l few e = let size : length next ≡ length front + 1 = ap length more ∙ length-append front (c ∷ []) in omega arith
+  size : length next ≡ length front + 1
+  size = ap length more ∙ length-append front (c ∷ [])
+
+  entries : how_many (is_answered_call h among) next ≡ how_many (is_answered_call h among) front + cond (is_answered_call h among c) 1 0
+  entries = ap (how_many (is_answered_call h among)) more ∙ how_many-push (is_answered_call h among) front c
 
   -- one entry more, which stood already
-  pub seen-again : r ≡ false → m ≡ n → u ≡ false → HasSeen h among next new m u
-  seen-again stood same twice =
+  pub seen-again : r ≡ false → m ≡ n + cond (is_answered_call h among c) 1 0 → u ≡ false → HasSeen h among next new m u
+  seen-again stood one twice =
       let stands = sym (was.calls c) ∙ was-there r _ added stood in
+      let found = ap (λ l. how_many (is_found h among l) h) more ∙ found-again h among front c stands h in
       record {
         calls = λ q. calls-push front old new c was.calls now q ∙ ap (λ l. stands_in l q) (sym more);
-        found = same ∙ was.found ∙ sym (ap (λ l. how_many (is_found h among l) h) more ∙ found-again h among front c stands h);
+        again = (λ i. found i + one i) ∙ omega (arith, was.again, entries);
         distinct = twice ∙ sym (ap is_distinct more ∙ distinct-again front c stands);
-        few = longer n m was.few (omega arith);
-      }
-
-  -- one entry more, which is new
-  pub seen-new : CallsOnce h → r ≡ true → m ≡ n + cond (is_answered_call h among c) 1 0 → u ≡ t → HasSeen h among next new m u
-  seen-new once fresh one same =
-      let stands = sym (was.calls c) ∙ was-new r _ added fresh in
-      record {
-        calls = λ q. calls-push front old new c was.calls now q ∙ ap (λ l. stands_in l q) (sym more);
-        found = one ∙ ap (λ k. k + cond (is_answered_call h among c) 1 0) was.found
-            ∙ sym (ap (λ l. how_many (is_found h among l) h) more ∙ found-new h among front c stands h once);
-        distinct = same ∙ was.distinct ∙ sym (ap is_distinct more ∙ distinct-new front c stands);
-        few = longer n m was.few (at_most (is_answered_call h among c) one);
+        few = at_most (is_answered_call h among c) one;
       }
     where
-      at_most : (b : Bool) → m ≡ n + cond b 1 0 → m ≤ n + 1
-      at_most true e = omega arith
-      at_most false e = omega arith
+      at_most : (b : Bool) → m ≡ n + cond b 1 0 → m ≤ length next
+      at_most true e = omega (arith, size, was.few)
+      at_most false e = omega (arith, size, was.few)
+
+  -- one entry more, which is new
+  pub seen-new : CallsOnce h → r ≡ true → m ≡ n → u ≡ t → HasSeen h among next new m u
+  seen-new once fresh same kept =
+      let stands = sym (was.calls c) ∙ was-new r _ added fresh in
+      let found = ap (λ l. how_many (is_found h among l) h) more ∙ found-new h among front c stands h once in
+      record {
+        calls = λ q. calls-push front old new c was.calls now q ∙ ap (λ l. stands_in l q) (sym more);
+        again = (λ i. found i + same i) ∙ omega (arith, was.again, entries);
+        distinct = kept ∙ was.distinct ∙ sym (ap is_distinct more ∙ distinct-new front c stands);
+        few = omega (arith, size, was.few, same);
+      }

@@ -1,3 +1,4 @@
+pub mod Findings
 pub mod Held
 pub mod Scopes
 pub mod StreamFaults

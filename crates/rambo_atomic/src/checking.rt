@@ -1,8 +1,5 @@
 //! A checker that allocates nothing.
-ghost use Rattle.std.specs.Prelude.{◌≡◌, true};
-ghost use Rattle.rambo_history.specs.Forms.{IsWellFormed};
-ghost use Rattle.rambo_atomic.specs.Scopes.{within, IsVerdictIn};
-ghost use Rattle.rambo_atomic.specs.Tests.{is_complete, is_distinct, all_told, none_held};
+ghost use Rattle.rambo_atomic.specs.Scopes.{IsVerdictIn};
 ghost use Rattle.rambo_atomic.specs.Verdicts.{IsVerdict, IsVerdictForAll};
 
 use crate::rules::{answers_latest, has_no_stranger, is_complete, is_distinct, keeps_real_time};
@@ -47,28 +44,9 @@ fn check_within(history: &History, scope: Scope, order: &[CallId]) -> Verdict
         Verdict::No(Rule::Missing)
     } else if !is_distinct(order) {
         Verdict::No(Rule::Repeated)
-    } else {
-        judge_entries(history, scope, order, answers_latest(history, order))
-    }
-}
-
-// The verdict on an order that has each answered call of those within, and no call twice. Whether its gets answer the
-// latest sets is known.
-pub(crate) fn judge_entries(
-    history: &History,
-    scope: Scope,
-    order: &[CallId],
-    is_latest: bool,
-) -> Verdict
-    requires well_formed { IsWellFormed history.now.events }
-    requires complete { is_complete history.now.events (within scope) order.now history.now.events ≡ true }
-    requires distinct { is_distinct order.now ≡ true }
-    requires latest { is_latest ≡ all_told history.now.events none_held order.now }
-    ensures { IsVerdictIn scope.entry history.now.events order.now result }
-{
-    if !has_no_stranger(history, scope, order) {
+    } else if !has_no_stranger(history, scope, order) {
         Verdict::No(Rule::Stranger)
-    } else if !is_latest {
+    } else if !answers_latest(history, order) {
         Verdict::No(Rule::WrongAnswer)
     } else if !keeps_real_time(history, order) {
         Verdict::No(Rule::OutOfOrder)

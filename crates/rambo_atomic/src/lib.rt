@@ -3,6 +3,9 @@
 
 mod checker;
 mod checking;
+mod findings;
+mod held;
+mod repeats;
 mod rules;
 mod scope;
 mod stream;

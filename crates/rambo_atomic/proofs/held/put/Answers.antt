@@ -2,7 +2,7 @@ use Rattle.std.proofs.Common.{◌≡◌, Bool, true, false, cond, Option, Some, 
 use Rattle.std.specs.Map.{lookup}
 use Rattle.std.specs.Option.{option_map}
 use Rattle.std.specs.Str.{bytes_eq}
-use Rattle.rambo_atomic.proofs.checker.put.Goals as goal
+use Rattle.rambo_atomic.proofs.held.put.Goals as goal
 
 either : (t : Bool) (value : Bor (List ℕ)) (o : Option (Bor (List ℕ))) → option_map (λ (v : Bor (List ℕ)). v.now) (cond t (Some value) o) ≡ cond t (Some value.now) (option_map (λ (v : Bor (List ℕ)). v.now) o)
 either true value o = refl
