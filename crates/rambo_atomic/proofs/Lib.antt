@@ -1,3 +1,4 @@
+pub mod Answered
 pub mod Decided
 pub mod Feeds
 pub mod Found

@@ -9,19 +9,38 @@ use Rattle.std.specs.Str.{bytes_eq}
 use Rattle.rambo_history.specs.declared.operation.Op.{Op}
 use Rattle.rambo_history.specs.declared.event.CallId.{CallId}
 use Rattle.rambo_history.specs.declared.event.Event.{Event}
-use Rattle.rambo_atomic.specs.Tallies.{count_at, how_many, is_found}
+use Rattle.rambo_atomic.specs.Tallies.{count_at, count_with, how_many, is_found}
 use Rattle.rambo_atomic.specs.Tests.{is_due, has_entry, is_complete}
 
--- one more at a key
-pub count_at-more : (old new : List (Bor (List ℕ) × ℕ)) (key q : List ℕ) (n : ℕ) → n ≡ count_at old key
-    → lookup (λ k. bytes_eq q k.now) new ≡ cond (bytes_eq key q) (Some (n + 1)) (lookup (λ k. bytes_eq q k.now) old)
-    → count_at new q ≡ count_at old q + cond (bytes_eq key q) 1 0
-count_at-more old new key q n is found =
+-- some more at a key
+pub count_at-more : (old new : List (Bor (List ℕ) × ℕ)) (key q : List ℕ) (n more : ℕ) → n ≡ count_at old key
+    → lookup (λ k. bytes_eq q k.now) new ≡ cond (bytes_eq key q) (Some (n + more)) (lookup (λ k. bytes_eq q k.now) old)
+    → count_at new q ≡ count_with old key more q
+count_at-more old new key q n more is found =
     ap (λ o. unwrap_or o 0) found
-    ∙ elim (bytes_eq key q) as (λ t. bytes_eq key q ≡ t → unwrap_or (cond t (Some (n + 1)) (lookup (λ k. bytes_eq q k.now) old)) 0 ≡ count_at old q + cond t 1 0) [
-      | true ↦ λ e. ap (λ m. m + 1) (is ∙ ap (count_at old) ((bytes_eq-Decides key q).0 e))
+    ∙ elim (bytes_eq key q) as (λ t. bytes_eq key q ≡ t → unwrap_or (cond t (Some (n + more)) (lookup (λ k. bytes_eq q k.now) old)) 0 ≡ count_at old q + cond t more 0) [
+      | true ↦ λ e. ap (λ m. m + more) (is ∙ ap (count_at old) ((bytes_eq-Decides key q).0 e))
       | false ↦ λ e. omega arith
     ] refl
+
+-- and none
+pub count_with-none : (entries : List (Bor (List ℕ) × ℕ)) (key q : List ℕ) → count_at entries q ≡ count_with entries key 0 q
+count_with-none entries key q = none (bytes_eq key q)
+  where
+    none : (t : Bool) → count_at entries q ≡ count_at entries q + cond t 0 0
+    none true = omega arith
+    none false = omega arith
+
+pub count_with-own : (entries : List (Bor (List ℕ) × ℕ)) (key : List ℕ) (n : ℕ) → count_with entries key n key ≡ count_at entries key + n
+count_with-own entries key n = ap (λ t. count_at entries key + cond t n 0) ((bytes_eq-Decides key key).1 refl)
+
+-- one more in the run, or where the run that was counted is another key's
+pub count_with-next : (entries : List (Bor (List ℕ) × ℕ)) (key q : List ℕ) (n : ℕ) → count_with entries key (n + 1) q ≡ count_with entries key n q + cond (bytes_eq key q) 1 0
+count_with-next entries key q n = next (bytes_eq key q)
+  where
+    next : (t : Bool) → count_at entries q + cond t (n + 1) 0 ≡ (count_at entries q + cond t n 0) + cond t 1 0
+    next true = omega arith
+    next false = omega arith
 
 pub how_many-length : {X : Type 0} (p : X → Bool) (xs : List X) → how_many p xs ≤ length xs
 how_many-length p [] = omega arith

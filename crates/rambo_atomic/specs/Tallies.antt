@@ -18,6 +18,10 @@ how_many p (x ∷ xs) = (if p x then 1 else 0) + how_many p xs
 abbrev pub count_at : List (Bor (List ℕ) × ℕ) → List ℕ → ℕ
 count_at entries key = unwrap_or (lookup (λ k. bytes_eq key k.now) entries) 0
 
+-- that count, where some more are at one key
+abbrev pub count_with : List (Bor (List ℕ) × ℕ) → List ℕ → ℕ → List ℕ → ℕ
+count_with entries own more key = count_at entries key + (if bytes_eq own key then more else 0)
+
 -- the entries have the number of answered calls of each key
 abbrev pub IsTallied : List Event → List (Bor (List ℕ) × ℕ) → Type 0
 IsTallied h entries = (key : List ℕ) → count_at entries key ≡ how_many (is_due h (of_key key)) h

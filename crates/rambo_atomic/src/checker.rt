@@ -1,8 +1,9 @@
 //! A checker for many keys.
-ghost use Rattle.std.specs.Prelude.{◌≡◌, ◌+◌, ◌<◌, ◌^◌, ℕ, List, if◌then◌else◌, IfOk, IfErr, OnOk};
+ghost use Rattle.std.specs.Prelude.{◌≡◌, ◌+◌, ◌<◌, ◌^◌, ℕ, List, is_some, if◌then◌else◌, IfOk, IfErr, OnOk};
 ghost use Rattle.std.specs.Str.{bytes_eq};
+ghost use Rattle.rambo_history.specs.Histories.{answer_in};
 ghost use Rattle.rambo_atomic.specs.Scopes.{within, IsVerdictIn};
-ghost use Rattle.rambo_atomic.specs.Tallies.{how_many, count_at};
+ghost use Rattle.rambo_atomic.specs.Tallies.{how_many, count_at, count_with};
 ghost use Rattle.rambo_atomic.specs.Tests.{is_due};
 ghost use Rattle.rambo_atomic.specs.Verdicts.{IsVerdict, IsVerdictForAll};
 
@@ -47,17 +48,19 @@ impl<'a> Checker<'a> {
         ensures refused { IfErr result (λ r. r ≡ Refusal.OutOfMemory) }
     {
         let mut answered = HashMap::new(history.allocator());
+        let mut run = Run { key: &[], len: 0 };
         let mut all_answered = 0;
         let mut rest = history.events();
         while let Some((event, others)) = rest.split_first() {
             if let Event::Call(id, op) = event {
-                if history.answer(id).is_some() {
-                    count(&mut answered, op.key().as_slice())?;
+                if is_answered(history, id) {
+                    count_next(&mut answered, &mut run, op.key().as_slice())?;
                     all_answered += 1;
                 }
             }
             rest = others;
         }
+        count(&mut answered, run.key, run.len)?;
         Ok(Checker {
             history,
             answered,
@@ -132,16 +135,56 @@ fn count_at(counts: &HashMap<&[u8], usize>, key: &[u8]) -> usize
     }
 }
 
-// Counts one more at a key.
-fn count<'a>(counts: &mut HashMap<&'a [u8], usize>, key: &'a [u8]) -> Result<(), Refusal>
-    requires { count_at counts.old.entries key.now + 1 < 2 ^ 64 }
-    ensures counted { OnOk result ((q : List ℕ) → count_at counts.new.entries q ≡ count_at counts.old.entries q + (if bytes_eq key.now q then 1 else 0)) }
+// Whether a call was answered.
+fn is_answered(history: &History, id: &CallId) -> bool
+    ensures { result ≡ is_some (answer_in history.now.events id.now) }
+{
+    history.answered_at(id).is_some()
+}
+
+// How many calls in a row are of a key.
+#[derive(Clone, Copy)]
+struct Run<'a> {
+    key: &'a [u8],
+    len: usize,
+}
+
+// Counts one call more, of a key. Those at the end that are in a row are counted in the run, and not yet at their key.
+fn count_next<'a>(
+    counts: &mut HashMap<&'a [u8], usize>,
+    run: &mut Run<'a>,
+    key: &'a [u8],
+) -> Result<(), Refusal>
+    requires { (q : List ℕ) → count_with counts.old.entries run.old.key.now run.old.len q < 2 ^ 63 }
+    ensures counted { OnOk result ((q : List ℕ) → count_with counts.new.entries run.new.key.now run.new.len q ≡ count_with counts.old.entries run.old.key.now run.old.len q + (if bytes_eq key.now q then 1 else 0)) }
     ensures refused { IfErr result (λ r. r ≡ Refusal.OutOfMemory) }
 {
-    if let Some(count) = counts.get_mut(&key) {
-        *count += 1;
+    if run.key == key {
+        run.len += 1;
         return Ok(());
     }
-    counts.insert(key, 1)?;
+    count(counts, run.key, run.len)?;
+    *run = Run { key, len: 1 };
+    Ok(())
+}
+
+// Counts some more at a key.
+fn count<'a>(
+    counts: &mut HashMap<&'a [u8], usize>,
+    key: &'a [u8],
+    more: usize,
+) -> Result<(), Refusal>
+    requires { count_at counts.old.entries key.now + more < 2 ^ 64 }
+    ensures counted { OnOk result ((q : List ℕ) → count_at counts.new.entries q ≡ count_with counts.old.entries key.now more q) }
+    ensures refused { IfErr result (λ r. r ≡ Refusal.OutOfMemory) }
+{
+    if more == 0 {
+        return Ok(());
+    }
+    if let Some(count) = counts.get_mut(&key) {
+        *count += more;
+        return Ok(());
+    }
+    counts.insert(key, more)?;
     Ok(())
 }
