@@ -87,26 +87,26 @@ fn note<'a>(
         return Ok(());
     };
     note_kind(findings, scope, &entry);
-    note_places(findings, &entry);
     if findings.has_no_stranger && findings.is_latest {
         findings.is_latest = held.take(scope, entry.op, entry.answer)?;
     }
+    note_places(findings, &entry);
     Ok(())
 }
 
 // Notes what an entry asked, and whether it was answered.
 fn note_kind(findings: &mut Findings, scope: Scope, entry: &Entry)
-    requires { findings.old.answered + 1 < 2 ^ 64 }
-    ensures answered { findings.new.answered ≡ findings.old.answered + (if within scope.entry entry.now.op.now && is_some entry.now.answer then 1 else 0) }
-    ensures no_stranger { findings.new.has_no_stranger ≡ (findings.old.has_no_stranger && is_own_op (within scope.entry) (is_some entry.now.answer) (Some entry.now.op.now)) }
+    requires counts { findings.old.answered + 1 < 2 ^ 64 }
+    requires places { is_some entry.now.answered ≡ is_some (option_copied entry.now.answer) }
+    ensures answered { findings.new.answered ≡ findings.old.answered + (if within scope.entry entry.now.op.now && is_some (option_copied entry.now.answer) then 1 else 0) }
+    ensures no_stranger { findings.new.has_no_stranger ≡ (findings.old.has_no_stranger && is_own_op (within scope.entry) (is_some (option_copied entry.now.answer)) (Some entry.now.op.now)) }
     ensures others { findings.new ≡ record findings.old { answered = findings.new.answered; has_no_stranger = findings.new.has_no_stranger } }
 {
-    let is_within = scope.has(entry.op);
-    let is_answered = entry.answer.is_some();
-    if is_within && is_answered {
+    if !scope.has(entry.op) {
+        findings.has_no_stranger = false;
+    } else if entry.answered.is_some() {
         findings.answered += 1;
-    }
-    if !is_within || (entry.op.is_get() && !is_answered) {
+    } else if entry.op.is_get() {
         findings.has_no_stranger = false;
     }
 }

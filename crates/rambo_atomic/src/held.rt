@@ -2,7 +2,7 @@
 ghost use Rattle.std.specs.Prelude.{◌≡◌, ℕ, List, true, Some, if◌then◌else◌, None, IfOk, IfErr, OnOk};
 ghost use Rattle.std.specs.Option.{option_copied};
 ghost use Rattle.std.specs.Str.{bytes_eq};
-ghost use Rattle.rambo_history.specs.declared.operation.Op.TheVariants as op;
+ghost use Rattle.rambo_history.specs.Calls.{key_of};
 ghost use Rattle.rambo_history.specs.Proper.{after_op};
 ghost use Rattle.rambo_atomic.specs.Held.{held_in, held_of};
 ghost use Rattle.rambo_atomic.specs.Scopes.{within};
@@ -47,38 +47,52 @@ impl<'a> Held<'a> {
         ensures held { OnOk result ((q : List ℕ) → held_of scope.entry self.new.one self.new.each.entries q ≡ after_op q (Some op.now) (held_of scope.entry self.old.one self.old.each.entries q)) }
         ensures refused { IfErr result (λ r. r ≡ Refusal.OutOfMemory) }
     {
-        match op {
-            Op::Get(key) => Ok(tells(self.at(scope, key.as_slice()), answer)),
-            Op::Set(key, value) => {
-                self.hold(scope, key.as_slice(), value)?;
-                Ok(true)
-            }
-        }
-    }
-
-    // What a key holds.
-    fn at(&self, scope: Scope, key: &[u8]) -> Option<&'a Bytes>
-        requires { within scope (op.Get key.now) ≡ true }
-        ensures { option_copied result ≡ held_of scope.entry self.now.one self.now.each.entries key.now }
-    {
         match scope {
-            Scope::Key(_) => self.one,
-            Scope::AllKeys => self.each.get(&key).copied(),
+            Scope::Key(_) => Ok(take_of_one(&mut self.one, op, answer)),
+            Scope::AllKeys => take_of_all(&mut self.each, op, answer),
         }
     }
+}
 
-    // A key holds a value from now on.
-    fn hold(&mut self, scope: Scope, key: &'a [u8], value: &'a Bytes) -> Result<(), Refusal>
-        requires { within scope (op.Get key.now) ≡ true }
-        ensures held { OnOk result ((q : List ℕ) → held_of scope.entry self.new.one self.new.each.entries q ≡ (if bytes_eq key.now q then Some value.now else held_of scope.entry self.old.one self.old.each.entries q)) }
-        ensures refused { IfErr result (λ r. r ≡ Refusal.OutOfMemory) }
-    {
-        match scope {
-            Scope::Key(_) => self.one = Some(value),
-            Scope::AllKeys => put(&mut self.each, key, value)?,
+// The same where all calls are of one key.
+fn take_of_one<'a>(held: &mut Option<&'a Bytes>, op: &'a Op, answer: Option<&Answer>) -> bool
+    ensures told { result ≡ is_told (λ _. option_copied held.old) (Some op.now) (option_copied answer.entry) }
+    ensures held { option_copied held.new ≡ after_op (key_of op.now) (Some op.now) (option_copied held.old) }
+{
+    match op {
+        Op::Get(_) => tells(*held, answer),
+        Op::Set(_, value) => {
+            *held = Some(value);
+            true
         }
-        Ok(())
     }
+}
+
+// The same where they are of all keys.
+#[inline(never)]
+fn take_of_all<'a>(
+    held: &mut HashMap<&'a [u8], &'a Bytes>,
+    op: &'a Op,
+    answer: Option<&Answer>,
+) -> Result<bool, Refusal>
+    ensures told { IfOk result (λ t. t ≡ is_told (held_in held.old.entries) (Some op.now) (option_copied answer.entry)) }
+    ensures held { OnOk result ((q : List ℕ) → held_in held.new.entries q ≡ after_op q (Some op.now) (held_in held.old.entries q)) }
+    ensures refused { IfErr result (λ r. r ≡ Refusal.OutOfMemory) }
+{
+    match op {
+        Op::Get(key) => Ok(tells(value_in(held, key.as_slice()), answer)),
+        Op::Set(key, value) => {
+            put(held, key.as_slice(), value)?;
+            Ok(true)
+        }
+    }
+}
+
+// What is put at a key.
+fn value_in<'a>(held: &HashMap<&'a [u8], &'a Bytes>, key: &[u8]) -> Option<&'a Bytes>
+    ensures { option_copied result ≡ held_in held.now.entries key.now }
+{
+    held.get(&key).copied()
 }
 
 // Puts a value at a key.

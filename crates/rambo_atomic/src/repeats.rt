@@ -44,6 +44,7 @@ pub(crate) fn repeats_in(
 }
 
 // The same of any order.
+#[inline(never)]
 fn looked_for(history: &History, scope: Scope, order: &[CallId]) -> Result<Repeats, Refusal>
     requires { IsWellFormed history.now.events }
     ensures distinct { IfOk result (λ r. r.are_none ≡ is_distinct order.now) }

@@ -1,4 +1,5 @@
-use Rattle.std.proofs.Common.{◌≡◌, Bool, true, false, not, ◌&&◌, ◌-◌, refl, sym, ap, ◌∙◌}
+use Rattle.std.proofs.Common.{◌≡◌, Bool, true, false, not, ◌&&◌, ◌-◌, is_some, refl, sym, ap, ◌∙◌}
+use Rattle.rambo_atomic.proofs.Answered.{answered-placed}
 use Rattle.rambo_history.specs.Histories.{is_before}
 use Rattle.rambo_history.proofs.Pushes.{called_at-none, answered_at-none, unanswered}
 use Rattle.rambo_atomic.specs.Findings.{is_from, past}
@@ -30,3 +31,7 @@ returns-in_default-clause-rising c =
 pub returns-in_default-clause-passed : goal.returns-in_default-clause-passed
 returns-in_default-clause-passed c =
     ap (past c.args.findings.now.passed) (sym (called_at-none c.args.history.now.events c.args.id.now (sym c.in_default.ensures.op)))
+
+pub note_kind-requires-clause-places : goal.note_kind-requires-clause-places
+note_kind-requires-clause-places c =
+    ap is_some c.in-Some.ensures.answered ∙ answered-placed c.args.history.now.events c.args.id.now ∙ sym (ap is_some c.in-Some.ensures.answer)
