@@ -1,4 +1,5 @@
 pub mod Answered
+pub mod CalledFirst
 pub mod Decided
 pub mod Feeds
 pub mod Found

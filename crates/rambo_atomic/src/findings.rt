@@ -113,19 +113,22 @@ fn note_kind(findings: &mut Findings, scope: Scope, entry: &Entry)
 
 // Notes where an entry was called and answered.
 fn note_places(findings: &mut Findings, entry: &Entry)
-    requires { entry.now.called < 2 ^ 63 }
+    requires fits { entry.now.called < 2 ^ 63 }
+    requires answered_behind { is_from findings.old.passed (Some entry.now.called) ≡ true → is_before (findings.old.passed - 1) entry.now.answered ≡ false }
     ensures real_time { findings.new.keeps_real_time ≡ (findings.old.keeps_real_time && not (is_before (findings.old.passed - 1) entry.now.answered)) }
     ensures rising { findings.new.is_rising ≡ (findings.old.is_rising && is_from findings.old.passed (Some entry.now.called)) }
     ensures passed { findings.new.passed ≡ past findings.old.passed (Some entry.now.called) }
     ensures others { findings.new ≡ record findings.old { keeps_real_time = findings.new.keeps_real_time; is_rising = findings.new.is_rising; passed = findings.new.passed } }
 {
+    // A call that was made after those before it wasn't answered before them.
+    if findings.passed <= entry.called {
+        findings.passed = entry.called + 1;
+        return;
+    }
+    findings.is_rising = false;
     if is_early(findings.passed, entry.answered) {
         findings.keeps_real_time = false;
     }
-    if entry.called < findings.passed {
-        findings.is_rising = false;
-    }
-    findings.passed = findings.passed.max(entry.called + 1);
 }
 
 // Whether an answer is before the call that is at the place before this one.

@@ -1,4 +1,5 @@
 use Rattle.std.proofs.Common.{◌≡◌, Bool, true, false, not, ◌&&◌, ◌-◌, is_some, refl, sym, ap, ◌∙◌}
+use Rattle.rambo_atomic.proofs.CalledFirst.{answered-behind}
 use Rattle.rambo_atomic.proofs.Answered.{answered-placed}
 use Rattle.rambo_history.specs.Histories.{is_before}
 use Rattle.rambo_history.proofs.Pushes.{called_at-none, answered_at-none, unanswered}
@@ -35,3 +36,11 @@ returns-in_default-clause-passed c =
 pub note_kind-requires-clause-places : goal.note_kind-requires-clause-places
 note_kind-requires-clause-places c =
     ap is_some c.in-Some.ensures.answered ∙ answered-placed c.args.history.now.events c.args.id.now ∙ sym (ap is_some c.in-Some.ensures.answer)
+
+pub note_places-requires-clause-answered_behind : goal.note_places-requires-clause-answered_behind
+note_places-requires-clause-answered_behind c late =
+    let h = c.args.history.now.events in
+    let id = c.args.id.now in
+    let n = c.if-findings.findings.passed in
+    ap (is_before (n - 1)) c.in-Some.ensures.answered
+    ∙ answered-behind h c.in-Some.ensures.well_formed id n (ap (is_from n) c.in-Some.ensures.called ∙ late)
