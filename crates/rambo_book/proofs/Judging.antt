@@ -25,9 +25,11 @@ use Rattle.rambo_run.specs.Steps.{meant, meant_in, causes_at, causes_of, causes,
 use Rattle.rambo_run.specs.Runs.{run}
 use Rattle.rambo_run.specs.Legal.{IsLegal}
 use Rattle.rambo_run.specs.Actors.{actor}
-use Rattle.rambo_run.proofs.Lists.{some_inj}
+use Rattle.rambo_run.proofs.Lists.{some_inj, Member, member_last}
 use Rattle.rambo_run.proofs.Replays.{own_put}
 use Rattle.rambo_run.proofs.GoingOn.{run-more}
+use Rattle.rambo_run.specs.Chronicles.{IsMarked}
+use Rattle.rambo_run.proofs.Fitting.{marks_told}
 use Rattle.rambo_run.proofs.Legal.{legal-more, events_fit_run}
 use Rattle.rambo_run.proofs.Actors.{acts, addressees}
 use Rattle.rambo_deltas.specs.Deltas.{full_at}
@@ -104,6 +106,7 @@ pub record Finished {Q : Type 0} (s : QuorumSystem Q) (f : Q) (steps : List (Ste
   pub told : with_event history d.event ≡ (run s f (steps ++ st ∷ [])).history
   pub marked : with_mark marks d.mark ≡ (run s f (steps ++ st ∷ [])).marks
   pub fits : (e : Event) → d.event ≡ Some e → fault_of history e ≡ None
+  pub shows : (m : Mark) → d.mark ≡ Some m → IsMarked (with_event history d.event) m
   pub effect : d.effect ≡ (turn (run s f steps) st).effect
   pub node : node_at (run s f (steps ++ st ∷ [])) name ≡ Some new.state
   pub full : full_at s f (steps ++ st ∷ []) name ≡ new
@@ -156,15 +159,22 @@ module _ {Q : Type 0} (s : QuorumSystem Q) (f : Q) (steps : List (Step Q)) (st :
       let list : (run s f (steps ++ st ∷ [])).letters ≡ with_letter w.letters made.letter = ap (λ (w : WorldState _). w.letters) more ∙ ap (λ (t : Turn _). t.world.letters) t in
       let there_after : node_at (run s f (steps ++ st ∷ [])) name ≡ Some new.state =
       ap (λ w. node_at w name) more ∙ own_put w (turn w st).world name x made.node here nodes ∙ ap Some (sym state) in
+      let told_on : with_event history d.event ≡ (run s f (steps ++ st ∷ [])).history =
+      ap (λ es. with_event es d.event) told ∙ ap (λ (d : Done _). with_event w.history d.event) e ∙ sym (ap (λ (t : Turn _). t.world.history) t) ∙ sym (ap (λ (w : WorldState _). w.history) more) in
+      let marked_on : with_mark marks d.mark ≡ (run s f (steps ++ st ∷ [])).marks =
+      ap (λ ms. with_mark ms d.mark) marked ∙ ap (λ (d : Done _). with_mark w.marks d.mark) e ∙ sym (ap (λ (t : Turn _). t.world.marks) t) ∙ sym (ap (λ (w : WorldState _). w.marks) more) in
       record {
         accepted = accepted;
         legal = legal-more s f steps st legal accepted;
         sent = sent_more s f steps (steps ++ st ∷ []) (st ∷ [], refl) letters d.letter made.letter sent list goes;
-        told = ap (λ es. with_event es d.event) told ∙ ap (λ (d : Done _). with_event w.history d.event) e ∙ sym (ap (λ (t : Turn _). t.world.history) t) ∙ sym (ap (λ (w : WorldState _). w.history) more);
-        marked = ap (λ ms. with_mark ms d.mark) marked ∙ ap (λ (d : Done _). with_mark w.marks d.mark) e ∙ sym (ap (λ (t : Turn _). t.world.marks) t) ∙ sym (ap (λ (w : WorldState _). w.marks) more);
+        told = told_on;
+        marked = marked_on;
         fits = λ v is.
             let grown : (turn w st).world.history ≡ w.history ++ v ∷ [] = ap (λ (t : Turn _). t.world.history) t ∙ ap (with_event w.history) (sym (ap (λ (d : Done _). d.event) e) ∙ is) in
             ap (λ h. fault_of h v) told ∙ events_fit_run s f steps st v accepted grown;
+        shows = λ m is.
+            let there : Member m (run s f (steps ++ st ∷ [])).marks = subst (Member m) (sym (ap (with_mark marks) is) ∙ marked_on) (member_last m marks) in
+            subst (λ h. IsMarked h m) (sym told_on) (marks_told s f (steps ++ st ∷ []) m there);
         effect = ap (λ (d : Done _). d.effect) e ∙ sym (ap (λ (t : Turn _). t.effect) t);
         node = there_after;
         full = full-more s f steps st name c means accepted ∙ ap (λ v. full_after v c) whole ∙ sym after;

@@ -1,5 +1,5 @@
 -- What is kept of calls and answers stays what the run gives
-use Rattle.std.proofs.Common.{◌≡◌, ℕ, true, false, if◌then◌else◌, List, [], Option, None, Some, is_some, refl, sym, ap, ◌∙◌, true≢false}
+use Rattle.std.proofs.Common.{◌≡◌, ℕ, true, List, [], Option, None, Some, is_some, refl, sym, ap, ◌∙◌, subst, true≢false}
 use Rattle.std.specs.Option.{option_map}
 use Rattle.rambo_history.specs.declared.event.Event.{Event}
 use Rattle.rambo_history.specs.Faults.{fault_of}
@@ -7,7 +7,8 @@ use Rattle.rambo_history.specs.Forms.{IsWellFormed}
 use Rattle.rambo_sequence.specs.declared.mark.Mark.{Mark}
 use Rattle.rambo_run.specs.Steps.{with_event, with_mark}
 use Rattle.rambo_run.proofs.Lists.{none-some, some_inj}
-use Rattle.rambo_book.specs.Records.{ChronicleView, RecordView, KeepsAll, KeepsRecord, MoreOfAll, Recorded, IsEmpty, IsRecord}
+use Rattle.rambo_run.specs.Chronicles.{ChronicleView, IsMarked}
+use Rattle.rambo_book.specs.Records.{RecordView, KeepsAll, KeepsRecord, MoreOfAll, Recorded, IsEmpty, IsRecord}
 use Rattle.rambo_book.proofs.Opening.{open_none, open_kept, open_with}
 
 -- a chronicle that is kept was there, with the same lists
@@ -96,6 +97,13 @@ pub fits_all : (old new : Option ChronicleView) (history : List Event) (marks : 
 fits_all old new history marks keeps r c e is fits =
     let b = before old new keeps c is in
     ap (λ h. fault_of h e) (b.events ∙ (r.all b.was b.there).0) ∙ fits
+
+-- and a mark that the run's history tells is told by that of the chronicle
+pub told_all : (old new : Option ChronicleView) (history : List Event) (marks : List Mark) → KeepsAll old new → {calls : List _} {room : ℕ} → IsRecord history marks (record { all = old; calls = calls; room = room })
+    → (c : ChronicleView) (e : Option Event) (m : Mark) → new ≡ Some c → IsMarked (with_event history e) m → IsMarked (with_event c.events e) m
+told_all old new history marks keeps r c e m is told =
+    let b = before old new keeps c is in
+    subst (λ h. IsMarked (with_event h e) m) (sym (b.events ∙ (r.all b.was b.there).0)) told
 
 -- where all is kept something is told of each call
 pub kept_known : {A B : Type 0} (all : Option ChronicleView) (r : Option A) (f : A → B) (told : ChronicleView → B) → is_some all ≡ true → ((c : ChronicleView) → all ≡ Some c → option_map f r ≡ Some (told c)) → is_some r ≡ true

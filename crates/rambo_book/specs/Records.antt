@@ -1,19 +1,14 @@
 -- What a book keeps of calls and answers
-use Rattle.std.specs.Prelude.{◌≡◌, ℕ, List, [], Option, None, Some}
+use Rattle.std.specs.Prelude.{◌≡◌, ℕ, List, [], Option, None, Some, min}
 use Rattle.rambo_history.specs.declared.operation.Answer.{Answer}
 use Rattle.rambo_history.specs.declared.event.CallId.{CallId}
 use Rattle.rambo_history.specs.declared.event.Event.{Event}
 use Rattle.rambo_sequence.specs.declared.mark.Mark.{Mark}
+use Rattle.rambo_run.specs.Chronicles.{ChronicleView}
 use Rattle.rambo_run.specs.Steps.{with_event, with_mark}
 use Rattle.rambo_book.specs.OpenCalls.{AreOpen, KeepsCalls, TakesIf}
 
--- all calls and answers of a run, with the marks, and for how many more there is room
-pub record ChronicleView : Type 0 where
-  pub events : List Event
-  pub marks : List Mark
-  pub room : ℕ
-
--- all of them, where they are kept; else the open calls; and whether there is room for one more step's
+-- all calls and answers, where they are kept; else the open calls; and whether there is room for one more step's
 pub record RecordView : Type 0 where
   pub all : Option ChronicleView
   pub calls : List (CallId × Option Answer)
@@ -21,7 +16,7 @@ pub record RecordView : Type 0 where
 
 abbrev pub room_in : Option ChronicleView → ℕ → ℕ
 room_in None room = room
-room_in (Some c) room = c.room
+room_in (Some c) room = min c.event_room c.mark_room
 
 -- both lists of one chronicle are those of the other
 abbrev pub KeepsAll : Option ChronicleView → Option ChronicleView → Type 0

@@ -20,7 +20,7 @@ impl<J: Terms<Q>, Q: Quorums> Book<J, Q> {
         let Some(chronicle) = self.kept.chronicle() else {
             unreachable!()
         };
-        chronicle.events()
+        chronicle.history().events()
     }
 
     /// One order of the calls of all keys, which explains their answers together: the one that the run of the steps gives.
@@ -36,7 +36,9 @@ impl<J: Terms<Q>, Q: Quorums> Book<J, Q> {
         let Some(chronicle) = self.kept.chronicle() else {
             unreachable!()
         };
-        chronicle.order()
+        let alloc = chronicle.history().allocator();
+        let sequences = chronicle.sequences(alloc)?;
+        chronicle.order(alloc, sequences.as_slice())
     }
 
     /// The steps at hand: all of them where none was drawn.

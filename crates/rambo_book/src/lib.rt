@@ -12,7 +12,6 @@
 #![tactic(auto)]
 
 mod book;
-mod chronicle;
 mod closing;
 mod committing;
 mod counts;

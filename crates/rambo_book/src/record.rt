@@ -5,13 +5,14 @@ ghost use Rattle.std.specs.Option.{option_copied, option_map};
 ghost use Rattle.rambo_history.specs.Calls.{same_call};
 ghost use Rattle.rambo_history.specs.Faults.{fault_of};
 ghost use Rattle.rambo_history.specs.Histories.{answer_in};
-ghost use Rattle.rambo_book.specs.Records.{ChronicleView, IsEmpty, KeepsRecord, Recorded};
+ghost use Rattle.rambo_run.specs.Chronicles.{ChronicleView, IsMarked};
+ghost use Rattle.rambo_run.specs.Steps.{with_event};
+ghost use Rattle.rambo_book.specs.Records.{IsEmpty, KeepsRecord, Recorded};
 
-use crate::chronicle::Chronicle;
 use crate::open_calls::OpenCalls;
 use rambo_history::{Answer, CallId, Event};
 use rambo_names::{Quorums, Refusal};
-use rambo_run::Step;
+use rambo_run::{Chronicle, Step};
 use rambo_sequence::Mark;
 use std::alloc::Global;
 use std::marker::Model;
@@ -59,21 +60,27 @@ impl Record {
         ensures room { OnOk result (0 < self.new.room) }
     {
         match &mut self.all {
-            Some(chronicle) => chronicle.make_room(step),
+            Some(chronicle) => {
+                if let Step::Call(name, _) = step {
+                    chronicle.expect_call(*name)?;
+                }
+                chronicle.make_room(1, 1)
+            }
             None => Ok(self.calls.reserve()?),
         }
     }
 
-    /// Records what a step did. There is room for it, and the event may follow the others.
-    pub(crate) fn take(&mut self, event: Option<Event>, mark: Option<Mark>)
+    /// Records what a step did, and takes it from where it is lent. There is room for it, and the event may follow the others.
+    pub(crate) fn take(&mut self, event: &mut Option<Event>, mark: &mut Option<Mark>)
         requires room { 0 < self.old.room }
-        requires fits { (c : ChronicleView) (e : Event) → self.old.all ≡ Some c → event ≡ Some e → fault_of c.events e ≡ None }
-        ensures { Recorded event mark self.old self.new }
+        requires fits { (c : ChronicleView) (e : Event) → self.old.all ≡ Some c → event.old ≡ Some e → fault_of c.events e ≡ None }
+        requires told { (c : ChronicleView) (m : Mark) → self.old.all ≡ Some c → mark.old ≡ Some m → IsMarked (with_event c.events event.old) m }
+        ensures { Recorded event.old mark.old self.old self.new }
     {
         match &mut self.all {
-            Some(chronicle) => chronicle.push(event, mark),
+            Some(chronicle) => chronicle.take(event, mark),
             None => {
-                if let Some(event) = event {
+                if let Some(event) = event.take() {
                     self.calls.take(event);
                 }
             }
@@ -86,7 +93,7 @@ impl Record {
         ensures kept { self.now.all ≡ None → option_map option_copied result ≡ lookup (same_call id.now) self.now.calls }
     {
         match &self.all {
-            Some(chronicle) => Some(chronicle.answer(id)),
+            Some(chronicle) => Some(chronicle.history().answer(id)),
             None => match self.calls.get(id) {
                 Some(Some(answer)) => Some(Some(answer)),
                 Some(None) => Some(None),

@@ -11,7 +11,7 @@ use Rattle.rambo_history.specs.declared.event.Event.{Event}
 use Rattle.rambo_history.specs.declared.event.Event.TheVariants as event
 use Rattle.rambo_history.specs.declared.fault.HistoryFault.{HistoryFault}
 use Rattle.rambo_history.specs.declared.fault.HistoryFault.TheVariants.{CalledTwice, WrongKind}
-use Rattle.rambo_history.specs.Calls.{fits, answer_for}
+use Rattle.rambo_history.specs.Calls.{fits, answer_for, is_get}
 use Rattle.rambo_history.specs.Histories.{call_in}
 use Rattle.rambo_history.specs.Faults.{answer_fault, fault_of}
 use Rattle.rambo_node.specs.Acts.{Act, Meant}
@@ -23,16 +23,19 @@ use Rattle.rambo_node.specs.Nodes.{NodeState, open_call}
 use Rattle.rambo_node.specs.Operations.{answer_of}
 use Rattle.rambo_node.specs.Acts as act
 use Rattle.rambo_sequence.specs.declared.mark.Mark.{Mark}
+use Rattle.rambo_sequence.specs.Marks.{told_value, propagated_value}
 use Rattle.rambo_node.specs.Steps.{Step}
 use Rattle.rambo_run.specs.Worlds.{WorldState, node_at}
 use Rattle.rambo_run.specs.Steps.{meant, Turn, turn_by, turn_at, turn_of, turn}
 use Rattle.rambo_run.specs.Runs.{run}
+use Rattle.rambo_run.specs.Chronicles.{IsMarked}
 use Rattle.rambo_run.proofs.Lists.{Member}
 use Rattle.rambo_run.proofs.Deeds.{id_of, open_member}
 use Rattle.rambo_run.proofs.Seen.{Seen, seen}
 use Rattle.rambo_run.proofs.Books.{Book, Apart, next_new, open_call as not_answered}
 use Rattle.rambo_run.proofs.Booked.{book}
 use Rattle.rambo_run.proofs.Moments.{moment, worlds, last_moment}
+use Rattle.rambo_run.proofs.Tags.{set_value}
 use Rattle.rambo_run.proofs.NodeLists.{node_is, node_named}
 
 -- the event stands at the end of the history, and fits there
@@ -125,6 +128,29 @@ module _ {Q : Type 0} (s : QuorumSystem Q) (founders : Q) (ss : List (Step Q)) w
   -- each mark is of a call of the history, with what it asked for
   pub mark_called : (k : Mark) → Member k w.marks → call_in w.history k.id ≡ Some k.op
   mark_called k i = run_book.mark_called k i
+
+  -- a set's has the value that was set
+  set_told : (k : Mark) (key v : List ℕ) → Member k w.marks → k.op ≡ op.Set key v → value_of k.kept ≡ Some v
+  set_told k key v i e =
+      set_value s founders (moment s founders ss) (worlds s founders ss) (length ss) k key v (subst (λ w. Member k w.marks) (sym (last_moment s founders ss)) i) e
+
+  value_told : (k : Mark) → Member k w.marks → (o : Op) → k.op ≡ o → (v : Version) → k.kept ≡ Some v → v.value ≡ propagated_value w.history k.id o
+  value_told k i (op.Set key value) is v e = ap value_of (sym e) ∙ set_told k key value i is
+  value_told k i (op.Get key) is v e =
+      ap value_of (sym e) ∙ sym (answer_told (value_of k.kept))
+      ∙ sym (ap told_value (run_book.mark_answered k i (ap is_get is) ∙ ap (λ o. Some (answer_of o k.kept)) is))
+    where
+      answer_told : (o : Option (List ℕ)) → told_value (Some (answer_for o)) ≡ o
+      answer_told None = refl
+      answer_told (Some value) = refl
+
+  -- each is told by the history
+  pub marks_told : (k : Mark) → Member k w.marks → IsMarked w.history k
+  marks_told k i = record {
+    called = run_book.mark_called k i;
+    answered = λ get. ap is_some (run_book.mark_answered k i get);
+    value = value_told k i k.op refl;
+  }
 
   -- and no two are of one call
   pub marks_apart : Apart w.marks

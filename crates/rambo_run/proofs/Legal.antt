@@ -11,9 +11,10 @@ use Rattle.rambo_node.specs.Steps.{Step}
 use Rattle.rambo_run.specs.Worlds.{WorldState, first_world}
 use Rattle.rambo_run.specs.Steps.{refusal}
 use Rattle.rambo_run.specs.Runs.{after, run_from, run}
-use Rattle.rambo_run.specs.Legal.{IsLegal, EventsFit, RunsGoOn, OthersStay, BeginningsHold}
-use Rattle.rambo_run.proofs.Lists.{some_inj, none-some}
-use Rattle.rambo_run.proofs.Fitting.{events_fit}
+use Rattle.rambo_run.specs.Legal.{IsLegal, EventsFit, MarksFit, RunsGoOn, OthersStay, BeginningsHold}
+use Rattle.rambo_run.specs.Chronicles.{IsMarked}
+use Rattle.rambo_run.proofs.Lists.{some_inj, none-some, Member, member_last}
+use Rattle.rambo_run.proofs.Fitting.{events_fit, marks_told}
 use Rattle.rambo_run.proofs.GoingOn.{run-more, run_from-append, else_stays, Grows, run_from-grows}
 
 -- each item of a list, and of one more
@@ -93,6 +94,13 @@ events_fit_run {Q} s founders ss st e accepted grown =
       | inl same ↦ no_more w.history e (sym same ∙ grown)
       | inr f ↦ subst (λ e. fault_of w.history e ≡ None) (same_from_push w.history w.history f.event e (sym f.history ∙ grown)).1 f.fault
     ]
+
+-- and of its marks the history then tells
+pub marks_fit_run : {Q : Type 0} (s : QuorumSystem Q) (founders : Q) (ss : List (Step Q)) → MarksFit s (run s founders ss)
+marks_fit_run s founders ss st m accepted grown =
+    let after = run-more s founders ss st accepted in
+    subst (λ (w : WorldState _). IsMarked w.history m) after
+    (marks_told s founders (ss ++ st ∷ []) m (subst (Member m) (sym (ap (λ (w : WorldState _). w.marks) after ∙ grown)) (member_last m (run s founders ss).marks)))
 
 pub runs_go_on : {Q : Type 0} (s : QuorumSystem Q) → RunsGoOn s
 runs_go_on s founders steps st e = (run-more s founders steps st e, λ legal. legal-more s founders steps st legal e)

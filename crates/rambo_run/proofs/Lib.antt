@@ -45,6 +45,7 @@ pub mod Fitting
 pub mod GoingOn
 pub mod Legal
 pub mod Actors
+pub mod Settled
 pub mod Growing
 pub mod Unsent
 pub mod QuietKeeps

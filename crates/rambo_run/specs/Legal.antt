@@ -6,10 +6,12 @@ use Rattle.rambo_history.specs.declared.event.Event.{Event}
 use Rattle.rambo_history.specs.Faults.{fault_of}
 use Rattle.rambo_tag.specs.Copies.{joined}
 use Rattle.rambo_node.specs.Steps.{Step}
+use Rattle.rambo_sequence.specs.declared.mark.Mark.{Mark}
 use Rattle.rambo_run.specs.Worlds.{WorldState, node_at, held_by}
 use Rattle.rambo_node.specs.Acts.{Meant}
 use Rattle.rambo_run.specs.Steps.{meant, refusal, turn}
 use Rattle.rambo_run.specs.Runs.{run}
+use Rattle.rambo_run.specs.Chronicles.{IsMarked}
 
 -- none of these steps is refused in its turn: in the world that the steps before it make
 abbrev pub IsLegal : {Q : Type 0} → QuorumSystem Q → Q → List (Step Q) → Type 0
@@ -18,6 +20,10 @@ IsLegal {Q} s founders steps = (place : ℕ) (st : Step Q) → slice_get steps p
 -- what a step that isn't refused appends to the history has no fault there
 abbrev pub EventsFit : {Q : Type 0} → QuorumSystem Q → WorldState Q → Type 0
 EventsFit {Q} s w = (st : Step Q) (e : Event) → refusal s w st ≡ None → (turn w st).world.history ≡ w.history ++ e ∷ [] → fault_of w.history e ≡ None
+
+-- and what it appends to the marks is told by the history that it leaves
+abbrev pub MarksFit : {Q : Type 0} → QuorumSystem Q → WorldState Q → Type 0
+MarksFit {Q} s w = (st : Step Q) (m : Mark) → refusal s w st ≡ None → (turn w st).world.marks ≡ w.marks ++ m ∷ [] → IsMarked (turn w st).world.history m
 
 -- one more step that isn't refused: the world after it is what it makes of the one before, and a legal list stays legal
 abbrev pub RunsGoOn : {Q : Type 0} → QuorumSystem Q → Type 0

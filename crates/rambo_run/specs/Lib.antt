@@ -8,3 +8,4 @@ pub mod Ongoing
 pub mod Told
 pub mod Legal
 pub mod Actors
+pub mod Chronicles

@@ -1,11 +1,13 @@
 //! Steps, worlds and whole runs, and what holds of every run.
 #![tactic(auto)]
 
+mod chronicle;
 mod founding;
 mod laws;
 mod outcome;
 mod run;
 
+pub use chronicle::Chronicle;
 pub use founding::may_found;
 pub use laws::{
     collection_replies_are_fresh, collections_never_fall, decisions_stand,

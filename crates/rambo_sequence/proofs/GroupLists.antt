@@ -1,5 +1,5 @@
 -- Groups of calls, and the sequences that they give
-use Rattle.std.proofs.Common.{◌≡◌, Bool, true, false, cond, ◌||◌, List, [], ◌∷◌, ◌++◌, map, filter, Option, Some, None, is_some, option_map, bytes_eq, Vec, Global, refl, sym, ap, ◌∙◌, append-nil}
+use Rattle.std.proofs.Common.{◌≡◌, Bool, true, false, cond, ◌||◌, List, [], ◌∷◌, ◌++◌, map, filter, Option, Some, None, is_some, option_map, bytes_eq, Vec, Global, refl, sym, ap, ◌∙◌, subst, append-nil}
 use Rattle.std.specs.List.{IsDistinct, AllByRecursion, list_any}
 use Rattle.std.specs.List.Sorted.{IsSorted}
 use Rattle.std.specs.Map.{lookup}
@@ -12,13 +12,14 @@ use Rattle.rambo_history.specs.Calls.{key_of}
 use Rattle.rambo_sequence.specs.declared.mark.Mark.{Mark}
 use Rattle.rambo_sequence.specs.declared.ranking.RankedCall.{RankedCall}
 use Rattle.rambo_sequence.specs.Groups.{Group, group_sequence, calls_at, with_call, some_calls, HasGroups}
+use Rattle.rambo_sequence.specs.Marks.{with_some}
 use Rattle.rambo_sequence.specs.RankedCalls.{ranked, ranked_calls, sorted_calls}
 use Rattle.rambo_sequence.specs.Sequences.{keys_of, sequence_of, sequences_of}
 use Rattle.rambo_sequence.proofs.KeyLists.{Key, has_key, same_rises, Rises-from_sorted, Rises-keys_of, has_key-keys_of, bytes_eq-flip}
 use Rattle.rambo_sequence.proofs.RankedLists.{sequence_of-ranked}
 
 -- one more mark
-ranked_calls-push : (h : List Event) (ms : List Mark) (m : Mark) (q : Key)
+pub ranked_calls-push : (h : List Event) (ms : List Mark) (m : Mark) (q : Key)
     → ranked_calls h (ms ++ m ∷ []) q ≡ ranked_calls h ms q ++ cond (bytes_eq (key_of m.op) q) (ranked h m ∷ []) []
 ranked_calls-push h [] m q = elim (bytes_eq (key_of m.op) q) as (λ t. map (ranked h) (cond t (m ∷ []) []) ≡ cond t (ranked h m ∷ []) []) [ true ↦ refl | false ↦ refl ]
 ranked_calls-push h (n ∷ ms) m q =
@@ -42,6 +43,35 @@ HasGroups-push h ms m old new has added q =
     ∙ ap (λ o. cond (bytes_eq (key_of m.op) q) (with_call o (ranked h m)) o) (has q)
     ∙ sym (some_calls-push (bytes_eq (key_of m.op) q) (ranked_calls h ms q) (ranked h m))
     ∙ ap some_calls (sym (ranked_calls-push h ms m q))
+
+-- of what is told by a place: a key and a call are those of its mark, and where none is told it has no mark
+pub HasGroups-told : (h : List Event) (ms : List Mark) (o : Option Mark) (key : Key) (call : RankedCall) (old new : List Group) → HasGroups h ms old
+    → Some key ≡ option_map (λ (m : Mark). key_of m.op) o → Some call ≡ option_map (ranked h) o
+    → ((q : Key) → calls_at new q ≡ cond (bytes_eq key q) (with_call (calls_at old q) call) (calls_at old q)) → HasGroups h (ms ++ with_some o []) new
+HasGroups-told h ms None key call old new has k r added = absurd (cc)
+HasGroups-told h ms (Some m) key call old new has k r added =
+    let is_key : key ≡ key_of m.op = cc in
+    let is_call : call ≡ ranked h m = cc in
+    HasGroups-push h ms m old new has (λ q. added q ∙ λ i. cond (bytes_eq (is_key i) q) (with_call (calls_at old q) (is_call i)) (calls_at old q))
+
+pub ranked_calls-told : (h : List Event) (ms : List Mark) (o : Option Mark) (key : Key) (call : RankedCall) (q : Key)
+    → Some key ≡ option_map (λ (m : Mark). key_of m.op) o → Some call ≡ option_map (ranked h) o
+    → ranked_calls h (ms ++ with_some o []) q ≡ ranked_calls h ms q ++ cond (bytes_eq key q) (call ∷ []) []
+ranked_calls-told h ms None key call q k r = absurd (cc)
+ranked_calls-told h ms (Some m) key call q k r =
+    let is_key : key ≡ key_of m.op = cc in
+    let is_call : call ≡ ranked h m = cc in
+    ranked_calls-push h ms m q ∙ λ i. ranked_calls h ms q ++ cond (bytes_eq (sym is_key i) q) (sym is_call i ∷ []) []
+
+pub ranked_calls-untold : (h : List Event) (ms : List Mark) (o : Option Mark) (q : Key) → None ≡ option_map (λ (m : Mark). key_of m.op) o
+    → ranked_calls h (ms ++ with_some o []) q ≡ ranked_calls h ms q
+ranked_calls-untold h ms None q k = ap (λ ms. ranked_calls h ms q) (append-nil ms)
+ranked_calls-untold h ms (Some m) q k = absurd (cc)
+
+pub HasGroups-untold : (h : List Event) (ms : List Mark) (o : Option Mark) (groups : List Group) → HasGroups h ms groups
+    → None ≡ option_map (λ (m : Mark). key_of m.op) o → HasGroups h (ms ++ with_some o []) groups
+HasGroups-untold h ms None groups has k = subst (λ ms. HasGroups h ms groups) (sym (append-nil ms)) has
+HasGroups-untold h ms (Some m) groups has k = absurd (cc)
 
 -- the keys of the groups are those that are marked
 is_some-items : (o : Option (Vec RankedCall Global)) → is_some (option_map (λ calls. calls.items) o) ≡ is_some o

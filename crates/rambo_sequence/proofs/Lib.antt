@@ -9,5 +9,6 @@ mod OneList
 mod OneOrder
 mod OneOrderAlone
 pub mod Outcomes
+pub mod PlacedMarks
 mod RankedLists
 mod WeakOrders

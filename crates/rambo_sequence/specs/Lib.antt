@@ -1,6 +1,7 @@
 pub mod CallPlaces
 pub mod Groups
 pub mod Laws
+pub mod Marks
 pub mod Orders
 pub mod RankedCalls
 pub mod Sequences

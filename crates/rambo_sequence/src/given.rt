@@ -1,20 +1,21 @@
 //! The given sequences.
 ghost use Rattle.std.specs.Prelude.{◌≡◌, IfOk, IfErr, map};
 ghost use Rattle.rambo_sequence.specs.Groups.{group_sequence};
+ghost use Rattle.rambo_sequence.specs.Marks.{marks_at};
 ghost use Rattle.rambo_sequence.specs.RankedCalls.{ranked_calls};
 ghost use Rattle.rambo_sequence.specs.Sequences.{sequence_of, sequences_of};
 
 use crate::groups::groups;
 use crate::key_sequence::KeySequence;
-use crate::mark::Mark;
-use crate::ranking::RankedCall;
+use crate::mark::TaggedPlace;
+use crate::ranking::{RankedCall, ranked_call};
 use crate::sorting::in_order;
 use indexmap::IndexMap;
 use rambo_history::{CallId, History};
 use rambo_names::{Bytes, Refusal};
 use std::alloc::{AllocError, Global};
 
-/// The given sequences of all keys that are marked, in the byte order of the keys.
+/// The given sequences of all keys that are marked, in the byte order of the keys. Each mark is told by the place of its call.
 ///
 /// The marks of a key are ordered by tag. Under one tag the set comes before the gets, and gets are ordered by the
 /// places of their calls in the history. It takes `n log n` steps for `n` marks, and fewer where a key's marks come
@@ -24,9 +25,9 @@ use std::alloc::{AllocError, Global};
 pub fn sequences(
     alloc: Global,
     history: &History,
-    marks: &[Mark],
+    marks: &[TaggedPlace],
 ) -> Result<Vec<KeySequence>, Refusal>
-    ensures given { IfOk result (λ s. s.items ≡ sequences_of history.now.events marks.now) }
+    ensures given { IfOk result (λ s. s.items ≡ sequences_of history.now.events (marks_at history.now.events marks.now)) }
     ensures refused { IfErr result (λ r. r ≡ Refusal.OutOfMemory) }
 {
     let mut groups = groups(alloc, history, marks)?;
@@ -56,10 +57,10 @@ fn sequences_of_groups(
 pub fn sequence(
     alloc: Global,
     history: &History,
-    marks: &[Mark],
+    marks: &[TaggedPlace],
     key: &[u8],
 ) -> Result<Vec<CallId>, Refusal>
-    ensures given { IfOk result (λ s. s.items ≡ sequence_of history.now.events marks.now key.now) }
+    ensures given { IfOk result (λ s. s.items ≡ sequence_of history.now.events (marks_at history.now.events marks.now) key.now) }
     ensures refused { IfErr result (λ r. r ≡ Refusal.OutOfMemory) }
 {
     in_order(alloc, calls_of(alloc, history, marks, key)?)
@@ -69,14 +70,18 @@ pub fn sequence(
 fn calls_of(
     alloc: Global,
     history: &History,
-    marks: &[Mark],
+    marks: &[TaggedPlace],
     key: &[u8],
 ) -> Result<Vec<RankedCall>, AllocError>
-    ensures { IfOk result (λ calls. calls.items ≡ ranked_calls history.now.events marks.now key.now) }
+    ensures { IfOk result (λ calls. calls.items ≡ ranked_calls history.now.events (marks_at history.now.events marks.now) key.now) }
 {
-    marks
-        .iter()
-        .filter(|mark| mark.op.key().as_slice() == key)
-        .map(|mark| RankedCall::new(history, mark))
-        .collect(alloc)
+    let mut calls = Vec::new(alloc);
+    for mark in marks {
+        if let Some((of, call)) = ranked_call(history, mark) {
+            if of.as_slice() == key {
+                calls.push(call)?;
+            }
+        }
+    }
+    Ok(calls)
 }

@@ -1,10 +1,11 @@
 //! Calls by their keys.
 ghost use Rattle.std.specs.Prelude.{◌≡◌, ◌++◌, ◌∷◌, [], IfOk, IfErr, OnOk, if◌then◌else◌};
 ghost use Rattle.rambo_sequence.specs.Groups.{calls_at, with_call, HasGroups};
+ghost use Rattle.rambo_sequence.specs.Marks.{marks_at};
 ghost use Rattle.std.specs.Str.{bytes_eq};
 
-use crate::mark::Mark;
-use crate::ranking::RankedCall;
+use crate::mark::TaggedPlace;
+use crate::ranking::{RankedCall, ranked_call};
 use indexmap::IndexMap;
 use rambo_history::History;
 use rambo_names::{Bytes, Refusal};
@@ -14,19 +15,16 @@ use std::alloc::Global;
 pub(crate) fn groups(
     alloc: Global,
     history: &History,
-    marks: &[Mark],
+    marks: &[TaggedPlace],
 ) -> Result<IndexMap<Bytes, Vec<RankedCall>>, Refusal>
-    ensures groups { IfOk result (λ groups. HasGroups history.now.events marks.now groups.entries) }
+    ensures groups { IfOk result (λ groups. HasGroups history.now.events (marks_at history.now.events marks.now) groups.entries) }
     ensures refused { IfErr result (λ r. r ≡ Refusal.OutOfMemory) }
 {
     let mut groups = IndexMap::new(alloc);
     for mark in marks {
-        add(
-            alloc,
-            &mut groups,
-            mark.op.key(),
-            RankedCall::new(history, mark),
-        )?;
+        if let Some((key, call)) = ranked_call(history, mark) {
+            add(alloc, &mut groups, key, call)?;
+        }
     }
     Ok(groups)
 }

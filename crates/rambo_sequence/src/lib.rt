@@ -16,5 +16,5 @@ pub use laws::{
     given_are_sequences, given_is_order, given_is_sequence, one_list, one_sequence,
     one_store_order, order_is_proper,
 };
-pub use mark::Mark;
+pub use mark::{Mark, TaggedPlace};
 pub use store_order::one_order;

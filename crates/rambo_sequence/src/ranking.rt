@@ -1,10 +1,13 @@
 //! What the calls of a key are ordered by.
 ghost use Rattle.std.specs.Prelude.{◌≡◌, ◌<◌, ◌^◌};
-ghost use Rattle.rambo_sequence.specs.Sequences.{call_place, rank};
-ghost use Rattle.rambo_sequence.specs.RankedCalls.{sort_key_of, ranked};
+ghost use Rattle.std.specs.Option.{option_map};
+ghost use Rattle.rambo_history.specs.Calls.{key_of};
+ghost use Rattle.rambo_sequence.specs.Marks.{mark_at};
+ghost use Rattle.rambo_sequence.specs.RankedCalls.{ranked, sort_key_at};
 
-use crate::mark::Mark;
-use rambo_history::{CallId, History};
+use crate::mark::TaggedPlace;
+use rambo_history::{CallId, Event, History, Op};
+use rambo_names::Bytes;
 
 /// A mark's tag and its rank under that tag.
 #[derive(Clone, Copy, PartialEq, Eq, PartialOrd, Ord)]
@@ -21,27 +24,36 @@ pub(crate) struct RankedCall {
     pub(crate) id: CallId,
 }
 
-impl RankedCall {
-    // The call of a mark.
-    pub(crate) fn new(history: &History, mark: &Mark) -> RankedCall
-        ensures { result ≡ ranked history.now.events mark.now }
-    {
-        RankedCall {
-            sort_key: sort_key(history, mark),
-            id: mark.id,
+// The key and the call of a mark, if a call is made at its place.
+pub(crate) fn ranked_call<'a>(
+    history: &'a History,
+    mark: &TaggedPlace,
+) -> Option<(&'a Bytes, RankedCall)>
+    ensures key { option_map (λ r. r.0.now) result ≡ option_map (λ m. key_of m.op) (mark_at history.now.events mark.now) }
+    ensures call { option_map (λ r. r.1) result ≡ option_map (ranked history.now.events) (mark_at history.now.events mark.now) }
+{
+    match history.events().get(mark.place)? {
+        Event::Call(id, op) => {
+            let call = RankedCall {
+                sort_key: sort_key(op, mark),
+                id: *id,
+            };
+            Some((op.key(), call))
         }
+        Event::Answer(_, _) => None,
     }
 }
 
-// What a mark is ordered by. No copy counts as the tag (0, 0).
-fn sort_key(history: &History, mark: &Mark) -> SortKey
-    ensures { result ≡ sort_key_of history.now.events mark.now }
+// What a mark of an operation is ordered by. No copy counts as the tag (0, 0), and a set comes before the gets of its tag.
+fn sort_key(op: &Op, mark: &TaggedPlace) -> SortKey
+    requires { mark.now.place < 2 ^ 63 }
+    ensures { result ≡ sort_key_at op.now mark.now }
 {
-    let rank = rank(history, mark);
-    match &mark.kept {
-        Some(version) => SortKey {
-            sequence: version.tag.sequence,
-            writer: version.tag.name.number(),
+    let rank = if op.is_get() { mark.place + 1 } else { 0 };
+    match &mark.tag {
+        Some(tag) => SortKey {
+            sequence: tag.sequence,
+            writer: tag.name.number(),
             rank,
         },
         None => SortKey {
@@ -50,24 +62,4 @@ fn sort_key(history: &History, mark: &Mark) -> SortKey
             rank,
         },
     }
-}
-
-// A set comes before the gets of its tag.
-fn rank(history: &History, mark: &Mark) -> usize
-    ensures { result ≡ rank history.now.events mark.now }
-{
-    if mark.op.is_get() {
-        call_place(history, &mark.id) + 1
-    } else {
-        0
-    }
-}
-
-// The place of a call in the history, or the history's length where it isn't there.
-fn call_place(history: &History, id: &CallId) -> usize
-    ensures place { result ≡ call_place id.now history.now.events }
-    ensures fits { result < 2 ^ 63 }
-{
-    let count = history.events().len();
-    history.called_at(id).unwrap_or(count)
 }

@@ -1,5 +1,5 @@
 -- What a change of a node does to nodes of which nothing else is kept
-use Rattle.std.proofs.Common.{◌≡◌, ℕ, false, List, [], None, Some, Ok, Err, refl, sym, ap, ◌∙◌}
+use Rattle.std.proofs.Common.{◌≡◌, ℕ, false, List, [], None, Some, Ok, Err, refl, sym, ap}
 use Rattle.rambo_names.specs.declared.refusal.Refusal.{Refusal}
 use Rattle.rambo_names.specs.Quorums.{QuorumSystem}
 use Rattle.rambo_node.specs.Acts.{Act}

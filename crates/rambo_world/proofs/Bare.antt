@@ -1,5 +1,5 @@
 -- Worlds with their nodes alone: steps go the same way there
-use Rattle.std.proofs.Common.{◌≡◌, ℕ, zero, suc, ◌+◌, ◌-◌, false, List, [], ◌∷◌, ◌++◌, length, Option, None, Some, slice_get, slice_set, Result, Ok, Err, IfOk, OnOk, OnErr, refl, sym, ap, ◌∙◌, subst, append-nil, arith}
+use Rattle.std.proofs.Common.{◌≡◌, ℕ, zero, suc, ◌+◌, ◌-◌, false, List, [], ◌∷◌, ◌++◌, length, Option, None, Some, slice_get, slice_set, Ok, refl, sym, ap, ◌∙◌, append-nil, arith}
 use Rattle.std.proofs.lemmas.Bool.{false≢true}
 use Rattle.std.proofs.lemmas.List.{set-get_or, length_push}
 use Rattle.std.proofs.lemmas.Option.{get_or_from_slice_get}
@@ -9,11 +9,8 @@ use Rattle.rambo_names.specs.declared.refusal.Refusal.TheVariants.{NoSuchLetter}
 use Rattle.rambo_names.specs.Quorums.{QuorumSystem}
 use Rattle.rambo_names.specs.Refusals.{least}
 use Rattle.rambo_gossip.specs.Letters.{LetterState}
-use Rattle.rambo_history.specs.declared.event.CallId.{CallId}
 use Rattle.rambo_history.specs.declared.event.Event.{Event}
-use Rattle.rambo_history.specs.declared.operation.Op.{Op}
 use Rattle.rambo_node.specs.Acts.{Act, Meant, delivery}
-use Rattle.rambo_node.specs.declared.effect.Effect.TheVariants as effect
 use Rattle.rambo_node.specs.Changes.{made_by}
 use Rattle.rambo_node.specs.Letters.{letter_for}
 use Rattle.rambo_node.specs.Nodes.{NodeState}
@@ -25,11 +22,9 @@ use Rattle.rambo_run.specs.Worlds.{WorldState, first_world, node_at, letter_at}
 use Rattle.rambo_run.proofs.NodeLists.{node_named}
 use Rattle.rambo_run.specs.Steps.{meant, causes, causes_at, causes_of, effect_in, refusal, turn, turn_at, turn_of, with_letter, sends}
 use Rattle.rambo_run.specs.Runs.{after, result_of, run, run_from, unless_refused}
-use Rattle.rambo_run.specs.Told.{called}
 use Rattle.rambo_world.specs.Direct.{bare, passed, pass_refusal, first_of, IsReachedBare}
 use Rattle.rambo_run.proofs.Unsent.{unsent}
 use Rattle.rambo_run.proofs.GoingOn.{after-refused, run_none, run-after}
-use Rattle.rambo_world.proofs.Single.{told_done}
 use Rattle.rambo_world.proofs.Turns.{step_turn, step_refusal, deliver_refusal}
 
 -- the first item behind a list

@@ -13,9 +13,9 @@ use Rattle.rambo_run.proofs.EveryRun.{agrees, is_atomic}
 use Rattle.rambo_run.proofs.StoreOrder.{has_one_order}
 use Rattle.rambo_run.specs.Claims.{HasOneOrder}
 use Rattle.rambo_run.specs.Ongoing.{RunningOf, IsReached, AgreesSoFar}
-use Rattle.rambo_run.specs.Legal.{EventsFit}
 use Rattle.rambo_run.proofs.GoingOn.{run_is, run_none, run-after}
-use Rattle.rambo_run.proofs.Legal.{events_fit_run}
+use Rattle.rambo_run.proofs.Legal.{events_fit_run, marks_fit_run}
+use Rattle.rambo_world.specs.Worlds.{StepsFit}
 
 pub reached_first : {Q : Type 0} (s : QuorumSystem Q) (founders : Q) (w : WorldState Q) → w ≡ first_world s founders → IsReached s founders w
 reached_first s founders w first = ([], first ∙ sym (run_none s founders))
@@ -42,11 +42,11 @@ reached_further s founders w more reached = (
   ap (λ w. run_from s w more) (reached.1 ∙ run_is s founders reached.0) ∙ sym (run-further s (first_world s founders) reached.0 more) ∙ sym (run_is s founders (reached.0 ++ more)),
 )
 
--- events fit there
-pub reached_fits : {Q : Type 0} (s : QuorumSystem Q) (founders : Q) (w : WorldState Q) → IsReached s founders w → EventsFit s w
-reached_fits s founders w reached = subst (EventsFit s) (sym reached.1) (events_fit_run s founders reached.0)
+-- what steps append fits there
+pub reached_fits : {Q : Type 0} (s : QuorumSystem Q) (founders : Q) (w : WorldState Q) → IsReached s founders w → StepsFit s w
+reached_fits s founders w reached = subst (StepsFit s) (sym reached.1) (events_fit_run s founders reached.0, marks_fit_run s founders reached.0)
 
-pub reached_fits_from : {Q : Type 0} (s : QuorumSystem Q) (founders : Q) (w : WorldState Q) → IsReached s founders w → (done : List (Step Q)) → EventsFit s (run_from s w done)
+pub reached_fits_from : {Q : Type 0} (s : QuorumSystem Q) (founders : Q) (w : WorldState Q) → IsReached s founders w → (done : List (Step Q)) → StepsFit s (run_from s w done)
 reached_fits_from s founders w reached done = reached_fits s founders (run_from s w done) (reached_further s founders w done reached)
 
 -- the given sequences are proper

@@ -12,10 +12,11 @@ use Rattle.rambo_node.specs.Nodes.{NodeState}
 use Rattle.rambo_node.specs.Steps.{Step}
 use Rattle.rambo_node.specs.declared.step.StepOf.TheVariants as step
 use Rattle.rambo_run.specs.Worlds.{WorldState, node_at, letter_at}
-use Rattle.rambo_run.specs.Steps.{Turn, meant, causes, causes_at, causes_of, refusal, turn, turn_at, turn_of, with_event}
+use Rattle.rambo_run.specs.Steps.{Turn, meant, causes, causes_at, causes_of, refusal, turn, turn_at, turn_of, with_event, with_mark}
 use Rattle.rambo_world.specs.Kept.{KeptNode, state_of, kept_at, state_at}
-use Rattle.rambo_run.specs.Legal.{EventsFit}
-use Rattle.rambo_world.specs.Worlds.{EventFits}
+use Rattle.rambo_run.specs.Chronicles.{IsMarked}
+use Rattle.rambo_run.specs.Legal.{EventsFit, MarksFit}
+use Rattle.rambo_world.specs.Worlds.{EventFits, MarkFits}
 use Rattle.rambo_letters.proofs.Lists.{some_is}
 use Rattle.rambo_world.proofs.Growth.{state_at-kept}
 
@@ -52,6 +53,11 @@ module _ {Q : Type 0} (w : WorldState Q) (st : Step Q) (n : ℕ) (c : Act Q) (me
   pub step_fits : (s : QuorumSystem Q) → EventsFit s w → refusal s w st ≡ None → EventFits w n c
   step_fits s fits accepted x e found event =
       fits st e accepted (ap (λ t. t.world.history) (step_turn ∙ ap (λ o. turn_at w n o c) found) ∙ ap (with_event w.history) event)
+
+  pub step_told : (s : QuorumSystem Q) → MarksFit s w → refusal s w st ≡ None → MarkFits w n c
+  step_told s told accepted x m found mark =
+      let turned = step_turn ∙ ap (λ o. turn_at w n o c) found in
+      subst (λ h. IsMarked h m) (ap (λ t. t.world.history) turned) (told st m accepted (ap (λ t. t.world.marks) turned ∙ ap (with_mark w.marks) mark))
 
 pub deliver_refusal : {Q : Type 0} (s : QuorumSystem Q) (w : WorldState Q) (number : ℕ) → refusal s w (step.Deliver number) ≡ least (causes_of s w (delivery (letter_at w.letters number)))
 unfolding refusal causes

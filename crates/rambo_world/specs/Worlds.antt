@@ -10,6 +10,10 @@ use Rattle.rambo_node.specs.declared.effect.Effect.{Effect}
 use Rattle.rambo_node.specs.Changes.{made_by, answer_in}
 use Rattle.rambo_node.specs.Nodes.{NodeState}
 use Rattle.rambo_node.specs.Steps.{Step}
+use Rattle.rambo_sequence.specs.declared.mark.Mark.{Mark}
+use Rattle.rambo_run.specs.Chronicles.{IsMarked}
+use Rattle.rambo_run.specs.Legal.{EventsFit, MarksFit}
+use Rattle.rambo_run.specs.Steps.{with_event}
 use Rattle.rambo_run.specs.Worlds.{WorldState, node_at}
 use Rattle.rambo_run.specs.Runs.{run}
 
@@ -25,6 +29,15 @@ state s w = run s w.founders w.steps
 -- the event of an act of a node, if it has one, can be appended to the history
 abbrev pub EventFits : {Q : Type 0} → WorldState Q → ℕ → Act Q → Type 0
 EventFits {Q} w n c = (x : NodeState Q) (e : Event) → node_at w n ≡ Some x → (made_by x c).deed.event ≡ Some e → fault_of w.history e ≡ None
+
+-- and its mark, if it has one, is told by the history that it leaves
+abbrev pub MarkFits : {Q : Type 0} → WorldState Q → ℕ → Act Q → Type 0
+MarkFits {Q} w n c =
+    (x : NodeState Q) (m : Mark) → node_at w n ≡ Some x → (made_by x c).deed.mark ≡ Some m → IsMarked (with_event w.history (made_by x c).deed.event) m
+
+-- so it is with what any step appends that isn't refused
+abbrev pub StepsFit : {Q : Type 0} → QuorumSystem Q → WorldState Q → Type 0
+StepsFit s w = EventsFit s w × MarksFit s w
 
 -- the answer that a call got as it went on, if it did and wasn't refused
 abbrev pub answer_got : {Q : Type 0} → Result (Effect Q) Refusal → Result (Option Answer) Refusal

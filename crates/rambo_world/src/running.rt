@@ -104,11 +104,11 @@ impl<Q: Quorums, S: Replica> Run<Q> for Running<Q, S> {
     }
 
     fn history(&self) -> &History {
-        &self.state.history
+        self.state.chronicle.history()
     }
 
     fn sequences(&self, alloc: Global) -> Result<Vec<KeySequence>, Refusal> {
-        rambo_sequence::sequences(alloc, &self.state.history, self.state.marks.as_slice())
+        self.state.chronicle.sequences(alloc)
     }
 
     fn maps(&self, alloc: Global) -> Result<Vec<NodeMap<Q>>, Refusal> {

@@ -6,17 +6,18 @@ ghost use Rattle.rambo_sequence.specs.Sequences.{sequence_in};
 ghost use Rattle.rambo_sequence.specs.StoreOrders.{IsOrder, NoTwice, all_calls};
 ghost use Rattle.rambo_run.specs.Claims.{Agrees};
 ghost use Rattle.rambo_run.specs.Runs.{given_sequences, outcome_at, outcome_of, results_from, run_from};
-ghost use Rattle.rambo_run.specs.Legal.{EventsFit};
 ghost use Rattle.rambo_run.specs.Worlds.{founding_causes};
 ghost use Rattle.rambo_node.specs.Steps.{Step};
+ghost use Rattle.rambo_world.specs.Worlds.{StepsFit};
 
 use crate::running::Running;
 use crate::state::State;
 use rambo_names::{Quorums, Refusal};
-use rambo_run::{Outcome, Step};
+use rambo_run::{Chronicle, Outcome, Step};
 use rambo_tag::{Registers, Replica};
 use std::alloc::Global;
 use std::hash::{BuildHasherDefault, FoldHasher};
+use std::mem;
 
 /// What steps make of the world of these founders. For a step that is refused its refusal is noted, and the run goes
 /// on.
@@ -50,18 +51,19 @@ pub(crate) fn outcome<Q: Quorums, S: Replica>(
     state: &mut State<Q, S>,
     steps: &[Step<Q>],
 ) -> Result<Outcome<Q>, Refusal>
-    requires fits { (done : List (Step _)) → EventsFit Q.system (run_from Q.system state.old done) }
+    requires fits { (done : List (Step _)) → StepsFit Q.system (run_from Q.system state.old done) }
     requires once { NoTwice (all_calls (given_sequences (run_from Q.system state.old steps.now))) }
     ensures outcome { IfOk result (λ o. o ≡ outcome_at (results_from Q.system state.old steps.now) (run_from Q.system state.old steps.now)) }
     ensures refused { IfErr result (λ r. r ≡ Refusal.OutOfMemory) }
 {
     let effects = state.take_all(alloc, steps)?;
-    let sequences = rambo_sequence::sequences(alloc, &state.history, state.marks.as_slice())?;
-    let order = rambo_sequence::one_order(alloc, &state.history, sequences.as_slice())?;
+    let sequences = state.chronicle.sequences(alloc)?;
+    let order = state.chronicle.order(alloc, sequences.as_slice())?;
     let maps = state.nodes.maps(alloc)?;
+    let history = mem::replace(&mut state.chronicle, Chronicle::new(alloc)).into_history();
     Ok(Outcome {
         effects,
-        history: state.take_history(alloc),
+        history,
         sequences,
         order,
         maps,

@@ -3,29 +3,25 @@ ghost use Rattle.std.specs.Prelude.{◌≡◌, List, None, Some, OnOk, OnErr, If
 ghost use Rattle.rambo_run.specs.Runs.{after, result_of, results_from, run_from};
 ghost use Rattle.rambo_run.specs.Steps.{refusal};
 ghost use Rattle.rambo_run.specs.Worlds.{first_world};
-ghost use Rattle.rambo_run.specs.Legal.{EventsFit};
 ghost use Rattle.rambo_node.specs.Steps.{Step};
+ghost use Rattle.rambo_world.specs.Worlds.{StepsFit};
 
 use crate::nodes::Nodes;
-use rambo_history::History;
 use rambo_letters::Letters;
 use rambo_logs::MergedCounts;
 use rambo_names::{Quorums, Refusal};
 use rambo_node::{Effect, quiet_of};
-use rambo_run::Step;
-use rambo_sequence::Mark;
+use rambo_run::{Chronicle, Step};
 use rambo_tag::Replica;
 use std::alloc::Global;
 use std::marker::Model;
-use std::mem;
 
-/// The nodes, all letters that were sent, the history, and the marks from which the sequences come.
+/// The nodes, all letters that were sent, and all calls and answers with their marks.
 pub(crate) struct State<Q: Quorums, S: Replica> {
     pub(crate) nodes: Nodes<Q, S>,
     pub(crate) letters: Letters<Q>,
     pub(crate) merged: MergedCounts,
-    pub(crate) history: History,
-    pub(crate) marks: Vec<Mark>,
+    pub(crate) chronicle: Chronicle,
 }
 
 // By hand, so that those who drop a run needn't follow all that is in it.
@@ -35,8 +31,7 @@ impl<Q: Quorums, S: Replica> Drop for State<Q, S> {
             nodes: _nodes,
             letters: _letters,
             merged: _merged,
-            history: _history,
-            marks: _marks,
+            chronicle: _chronicle,
         } = self;
     }
 }
@@ -52,7 +47,7 @@ impl<Q: Quorums, S: Replica> Model for State<Q, S> {
 
     ghost coded = { Prim.hlevel (codes, names_code, copies_code, Q.code) };
 
-    ghost view = { λ w. record { nodes = states_of w.nodes; letters = whole_letters w.nodes w.letters; history = w.history.events; marks = w.marks.items } };
+    ghost view = { λ w. record { nodes = states_of w.nodes; letters = whole_letters w.nodes w.letters; history = w.chronicle.events; marks = w.chronicle.marks } };
 
     ghost invariant = { λ w. IsKept w.nodes w.letters w.merged };
 }
@@ -97,14 +92,13 @@ impl<Q: Quorums, S: Replica> State<Q, S> {
             nodes,
             letters: Letters::new(alloc),
             merged,
-            history: History::new(alloc),
-            marks: Vec::new(alloc),
+            chronicle: Chronicle::new(alloc),
         })
     }
 
     // Takes a step of a run: what it did, or why it is refused.
     pub(crate) fn take(&mut self, step: &Step<Q>) -> Result<Result<Effect<Q>, Refusal>, Refusal>
-        requires fits { EventsFit Q.system self.old }
+        requires fits { StepsFit Q.system self.old }
         ensures told { IfOk result (λ r. r ≡ result_of (refusal Q.system self.old step.now) self.old step.now) }
         ensures after { OnOk result (self.new ≡ after Q.system self.old step.now) }
         ensures accepted { OnErr result (refusal Q.system self.old step.now ≡ None) }
@@ -138,7 +132,7 @@ impl<Q: Quorums, S: Replica> State<Q, S> {
         alloc: Global,
         steps: &[Step<Q>],
     ) -> Result<Vec<Result<Effect<Q>, Refusal>>, Refusal>
-        requires fits { (done : List (Step _)) → EventsFit Q.system (run_from Q.system self.old done) }
+        requires fits { (done : List (Step _)) → StepsFit Q.system (run_from Q.system self.old done) }
         ensures told { IfOk result (λ rs. rs.items ≡ results_from Q.system self.old steps.now) }
         ensures after { OnOk result (self.new ≡ run_from Q.system self.old steps.now) }
         ensures refused { IfErr result (λ r. r ≡ Refusal.OutOfMemory) }
@@ -167,15 +161,6 @@ impl<Q: Quorums, S: Replica> State<Q, S> {
             }
         }
         self.letters.reserve(letters)?;
-        self.history.reserve(calls.saturating_mul(2))?;
-        self.marks.reserve(calls)?;
-        Ok(())
-    }
-
-    // Takes the history out.
-    pub(crate) fn take_history(&mut self, alloc: Global) -> History
-        ensures { result.events ≡ self.old.history }
-    {
-        mem::replace(&mut self.history, History::new(alloc))
+        self.chronicle.make_room(calls.saturating_mul(2), calls)
     }
 }

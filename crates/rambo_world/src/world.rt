@@ -99,7 +99,7 @@ impl<Q: Quorums, S: Replica> World<Q, S> {
     pub fn history(&self) -> &History
         ensures { result.now.events ≡ (state Q.system self.now).history }
     {
-        &self.state.history
+        self.state.chronicle.history()
     }
 
     /// The given sequence of a key: its answered calls and its sets that took a tag. They are ordered by tag, a set
@@ -113,7 +113,7 @@ impl<Q: Quorums, S: Replica> World<Q, S> {
         ensures proper { IfOk result (λ calls. IsProper (state Q.system self.now).history key.now calls.items) }
         ensures refused { IfErr result (λ r. r ≡ Refusal.OutOfMemory) }
     {
-        rambo_sequence::sequence(alloc, &self.state.history, self.state.marks.as_slice(), key)
+        self.state.chronicle.sequence(alloc, key)
     }
 
     /// The configuration map of a node. No two nodes, at one moment or at two, hold different configurations at one

@@ -19,7 +19,7 @@ use Rattle.rambo_book.proofs.Commits.{ready_inside, half_here, finished_here, ke
 use Rattle.std.specs.Option.{option_copied}
 use Rattle.rambo_book.specs.Windows.{gone_of}
 use Rattle.rambo_book.proofs.Books.{passed, one_past, few_past, sent_room, few_room, sent_then, whole_book, after_step, gone_after, count_after, same_book, still_book}
-use Rattle.rambo_book.proofs.Recording.{fits_all}
+use Rattle.rambo_book.proofs.Recording.{fits_all, told_all}
 use Rattle.rambo_book.proofs.committing.enter.Goals as goal
 
 pub returns-then-len-capacity-clause-same : goal.returns-then-len-capacity-clause-same
@@ -65,8 +65,22 @@ finish-effect-requires g c =
     let done = finished_here (whole_book c.book.invariant.0) c.keeper.invariant c.agree.ensures.idle c.args.ready.step c.keeper.inside.node.room c.keeper.inside.tray.items c.keeper.inside.holder.1 c.args.ready.half ready (option_copied c.as_ref.result) c.as_ref.ensures.value (record { state = (made_by c.keeper.inside.node.state ready.act).node; room = c.keeper.inside.node.room; beside = beside_after c.keeper.inside.node.state c.keeper.inside.node.beside ready.act }) _ refl refl refl in
     let room = c.in-Ok.ensures.room in
     let less : length c.book.inside.steps.all < c.book.inside.capacity = omega (arith, c.if-len-capacity.false, c.len.ensures, ap (λ (v : StockView _). length v.all) c.agree.ensures.stock) in
-    let few = few_room c.book.invariant.0 c.make_room.ensures.same.1 in
-    (back_fits _ _ _ (up_fits _ _ _ c.requires-raw.1.1.1.0), ((ready.act, step), (omega (arith, few, less, c.if-len-capacity.false, c.len.ensures), ((room.1, room.2), λ l e there is. fits_all c.book.inside.kept.all c.make_room.new.kept.all _ _ c.make_room.ensures.same.2.0 c.book.invariant.0.recorded l e there (done.fits e is)))))
+    let few = few_room c.book.invariant.0 c.make_room.ensures.same.1 in (
+      back_fits _ _ _ (up_fits _ _ _ c.requires-raw.1.1.1.0),
+      (
+        (ready.act, step),
+        (
+          omega (arith, few, less, c.if-len-capacity.false, c.len.ensures),
+          (
+            (room.1, room.2),
+            (
+              λ l e there is. fits_all c.book.inside.kept.all c.make_room.new.kept.all _ _ c.make_room.ensures.same.2.0 c.book.invariant.0.recorded l e there (done.fits e is),
+              λ l m there is. told_all c.book.inside.kept.all c.make_room.new.kept.all _ _ c.make_room.ensures.same.2.0 c.book.invariant.0.recorded l _ m there (done.shows m is),
+            ),
+          ),
+        ),
+      ),
+    )
 
 pub invariant_of-book-2 : goal.invariant_of-book-2
 invariant_of-book-2 g c =

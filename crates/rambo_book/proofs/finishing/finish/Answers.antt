@@ -1,7 +1,8 @@
 use Rattle.std.proofs.Common.{sym, ap, ◌∙◌, subst}
 use Rattle.rambo_node.specs.Changes.{made_by}
 use Rattle.rambo_node.specs.Halves.{event_of, letter_of, mark_in}
-use Rattle.rambo_run.specs.Steps.{effect_in, with_letter}
+use Rattle.rambo_run.specs.Chronicles.{IsMarked}
+use Rattle.rambo_run.specs.Steps.{effect_in, with_event, with_letter}
 use Rattle.rambo_book.specs.Records.{Recorded}
 use Rattle.rambo_book.proofs.Ending.{told_alike}
 use Rattle.rambo_book.proofs.finishing.finish.Goals as goal
@@ -10,7 +11,13 @@ pub end-ended-requires : goal.end-ended-requires
 end-ended-requires g c = (c.requires-raw.1.1.0, c.requires.ready)
 
 pub enter_ended-requires : goal.enter_ended-requires
-enter_ended-requires g c = record { few = c.requires.few; room = c.requires.room; fits = λ v e there is. c.requires.fits v e there (sym c.end-ended.ensures.event ∙ is) }
+enter_ended-requires g c = record {
+  few = c.requires.few;
+  room = c.requires.room;
+  fits = λ v e there is. c.requires.fits v e there (sym c.end-ended.ensures.event ∙ is);
+  told = λ v m there is.
+      subst (λ e. IsMarked (with_event v.events e) m) (sym c.end-ended.ensures.event) (c.requires.told v m there (sym c.end-ended.ensures.mark ∙ is));
+}
 
 pub returns-clause-effect : goal.returns-clause-effect
 returns-clause-effect g c = λ a ls ready counts.

@@ -1,6 +1,6 @@
 use Rattle.std.specs.Option.{option_copied}
 use Rattle.rambo_history.specs.Histories.{answer_in}
-use Rattle.rambo_book.specs.Records.{ChronicleView}
+use Rattle.rambo_run.specs.Chronicles.{ChronicleView}
 use Rattle.rambo_book.proofs.Recording.{kept_known}
 use Rattle.rambo_book.proofs.book.Book.answer.Goals as goal
 

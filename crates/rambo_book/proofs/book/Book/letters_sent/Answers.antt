@@ -1,5 +1,4 @@
-use Rattle.std.proofs.Common.{◌≡◌, length, ◌∙◌, ap, arith}
-use Rattle.rambo_run.specs.Runs.{run}
+use Rattle.std.proofs.Common.{length, ◌∙◌, ap, arith}
 use Rattle.rambo_book.specs.Kept.{state}
 use Rattle.rambo_book.proofs.Books.{all_counted, all_few}
 use Rattle.rambo_book.proofs.book.Book.letters_sent.Goals as goal

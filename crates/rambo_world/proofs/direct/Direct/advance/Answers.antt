@@ -1,4 +1,4 @@
-use Rattle.std.proofs.Common.{◌≡◌, ◌∙◌, [], None, Some, Ok, Err, refl, sym, ap, subst}
+use Rattle.std.proofs.Common.{◌≡◌, ◌∙◌, [], None, Ok, Err, refl, sym, ap, subst}
 use Rattle.rambo_history.specs.declared.event.CallId.{CallId}
 use Rattle.rambo_node.specs.Acts as act
 use Rattle.rambo_node.specs.Changes.{made_by}

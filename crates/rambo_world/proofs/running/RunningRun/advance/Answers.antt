@@ -8,12 +8,19 @@ use Rattle.rambo_run.specs.Ongoing.{RunningOf, IsReached}
 use Rattle.rambo_names.proofs.Sizes.{up_fits, back_fits}
 use Rattle.rambo_world.proofs.Reached.{reached_fits, reached_next}
 use Rattle.rambo_world.proofs.Single.{advanced_told}
-use Rattle.rambo_world.proofs.Turns.{step_fits}
+use Rattle.rambo_world.proofs.Turns.{step_fits, step_told}
 use Rattle.rambo_world.proofs.running.RunningRun.advance.Goals as goal
 use Rattle.rambo_node.specs.Acts as act
 
 pub advance-requires : goal.advance-requires
-advance-requires g c = (back_fits _ _ _ (up_fits _ _ _ c.requires-raw.1.1), step_fits c.self.inside.state (step.Advance c.args.id) c.args.id.name (act.Advance c.args.id) refl g.Q.Quorums.system (reached_fits g.Q.Quorums.system c.self.inside.founders c.self.inside.state c.self.invariant))
+advance-requires g c =
+    let fits = reached_fits g.Q.Quorums.system c.self.inside.founders c.self.inside.state c.self.invariant in (
+      back_fits _ _ _ (up_fits _ _ _ c.requires-raw.1.1),
+      (
+        step_fits c.self.inside.state (step.Advance c.args.id) c.args.id.name (act.Advance c.args.id) refl g.Q.Quorums.system fits.0,
+        step_told c.self.inside.state (step.Advance c.args.id) c.args.id.name (act.Advance c.args.id) refl g.Q.Quorums.system fits.1,
+      ),
+    )
 
 pub invariant_of-self : goal.invariant_of-self
 invariant_of-self g c = subst (IsReached g.Q.Quorums.system c.self.inside.founders) (sym c.in_err-advance.ensures.err) c.self.invariant

@@ -12,7 +12,7 @@ use Rattle.rambo_world.proofs.running.RunningRun.call.Goals as goal
 use Rattle.rambo_node.specs.Acts as act
 
 pub call-requires : goal.call-requires
-call-requires g c = (back_fits _ _ _ (up_fits _ _ _ c.requires-raw.1.1), step_fits c.self.inside.state (step.Call c.args.name c.args.op) c.args.name (act.Call c.args.op) refl g.Q.Quorums.system (reached_fits g.Q.Quorums.system c.self.inside.founders c.self.inside.state c.self.invariant))
+call-requires g c = (back_fits _ _ _ (up_fits _ _ _ c.requires-raw.1.1), step_fits c.self.inside.state (step.Call c.args.name c.args.op) c.args.name (act.Call c.args.op) refl g.Q.Quorums.system (reached_fits g.Q.Quorums.system c.self.inside.founders c.self.inside.state c.self.invariant).0)
 
 pub invariant_of-self : goal.invariant_of-self
 invariant_of-self g c = reached_on g.Q.Quorums.system c.self.inside.founders c.self.inside.state c.call.new.self (step.Call c.args.name c.args.op) c.call.result c.self.invariant c.call.ensures.after c.call.ensures.err

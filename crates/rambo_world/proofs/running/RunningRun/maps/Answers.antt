@@ -6,7 +6,7 @@ use Rattle.rambo_world.proofs.Reached.{reached_agrees}
 use Rattle.rambo_world.proofs.running.RunningRun.maps.Goals as goal
 
 pub maps-requires : goal.maps-requires
-maps-requires g c = back_fits _ _ _ (next _ _ _ _ (next _ _ _ _ (next _ _ _ _ (next _ _ _ _ (up_fits _ _ _ (back_fits _ _ _ (up_fits _ _ _ c.requires-raw.1.1)))))))
+maps-requires g c = back_fits _ _ _ (next _ _ _ _ (next _ _ _ _ (next _ _ _ _ (up_fits _ _ _ (back_fits _ _ _ (up_fits _ _ _ c.requires-raw.1.1))))))
 
 pub returns-clause-maps : goal.returns-clause-maps
 returns-clause-maps g c = subst (λ (v : RunningOf _). IfOk c.maps.result (λ maps. maps.items ≡ maps_of v.state.nodes)) c.self.view_is

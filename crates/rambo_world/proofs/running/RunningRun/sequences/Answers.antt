@@ -3,6 +3,7 @@ use Rattle.std.proofs.lemmas.Result.{IfOk-weaker}
 use Rattle.rambo_history.specs.Proper.{IsProper}
 use Rattle.rambo_sequence.specs.Sequences.{sequences_of, sequence_in}
 use Rattle.rambo_run.specs.Ongoing.{RunningOf}
+use Rattle.rambo_run.specs.Worlds.{WorldState}
 use Rattle.rambo_world.proofs.Reached.{given_proper}
 use Rattle.rambo_world.proofs.running.RunningRun.sequences.Goals as goal
 
@@ -10,7 +11,7 @@ use Rattle.rambo_world.proofs.running.RunningRun.sequences.Goals as goal
 given : (g : _) (c : goal.After-sequences g) → IfOk c.sequences.result (λ s. s.items ≡ sequences_of c.self.inside.state.history c.self.inside.state.marks)
 given g c =
     let is = ap (λ i. i.state) c.self-inside.view_is in
-    IfOk-weaker c.sequences.result _ _ (λ s e. e ∙ (λ i. sequences_of (is i).history ((c.as_slice.ensures.value ∙ ap (λ w. w.marks) is) i))) c.sequences.ensures.given
+    IfOk-weaker c.sequences.result _ _ (λ s e. e ∙ ap (λ (w : WorldState _). sequences_of w.history w.marks) is) c.sequences.ensures.given
 
 pub returns-clause-given : goal.returns-clause-given
 returns-clause-given g c =

@@ -13,11 +13,11 @@ use Rattle.rambo_node.specs.Acts as act
 
 pub node-requires : goal.node-requires
 node-requires g c =
-    let nodes = back_fits _ _ _ (next _ _ _ _ (next _ _ _ _ (next _ _ _ _ (next _ _ _ _ (up_fits _ _ _ c.requires-raw.1.1.0))))) in
+    let nodes = back_fits _ _ _ (next _ _ _ _ (next _ _ _ _ (next _ _ _ _ (up_fits _ _ _ c.requires-raw.1.1.0)))) in
     (nodes, back_fits _ _ _ (up_fits _ _ _ nodes))
 
 pub may_call-requires : goal.may_call-requires
-may_call-requires g c = back_fits _ _ _ (up_fits _ _ _ (back_fits _ _ _ (next _ _ _ _ (next _ _ _ _ (next _ _ _ _ (next _ _ _ _ (up_fits _ _ _ c.requires-raw.1.1.0)))))))
+may_call-requires g c = back_fits _ _ _ (up_fits _ _ _ (back_fits _ _ _ (next _ _ _ _ (next _ _ _ _ (next _ _ _ _ (up_fits _ _ _ c.requires-raw.1.1.0))))))
 
 pub call-requires : goal.call-requires
 call-requires g c = (c.requires-raw.1.1.0, subst (λ o. refusal g.Q.Quorums.system c.args.self.now (step.Call c.args.name o) ≡ None → EventFits c.args.self.now c.args.name (act.Call o)) (sym c.in-Ok.ensures.same) c.requires.fits)

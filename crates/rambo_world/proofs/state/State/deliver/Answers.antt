@@ -22,15 +22,15 @@ use Rattle.rambo_world.proofs.Turns.{deliver_refusal}
 use Rattle.rambo_world.proofs.state.State.deliver.Goals as goal
 
 pub get-requires : goal.get-requires
-get-requires g c = back_fits _ _ _ (next _ _ _ _ (next _ _ _ _ (next _ _ _ _ (up_fits _ _ _ c.requires-raw.1.1))))
+get-requires g c = back_fits _ _ _ (next _ _ _ _ (next _ _ _ _ (up_fits _ _ _ c.requires-raw.1.1)))
 
 -- there is no such letter
 no_letter : (g : _) (c : goal.In-None g) → refusal g.Q.Quorums.system c.args.self.now (step.Deliver c.args.number) ≡ Some NoSuchLetter
 no_letter g c =
     let s = g.Q.Quorums.system in
     let ks = c.self.inside.nodes in
-    let h = c.self.inside.history.events in
-    let ms = c.self.inside.marks.items in
+    let h = c.self.inside.chronicle.events in
+    let ms = c.self.inside.chronicle.marks in
     subst (λ w. refusal s w (step.Deliver c.args.number) ≡ Some NoSuchLetter) c.self.view_is
     (deliver_refusal s (world_of ks c.self.inside.letters h ms) c.args.number ∙ ap least (no_causes ks c.self.inside.letters h ms c.args.number s (sym c.get.ensures ∙ c.in-None.is)))
 
@@ -45,7 +45,7 @@ hear-requires g c =
     let m : SentState _ = record { letter = c.sent.inside.letter; told = c.sent.inside.told } in
     let found : sent_at c.self.inside.letters c.args.number ≡ Some m = sym c.get.ensures ∙ c.in-Some.is ∙ ap Some (sym c.sent.view_is) in
     let sent = c.self.invariant.sent (c.args.number - 1) m (sent_before c.self.inside.letters c.args.number m found) in (
-      back_fits _ _ _ (next _ _ _ _ (next _ _ _ _ (next _ _ _ _ (next _ _ _ _ (up_fits _ _ _ c.requires-raw.1.1))))),
+      back_fits _ _ _ (next _ _ _ _ (next _ _ _ _ (next _ _ _ _ (up_fits _ _ _ c.requires-raw.1.1)))),
       λ joins. subst (λ n. n ≤ c.of-before.result) (sym c.max.ensures) (joins_with_none c.self.inside.nodes m sent c.of-before.result joins),
     )
 
@@ -59,12 +59,12 @@ returns-in_err-hear-clause-accepted g c =
     let found : sent_at c.self.inside.letters c.args.number ≡ Some m = sym c.get.ensures ∙ c.in-Some.is ∙ ap Some (sym c.sent.view_is) in
     on_err c.from_residual.result
     (subst (λ w. refusal s w (step.Deliver c.args.number) ≡ None) c.self.view_is
-    (sym (judged_sent s c.self.inside.nodes c.self.inside.letters c.self.inside.history.events c.self.inside.marks.items c.args.number m found) ∙ c.in_err-hear.ensures.accepted))
+    (sym (judged_sent s c.self.inside.nodes c.self.inside.letters c.self.inside.chronicle.events c.self.inside.chronicle.marks c.args.number m found) ∙ c.in_err-hear.ensures.accepted))
 
 pub returns-in_err-hear-clause-err : goal.returns-in_err-hear-clause-err
 returns-in_err-hear-clause-err g c =
     on_err c.from_residual.result
-    (same_world c.self.inside.nodes c.hear.new.self c.self.inside.letters c.self.inside.history.events _ c.self.inside.marks.items _ c.in_err-hear.ensures.err c.self.invariant.sent refl refl
+    (same_world c.self.inside.nodes c.hear.new.self c.self.inside.letters c.self.inside.chronicle.events _ c.self.inside.chronicle.marks _ c.in_err-hear.ensures.err c.self.invariant.sent refl refl
     ∙ c.self.view_is)
 
 -- the addressee refuses it, and stays
@@ -74,7 +74,7 @@ refused g c =
     let m : SentState _ = record { letter = c.sent.inside.letter; told = c.sent.inside.told } in
     let found : sent_at c.self.inside.letters c.args.number ≡ Some m = sym c.get.ensures ∙ c.in-Some.is ∙ ap Some (sym c.sent.view_is) in
     subst (λ w. refusal s w (step.Deliver c.args.number) ≡ Some c.in-Err.refusal) c.self.view_is
-    (sym (judged_sent s c.self.inside.nodes c.self.inside.letters c.self.inside.history.events c.self.inside.marks.items c.args.number m found) ∙ sym c.in_ok-hear.ensures.told ∙ ap told_refusal c.in-Err.is)
+    (sym (judged_sent s c.self.inside.nodes c.self.inside.letters c.self.inside.chronicle.events c.self.inside.chronicle.marks c.args.number m found) ∙ sym c.in_ok-hear.ensures.told ∙ ap told_refusal c.in-Err.is)
 
 pub invariant_of-self-in-Err : goal.invariant_of-self-in-Err
 invariant_of-self-in-Err g c = kept_stays c.self.inside.nodes c.hear.new.self c.hear.ensures.grow c.self.inside.letters c.self.inside.merged c.self.invariant
@@ -85,7 +85,7 @@ returns-in-Err-clause-told g c = refused_told g.Q.Quorums.system c.args.self.now
 pub returns-in-Err-clause-after : goal.returns-in-Err-clause-after
 returns-in-Err-clause-after g c =
     let stays = subst (λ r. OnErr r (SameBarRoom c.self.inside.nodes c.hear.new.self)) c.in-Err.is c.in_ok-hear.ensures.stays in
-    same_world c.self.inside.nodes c.hear.new.self c.self.inside.letters c.self.inside.history.events _ c.self.inside.marks.items _ stays c.self.invariant.sent refl refl
+    same_world c.self.inside.nodes c.hear.new.self c.self.inside.letters c.self.inside.chronicle.events _ c.self.inside.chronicle.marks _ stays c.self.invariant.sent refl refl
     ∙ c.self.view_is ∙ sym (after-refused g.Q.Quorums.system c.args.self.now (step.Deliver c.args.number) c.in-Err.refusal (refused g c))
 
 -- the letter that it hears
@@ -117,20 +117,20 @@ unrefused : (g : _) (c : goal.After-raise g) → refusal g.Q.Quorums.system c.ar
 unrefused g c =
     let s = g.Q.Quorums.system in
     subst (λ w. refusal s w (step.Deliver c.args.number) ≡ None) c.self.view_is
-    (sym (judged_sent s c.self.inside.nodes c.self.inside.letters c.self.inside.history.events c.self.inside.marks.items c.args.number (letter g c) (found g c)) ∙ accepted g c)
+    (sym (judged_sent s c.self.inside.nodes c.self.inside.letters c.self.inside.chronicle.events c.self.inside.chronicle.marks c.args.number (letter g c) (found g c)) ∙ accepted g c)
 
 turned : (g : _) (c : goal.After-raise g) → turn c.args.self.now (step.Deliver c.args.number)
-    ≡ record { world = world_of c.hear.new.self c.self.inside.letters c.self.inside.history.events c.self.inside.marks.items; effect = effect.Done }
+    ≡ record { world = world_of c.hear.new.self c.self.inside.letters c.self.inside.chronicle.events c.self.inside.chronicle.marks; effect = effect.Done }
 turned g c =
     ap (λ w. turn w (step.Deliver c.args.number)) (sym c.self.view_is)
     ∙ came g.Q.Quorums.system c.self.inside.nodes c.hear.new.self c.self.inside.letters c.self.inside.merged c.self.invariant c.hear.ensures.grow (letter g c) (sent g c)
     c.of-before.result c.of-before.ensures.to c.of-before.ensures.from c.of-before.ensures.count (accepted g c) (heard g c)
-    c.self.inside.history.events c.self.inside.marks.items c.args.number (found g c)
+    c.self.inside.chronicle.events c.self.inside.chronicle.marks c.args.number (found g c)
 
 pub returns-in-Ok-clause-told : goal.returns-in-Ok-clause-told
 returns-in-Ok-clause-told g c =
-    taken_told g.Q.Quorums.system c.args.self.now (step.Deliver c.args.number) (world_of c.hear.new.self c.self.inside.letters c.self.inside.history.events c.self.inside.marks.items) effect.Done (unrefused g c) (turned g c)
+    taken_told g.Q.Quorums.system c.args.self.now (step.Deliver c.args.number) (world_of c.hear.new.self c.self.inside.letters c.self.inside.chronicle.events c.self.inside.chronicle.marks) effect.Done (unrefused g c) (turned g c)
 
 pub returns-in-Ok-clause-after : goal.returns-in-Ok-clause-after
 returns-in-Ok-clause-after g c =
-    taken_after g.Q.Quorums.system c.args.self.now (step.Deliver c.args.number) (world_of c.hear.new.self c.self.inside.letters c.self.inside.history.events c.self.inside.marks.items) effect.Done (unrefused g c) (turned g c)
+    taken_after g.Q.Quorums.system c.args.self.now (step.Deliver c.args.number) (world_of c.hear.new.self c.self.inside.letters c.self.inside.chronicle.events c.self.inside.chronicle.marks) effect.Done (unrefused g c) (turned g c)

@@ -13,59 +13,56 @@ use Rattle.rambo_run.proofs.QuietKeeps.{quiet_keeps}
 use Rattle.rambo_world.proofs.Stepping.{kept_stays, letters_stay}
 use Rattle.rambo_world.proofs.state.State.quiet.Goals as goal
 
-pub node_mut-node-requires : goal.node_mut-node-requires
-node_mut-node-requires g c =
-    let nodes = back_fits _ _ _ (next _ _ _ _ (next _ _ _ _ (next _ _ _ _ (next _ _ _ _ (up_fits _ _ _ c.requires-raw.1.1))))) in
+pub node_mut-requires : goal.node_mut-requires
+node_mut-requires g c =
+    let nodes = back_fits _ _ _ (next _ _ _ _ (next _ _ _ _ (next _ _ _ _ (up_fits _ _ _ c.requires-raw.1.1)))) in
     (nodes, back_fits _ _ _ (up_fits _ _ _ nodes))
 
-pub may_quiet-requires : goal.may_quiet-requires
-may_quiet-requires g c =
-    let nodes = back_fits _ _ _ (next _ _ _ _ (next _ _ _ _ (next _ _ _ _ (next _ _ _ _ (up_fits _ _ _ c.requires-raw.1.1))))) in
+pub quietly-requires : goal.quietly-requires
+quietly-requires g c =
+    let nodes = back_fits _ _ _ (next _ _ _ _ (next _ _ _ _ (next _ _ _ _ (up_fits _ _ _ c.requires-raw.1.1)))) in
     back_fits _ _ _ (up_fits _ _ _ nodes)
-
-pub do_quiet-requires : goal.do_quiet-requires
-do_quiet-requires g c =
-    let nodes = back_fits _ _ _ (next _ _ _ _ (next _ _ _ _ (next _ _ _ _ (next _ _ _ _ (up_fits _ _ _ c.requires-raw.1.1))))) in
-    (back_fits _ _ _ (up_fits _ _ _ nodes), c.in_ok-may_quiet.ensures.ok)
 
 pub invariant_of-self : goal.invariant_of-self
 invariant_of-self g c =
     let ks = c.self.inside.nodes in
     let n = c.args.name in
-    let lent = c.node_mut-node in
-    kept_stays ks (with_node ks n lent.result.now) (lent_grows ks n lent.result.now lent.result.now lent.ensures.kept lent.ensures.named.0 refl refl) c.self.inside.letters c.self.inside.merged c.self.invariant
+    let lent = c.node_mut in
+    let same = c.in_err-effect.ensures.err in
+    kept_stays ks (with_node ks n c.quietly.new.self)
+    (lent_grows ks n lent.result.now c.quietly.new.self lent.ensures.kept lent.ensures.named.0 (ap (λ y. y.name) same) (ap (λ y. y.registers) same)) c.self.inside.letters c.self.inside.merged c.self.invariant
 
-pub returns-in_err-may_quiet-clause-err : goal.returns-in_err-may_quiet-clause-err
-returns-in_err-may_quiet-clause-err g c =
+pub returns-in_err-effect-clause-err : goal.returns-in_err-effect-clause-err
+returns-in_err-effect-clause-err g c =
     let ks = c.self.inside.nodes in
     let n = c.args.name in
-    let lent = c.node_mut-node in
+    let lent = c.node_mut in
     on_err c.from_residual.result
-    (same_world ks (with_node ks n lent.result.now) c.self.inside.letters c.self.inside.history.events _ c.self.inside.marks.items _
-    (lent_same ks n lent.result.now lent.result.now lent.ensures.kept lent.ensures.named.0 refl) c.self.invariant.sent refl refl
+    (same_world ks (with_node ks n c.quietly.new.self) c.self.inside.letters c.self.inside.chronicle.events _ c.self.inside.chronicle.marks _
+    (lent_same ks n lent.result.now c.quietly.new.self lent.ensures.kept lent.ensures.named.0 c.in_err-effect.ensures.err) c.self.invariant.sent refl refl
     ∙ c.self.view_is)
 
-pub returns-in_err-may_quiet-clause-refused : goal.returns-in_err-may_quiet-clause-refused
-returns-in_err-may_quiet-clause-refused g c =
+pub returns-in_err-effect-clause-refused : goal.returns-in_err-effect-clause-refused
+returns-in_err-effect-clause-refused g c =
     let s = g.Q.Quorums.system in
     let ks = c.self.inside.nodes in
     let n = c.args.name in
-    let lent = c.node_mut-node in
+    let lent = c.node_mut in
     let ch = act.Quietly c.args.quiet in
     err_kept c.from_residual.result _ _ c.from_residual.ensures.1
-    (ap (λ w. least (causes_at s (node_at w n) ch)) (sym c.self.view_is) ∙ ap (λ o. least (causes_at s o ch)) (lent_state ks n lent.result.now lent.result.now lent.ensures.kept lent.ensures.named.0) ∙ c.in_err-may_quiet.ensures.refused)
+    (ap (λ w. least (causes_at s (node_at w n) ch)) (sym c.self.view_is) ∙ ap (λ o. least (causes_at s o ch)) (lent_state ks n lent.result.now lent.result.now lent.ensures.kept lent.ensures.named.0) ∙ c.in_err-effect.ensures.refused)
 
 pub invariant_of-self-2 : goal.invariant_of-self-2
 unfolding made_by
 invariant_of-self-2 g c =
     let ks = c.self.inside.nodes in
     let n = c.args.name in
-    let lent = c.node_mut-node in
+    let lent = c.node_mut in
     let x = lent.result.now.state in
-    let made = c.do_quiet.ensures.node in
+    let made = c.in_ok-effect.ensures.node in
     let keeps = quiet_keeps x c.args.quiet in
-    kept_stays ks (with_node ks n c.do_quiet.new.self)
-    (lent_grows ks n lent.result.now c.do_quiet.new.self lent.ensures.kept lent.ensures.named.0 (ap (λ y. y.name) made ∙ keeps.name) (ap (λ y. y.registers) made ∙ keeps.registers))
+    kept_stays ks (with_node ks n c.quietly.new.self)
+    (lent_grows ks n lent.result.now c.quietly.new.self lent.ensures.kept lent.ensures.named.0 (ap (λ y. y.name) made ∙ keeps.name) (ap (λ y. y.registers) made ∙ keeps.registers))
     c.self.inside.letters c.self.inside.merged c.self.invariant
 
 pub returns-clause-ok : goal.returns-clause-ok
@@ -73,26 +70,26 @@ unfolding made_by
 returns-clause-ok g c =
     let ks = c.self.inside.nodes in
     let ss = c.self.inside.letters in
-    let h = c.self.inside.history.events in
-    let ms = c.self.inside.marks.items in
+    let h = c.self.inside.chronicle.events in
+    let ms = c.self.inside.chronicle.marks in
     let n = c.args.name in
-    let lent = c.node_mut-node in
+    let lent = c.node_mut in
     let x = lent.result.now.state in
-    let y = c.do_quiet.new.self in
+    let y = c.quietly.new.self in
     let ch = act.Quietly c.args.quiet in
-    let made = c.do_quiet.ensures.node in
+    let made = c.in_ok-effect.ensures.node in
     let keeps = quiet_keeps x c.args.quiet in
     let grow = lent_grows ks n lent.result.now y lent.ensures.kept lent.ensures.named.0 (ap (λ y. y.name) made ∙ keeps.name) (ap (λ y. y.registers) made ∙ keeps.registers) in
     ap (λ w. turn_at w n (node_at w n) ch) (sym c.self.view_is)
-    ∙ changed_world ks (with_node ks n y) ss h h ms ms n ch c.do_quiet.result x
+    ∙ changed_world ks (with_node ks n y) ss h h ms ms n ch c.in_ok-effect.effect x
     (lent_moved ks n lent.result.now y lent.ensures.kept lent.ensures.named.0 (λ z. (made_by z ch).node) made) (letters_stay ks (with_node ks n y) grow ss c.self.invariant.sent)
-    (lent_state ks n lent.result.now y lent.ensures.kept lent.ensures.named.0) refl c.do_quiet.ensures.effect refl refl
+    (lent_state ks n lent.result.now y lent.ensures.kept lent.ensures.named.0) refl c.in_ok-effect.ensures.effect refl refl
 
 pub returns-clause-accepted : goal.returns-clause-accepted
 returns-clause-accepted g c =
     let s = g.Q.Quorums.system in
     let ks = c.self.inside.nodes in
     let n = c.args.name in
-    let lent = c.node_mut-node in
+    let lent = c.node_mut in
     let ch = act.Quietly c.args.quiet in
-    ap (λ w. least (causes_at s (node_at w n) ch)) (sym c.self.view_is) ∙ ap (λ o. least (causes_at s o ch)) (lent_state ks n lent.result.now lent.result.now lent.ensures.kept lent.ensures.named.0) ∙ c.in_ok-may_quiet.ensures.ok
+    ap (λ w. least (causes_at s (node_at w n) ch)) (sym c.self.view_is) ∙ ap (λ o. least (causes_at s o ch)) (lent_state ks n lent.result.now lent.result.now lent.ensures.kept lent.ensures.named.0) ∙ c.in_ok-effect.ensures.judged

@@ -4,7 +4,7 @@ use Rattle.rambo_names.proofs.Sizes.{up_fits, back_fits, next}
 use Rattle.rambo_world.proofs.state.State.reserve.Goals as goal
 
 pub reserve-requires : goal.reserve-requires
-reserve-requires g c = back_fits _ _ _ (next _ _ _ _ (next _ _ _ _ (next _ _ _ _ (up_fits _ _ _ c.requires-raw.1.1))))
+reserve-requires g c = back_fits _ _ _ (next _ _ _ _ (next _ _ _ _ (up_fits _ _ _ c.requires-raw.1.1)))
 
 pub loop-step-init : goal.loop-step-init
 loop-step-init g c = grind (arith, common_steps)
@@ -18,15 +18,6 @@ loop-step-preserved g c = grind (arith, common_steps)
 pub returns-in_err-reserve-clause-same : goal.returns-in_err-reserve-clause-same
 returns-in_err-reserve-clause-same g c = grind (arith, common_steps)
 
-pub returns-in_err-reserve-2-clause-same : goal.returns-in_err-reserve-2-clause-same
-returns-in_err-reserve-2-clause-same g c = grind (arith, common_steps)
-
-pub returns-in_err-reserve-3-clause-same : goal.returns-in_err-reserve-3-clause-same
-returns-in_err-reserve-3-clause-same g c = grind (arith, common_steps)
-
-pub returns-in_err-reserve-3-clause-refused : goal.returns-in_err-reserve-3-clause-refused
-returns-in_err-reserve-3-clause-refused g c = grind (arith, common_steps)
-
 pub returns-clause-same : goal.returns-clause-same
 returns-clause-same g c = grind (arith, common_steps)
 
@@ -35,12 +26,6 @@ returns-clause-refused g c = grind (arith, common_steps)
 
 pub invariant_of-self : goal.invariant_of-self
 invariant_of-self g c = grind arith
-
-pub invariant_of-self-in_err-reserve-2 : goal.invariant_of-self-in_err-reserve-2
-invariant_of-self-in_err-reserve-2 g c = grind arith
-
-pub invariant_of-self-in_err-reserve-3 : goal.invariant_of-self-in_err-reserve-3
-invariant_of-self-in_err-reserve-3 g c = grind arith
 
 pub invariant_of-self-2 : goal.invariant_of-self-2
 invariant_of-self-2 g c = grind arith

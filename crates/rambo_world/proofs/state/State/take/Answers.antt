@@ -5,15 +5,21 @@ use Rattle.rambo_run.specs.Runs.{result_of}
 use Rattle.rambo_run.specs.Steps.{letter_in, refusal}
 use Rattle.rambo_node.proofs.QuietSteps.{quiet_means, quiet_else}
 use Rattle.rambo_world.proofs.Quiet.{quiet_told, quiet_after}
-use Rattle.rambo_world.proofs.Turns.{step_fits}
+use Rattle.rambo_world.proofs.Turns.{step_fits, step_told}
 use Rattle.rambo_world.proofs.state.State.take.Goals as goal
 use Rattle.rambo_node.specs.Acts as act
 
 pub call_lent-requires : goal.call_lent-requires
-call_lent-requires g c = (c.requires-raw.1.1.0, step_fits c.args.self.now (step.Call c.in-Call.name c.in-Call.op) c.in-Call.name (act.Call c.in-Call.op) refl g.Q.Quorums.system c.requires.fits)
+call_lent-requires g c = (c.requires-raw.1.1.0, step_fits c.args.self.now (step.Call c.in-Call.name c.in-Call.op) c.in-Call.name (act.Call c.in-Call.op) refl g.Q.Quorums.system c.requires.fits.0)
 
 pub advance-requires : goal.advance-requires
-advance-requires g c = (c.requires-raw.1.1.0, step_fits c.args.self.now (step.Advance c.in-Advance.id) c.in-Advance.id.name (act.Advance c.in-Advance.id) refl g.Q.Quorums.system c.requires.fits)
+advance-requires g c = (
+  c.requires-raw.1.1.0,
+  (
+    step_fits c.args.self.now (step.Advance c.in-Advance.id) c.in-Advance.id.name (act.Advance c.in-Advance.id) refl g.Q.Quorums.system c.requires.fits.0,
+    step_told c.args.self.now (step.Advance c.in-Advance.id) c.in-Advance.id.name (act.Advance c.in-Advance.id) refl g.Q.Quorums.system c.requires.fits.1,
+  ),
+)
 
 pub send-requires : goal.send-requires
 send-requires g c = c.requires-raw.1.1.0

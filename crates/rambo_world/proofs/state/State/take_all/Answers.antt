@@ -2,7 +2,7 @@ use Rattle.std.proofs.lemmas.Grind.{common_steps}
 use Rattle.std.proofs.Common.{◌∙◌, take, sym, ap, subst, arith}
 use Rattle.std.proofs.lemmas.List.{take_all}
 use Rattle.rambo_run.specs.Runs.{results_from, run_from}
-use Rattle.rambo_run.specs.Legal.{EventsFit}
+use Rattle.rambo_world.specs.Worlds.{StepsFit}
 use Rattle.rambo_run.proofs.Runs.{run_from-none}
 use Rattle.rambo_world.proofs.Longer.{results_from-none, next_state, next_results}
 use Rattle.rambo_world.proofs.state.State.take_all.Goals as goal
@@ -11,7 +11,7 @@ pub loop-step-init : goal.loop-step-init
 loop-step-init g c = (c.in_ok-reserve.ensures.items ∙ c.new-results.ensures.items ∙ sym (results_from-none g.Q.Quorums.system c.args.self.now), c.reserve-2.ensures.same ∙ sym (run_from-none g.Q.Quorums.system c.args.self.now))
 
 pub take-requires : goal.take-requires
-take-requires g c = (c.requires-raw.1.1.0, subst (EventsFit g.Q.Quorums.system) (sym c.loop-step.invariant.1) (c.requires.fits (take c.loop-step.step-index c.args.steps.now)))
+take-requires g c = (c.requires-raw.1.1.0, subst (StepsFit g.Q.Quorums.system) (sym c.loop-step.invariant.1) (c.requires.fits (take c.loop-step.step-index c.args.steps.now)))
 
 pub loop-step-preserved : goal.loop-step-preserved
 loop-step-preserved g c =

@@ -8,12 +8,12 @@ use Rattle.rambo_world.proofs.world.World.map.Goals as goal
 
 pub node-requires : goal.node-requires
 node-requires g c =
-    let nodes = back_fits _ _ _ (next _ _ _ _ (next _ _ _ _ (next _ _ _ _ (next _ _ _ _ (up_fits _ _ _ (back_fits _ _ _ (up_fits _ _ _ c.requires-raw.1.1.0))))))) in
+    let nodes = back_fits _ _ _ (next _ _ _ _ (next _ _ _ _ (next _ _ _ _ (up_fits _ _ _ (back_fits _ _ _ (up_fits _ _ _ c.requires-raw.1.1.0)))))) in
     (nodes, back_fits _ _ _ (up_fits _ _ _ nodes))
 
 pub map-requires : goal.map-requires
 map-requires g c =
-    let nodes = back_fits _ _ _ (next _ _ _ _ (next _ _ _ _ (next _ _ _ _ (next _ _ _ _ (up_fits _ _ _ (back_fits _ _ _ (up_fits _ _ _ c.requires-raw.1.1.0))))))) in
+    let nodes = back_fits _ _ _ (next _ _ _ _ (next _ _ _ _ (next _ _ _ _ (up_fits _ _ _ (back_fits _ _ _ (up_fits _ _ _ c.requires-raw.1.1.0)))))) in
     (back_fits _ _ _ (up_fits _ _ _ nodes), c.requires-raw.1.1.1)
 
 pub returns-clause-map : goal.returns-clause-map

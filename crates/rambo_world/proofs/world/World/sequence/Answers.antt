@@ -1,5 +1,6 @@
 use Rattle.std.proofs.Common.{◌∙◌, sym, ap, subst}
 use Rattle.rambo_sequence.specs.Sequences.{sequence_of}
+use Rattle.rambo_run.specs.Worlds.{WorldState}
 use Rattle.rambo_world.specs.Worlds.{state}
 use Rattle.std.proofs.lemmas.Result.{IfOk-weaker}
 use Rattle.rambo_history.specs.Proper.{IsProper}
@@ -9,7 +10,7 @@ use Rattle.rambo_world.proofs.world.World.sequence.Goals as goal
 pub returns-clause-calls : goal.returns-clause-calls
 returns-clause-calls g c =
     let is = ap (λ i. i.state) c.self-inside.view_is ∙ c.self.invariant.0 ∙ ap (state g.Q.Quorums.system) c.self.view_is in
-    IfOk-weaker c.sequence.result _ _ (λ calls e. e ∙ (λ i. sequence_of (is i).history ((c.as_slice.ensures.value ∙ ap (λ w. w.marks) is) i) c.args.key.now)) c.sequence.ensures.given
+    IfOk-weaker c.sequence.result _ _ (λ calls e. e ∙ ap (λ (w : WorldState _). sequence_of w.history w.marks c.args.key.now) is) c.sequence.ensures.given
 
 pub returns-clause-proper : goal.returns-clause-proper
 returns-clause-proper g c =

@@ -5,9 +5,10 @@ use Rattle.rambo_names.proofs.Errors.{err_kept}
 use Rattle.rambo_names.proofs.Sizes.{up_fits, back_fits}
 use Rattle.rambo_run.specs.Runs.{run}
 use Rattle.rambo_run.specs.Steps.{refusal, turn}
-use Rattle.rambo_run.specs.Legal.{EventsFit, IsLegal}
+use Rattle.rambo_run.specs.Legal.{IsLegal}
+use Rattle.rambo_world.specs.Worlds.{StepsFit}
 use Rattle.rambo_run.proofs.GoingOn.{after-taken, after-refused}
-use Rattle.rambo_run.proofs.Legal.{legal_longer, events_fit_run}
+use Rattle.rambo_run.proofs.Legal.{legal_longer, events_fit_run, marks_fit_run}
 use Rattle.rambo_world.specs.Worlds.{WorldOf, state}
 use Rattle.rambo_world.proofs.Longer.{kept_run}
 use Rattle.rambo_world.proofs.Single.{told_done, told_refused}
@@ -17,7 +18,7 @@ pub judge-requires : goal.judge-requires
 judge-requires g c = back_fits _ _ _ (up_fits _ _ _ c.requires-raw.1.1)
 
 pub take-requires : goal.take-requires
-take-requires g c = (back_fits _ _ _ (up_fits _ _ _ c.requires-raw.1.1), subst (EventsFit g.Q.Quorums.system) (sym c.self.invariant.0) (events_fit_run g.Q.Quorums.system c.self.inside.founders c.self.inside.steps.items))
+take-requires g c = (back_fits _ _ _ (up_fits _ _ _ c.requires-raw.1.1), subst (StepsFit g.Q.Quorums.system) (sym c.self.invariant.0) (events_fit_run g.Q.Quorums.system c.self.inside.founders c.self.inside.steps.items, marks_fit_run g.Q.Quorums.system c.self.inside.founders c.self.inside.steps.items))
 
 pub invariant_of-self : goal.invariant_of-self
 invariant_of-self g c =
