@@ -17,7 +17,7 @@ from measuring import best, instructions, megabytes, ratio, table
 
 COMMANDS = 300000
 COUNTED = 20000
-ABOUT = "`rambo local` on {:,} sets and gets in turn. The bytes a command are those over what the program has with no command at all.".format(COMMANDS)
+ABOUT = "`rambo local` on {:,} sets and gets in turn. The bytes a command are those over what the program has with no command.".format(COMMANDS)
 
 
 def spelled(*items):
