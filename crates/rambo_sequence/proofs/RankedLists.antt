@@ -1,41 +1,21 @@
 -- Ranked calls in order are the marks in order
-use Rattle.std.proofs.Common.{◌≡◌, ℕ, suc, ◌+◌, ◌≤◌, true, false, cond, not, nat_lt, nat_eq, List, [], ◌∷◌, length, map, filter, reverse, Some, None, unwrap_or, bytes_eq, refl, sym, ap, ◌∙◌, is_lt, nat_cmp, arith}
-use Rattle.std.specs.List.{position_or_len}
+use Rattle.std.proofs.Common.{◌≡◌, ℕ, true, false, cond, nat_lt, nat_eq, List, [], ◌∷◌, map, filter, reverse, bytes_eq, refl, ap, ◌∙◌, is_lt, nat_cmp, arith}
 use Rattle.std.specs.Cmp.{IsTotalOrder, IsStrictWeakOrder}
 use Rattle.std.specs.List.Sorted.{IsSortedBy, IsStableBy}
 use Rattle.std.specs.Ordering.{ordering_then}
 use Rattle.std.proofs.lemmas.Bool.Decides.{nat_tests}
 use Rattle.std.proofs.lemmas.Cmp.{nat_cmp_total, on_total, then_total}
-use Rattle.std.proofs.lemmas.List.Sums.{prefix_len-le-length}
-use Rattle.rambo_history.specs.declared.event.CallId.{CallId}
 use Rattle.rambo_history.specs.declared.event.Event.{Event}
-use Rattle.rambo_history.specs.declared.event.Event.TheVariants as event
-use Rattle.rambo_history.specs.Calls.{key_of, same_call}
-use Rattle.rambo_history.specs.Histories.{is_call, called_at}
+use Rattle.rambo_history.specs.Calls.{key_of}
 use Rattle.rambo_tag.specs.Tags.{tag_of}
 use Rattle.rambo_sequence.specs.declared.mark.Mark.{Mark}
 use Rattle.rambo_sequence.specs.declared.ranking.SortKey.{SortKey}
 use Rattle.rambo_sequence.specs.declared.ranking.RankedCall.{RankedCall}
 use Rattle.rambo_sequence.specs.Orders.{with_item}
 use Rattle.rambo_sequence.specs.RankedCalls.{sort_key_cmp, is_before, ranked, ranked_calls, sorted_calls}
-use Rattle.rambo_sequence.specs.Sequences.{call_place, rank, mark_lt, with_mark, sorted_marks, sequence_of}
+use Rattle.rambo_sequence.specs.Sequences.{rank, mark_lt, with_mark, sorted_marks, sequence_of}
 use Rattle.rambo_sequence.proofs.WeakOrders.{IsStrictWeakOrder-from_total}
 use Rattle.rambo_sequence.proofs.Ascents.{ordered_from_sort}
-
--- the place that a look-up gives
-place_in-history : (c : CallId) (h : List Event) → call_place c h ≡ position_or_len (is_call c) h
-place_in-history c [] = refl
-place_in-history c (event.Call d op ∷ es) =
-    let later : suc (call_place c es) ≡ 1 + position_or_len (is_call c) es = rw (place_in-history c es) (omega arith) in
-    elim (same_call d c) as (λ t. cond t 0 (suc (call_place c es)) ≡ cond (not t) (1 + position_or_len (is_call c) es) 0) [ true ↦ refl | false ↦ later ]
-place_in-history c (event.Answer d a ∷ es) = rw (place_in-history c es) (omega arith)
-
-found_or : (m n : ℕ) → m ≤ n → unwrap_or (cond (nat_lt m n) (Some m) None) n ≡ m
-found_or m n h = grind (arith, nat_tests)
-
-pub call_place-called_at : (c : CallId) (h : List Event) → unwrap_or (called_at h c) (length h) ≡ call_place c h
-call_place-called_at c h =
-    found_or (position_or_len (is_call c) h) (length h) (prefix_len-le-length (λ e. not (is_call c e)) h) ∙ sym (place_in-history c h)
 
 -- the order of ranked calls is the one of marks
 numbers_then : (m n r p q s : ℕ)

@@ -15,7 +15,9 @@ use rambo_history::{CallId, History};
 use rambo_names::{Bytes, Refusal};
 use std::alloc::{AllocError, Global};
 
-/// The given sequences of all keys that are marked, in the byte order of the keys. Each mark is told by the place of its call.
+/// The given sequences of all keys that are marked, in the byte order of the keys.
+///
+/// Each mark is told by the place of its call among the events. A place at which no call is made has no mark.
 ///
 /// The marks of a key are ordered by tag. Under one tag the set comes before the gets, and gets are ordered by the
 /// places of their calls in the history. It takes `n log n` steps for `n` marks, and fewer where a key's marks come
